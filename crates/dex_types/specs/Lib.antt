@@ -1,0 +1,15 @@
+pub mod AccountFaults
+pub mod Accounts
+pub mod Addresses
+pub mod EventFlags
+pub mod Side
+pub mod Fees
+pub mod Trader
+pub mod QueuedEvent
+pub mod Market
+pub mod Meeting
+pub mod MovementText
+pub mod Posting
+pub mod NewOrder
+pub mod Rows
+pub mod Text
