@@ -1,0 +1,7 @@
+pub mod FrameLaw
+pub mod Numbers
+pub mod Places
+pub mod Reading
+pub mod Rules
+pub mod TilingLaw
+pub mod Writing

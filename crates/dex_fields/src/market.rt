@@ -1,0 +1,93 @@
+//! The market account: 47 words of 8 bytes between `serum` and `padding`. Word w stands at 5 + 8 * w.
+
+ghost use Rattle.std.specs.Prelude.{◌≡◌};
+ghost use Rattle.dex_fields.specs.Tiling.{Tile};
+
+use crate::field::tiles_by_test;
+use crate::{Field, Layout, each_field};
+
+/// The text `serum`, with which every account of the program begins.
+pub const SERUM: Field = Field { at: 0, len: 5 };
+
+/// What the account is, as a set of flags.
+pub const ACCOUNT_FLAGS: Field = Field { at: 5, len: 8 };
+
+/// The market's own address.
+pub const OWN_ADDRESS: Field = Field { at: 13, len: 32 };
+
+/// Stored, with no effect.
+pub const VAULT_SIGNER_NONCE: Field = Field { at: 45, len: 8 };
+
+/// The mint that the market trades.
+pub const COIN_MINT: Field = Field { at: 53, len: 32 };
+
+/// The mint in which prices are counted.
+pub const PC_MINT: Field = Field { at: 85, len: 32 };
+
+/// The token account that holds the coin of all traders.
+pub const COIN_VAULT: Field = Field { at: 117, len: 32 };
+
+/// The coin vault's amount less the coin fees, in native coin.
+pub const COIN_DEPOSITS_TOTAL: Field = Field { at: 149, len: 8 };
+
+/// Coin fees in the vault, in native coin.
+pub const COIN_FEES_ACCRUED: Field = Field { at: 157, len: 8 };
+
+/// The token account that holds the pc of all traders.
+pub const PC_VAULT: Field = Field { at: 165, len: 32 };
+
+/// The pc vault's amount less pc fees and referrer rebates, in native pc.
+pub const PC_DEPOSITS_TOTAL: Field = Field { at: 197, len: 8 };
+
+/// Fees that can be swept, in native pc.
+pub const PC_FEES_ACCRUED: Field = Field { at: 205, len: 8 };
+
+/// Stored, with no effect.
+pub const PC_DUST_THRESHOLD: Field = Field { at: 213, len: 8 };
+
+/// The address of the request queue.
+pub const REQ_Q: Field = Field { at: 221, len: 32 };
+
+/// The address of the event queue.
+pub const EVENT_Q: Field = Field { at: 253, len: 32 };
+
+/// The address of the bids.
+pub const BIDS: Field = Field { at: 285, len: 32 };
+
+/// The address of the asks.
+pub const ASKS: Field = Field { at: 317, len: 32 };
+
+/// How much native coin a coin lot has.
+pub const COIN_LOT_SIZE: Field = Field { at: 349, len: 8 };
+
+/// How much native pc a pc lot has.
+pub const PC_LOT_SIZE: Field = Field { at: 357, len: 8 };
+
+/// Stored, with no effect.
+pub const FEE_RATE_BPS: Field = Field { at: 365, len: 8 };
+
+/// Referrer parts that no trader has settled yet, in native pc.
+pub const REFERRER_REBATES_ACCRUED: Field = Field { at: 373, len: 8 };
+
+/// The text `padding`, with which every account of the program ends.
+pub const PADDING: Field = Field { at: 381, len: 7 };
+
+/// The table of a market account.
+pub const LAYOUT: Layout<22> = Layout {
+    size: 388,
+    fields: each_field!(market),
+};
+
+/// The fields tile a market account: each byte is in exactly one of them.
+pub fn tiles()
+    ensures tiled { Tile LAYOUT.fields LAYOUT.size }
+    ensures fees_place { PC_FEES_ACCRUED.at ≡ 205 }
+{
+    let mut end = 0;
+    each_field!(market, field => {
+        prove!(field.at == end);
+        end += field.len;
+    });
+    prove!(end == LAYOUT.size);
+    tiles_by_test(&LAYOUT);
+}
