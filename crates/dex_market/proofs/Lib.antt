@@ -1,0 +1,4 @@
+pub mod Addresses
+pub mod QueueWrites
+pub mod Verdicts
+pub mod WordWrites

@@ -1,0 +1,4 @@
+pub mod MarketAccount
+pub mod RequestQueue
+pub mod Faults
+pub mod StandsFor
