@@ -1,0 +1,2 @@
+pub mod AmountWrites
+pub mod TokenRules

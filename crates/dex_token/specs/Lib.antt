@@ -1,0 +1,4 @@
+pub mod TokenAccount
+pub mod MintAccount
+pub mod Faults
+pub mod StandsFor
