@@ -1,0 +1,4 @@
+pub mod WalletJournal
+pub mod TokenAmount
+pub mod CellState
+pub mod CellInside

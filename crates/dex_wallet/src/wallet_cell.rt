@@ -1,0 +1,236 @@
+//! A wallet's cell.
+
+ghost use Rattle.std.specs.Prelude.{◌≡◌, ◌+◌, ◌-◌, ◌<◌, ◌≤◌, ◌^◌, length, IfOk};
+
+use crate::account::{append, balance, set_balance};
+use crate::parcel::Parcel;
+use dex_token::WalletRef;
+use dex_types::{Address, MoveKind, NoMemory, WalletEntry, WalletSeen};
+use std::alloc::Global;
+use std::marker::Model;
+
+/// A wallet: its token account, the parcel that the account's amount is, and the journal of its movements.
+///
+/// The token account is always the one that the cell was made with, with the amount after all movements. Where a cell
+/// is dropped its parcel is given up.
+#[derive(Debug)]
+pub struct WalletCell {
+    address: Address,
+    bytes: Vec<u8>,
+    share: Parcel,
+    starting: u64,
+    entries: Vec<WalletEntry>,
+    room: usize,
+}
+
+impl Model for WalletCell {
+    ghost use Rattle.dex_wallet.specs.CellState.{CellState};
+
+    ghost Value = { CellState };
+
+    ghost use Rattle.dex_wallet.specs.CellInside.{cell_inside, IsKept};
+
+    ghost view = { cell_inside };
+
+    ghost invariant = { IsKept };
+}
+
+impl Drop for WalletCell {
+    fn drop(self) {
+        let WalletCell {
+            address: _,
+            bytes: _,
+            share,
+            starting: _,
+            entries: _,
+            room: _,
+        } = self;
+        share.give_up();
+    }
+}
+
+impl WalletCell {
+    ghost use Rattle.dex_wallet.specs.WalletJournal.{CanMove};
+    ghost use Rattle.dex_token.specs.TokenAccount.{IsWallet, wallet_words};
+    ghost use Rattle.dex_wallet.specs.TokenAmount.{held_in};
+    ghost use Rattle.dex_wallet.specs.CellState.{HasSpare, IsWalletCell, balance_of, new_cell, seen_of, with_entry};
+
+    /// The cell of a token account and of the parcel that its amount is, with room for so many movements. Where there
+    /// is no memory for them, both are given up.
+    pub fn new(
+        alloc: Global,
+        address: Address,
+        bytes: Vec<u8>,
+        share: Parcel,
+        room: usize,
+    ) -> Result<WalletCell, NoMemory>
+        requires accepted { IsWallet bytes.items }
+        requires share { share ≡ held_in bytes.items }
+        ensures { IfOk result (λ cell. cell ≡ new_cell address bytes.items room) }
+    {
+        match Vec::with_capacity(alloc, room) {
+            Ok(entries) => {
+                let starting = balance(&bytes);
+                Ok(WalletCell {
+                    address,
+                    bytes,
+                    share,
+                    starting,
+                    entries,
+                    room,
+                })
+            }
+            Err(_) => {
+                share.give_up();
+                Err(NoMemory)
+            }
+        }
+    }
+
+    /// What a row sees of the wallet.
+    pub fn seen(&self) -> WalletSeen
+        ensures seen { result ≡ seen_of self.now }
+        ensures cell { IsWalletCell self.now }
+    {
+        let wallet = WalletRef { bytes: &self.bytes };
+        WalletSeen {
+            address: self.address,
+            mint: wallet.mint(),
+            owner: wallet.owner(),
+            balance: wallet.amount(),
+        }
+    }
+
+    /// For how many further movements there is room.
+    pub fn spare(&self) -> usize
+        ensures spare { result ≡ self.now.room - length self.now.entries }
+        ensures cell { IsWalletCell self.now }
+    {
+        self.room - self.entries.len()
+    }
+
+    /// The movements, from the first to the last.
+    pub fn entries(&self) -> &[WalletEntry]
+        ensures entries { result.now ≡ self.now.entries }
+        ensures cell { IsWalletCell self.now }
+    {
+        &self.entries
+    }
+
+    /// The token account.
+    pub fn bytes(&self) -> &[u8]
+        ensures bytes { result.now ≡ self.now.bytes }
+        ensures cell { IsWalletCell self.now }
+    {
+        &self.bytes
+    }
+
+    /// A row of this number, which this lane submits to this market, looks at the balance.
+    pub fn probe(&mut self, market: Address, lane: u32, row: u32)
+        requires { HasSpare self.old }
+        ensures moved { self.new ≡ with_entry self.old (record {
+          market = market;
+          lane = lane;
+          row = row;
+          kind = MoveKind.Probe;
+          amount = 0;
+          before = balance_of self.old.bytes;
+        }) }
+        ensures bytes { self.new.bytes ≡ self.old.bytes }
+        ensures cell { IsWalletCell self.new }
+    {
+        let before = balance(&self.bytes);
+        let probe = WalletEntry {
+            market,
+            lane,
+            row,
+            kind: MoveKind::Probe,
+            amount: 0,
+            before,
+        };
+        append(&mut self.entries, probe);
+    }
+
+    /// A row of this number, which this lane submits to this market, takes an amount out, as a parcel.
+    pub fn debit(&mut self, market: Address, lane: u32, row: u32, amount: u64) -> Parcel
+        requires spare { HasSpare self.old }
+        requires some { 1 ≤ amount }
+        requires funds { amount ≤ balance_of self.old.bytes }
+        ensures parcel { result ≡ record { mint = (wallet_words self.old.bytes).mint; amount = amount } }
+        ensures moved { self.new ≡ with_entry self.old (record {
+          market = market;
+          lane = lane;
+          row = row;
+          kind = MoveKind.Debit;
+          amount = amount;
+          before = balance_of self.old.bytes;
+        }) }
+        ensures words { wallet_words self.new.bytes
+            ≡ record (wallet_words self.old.bytes) { amount = balance_of self.old.bytes - amount } }
+        ensures cell { IsWalletCell self.new }
+    {
+        let before = balance(&self.bytes);
+        let debit = WalletEntry {
+            market,
+            lane,
+            row,
+            kind: MoveKind::Debit,
+            amount,
+            before,
+        };
+        append(&mut self.entries, debit);
+        set_balance(&mut self.bytes, before - amount);
+        self.share.take(amount)
+    }
+
+    /// A row of this number, which this lane submits to this market, puts a parcel in.
+    pub fn credit(&mut self, market: Address, lane: u32, row: u32, parcel: Parcel)
+        requires spare { HasSpare self.old }
+        requires mint { parcel.mint ≡ (wallet_words self.old.bytes).mint }
+        requires some { 1 ≤ parcel.amount }
+        requires fits { balance_of self.old.bytes + parcel.amount < 2 ^ 64 }
+        ensures moved { self.new ≡ with_entry self.old (record {
+          market = market;
+          lane = lane;
+          row = row;
+          kind = MoveKind.Credit;
+          amount = parcel.amount;
+          before = balance_of self.old.bytes;
+        }) }
+        ensures words { wallet_words self.new.bytes
+            ≡ record (wallet_words self.old.bytes) { amount = balance_of self.old.bytes + parcel.amount } }
+        ensures cell { IsWalletCell self.new }
+    {
+        let before = balance(&self.bytes);
+        let amount = parcel.amount();
+        let credit = WalletEntry {
+            market,
+            lane,
+            row,
+            kind: MoveKind::Credit,
+            amount,
+            before,
+        };
+        append(&mut self.entries, credit);
+        set_balance(&mut self.bytes, before + amount);
+        self.share.put(parcel);
+    }
+
+    /// The token account and the movements, as they are. The parcel is given up.
+    pub fn into_parts(self) -> (Vec<u8>, Vec<WalletEntry>)
+        ensures bytes { result.0.items ≡ self.bytes }
+        ensures entries { result.1.items ≡ self.entries }
+        ensures cell { IsWalletCell self }
+    {
+        let WalletCell {
+            address: _,
+            bytes,
+            share,
+            starting: _,
+            entries,
+            room: _,
+        } = self;
+        share.give_up();
+        (bytes, entries)
+    }
+}
