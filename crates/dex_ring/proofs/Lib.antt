@@ -1,0 +1,7 @@
+pub mod EventLaw
+pub mod FirstFault
+pub mod Parts
+pub mod PopLaw
+pub mod PushLaw
+pub mod RingLaw
+pub mod Verdicts

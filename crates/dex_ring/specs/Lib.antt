@@ -1,0 +1,4 @@
+pub mod EventBytes
+pub mod Ring
+pub mod Faults
+pub mod StandsFor

@@ -1,0 +1,15 @@
+//! The event queue, a ring of pending events, read and written in place.
+#![tactic(auto)]
+
+mod event_bytes;
+mod places;
+mod ring_check;
+mod ring_ref;
+mod ring_view;
+
+pub use ring_check::check_events;
+pub use ring_ref::RingRef;
+pub use ring_view::RingView;
+
+#[cfg(test)]
+mod tests;
