@@ -1,0 +1,21 @@
+//! Where the program's bytes come from and where they go: a source, a sink, and what reads and writes all.
+//!
+//! A call answers a failure only where the object's count of faults rose in that call.
+#![tactic(auto)]
+
+mod failure;
+mod memory;
+mod reading;
+mod standard;
+#[cfg(test)]
+mod tests;
+mod writing;
+
+pub use failure::{Failed, NoMemory, ReadAll, WriteStop};
+pub use memory::listed_sink::MemSink;
+pub use memory::listed_source::MemSource;
+pub use memory::plain_sink::SureSink;
+pub use memory::plain_source::SureSource;
+pub use reading::{Source, read_all};
+pub use standard::{StdSink, StdSource};
+pub use writing::{Sink, write_all};
