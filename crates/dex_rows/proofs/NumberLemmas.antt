@@ -1,0 +1,54 @@
+-- What `parse` answers for a numeral, as `number_of`.
+use Rattle.std.proofs.Common.{◌≡◌, ◌^◌, ◌<◌, ℕ, List, Some, None, Result, Ok, Err, Bor, OkIff, MatchOption, MatchResult, IsUtf8, true, false, length, arith, rules, refl, ap}
+use Rattle.std.specs.Char.{is_ascii_digit}
+use Rattle.std.specs.List.{list_all}
+use Rattle.std.specs.Result.{result_ok}
+use Rattle.std.specs.Str.Parse.{ParsesUnsigned, digits_value}
+use Rattle.std.proofs.lemmas.Bool.{le-ltb, lt-ltb}
+use Rattle.std.proofs.lemmas.Bool.Decides.{nat_tests}
+use Rattle.std.proofs.lemmas.Fmt.{IsAscii-from_digits}
+use Rattle.std.proofs.lemmas.Str.{IsUtf8-from_ascii}
+use Rattle.std.proofs.lemmas.Str.Parse.{IsNumeralModel, numerals_by_value, parse_digits}
+use Rattle.dex_rows.specs.Numbers.{is_numeral, number_of}
+
+-- texts of digits, and their values
+pub digits_model : IsNumeralModel (λ ds. list_all is_ascii_digit ds ≡ true) (digits_value 10)
+digits_model = numerals_by_value _ (search rules)
+
+-- a word that is no numeral is no number
+pub number_of-none : (limit : ℕ) (word : List ℕ) → is_numeral word ≡ false → number_of limit word ≡ None
+unfolding number_of
+number_of-none limit word h = rw h refl
+
+-- a numeral is not empty, and of digits alone
+numeral_parts : (word : List ℕ) → is_numeral word ≡ true → (0 < length word) × (list_all is_ascii_digit word ≡ true)
+unfolding is_numeral
+numeral_parts word h = grind (arith, nat_tests)
+
+-- the answer at a numeral, by cases
+number_of-answer : {E : Type 0} (limit : ℕ) (word : List ℕ) (r : Result ℕ E) → is_numeral word ≡ true → 0 < length word
+    → OkIff r ((0 < length word) × (digits_value 10 word < limit)) (digits_value 10 word) → result_ok r ≡ number_of limit word
+unfolding number_of
+number_of-answer limit word (Ok x) is some h = rw (is, lt-ltb _ _ h.0.1) (ap Some h.1)
+number_of-answer limit word (Err e) is some h =
+    let over : digits_value 10 word < limit → ⊥ = λ lt. h (some, lt) in
+    rw (is, le-ltb (digits_value 10 word) limit (omega arith)) refl
+
+-- what `parse` reads of a numeral
+pub number_of-parsed : {E : Type 0} (k : ℕ) (word digits : List ℕ) (r : Result ℕ E) → digits ≡ word → is_numeral word ≡ true → ParsesUnsigned k 10 digits r
+    → result_ok r ≡ number_of (2 ^ k) word
+number_of-parsed k word digits r same is read =
+    let h = rw same at read in
+    let parts = numeral_parts word is in
+    number_of-answer (2 ^ k) word r is parts.0 (parse_digits digits_model k word r h parts.1)
+
+-- a numeral is text
+pub IsUtf8-numeral : (word : List ℕ) → is_numeral word ≡ true → IsUtf8 word
+IsUtf8-numeral word is = IsUtf8-from_ascii word (IsAscii-from_digits word (digits_model.to word (numeral_parts word is).1))
+
+-- so it is read as text
+pub numeral_text : {E : Type 0} (P : E → Type 0) (word : List ℕ) (r : Result (Bor (List ℕ)) E) → is_numeral word ≡ true
+    → MatchResult r (λ s. (s.now ≡ word) × IsUtf8 word) (λ e. (IsUtf8 word → ⊥) × P e)
+    → MatchOption (result_ok r) (is_numeral word ≡ false) (λ digits. (digits.now ≡ word) × (is_numeral word ≡ true))
+numeral_text P word (Ok s) is h = (h.0, is)
+numeral_text P word (Err e) is h = absurd (h.0 (IsUtf8-numeral word is))

@@ -1,0 +1,42 @@
+-- What the tests of printable fields say.
+use Rattle.std.proofs.Common.{◌≡◌, ◌≤◌, ◌<◌, ◌+◌, ◌↔◌, ℕ, Bool, List, [], true, false, All, length, take, get_or, arith, refl, sym}
+use Rattle.std.specs.Bool.{Decides}
+use Rattle.std.proofs.lemmas.Bool.Decides.{Decides-by_and, nat_tests}
+use Rattle.std.proofs.lemmas.List.{take_all}
+use Rattle.std.proofs.lemmas.List.Folds.{list_all_at, list_all_more}
+use Rattle.dex_rows.specs.Printable.{IsPrintable, IsPrintableByte, is_printable, is_printable_byte, row_is_printable}
+
+byte_decides : (byte : ℕ) → Decides (is_printable_byte byte) (IsPrintableByte byte)
+byte_decides byte = (λ h. (grind (arith, nat_tests), grind (arith, nat_tests)), λ p. grind (arith, nat_tests))
+
+pub is_printable-decides : (field : List ℕ) → Decides (is_printable field) (IsPrintable field)
+unfolding is_printable
+is_printable-decides field = Decides-by_and is_printable_byte IsPrintableByte is_printable byte_decides refl (λ _ _. refl) field
+
+pub row_is_printable-decides : (row : List (List ℕ)) → Decides (row_is_printable row) (All IsPrintable row)
+unfolding row_is_printable
+row_is_printable-decides row = Decides-by_and is_printable IsPrintable row_is_printable is_printable-decides refl (λ _ _. refl) row
+
+-- a test that answers as the definition does says the fact
+pub field_every : (answer : Bool) (field : List ℕ) → answer ≡ is_printable field → (answer ≡ true) ↔ IsPrintable field
+field_every answer field e = rw e (is_printable-decides field)
+
+pub row_every : (answer : Bool) (row : List (List ℕ)) → answer ≡ row_is_printable row → (answer ≡ true) ↔ All IsPrintable row
+row_every answer row e = rw e (row_is_printable-decides row)
+
+-- one more field
+pub row_more : (row : List (List ℕ)) (place : ℕ) (field : List ℕ) → place < length row → field ≡ get_or row place [] → is_printable field ≡ true
+    → row_is_printable (take place row) ≡ true → row_is_printable (take (place + 1) row) ≡ true
+unfolding row_is_printable
+row_more row place field below same printable before =
+    rw (list_all_more is_printable row place [] below, before, ← same, printable) refl
+
+-- a field that fails
+pub row_fails : (row : List (List ℕ)) (place : ℕ) (field : List ℕ) → place < length row → field ≡ get_or row place [] → is_printable field ≡ false
+    → false ≡ row_is_printable row
+unfolding row_is_printable
+row_fails row place field below same printable = sym (list_all_at is_printable row place [] below (rw (← same) printable))
+
+-- all fields
+pub row_all : (row : List (List ℕ)) (place : ℕ) → length row ≤ place → row_is_printable (take place row) ≡ true → true ≡ row_is_printable row
+row_all row place past all = sym (rw (take_all place row past) at all)

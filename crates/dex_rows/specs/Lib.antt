@@ -1,0 +1,6 @@
+pub mod Records
+pub mod RowReader
+pub mod Numbers
+pub mod Addresses
+pub mod Base64
+pub mod Printable

@@ -1,0 +1,23 @@
+-- Fields without control characters and bytes outside ASCII.
+use Rattle.std.specs.Prelude.{ℕ, ◌≤◌, Bool, List, All}
+use Rattle.std.specs.Int.{is_in_range}
+use Rattle.std.specs.List.{list_all}
+
+-- the bytes from 32, the space, to 126, `~`
+abbrev pub IsPrintableByte : ℕ → Type 0
+IsPrintableByte byte = (32 ≤ byte) × (byte ≤ 126)
+
+-- a field of such bytes alone, as a fact
+abbrev pub IsPrintable : List ℕ → Type 0
+IsPrintable field = All IsPrintableByte field
+
+-- the same, as tests
+abbrev pub is_printable_byte : ℕ → Bool
+is_printable_byte byte = is_in_range 32 126 byte
+
+unfoldable pub is_printable : List ℕ → Bool
+is_printable field = list_all is_printable_byte field
+
+-- a row of such fields
+unfoldable pub row_is_printable : List (List ℕ) → Bool
+row_is_printable row = list_all is_printable row

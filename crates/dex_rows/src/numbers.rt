@@ -1,0 +1,67 @@
+ghost use Rattle.std.specs.Prelude.{◌≡◌, ◌^◌, MatchOption, true, false};
+ghost use Rattle.std.specs.Char.{is_ascii_digit};
+ghost use Rattle.std.specs.List.{list_all};
+ghost use Rattle.dex_rows.specs.Numbers.{is_numeral, number_of};
+
+use std::str;
+
+/// The number below 2^8 that a word writes in decimal, with no sign and no zeros in front.
+pub fn u8_word(text: &[u8]) -> Option<u8>
+    ensures { result ≡ number_of (2 ^ 8) text.now }
+{
+    numeral(text)?.parse::<u8>().ok()
+}
+
+/// The number below 2^16 that a word writes in decimal, with no sign and no zeros in front.
+pub fn u16_word(text: &[u8]) -> Option<u16>
+    ensures { result ≡ number_of (2 ^ 16) text.now }
+{
+    numeral(text)?.parse::<u16>().ok()
+}
+
+/// The number below 2^32 that a word writes in decimal, with no sign and no zeros in front.
+pub fn u32_word(text: &[u8]) -> Option<u32>
+    ensures { result ≡ number_of (2 ^ 32) text.now }
+{
+    numeral(text)?.parse::<u32>().ok()
+}
+
+/// The number below 2^64 that a word writes in decimal, with no sign and no zeros in front.
+pub fn u64_word(text: &[u8]) -> Option<u64>
+    ensures { result ≡ number_of (2 ^ 64) text.now }
+{
+    numeral(text)?.parse::<u64>().ok()
+}
+
+/// The number below 2^128 that a word writes in decimal, with no sign and no zeros in front.
+pub fn u128_word(text: &[u8]) -> Option<u128>
+    ensures { result ≡ number_of (2 ^ 128) text.now }
+{
+    numeral(text)?.parse::<u128>().ok()
+}
+
+// Whether a word is decimal digits with no zero in front of others.
+#[tactic(auto, unfolding(crate::specs::Numbers::is_numeral))]
+fn is_numeral(text: &[u8]) -> bool
+    ensures { result ≡ is_numeral text.now }
+{
+    !text.is_empty() && all_digits(text) && (text.len() == 1 || text[0] != b'0')
+}
+
+// Whether each byte is a decimal digit.
+fn all_digits(text: &[u8]) -> bool
+    ensures { result ≡ list_all is_ascii_digit text.now }
+{
+    text.iter().all(|c| c.is_ascii_digit())
+}
+
+// The word as text, where it is a numeral.
+fn numeral(text: &[u8]) -> Option<&str>
+    ensures { MatchOption result (is_numeral text.now ≡ false) (λ digits. (digits.now ≡ text.now) × (is_numeral text.now ≡ true)) }
+{
+    if is_numeral(text) {
+        str::from_utf8(text).ok()
+    } else {
+        None
+    }
+}

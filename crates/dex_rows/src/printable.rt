@@ -1,0 +1,35 @@
+ghost use Rattle.std.specs.Prelude.{◌≡◌, ◌↔◌, All, IsTrue};
+ghost use Rattle.csv.specs.Records.{fields_of};
+ghost use Rattle.dex_rows.specs.Printable.{IsPrintable, is_printable, is_printable_byte, row_is_printable};
+
+use crate::records::{field, field_count};
+use csv::ByteRecord;
+
+/// Whether each byte of a field is from 32 to 126.
+#[tactic(auto, unfolding(crate::specs::Printable::is_printable))]
+pub fn is_printable(text: &[u8]) -> bool
+    ensures value { result ≡ is_printable text.now }
+    ensures every { IsTrue result ↔ IsPrintable text.now }
+{
+    text.iter().all(|&byte| is_printable_byte(byte))
+}
+
+// Whether a byte is from 32 to 126.
+fn is_printable_byte(byte: u8) -> bool
+    ensures { result ≡ is_printable_byte byte }
+{
+    32 <= byte && byte <= 126
+}
+
+/// Whether each byte of each field of a row is from 32 to 126.
+pub fn row_is_printable(row: &ByteRecord) -> bool
+    ensures value { result ≡ row_is_printable (fields_of row.now) }
+    ensures every { IsTrue result ↔ All IsPrintable (fields_of row.now) }
+{
+    'fields: for place in 0..field_count(row) {
+        if !is_printable(field(row, place)) {
+            return false;
+        }
+    }
+    true
+}
