@@ -1,0 +1,19 @@
+//! Instruction data, between bytes and instructions: decoding with the first broken rule, and the one spelling.
+#![tactic(auto)]
+
+mod built;
+mod codes;
+mod decoding;
+mod encoding;
+mod laws;
+mod numbers;
+mod reading;
+mod rules;
+
+pub use built::is_built;
+pub use decoding::decode;
+pub use encoding::encode;
+pub use laws::{decodes_again, one_spelling};
+
+#[cfg(test)]
+mod tests;
