@@ -1,0 +1,13 @@
+pub mod BookOrder
+pub mod Totals
+pub mod Locks
+pub mod Moved
+pub mod Places
+pub mod Remaining
+pub mod Stops
+pub mod BestFirst
+pub mod Posted
+pub mod Fits
+pub mod Fills
+pub mod Book
+pub mod Meetings

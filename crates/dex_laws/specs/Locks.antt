@@ -1,0 +1,60 @@
+use Rattle.std.specs.Prelude.{ℕ, ◌+◌, List, Bool, if◌then◌else◌}
+use Rattle.dex_types.specs.declared.addresses.Address.{Address}
+use Rattle.dex_types.specs.declared.orders.Order.{Order}
+use Rattle.dex_types.specs.declared.terms.Lots.{Lots}
+use Rattle.dex_types.specs.declared.terms.Side.{Side}
+use Rattle.dex_types.specs.declared.terms.Side.TheVariants.{Bid, Ask}
+use Rattle.dex_types.specs.Addresses.{is_same}
+use Rattle.dex_types.specs.QueuedEvent.{QueuedEvent, EventKind, MakerFill, ReleasingOut}
+use Rattle.dex_types.specs.Side.{price_of, lock}
+use Rattle.dex_laws.specs.Totals.{total}
+
+-- the native amount that a resting order of the side locks
+abbrev pub order_lock : Side → Lots → Order → ℕ
+order_lock side sizes order = lock side sizes (price_of order.id) order.lots
+
+-- the native amount that all orders of a side lock
+abbrev pub locked : Side → Lots → List Order → ℕ
+locked side sizes orders = total (order_lock side sizes) orders
+
+-- the native amount that an event of this kind took off the locks of the side: what a fill paid, a bid's rebate with it,
+-- or what an out released
+abbrev pub unlocked_as : Side → EventKind → QueuedEvent → ℕ
+unlocked_as Bid (MakerFill Bid) event = event.paid + event.fee_or_rebate
+unlocked_as Bid (ReleasingOut Bid) event = event.released
+unlocked_as Ask (MakerFill Ask) event = event.paid
+unlocked_as Ask (ReleasingOut Ask) event = event.released
+unlocked_as side kind event = 0
+
+abbrev pub unlocked : Side → QueuedEvent → ℕ
+unlocked side event = unlocked_as side event.kind event
+
+-- of that, what a fill took
+abbrev pub taken_off_as : Side → EventKind → QueuedEvent → ℕ
+taken_off_as Bid (MakerFill Bid) event = event.paid + event.fee_or_rebate
+taken_off_as Ask (MakerFill Ask) event = event.paid
+taken_off_as side kind event = 0
+
+abbrev pub taken_off : Side → QueuedEvent → ℕ
+taken_off side event = taken_off_as side event.kind event
+
+-- of that, what an out released
+abbrev pub let_go_as : Side → EventKind → QueuedEvent → ℕ
+let_go_as Bid (ReleasingOut Bid) event = event.released
+let_go_as Ask (ReleasingOut Ask) event = event.released
+let_go_as side kind event = 0
+
+abbrev pub let_go : Side → QueuedEvent → ℕ
+let_go side event = let_go_as side event.kind event
+
+-- what an order weighs where the test holds of it, else nothing
+abbrev pub weighed_where : {X : Type 0} → (X → Bool) → (X → ℕ) → X → ℕ
+weighed_where test weight x = if test x then weight x else 0
+
+-- the order is this owner's
+abbrev pub is_order_of : Address → Order → Bool
+is_order_of owner order = is_same owner order.owner
+
+-- the event is this owner's
+abbrev pub is_event_of : Address → QueuedEvent → Bool
+is_event_of owner event = is_same owner event.owner
