@@ -1,0 +1,29 @@
+use Rattle.std.proofs.Common.{rules, ◌<◌, refl, sym, ap, ◌∙◌, subst}
+use Rattle.dex_gate.proofs.Keeps.{splits_at}
+use Rattle.dex_gate.proofs.Seating.{sits, is_pass, handed_out, view_of_handing, given_to, view_of_given}
+use Rattle.dex_gate.proofs.gate.Gate.split.Goals as goal
+
+pub split_seat-requires : goal.split_seat-requires
+split_seat-requires g c =
+    let at = sits _ _ _ _ _ _ c.pass.invariant c.pass.view_is c.requires.gate refl in
+    (at.table_so ∙ sym (ap (λ z. z.table) c.self.view_is), search rules, splits_at _ _ _ _ _ _ _ _ _ _ (ap (λ m. m.0) at.posed_so) (subst (λ p. p.next < p.until) (sym at.shown_so) c.requires.number))
+
+pub invariant_of-pass : goal.invariant_of-pass
+invariant_of-pass g c =
+    let at = sits _ _ _ _ _ _ c.pass.invariant c.pass.view_is c.requires.gate refl in
+    is_pass _ _ _ _ (handed_out _ _ at.card _ _ at.posed_so c.split_seat.ensures.2)
+
+pub invariant_of-result : goal.invariant_of-result
+invariant_of-result g c =
+    let at = sits _ _ _ _ _ _ c.pass.invariant c.pass.view_is c.requires.gate refl in
+    is_pass _ _ _ _ (given_to _ _ at.card _ _ at.posed_so c.split_seat.ensures.4)
+
+pub returns-clause-kept : goal.returns-clause-kept
+returns-clause-kept g c =
+    let at = sits _ _ _ _ _ _ c.pass.invariant c.pass.view_is c.requires.gate refl in
+    view_of_handing _ _ _ at.card _ _ _ c.split_seat.ensures.0 (handed_out _ _ at.card _ _ at.posed_so c.split_seat.ensures.2) at.shown_so
+
+pub returns-clause-given : goal.returns-clause-given
+returns-clause-given g c =
+    let at = sits _ _ _ _ _ _ c.pass.invariant c.pass.view_is c.requires.gate refl in
+    view_of_given _ _ _ at.card _ _ c.split_seat.ensures.3 (given_to _ _ at.card _ _ at.posed_so c.split_seat.ensures.4) at.shown_so

@@ -1,0 +1,7 @@
+pub mod History
+pub mod GateView
+pub mod PassView
+pub mod TurnView
+pub mod Rule
+pub mod Steps
+pub mod Seats

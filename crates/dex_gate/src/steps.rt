@@ -1,0 +1,56 @@
+//! What the gate does at its end, and with a word.
+ghost use Rattle.std.specs.Prelude.{◌≡◌, ℕ, ◌<◌, IfOk, OnErr};
+ghost use Rattle.dex_gate.specs.declared.stage.Stage.TheVariants.{Idle};
+ghost use Rattle.dex_gate.specs.Rule.{claims, IsEnd};
+ghost use Rattle.dex_gate.specs.Seats.{IsBoard, IsWaiting, TakesTurn, MayPassOn, PassesTurn};
+
+use crate::board::{Board, Place, SERVED, Top};
+use crate::journaled::Journaled;
+use crate::plays::{Look, PassOn};
+
+/// The half of a word that a thread parks on.
+pub(crate) fn low_half(word: u64) -> u32 {
+    (word & 0xffff_ffff) as u32
+}
+
+/// Takes the value, if the turn of the ticket has come, and else gives the ticket whose turn it is.
+pub(crate) fn look<V: Journaled>(top: &Top<V>, seat: &mut Place<V>, ticket: u64) -> Result<V, u64>
+    requires table { IsBoard top.now.table_id × (seat.old.table_id ≡ top.now.table_id) }
+    requires waiting { IsWaiting ticket seat.old.me }
+    ensures table { seat.new.table_id ≡ seat.old.table_id }
+    ensures took { IfOk result (TakesTurn V.entries V.lane V.origin ticket seat.old.me seat.new.me) }
+    ensures kept { OnErr result (seat.new.me ≡ seat.old.me) }
+{
+    let served = top.load::<Look<V>>(seat, SERVED);
+    if served != ticket {
+        return Err(served);
+    }
+    Ok(top.exchange(seat, 0, None).unwrap())
+}
+
+/// Gives the value back and passes the turn on.
+pub(crate) fn pass_on<V: Journaled>(top: &Top<V>, seat: &mut Place<V>, value: V)
+    requires table { IsBoard top.now.table_id × (seat.old.table_id ≡ top.now.table_id) }
+    requires turn { MayPassOn V.entries V.lane V.origin seat.old.me value }
+    ensures table { seat.new.table_id ≡ seat.old.table_id }
+    ensures passed { PassesTurn V.entries seat.old.me seat.new.me value }
+{
+    // Its clause bounds the list, so that the word has room for one turn more.
+    let _count = value.count();
+    let left = top.exchange(seat, 0, Some(value));
+    let None = left else { unreachable!() };
+    top.fetch_add::<PassOn<V>>(seat, SERVED, 1);
+    top.wake_all(SERVED);
+}
+
+/// The value that is in the slot of a table whose passes have all come back to one seat.
+pub(crate) fn take_out<V: Journaled>(table: Board<V>, seat: Place<V>) -> V
+    requires table { IsBoard table.shared.table_id × (seat.table_id ≡ table.shared.table_id) }
+    requires all { (seat.me.0.stage ≡ Idle) × ((k : ℕ) → k < table.shared.key.passes → 0 < claims k seat.me.0) }
+    ensures { IsEnd V.entries V.lane V.origin table.shared.key.value.value table.shared.key.passes seat.me.0.cards result }
+{
+    let mut closed = table.close_with(seat);
+    let value = closed.take(0);
+    closed.free();
+    value.unwrap()
+}
