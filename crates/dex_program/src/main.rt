@@ -1,0 +1,51 @@
+//! The program `dex`: it replays the orders of a script, and writes the replies.
+#![tactic(auto)]
+
+mod building;
+mod journal;
+mod program;
+mod reading;
+mod replay;
+mod report;
+mod script;
+mod statement;
+mod status;
+#[cfg(test)]
+mod tests;
+
+use crate::program::dex_main;
+use crate::status::Status;
+use dex_io::{StdSink, StdSource};
+use dex_types::NoMemory;
+use std::env;
+use std::io::ErrorKind;
+use std::process::ExitCode;
+use std::rt::Env;
+
+/// Ends with the status of the run as exit status. Where there is no memory for the words, it ends with 7 and writes
+/// nothing.
+fn main(rt: HostRuntime) -> ExitCode {
+    let status = match words(&rt) {
+        Ok(words) => dex_main(
+            rt.alloc(),
+            &words,
+            &mut StdSource::new(&rt),
+            &mut StdSink::new(&rt),
+        ),
+        Err(_) => Status::NoMemory,
+    };
+    ExitCode::from(status.code())
+}
+
+// The words after the program's name. Words that are no text are no command, so then there are none.
+fn words<R: Env + AllocGlobal>(rt: &R) -> Result<Vec<String>, NoMemory> {
+    let words = match env::args(rt) {
+        Ok(words) => words,
+        Err(why) if why.kind() == ErrorKind::InvalidData => return Ok(Vec::new(rt.alloc())),
+        Err(_) => return Err(NoMemory),
+    };
+    match words.skip(1).collect(rt.alloc()) {
+        Ok(words) => Ok(words),
+        Err(_) => Err(NoMemory),
+    }
+}
