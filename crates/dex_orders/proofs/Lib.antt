@@ -1,0 +1,11 @@
+pub mod BesideLaw
+pub mod BitLaw
+pub mod BlankLaw
+pub mod DistinctLaw
+pub mod FirstFault
+pub mod FundsLaw
+pub mod InitLaw
+pub mod SlotLaw
+pub mod SlotWrites
+pub mod TakenLaw
+pub mod Verdicts

@@ -1,0 +1,4 @@
+pub mod Bits
+pub mod OrdersAccount
+pub mod Faults
+pub mod StandsFor

@@ -1,0 +1,137 @@
+//! An open account, for reading and for writing in place.
+
+ghost use Rattle.std.specs.Prelude.{◌≡◌, ◌<◌, ◌≤◌, ◌↔◌, length, IsNone, IfSome, IsSome, None, Some, slice_index_or, slice_set};
+ghost use Rattle.std.specs.Option.{option_map};
+ghost use Rattle.dex_types.specs.Trader.{free_slot};
+ghost use Rattle.dex_orders.specs.OrdersAccount.{HasNoOrder, IsOpen, account_of, added, funded, funds_of, market_of, removed, taken_of, told_holding, with_funds};
+
+use crate::Funds;
+use crate::orders_ref::read_funds;
+use crate::slots::{add_order, lowest_free, remove_order, slot_of, taken_of};
+use dex_fields::open_orders::{
+    MARKET, NATIVE_COIN_FREE, NATIVE_COIN_TOTAL, NATIVE_PC_FREE, NATIVE_PC_TOTAL, OWNER,
+    REFERRER_REBATES_ACCRUED,
+};
+use dex_fields::{get_addr, put_u64};
+use dex_types::{Address, Side};
+
+/// A trader's open account, for reading and for writing in place.
+#[derive(Debug, Drop)]
+pub struct OrdersView<'a> {
+    pub bytes: &'a mut [u8],
+}
+
+fn write_funds(bytes: &mut [u8], funds: &Funds)
+    requires accepted { IsOpen bytes.old }
+    requires coin { funds.now.coin_free ≤ funds.now.coin_total }
+    requires pc { funds.now.pc_free ≤ funds.now.pc_total }
+    ensures bytes { bytes.new ≡ funded bytes.old funds.now }
+    ensures market { market_of bytes.new ≡ market_of bytes.old }
+    ensures words { account_of bytes.new ≡ with_funds funds.now (account_of bytes.old) }
+    ensures accepted { IsOpen bytes.new }
+{
+    put_u64(bytes, NATIVE_COIN_FREE, funds.coin_free);
+    put_u64(bytes, NATIVE_COIN_TOTAL, funds.coin_total);
+    put_u64(bytes, NATIVE_PC_FREE, funds.pc_free);
+    put_u64(bytes, NATIVE_PC_TOTAL, funds.pc_total);
+    put_u64(bytes, REFERRER_REBATES_ACCRUED, funds.referrer);
+}
+
+impl OrdersView<'_> {
+    /// The address of the account's market.
+    pub fn market(&self) -> Address
+        requires { IsOpen self.now.bytes.now }
+        ensures { result ≡ market_of self.now.bytes.now }
+    {
+        Address(get_addr(self.bytes, MARKET))
+    }
+
+    /// The person whose account it is.
+    pub fn owner(&self) -> Address
+        requires { IsOpen self.now.bytes.now }
+        ensures { result ≡ (account_of self.now.bytes.now).person }
+    {
+        Address(get_addr(self.bytes, OWNER))
+    }
+
+    /// The trader's funds and the referrer part, in native amounts.
+    pub fn funds(&self) -> Funds
+        requires { IsOpen self.now.bytes.now }
+        ensures { result ≡ funds_of (account_of self.now.bytes.now) }
+    {
+        read_funds(self.bytes)
+    }
+
+    /// The id, side and client id of the order in the slot; None where the slot is free, and from 128 on.
+    pub fn slot(&self, slot: u8) -> Option<(u128, Side, u64)>
+        requires { IsOpen self.now.bytes.now }
+        ensures { result ≡ option_map told_holding (slice_index_or (account_of self.now.bytes.now).slots slot None) }
+    {
+        slot_of(self.bytes, slot)
+    }
+
+    /// How many slots are taken, of 128.
+    pub fn taken(&self) -> u8
+        requires { IsOpen self.now.bytes.now }
+        ensures { result ≡ taken_of (account_of self.now.bytes.now).slots }
+    {
+        taken_of(self.bytes)
+    }
+
+    /// The lowest free slot; None where all 128 are taken.
+    pub fn free_slot(&self) -> Option<u8>
+        requires { IsOpen self.now.bytes.now }
+        ensures none { IsNone result ↔ (taken_of (account_of self.now.bytes.now).slots ≡ 128) }
+        ensures lowest { IfSome result (λ slot. slot ≡ free_slot (account_of self.now.bytes.now).slots) }
+        ensures within { IfSome result (λ slot. slot < 128) }
+        ensures free { IfSome result (λ slot. slice_index_or (account_of self.now.bytes.now).slots slot None ≡ None) }
+    {
+        lowest_free(self.bytes)
+    }
+
+    /// Takes a free slot for an order. It writes the slot's bits, id and client id; all other bytes stay.
+    pub fn add(&mut self, slot: u8, id: u128, side: Side, client: u64)
+        requires accepted { IsOpen self.old.bytes.now }
+        requires slot { slot < 128 }
+        requires free { slice_index_or (account_of self.old.bytes.now).slots slot None ≡ None }
+        requires fresh { HasNoOrder id side (account_of self.old.bytes.now).slots }
+        ensures place { self.new.bytes.ghost_name ≡ self.old.bytes.ghost_name }
+        ensures bytes { self.new.bytes.now ≡ added self.old.bytes.now slot id side client }
+        ensures market { market_of self.new.bytes.now ≡ market_of self.old.bytes.now }
+        ensures words { account_of self.new.bytes.now ≡ record (account_of self.old.bytes.now) {
+          slots = slice_set (account_of self.old.bytes.now).slots slot (Some (record { id = id; side = side; client = client }));
+        } }
+        ensures accepted { IsOpen self.new.bytes.now }
+    {
+        add_order(self.bytes, slot, id, side, client);
+    }
+
+    /// Frees a taken slot, and sets its id, client id and side bit to zero. All other bytes stay.
+    pub fn remove(&mut self, slot: u8)
+        requires accepted { IsOpen self.old.bytes.now }
+        requires taken { IsSome (slice_index_or (account_of self.old.bytes.now).slots slot None) }
+        ensures place { self.new.bytes.ghost_name ≡ self.old.bytes.ghost_name }
+        ensures bytes { self.new.bytes.now ≡ removed self.old.bytes.now slot }
+        ensures market { market_of self.new.bytes.now ≡ market_of self.old.bytes.now }
+        ensures words { account_of self.new.bytes.now ≡ record (account_of self.old.bytes.now) {
+          slots = slice_set (account_of self.old.bytes.now).slots slot None;
+        } }
+        ensures accepted { IsOpen self.new.bytes.now }
+    {
+        remove_order(self.bytes, slot);
+    }
+
+    /// Writes the funds and the referrer part. All other bytes stay.
+    pub fn set_funds(&mut self, funds: Funds)
+        requires accepted { IsOpen self.old.bytes.now }
+        requires coin { funds.coin_free ≤ funds.coin_total }
+        requires pc { funds.pc_free ≤ funds.pc_total }
+        ensures place { self.new.bytes.ghost_name ≡ self.old.bytes.ghost_name }
+        ensures bytes { self.new.bytes.now ≡ funded self.old.bytes.now funds }
+        ensures market { market_of self.new.bytes.now ≡ market_of self.old.bytes.now }
+        ensures words { account_of self.new.bytes.now ≡ with_funds funds (account_of self.old.bytes.now) }
+        ensures accepted { IsOpen self.new.bytes.now }
+    {
+        write_funds(self.bytes, &funds);
+    }
+}
