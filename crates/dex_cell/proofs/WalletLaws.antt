@@ -5,8 +5,8 @@ use Rattle.dex_types.specs.declared.addresses.Address.{Address}
 use Rattle.dex_types.specs.declared.movements.Movement.{Movement}
 use Rattle.dex_types.specs.declared.rows.Seen.{Seen}
 use Rattle.dex_types.specs.Rows.{PlainRow}
-use Rattle.dex_cell.specs.Transfers.{Transfers}
-use Rattle.dex_cell.specs.Wallets.{address_seen, with_role, row_wallets, seen_wallets, balance_seen, taken_from, brought_to, movement_by, movement_of, movements}
+use Rattle.dex_types.specs.Transfers.{Transfers}
+use Rattle.dex_types.specs.Wallets.{address_seen, with_role, row_wallets, seen_wallets, balance_seen, taken_from, brought_to, movement_by, movement_of, movements}
 use Rattle.dex_cell.specs.Journal.{Sees}
 
 -- a movement is of its wallet

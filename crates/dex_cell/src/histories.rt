@@ -6,17 +6,17 @@ ghost use Rattle.dex_types.specs.declared.movements.WalletEntry.{WalletEntry};
 ghost use Rattle.dex_types.specs.declared.rows.Seen.{Seen};
 ghost use Rattle.dex_types.specs.Market.{Market};
 ghost use Rattle.dex_types.specs.Rows.{PlainRow};
-ghost use Rattle.dex_cell.specs.Transfers.{Transfers};
-ghost use Rattle.dex_cell.specs.Wallets.{movements, row_wallets};
-ghost use Rattle.dex_wallet.specs.WalletJournal.{IsWalletLegal, CanMove, balance_after, moved_balance};
+ghost use Rattle.dex_types.specs.Transfers.{Transfers};
+ghost use Rattle.dex_types.specs.Wallets.{movements, row_wallets};
+ghost use Rattle.dex_types.specs.WalletJournal.{IsWalletLegal, CanMove, balance_after, moved_balance};
 ghost use Rattle.dex_cell.specs.Journal.{Call, IsLegal, Sees, market_after, entry_on, step_of};
 
 /// A history is legal exactly where its front is, and what follows is from the market that the front leaves. So one more
-/// call keeps it legal exactly where that has the entry that it makes now.
+/// call keeps it legal exactly where it saw the wallets that its row names, and has the entry that it makes now.
 pub fn a_history_grows_at_its_end()
     ensures parts { (calls later : List Call) (m : Market) → IsLegal m (calls ++ later) ↔ (IsLegal m calls × IsLegal (market_after m calls) later) }
     ensures one_more { (calls : List Call) (call : Call) (m : Market) →
-        IsLegal m (calls ++ (call ∷ [])) ↔ (IsLegal m calls × (call.entry ≡ entry_on call (market_after m calls))) }
+        IsLegal m (calls ++ (call ∷ [])) ↔ (IsLegal m calls × Sees call.row call.seen × (call.entry ≡ entry_on call (market_after m calls))) }
     ensures after { (calls later : List Call) (m : Market) → market_after m (calls ++ later) ≡ market_after (market_after m calls) later }
     ensures after_one { (calls : List Call) (call : Call) (m : Market) →
         market_after m (calls ++ (call ∷ [])) ≡ (step_of call (market_after m calls)).market }

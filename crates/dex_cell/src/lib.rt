@@ -1,11 +1,5 @@
-//! One step of a market: the definitions of what each instruction does and when it is refused, and their laws. Each law
-//! is a function that does nothing, whose contract says it.
+//! Histories of a market, and their laws: each row answered by the step at its place. Each law is a function that does
+//! nothing, whose contract says it.
 #![tactic(auto)]
 
-pub mod cranks;
-pub mod fills;
 pub mod histories;
-pub mod keeping;
-pub mod made;
-pub mod places;
-pub mod refusals;

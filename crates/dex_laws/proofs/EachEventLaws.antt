@@ -10,7 +10,8 @@ use Rattle.dex_types.specs.Meeting.{TakerTerms, Demand, Meeting, event_of, fill_
 use Rattle.dex_types.specs.QueuedEvent.{QueuedEvent, EventKind}
 use Rattle.dex_types.specs.Side.{price_of, opposite}
 use Rattle.dex_laws.specs.Fits.{EventFits, IsOfOneOf}
-use Rattle.dex_laws.specs.Locks.{order_lock, locked}
+use Rattle.dex_types.specs.Owed.{order_lock}
+use Rattle.dex_laws.specs.Locks.{locked}
 use Rattle.dex_laws.proofs.BestFirstLaws.{All-met_events}
 use Rattle.dex_laws.proofs.LockLaws.{lock-monotone}
 use Rattle.dex_laws.proofs.MeetLaws.{meet-induction}

@@ -7,7 +7,7 @@ use Rattle.dex_types.specs.declared.terms.Side.TheVariants.{Bid, Ask}
 use Rattle.dex_types.specs.Meeting.{TakerTerms, Demand, is_own, maker_fill, plain_out, met_events, meet}
 use Rattle.dex_types.specs.Side.{opposite}
 use Rattle.dex_laws.specs.Moved.{meets_one}
-use Rattle.dex_laws.specs.Totals.{total}
+use Rattle.dex_types.specs.Totals.{total}
 use Rattle.dex_laws.proofs.MeetLaws.{meet-induction}
 use Rattle.dex_laws.proofs.MovedLaws.{met_events-own, met_events-part}
 use Rattle.dex_laws.proofs.TotalLaws.{total-append}

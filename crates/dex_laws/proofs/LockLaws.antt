@@ -13,10 +13,12 @@ use Rattle.dex_types.specs.NewOrder.{last_events}
 use Rattle.dex_types.specs.Posting.{posted, post, last_of}
 use Rattle.dex_types.specs.QueuedEvent.{QueuedEvent}
 use Rattle.dex_types.specs.Side.{price_of, opposite, lock}
-use Rattle.dex_laws.specs.Locks.{order_lock, locked, unlocked, weighed_where}
+use Rattle.dex_types.specs.Owed.{order_lock}
+use Rattle.dex_laws.specs.Locks.{locked, unlocked}
+use Rattle.dex_types.specs.Totals.{weighed_where}
 use Rattle.dex_laws.specs.Places.{frees, is_order_at, is_event_at, rest_at, freed_at}
 use Rattle.dex_laws.specs.Posted.{weight_of}
-use Rattle.dex_laws.specs.Totals.{total}
+use Rattle.dex_types.specs.Totals.{total}
 use Rattle.dex_laws.proofs.MovedLaws.{Tells, Tells-where, IsTestOfOrder, meet-told, lock-less, unlocked-releasing_out, unlocked-plain_out}
 use Rattle.dex_laws.proofs.PostLaws.{post-induction, total-posted, total-last_of, last_of-none}
 use Rattle.dex_laws.proofs.TotalLaws.{total-each}

@@ -14,9 +14,11 @@ use Rattle.dex_types.specs.Meeting.{TakerTerms, Demand, Meeting, is_own, less, e
 use Rattle.dex_types.specs.QueuedEvent.{QueuedEvent, EventKind, MakerFill, TakerFill, PlainOut, ReleasingOut}
 use Rattle.dex_types.specs.Side.{price_of, opposite, lock}
 use Rattle.dex_fees.proofs.FeeLaws.{maker_rebate-le}
-use Rattle.dex_laws.specs.Locks.{order_lock, locked, unlocked, unlocked_as, taken_off, taken_off_as, let_go, let_go_as, weighed_where, is_order_of, is_event_of}
+use Rattle.dex_types.specs.Owed.{order_lock, is_order_of, is_event_of}
+use Rattle.dex_laws.specs.Locks.{locked, unlocked, unlocked_as, taken_off, taken_off_as, let_go, let_go_as}
+use Rattle.dex_types.specs.Totals.{weighed_where}
 use Rattle.dex_laws.specs.Moved.{filled_coin, filled_pc, filled_rebate, moved}
-use Rattle.dex_laws.specs.Totals.{total}
+use Rattle.dex_types.specs.Totals.{total}
 use Rattle.dex_laws.proofs.MeetLaws.{meet-induction}
 use Rattle.dex_laws.proofs.TotalLaws.{total-append}
 

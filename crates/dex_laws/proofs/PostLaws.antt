@@ -10,7 +10,7 @@ use Rattle.dex_types.specs.NewOrder.{last_events}
 use Rattle.dex_types.specs.Posting.{Posting, PrecedesAll, InBookOrder, posted, post, last_of}
 use Rattle.dex_types.specs.Side.{precedes}
 use Rattle.dex_laws.specs.Posted.{place_of, weight_of}
-use Rattle.dex_laws.specs.Totals.{total}
+use Rattle.dex_types.specs.Totals.{total}
 use Rattle.dex_laws.proofs.IdLaws.{precedes-total, precedes-transitive}
 
 -- an order is posted behind those that stand before it

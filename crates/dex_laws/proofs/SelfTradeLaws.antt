@@ -14,7 +14,7 @@ use Rattle.dex_types.specs.QueuedEvent.{QueuedEvent}
 use Rattle.dex_types.specs.Side.{price_of, opposite, lock}
 use Rattle.dex_laws.specs.Fills.{LeavesNothingAs}
 use Rattle.dex_laws.specs.Moved.{own_lots, other_lots}
-use Rattle.dex_laws.specs.Totals.{total}
+use Rattle.dex_types.specs.Totals.{total}
 use Rattle.dex_laws.proofs.BestFirstLaws.{All-met_events}
 use Rattle.dex_laws.proofs.EndLaws.{is_own-less}
 use Rattle.dex_laws.proofs.LockLaws.{lock-none}

@@ -7,7 +7,7 @@ use Rattle.dex_types.specs.declared.terms.Side.TheVariants.{Bid, Ask}
 use Rattle.dex_types.specs.Fees.{maker_rebate, tier_at}
 use Rattle.dex_types.specs.QueuedEvent.{QueuedEvent, EventKind, ReleasingOut}
 use Rattle.dex_types.specs.Side.{price_of}
-use Rattle.dex_laws.specs.Locks.{order_lock}
+use Rattle.dex_types.specs.Owed.{order_lock}
 use Rattle.dex_laws.specs.Moved.{filled_coin, filled_pc, filled_rebate}
 
 -- what is filled is traded at the price of the maker's order, and the rebate is that of the maker's tier

@@ -1,5 +1,4 @@
 pub mod BookOrder
-pub mod Totals
 pub mod Locks
 pub mod Moved
 pub mod Places

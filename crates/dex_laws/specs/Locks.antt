@@ -7,11 +7,8 @@ use Rattle.dex_types.specs.declared.terms.Side.TheVariants.{Bid, Ask}
 use Rattle.dex_types.specs.Addresses.{is_same}
 use Rattle.dex_types.specs.QueuedEvent.{QueuedEvent, EventKind, MakerFill, ReleasingOut}
 use Rattle.dex_types.specs.Side.{price_of, lock}
-use Rattle.dex_laws.specs.Totals.{total}
-
--- the native amount that a resting order of the side locks
-abbrev pub order_lock : Side → Lots → Order → ℕ
-order_lock side sizes order = lock side sizes (price_of order.id) order.lots
+use Rattle.dex_types.specs.Totals.{total}
+use Rattle.dex_types.specs.Owed.{order_lock}
 
 -- the native amount that all orders of a side lock
 abbrev pub locked : Side → Lots → List Order → ℕ
@@ -47,14 +44,3 @@ let_go_as side kind event = 0
 abbrev pub let_go : Side → QueuedEvent → ℕ
 let_go side event = let_go_as side event.kind event
 
--- what an order weighs where the test holds of it, else nothing
-abbrev pub weighed_where : {X : Type 0} → (X → Bool) → (X → ℕ) → X → ℕ
-weighed_where test weight x = if test x then weight x else 0
-
--- the order is this owner's
-abbrev pub is_order_of : Address → Order → Bool
-is_order_of owner order = is_same owner order.owner
-
--- the event is this owner's
-abbrev pub is_event_of : Address → QueuedEvent → Bool
-is_event_of owner event = is_same owner event.owner

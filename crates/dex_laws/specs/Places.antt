@@ -2,18 +2,14 @@ use Rattle.std.specs.Prelude.{ℕ, ◌==◌, List, Bool, ◌&&◌, if◌then◌e
 use Rattle.dex_types.specs.declared.addresses.Address.{Address}
 use Rattle.dex_types.specs.declared.orders.Order.{Order}
 use Rattle.dex_types.specs.Addresses.{is_same}
-use Rattle.dex_types.specs.QueuedEvent.{QueuedEvent, EventKind, PlainOut, ReleasingOut}
-use Rattle.dex_laws.specs.Locks.{weighed_where}
-use Rattle.dex_laws.specs.Totals.{total}
+use Rattle.dex_types.specs.QueuedEvent.{QueuedEvent}
+use Rattle.dex_types.specs.Soundness.{is_final}
+use Rattle.dex_types.specs.Totals.{weighed_where}
+use Rattle.dex_types.specs.Totals.{total}
 
--- one for an event after which its order's slot is free: an out that leaves nothing locked
-abbrev pub frees_as : EventKind → QueuedEvent → ℕ
-frees_as (PlainOut side) event = 1
-frees_as (ReleasingOut side) event = if event.paid == 0 then 1 else 0
-frees_as kind event = 0
-
+-- one for an event after which its order's slot is free
 abbrev pub frees : QueuedEvent → ℕ
-frees event = frees_as event.kind event
+frees event = if is_final event then 1 else 0
 
 -- the order rests for this slot of this trader
 abbrev pub is_order_at : Address → ℕ → Order → Bool

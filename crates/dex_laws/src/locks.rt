@@ -6,11 +6,12 @@ ghost use Rattle.dex_types.specs.declared.orders.Order.{Order};
 ghost use Rattle.dex_types.specs.declared.terms.Lots.{Lots};
 ghost use Rattle.dex_types.specs.NewOrder.{last_events};
 ghost use Rattle.dex_types.specs.Side.{price_of};
-ghost use Rattle.dex_laws.specs.Locks.{order_lock, locked, unlocked};
+ghost use Rattle.dex_types.specs.Owed.{order_lock};
+ghost use Rattle.dex_laws.specs.Locks.{locked, unlocked};
 ghost use Rattle.dex_laws.specs.Meetings.{EachMeeting};
 ghost use Rattle.dex_laws.specs.Places.{rest_at, freed_at};
 ghost use Rattle.dex_laws.specs.Posted.{EachPosting};
-ghost use Rattle.dex_laws.specs.Totals.{total};
+ghost use Rattle.dex_types.specs.Totals.{total};
 
 /// What a side locks after a posting, with what the posting's last event unlocks, is what it locked before with the
 /// order's lock.

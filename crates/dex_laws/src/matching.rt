@@ -12,7 +12,7 @@ ghost use Rattle.dex_laws.specs.Fills.{LeavesNothingAs};
 ghost use Rattle.dex_laws.specs.Meetings.{EachMeeting};
 ghost use Rattle.dex_laws.specs.Moved.{own_lots, other_lots};
 ghost use Rattle.dex_laws.specs.Stops.{StopsAt, AbortsAt};
-ghost use Rattle.dex_laws.specs.Totals.{total};
+ghost use Rattle.dex_types.specs.Totals.{total};
 
 /// Of a side in book order the orders are met from the best on: no event is of an order that stands before that of an
 /// earlier event, and no order is left that has a better price than one that was met, or its price and is older.

@@ -10,11 +10,13 @@ ghost use Rattle.dex_types.specs.Posting.{InBookOrder};
 ghost use Rattle.dex_types.specs.Side.{opposite};
 ghost use Rattle.dex_fees.specs.Rates.{greatest_maker_rate};
 ghost use Rattle.dex_laws.specs.Fits.{EventFits, IsOfOneOf};
-ghost use Rattle.dex_laws.specs.Locks.{order_lock, locked, unlocked, let_go, weighed_where, is_order_of, is_event_of};
+ghost use Rattle.dex_types.specs.Owed.{order_lock, is_order_of, is_event_of};
+ghost use Rattle.dex_laws.specs.Locks.{locked, unlocked, let_go};
+ghost use Rattle.dex_types.specs.Totals.{weighed_where};
 ghost use Rattle.dex_laws.specs.Meetings.{EachMeeting};
 ghost use Rattle.dex_laws.specs.Moved.{filled_coin, filled_pc, filled_rebate, meets_one, moved};
 ghost use Rattle.dex_laws.specs.Remaining.{IsLeftOf};
-ghost use Rattle.dex_laws.specs.Totals.{total};
+ghost use Rattle.dex_types.specs.Totals.{total};
 
 /// A taker fills no more lots than it wants. Each order that it meets has one event that counts it, and uses one match.
 pub fn a_taker_stays_within_its_demand()

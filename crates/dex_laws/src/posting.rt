@@ -5,7 +5,7 @@ ghost use Rattle.dex_types.specs.declared.orders.Order.{Order};
 ghost use Rattle.dex_types.specs.declared.terms.Side.{Side};
 ghost use Rattle.dex_types.specs.Posting.{InBookOrder, posted};
 ghost use Rattle.dex_laws.specs.Posted.{place_of, weight_of, EachPosting};
-ghost use Rattle.dex_laws.specs.Totals.{total};
+ghost use Rattle.dex_types.specs.Totals.{total};
 
 /// An order is put in its place, behind those that stand before it; where its id is new the side stays in book order.
 pub fn a_posted_order_stands_in_its_place()

@@ -14,10 +14,11 @@ use Rattle.dex_types.specs.Posting.{Posting, post}
 use Rattle.dex_types.specs.QueuedEvent.{QueuedEvent}
 use Rattle.dex_types.specs.Side.{opposite, lock, price_of}
 use Rattle.dex_types.specs.Trader.{free_slot}
-use Rattle.dex_laws.specs.Locks.{locked, order_lock}
+use Rattle.dex_laws.specs.Locks.{locked}
+use Rattle.dex_types.specs.Owed.{order_lock}
 use Rattle.dex_laws.specs.Moved.{moved}
 use Rattle.dex_laws.specs.Posted.{weight_of}
-use Rattle.dex_laws.specs.Totals.{total}
+use Rattle.dex_types.specs.Totals.{total}
 use Rattle.dex_laws.proofs.EventLaws.{length-meet_events}
 use Rattle.dex_laws.proofs.IdLaws.{price_of-id_of}
 use Rattle.dex_laws.proofs.MovedLaws.{meet-moved_le}

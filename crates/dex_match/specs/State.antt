@@ -4,7 +4,7 @@ use Rattle.dex_types.specs.declared.terms.Side.TheVariants.{Bid, Ask}
 use Rattle.dex_types.specs.Market.{Market}
 use Rattle.dex_types.specs.Trader.{free_slot}
 use Rattle.dex_laws.specs.Locks.{locked}
-use Rattle.dex_laws.specs.Totals.{total}
+use Rattle.dex_types.specs.Totals.{total}
 use Rattle.dex_match.specs.declared.accounts.OpenAccount.{OpenAccount}
 use Rattle.dex_match.specs.declared.states.State.{State}
 use Rattle.dex_match.specs.AccountList.{entries}

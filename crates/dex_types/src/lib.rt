@@ -15,6 +15,7 @@ mod orders;
 mod refusals;
 mod replies;
 mod rows;
+mod sides;
 mod terms;
 
 pub use account_bytes::{Accounts, MarketAccounts, Named, OrdersAccount};
@@ -28,6 +29,7 @@ pub use orders::{Event, Order};
 pub use refusals::Refusal;
 pub use replies::Reply;
 pub use rows::{Row, Seen, WalletSeen};
+pub use sides::{SideBook, SideRead};
 pub use terms::{Lots, NoMemory, OrderType, Program, SelfTrade, Side, Tier};
 
 #[cfg(test)]

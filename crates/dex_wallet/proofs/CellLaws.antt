@@ -3,7 +3,7 @@ use Rattle.std.proofs.Common.{◌≡◌, ℕ, ◌<◌, ◌^◌, List, [], ◌∷
 use Rattle.dex_types.specs.declared.addresses.Address.{Address}
 use Rattle.dex_types.specs.declared.movements.MoveKind.{MoveKind}
 use Rattle.dex_types.specs.declared.movements.WalletEntry.{WalletEntry}
-use Rattle.dex_wallet.specs.WalletJournal.{CanMove, moved_balance}
+use Rattle.dex_types.specs.WalletJournal.{CanMove, moved_balance}
 use Rattle.dex_token.specs.TokenAccount.{WalletWords, wallet_words, with_amount}
 use Rattle.dex_token.proofs.AmountWrites.{IsWallet-with_amount, amount-with_amount, wallet_words-with_amount, with_amount-again}
 use Rattle.dex_wallet.specs.TokenAmount.{TokenAmount}

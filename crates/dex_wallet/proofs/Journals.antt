@@ -3,7 +3,7 @@ use Rattle.std.proofs.Common.{◌≡◌, ℕ, ◌<◌, ◌^◌, List, [], ◌∷
 use Rattle.dex_types.specs.declared.movements.MoveKind.{MoveKind}
 use Rattle.dex_types.specs.declared.movements.MoveKind.TheVariants.{Probe, Debit, Credit}
 use Rattle.dex_types.specs.declared.movements.WalletEntry.{WalletEntry}
-use Rattle.dex_wallet.specs.WalletJournal.{CanMove, IsWalletLegal, balance_after, moved_balance}
+use Rattle.dex_types.specs.WalletJournal.{CanMove, IsWalletLegal, balance_after, moved_balance}
 
 -- a movement that is possible leaves a balance of 64 bits
 pub moved_balance-lt : (kind : MoveKind) (amount balance : ℕ) → balance < 2 ^ 64 → CanMove kind amount balance → moved_balance kind amount balance < 2 ^ 64

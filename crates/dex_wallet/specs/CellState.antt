@@ -3,7 +3,7 @@ use Rattle.std.specs.Prelude.{◌≡◌, ℕ, ◌<◌, ◌≤◌, List, [], ◌�
 use Rattle.dex_types.specs.declared.addresses.Address.{Address}
 use Rattle.dex_types.specs.declared.movements.WalletEntry.{WalletEntry}
 use Rattle.dex_types.specs.declared.rows.WalletSeen.{WalletSeen}
-use Rattle.dex_wallet.specs.WalletJournal.{IsWalletLegal, balance_after, moved_balance}
+use Rattle.dex_types.specs.WalletJournal.{IsWalletLegal, balance_after, moved_balance}
 use Rattle.dex_token.specs.TokenAccount.{IsWallet, wallet_words, with_amount}
 use Rattle.dex_wallet.specs.TokenAmount.{TokenAmount, held_in}
 

@@ -1,4 +1,3 @@
-pub mod WalletJournal
 pub mod TokenAmount
 pub mod CellState
 pub mod CellInside

@@ -50,7 +50,7 @@ impl Drop for WalletCell {
 }
 
 impl WalletCell {
-    ghost use Rattle.dex_wallet.specs.WalletJournal.{CanMove};
+    ghost use Rattle.dex_types.specs.WalletJournal.{CanMove};
     ghost use Rattle.dex_token.specs.TokenAccount.{IsWallet, wallet_words};
     ghost use Rattle.dex_wallet.specs.TokenAmount.{held_in};
     ghost use Rattle.dex_wallet.specs.CellState.{HasSpare, IsWalletCell, balance_of, new_cell, seen_of, with_entry};

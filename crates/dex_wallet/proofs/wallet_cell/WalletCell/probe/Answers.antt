@@ -1,7 +1,7 @@
 use Rattle.std.proofs.Common.{◌≡◌, ℕ, ◌<◌, ◌^◌, List, refl, ap, sym, subst, ◌∙◌, arith}
 use Rattle.dex_types.specs.declared.movements.MoveKind.TheVariants.{Probe}
 use Rattle.dex_types.specs.declared.movements.WalletEntry.{WalletEntry}
-use Rattle.dex_wallet.specs.WalletJournal.{CanMove, moved_balance}
+use Rattle.dex_types.specs.WalletJournal.{CanMove, moved_balance}
 use Rattle.dex_token.specs.TokenAccount.{with_amount}
 use Rattle.dex_wallet.specs.CellState.{IsWalletCell, HasSpare, balance_of, with_entry}
 use Rattle.dex_wallet.specs.CellInside.{cell_of, cell_inside}

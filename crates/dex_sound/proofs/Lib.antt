@@ -1,0 +1,9 @@
+pub mod ExampleMarket
+mod Examples
+mod RefusalExamples
+mod SolvencyExamples
+pub mod CrankLaws
+pub mod FillLaws
+pub mod KeepLaws
+pub mod MadeLaws
+pub mod PlaceLaws

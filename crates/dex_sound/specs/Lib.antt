@@ -1,0 +1,5 @@
+pub mod Cranks
+pub mod Exchange
+pub mod Kept
+pub mod Made
+pub mod Places

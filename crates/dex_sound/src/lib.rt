@@ -1,0 +1,10 @@
+//! The laws of a market's steps: what refused rows, cranks and fills leave, what every step keeps, and when a market is
+//! sound. Each law is a function that does nothing, whose contract says it.
+#![tactic(auto)]
+
+pub mod cranks;
+pub mod fills;
+pub mod keeping;
+pub mod made;
+pub mod places;
+pub mod refusals;
