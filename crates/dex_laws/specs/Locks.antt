@@ -43,4 +43,3 @@ let_go_as side kind event = 0
 
 abbrev pub let_go : Side → QueuedEvent → ℕ
 let_go side event = let_go_as side event.kind event
-
