@@ -7,3 +7,4 @@ pub mod FillLaws
 pub mod KeepLaws
 pub mod MadeLaws
 pub mod PlaceLaws
+pub mod TraderSums
