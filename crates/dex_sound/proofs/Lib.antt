@@ -7,4 +7,6 @@ pub mod FillLaws
 pub mod KeepLaws
 pub mod MadeLaws
 pub mod PlaceLaws
+pub mod PlaceParts
 pub mod TraderSums
+pub mod WordsSound
