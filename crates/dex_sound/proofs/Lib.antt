@@ -2,6 +2,7 @@ pub mod ExampleMarket
 mod Examples
 mod RefusalExamples
 mod SolvencyExamples
+pub mod CancelSound
 pub mod CrankLaws
 pub mod FillLaws
 pub mod KeepLaws
@@ -9,4 +10,5 @@ pub mod MadeLaws
 pub mod PlaceLaws
 pub mod PlaceParts
 pub mod TraderSums
+pub mod WithoutLaws
 pub mod WordsSound
