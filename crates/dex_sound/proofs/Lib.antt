@@ -4,6 +4,7 @@ mod RefusalExamples
 mod SolvencyExamples
 pub mod CancelSound
 pub mod CrankLaws
+pub mod CrankSound
 pub mod FillLaws
 pub mod KeepLaws
 pub mod MadeLaws
