@@ -10,7 +10,7 @@ use Rattle.dex_types.specs.declared.terms.Lots.{Lots}
 use Rattle.dex_types.specs.declared.terms.Side.{Side}
 use Rattle.dex_types.specs.declared.terms.Side.TheVariants.{Bid, Ask}
 use Rattle.dex_types.specs.Addresses.{is_same}
-use Rattle.dex_types.specs.Cancel.{RestingOrder, order_with, without_order, cancel_one}
+use Rattle.dex_types.specs.Cancel.{RestingOrder, without_order, cancel_one}
 use Rattle.dex_types.specs.Market.{Market, orders, capacity}
 use Rattle.dex_types.specs.Meeting.{releasing_out}
 use Rattle.dex_types.specs.Owed.{order_lock, owed, kept, referred, leaving, is_order_of, is_event_of}
@@ -23,6 +23,7 @@ use Rattle.dex_types.specs.Totals.{weighed_where}
 use Rattle.dex_laws.specs.Places.{is_order_at, is_event_at}
 use Rattle.dex_laws.proofs.LockLaws.{lock-none}
 use Rattle.dex_laws.proofs.TotalLaws.{total-append}
+use Rattle.dex_sound.specs.Cancels.{Rests}
 use Rattle.dex_sound.specs.Places.{rests_at, ends_here, ends_at, is_taken, AreElsewhere, PlacesAgree, IsSoundByPlace}
 use Rattle.dex_sound.proofs.PlaceParts.{sides-hold, sides-sum, put-sides-sum, resting-unended, unended-each, elsewhere-turned, EndLast-append}
 use Rattle.dex_sound.proofs.WithoutLaws.{found-All, total-without, length-without, All-without, InBookOrder-without_order}
@@ -38,10 +39,6 @@ out_of side order m = releasing_out side m.listing.sizes order order.lots
 -- the orders of its side that stay
 abbrev left_on : Side → Order → Market → List Order
 left_on side order m = without_order order.id (orders side m)
-
--- it rests in the market
-abbrev pub Rests : RestingOrder → Market → Type 0
-Rests gone m = order_with gone.order.id (orders gone.side m) ≡ Some gone.order
 
 -- an out of all lots is the last of its order
 out-final : (side : Side) (sizes : Lots) (order : Order) → is_final (releasing_out side sizes order order.lots) ≡ true

@@ -3,6 +3,7 @@ mod Examples
 mod RefusalExamples
 mod SolvencyExamples
 pub mod CancelSound
+pub mod CancelledLaws
 pub mod CrankLaws
 pub mod CrankSound
 pub mod FillLaws
