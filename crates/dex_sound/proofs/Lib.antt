@@ -9,6 +9,9 @@ pub mod CrankSound
 pub mod FillLaws
 pub mod KeepLaws
 pub mod MadeLaws
+pub mod MeetPlaces
+pub mod MeetSides
+pub mod MeetSums
 pub mod PlaceLaws
 pub mod PlaceParts
 pub mod TraderSums
