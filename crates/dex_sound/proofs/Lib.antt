@@ -12,8 +12,10 @@ pub mod MadeLaws
 pub mod MeetPlaces
 pub mod MeetSides
 pub mod MeetSums
+pub mod OrderSoundReasons
 pub mod PlaceLaws
 pub mod PlaceParts
+pub mod TakeSound
 pub mod TraderSums
 pub mod WithoutLaws
 pub mod WordsSound
