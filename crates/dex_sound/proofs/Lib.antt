@@ -12,6 +12,9 @@ pub mod MadeLaws
 pub mod MeetPlaces
 pub mod MeetSides
 pub mod MeetSums
+pub mod OrderSound
+pub mod OrderSoundFunds
+pub mod OrderSoundPlaces
 pub mod OrderSoundReasons
 pub mod PlaceLaws
 pub mod PlaceParts
