@@ -1,3 +1,4 @@
+pub mod Cancels
 pub mod Cranks
 pub mod Exchange
 pub mod Kept

@@ -6,5 +6,6 @@ pub mod cranks;
 pub mod fills;
 pub mod keeping;
 pub mod made;
+pub mod orders;
 pub mod places;
 pub mod refusals;
