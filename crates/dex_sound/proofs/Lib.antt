@@ -1,5 +1,6 @@
 pub mod ExampleMarket
 mod Examples
+mod ReasonExamples
 mod RefusalExamples
 mod SolvencyExamples
 pub mod CrankLaws
