@@ -1,4 +1,5 @@
 pub mod ExampleMarket
+mod CaseExamples
 mod Examples
 mod ReasonExamples
 mod RefusalExamples
