@@ -4,6 +4,7 @@ mod Examples
 mod ReasonExamples
 mod RefusalExamples
 mod SolvencyExamples
+mod UnsoundExamples
 pub mod CrankLaws
 pub mod FillLaws
 pub mod KeepLaws
