@@ -1,9 +1,12 @@
 pub mod ExampleMarket
+mod CaseExamples
 mod Examples
+mod ReasonExamples
 mod RefusalExamples
 mod SolvencyExamples
 pub mod CancelSound
 pub mod CancelledLaws
+mod UnsoundExamples
 pub mod CrankLaws
 pub mod CrankSound
 pub mod FillLaws
