@@ -1,8 +1,8 @@
 -- places through a meeting: which orders its events end, and that none comes behind the end of its order
 use Rattle.std.proofs.Common.{ℕ, ◌+◌, ◌≤◌, ◌≡◌, ⊎_elim, Bool, true, false, ◌&&◌, cond, eqb, List, [], ◌∷◌, ◌++◌, Option, Some, None, refl, sym, ap, ◌∙◌, arith}
 use Rattle.std.specs.List.{All}
-use Rattle.std.proofs.lemmas.Bool.{cases_Bool, cond_both, eq-eqb, eqb-true, and_from, false_from_ne_true, false≢true}
-use Rattle.std.proofs.lemmas.List.Elements.{All-nil, All-cons, All-head, All-tail, All-append, All-weaker}
+use Rattle.std.proofs.lemmas.Bool.{cases_Bool, cond_both, eq-eqb, and_from, false≢true}
+use Rattle.std.proofs.lemmas.List.Elements.{All-nil, All-head, All-tail, All-append, All-weaker}
 use Rattle.dex_types.specs.declared.addresses.Address.{Address}
 use Rattle.dex_types.specs.declared.orders.Order.{Order}
 use Rattle.dex_types.specs.declared.terms.Side.{Side}
@@ -18,10 +18,11 @@ use Rattle.dex_laws.specs.Places.{frees, is_order_at, is_event_at, freed_at}
 use Rattle.dex_laws.proofs.BestFirstLaws.{All-met_events}
 use Rattle.dex_laws.proofs.MeetLaws.{meet-induction}
 use Rattle.dex_laws.proofs.TotalLaws.{total-agree, total-none}
-use Rattle.dex_laws.proofs.TraderLaws.{is_same-refl, is_same-sym}
+use Rattle.dex_laws.proofs.TraderLaws.{is_same-refl}
 use Rattle.dex_sound.specs.Places.{rests_at, ends_here, ends_at, is_taken, AreElsewhere, EndLast, PlacesAgree}
 use Rattle.dex_sound.proofs.MeetSums.{always}
 use Rattle.dex_sound.proofs.PlaceLaws.{is_place}
+use Rattle.dex_sound.proofs.PlaceParts.{is_place-sym, sides-sum, AreElsewhere-append}
 
 -- final outs of a place, counted in two ways
 ends-frees : (final here : Bool) → ◌≡◌ {A = ℕ} (cond (final && here) 1 0) (cond here (cond final 1 0) 0)
@@ -35,16 +36,7 @@ ends-freed owner slot events =
     total-agree (ends_here owner slot) (weighed_where (is_event_at owner slot) frees) events
     (always (λ (e : QueuedEvent). ends_here owner slot e ≡ weighed_where (is_event_at owner slot) frees e) (λ e. ends-frees (is_final e) (is_event_at owner slot e)) events)
 
--- the test of a place does not depend on the order of the two
-eqb-turned : (a b : ℕ) → eqb a b ≡ eqb b a
-eqb-turned a b =
-    ⊎_elim (λ (same : eqb a b ≡ true). same ∙ sym (eq-eqb b a (sym (eqb-true a b same))))
-    (λ (apart : eqb a b ≡ false). apart ∙ sym (false_from_ne_true (eqb b a) (λ same. false≢true (sym apart ∙ eq-eqb a b (sym (eqb-true b a same))))))
-    (cases_Bool (eqb a b))
-
-pub is_place-turned : (owner other : Address) (slot at : ℕ) → is_place owner slot other at ≡ is_place other at owner slot
-is_place-turned owner other slot at = rw (is_same-sym owner other, eqb-turned slot at) refl
-
+-- a place is itself
 pub is_place-itself : (owner : Address) (slot : ℕ) → is_place owner slot owner slot ≡ true
 is_place-itself owner slot = and_from _ _ (is_same-refl owner) (eq-eqb slot slot refl)
 
@@ -53,11 +45,6 @@ not-here : (final here : Bool) → ◌≡◌ {A = ℕ} (cond (final && here) 1 0
 not-here true true none is = absurd (omega arith)
 not-here true false none is = refl
 not-here false here none is = absurd (false≢true is)
-
-AreElsewhere-append : (owner : Address) (slot : ℕ) (events later : List QueuedEvent) → AreElsewhere owner slot events → AreElsewhere owner slot later
-    → AreElsewhere owner slot (events ++ later)
-AreElsewhere-append owner slot [] later first then = then
-AreElsewhere-append owner slot (event ∷ events) later first then = (first.0, AreElsewhere-append owner slot events later first.1 then)
 
 All-elsewhere : (owner : Address) (slot : ℕ) (events : List QueuedEvent) → All (λ (e : QueuedEvent). is_event_at owner slot e ≡ false) events → AreElsewhere owner slot events
 All-elsewhere owner slot [] away = tt
@@ -70,17 +57,17 @@ All-elsewhere owner slot (event ∷ events) away = (
 abbrev pub NoneEnds : List QueuedEvent → QueuedEvent → Type 0
 NoneEnds events later = ends_at later.owner later.slot events ≡ 0
 
-pub EndLast-append : (events later : List QueuedEvent) → EndLast events → EndLast later → All (NoneEnds events) later → EndLast (events ++ later)
-EndLast-append [] later first then apart = then
-EndLast-append (event ∷ events) later first then apart = (
+pub EndLast-behind : (events later : List QueuedEvent) → EndLast events → EndLast later → All (NoneEnds events) later → EndLast (events ++ later)
+EndLast-behind [] later first then apart = then
+EndLast-behind (event ∷ events) later first then apart = (
   λ final. AreElsewhere-append event.owner event.slot events later (first.0 final)
       (All-elsewhere event.owner event.slot later
       (All-weaker (NoneEnds (event ∷ events)) (λ (e : QueuedEvent). is_event_at event.owner event.slot e ≡ false)
       (λ e none.
-      is_place-turned event.owner e.owner event.slot e.slot
+      is_place-sym event.owner e.owner event.slot e.slot
       ∙ not-here (is_final event) (is_event_at e.owner e.slot event) (omega (arith, none)) final)
       later apart)),
-  EndLast-append events later first.1 then
+  EndLast-behind events later first.1 then
       (All-weaker (NoneEnds (event ∷ events)) (NoneEnds events) (λ e none. omega (arith, none)) later apart),
 )
 
@@ -155,7 +142,7 @@ meet-once side t = meet-induction side t (λ w orders met. IsMetOnce orders met)
         (All-weaker (IsAt order) (λ (e : QueuedEvent). 1 ≤ rests_at e.owner e.slot (order ∷ others)) (at-place order others) (met_events side t order lots)
         (met-at side t order lots))
         (All-nil (λ (e : QueuedEvent). 1 ≤ rests_at e.owner e.slot (order ∷ others))),
-    λ once. EndLast-append (met_events side t order lots) [] (met-last side t order lots) tt (All-nil (NoneEnds (met_events side t order lots))),
+    λ once. EndLast-behind (met_events side t order lots) [] (met-last side t order lots) tt (All-nil (NoneEnds (met_events side t order lots))),
   );
   whole = λ w order others lots rest takes whole held. (
     All-append (λ (e : QueuedEvent). 1 ≤ rests_at e.owner e.slot (order ∷ others)) (met_events side t order lots) rest.events
@@ -164,7 +151,7 @@ meet-once side t = meet-induction side t (λ w orders met. IsMetOnce orders met)
         (All-weaker (λ (e : QueuedEvent). 1 ≤ rests_at e.owner e.slot others) (λ (e : QueuedEvent). 1 ≤ rests_at e.owner e.slot (order ∷ others))
         (λ e rests. omega (arith, rests)) rest.events held.0),
     λ once.
-        EndLast-append (met_events side t order lots) rest.events (met-last side t order lots)
+        EndLast-behind (met_events side t order lots) rest.events (met-last side t order lots)
         (held.1 (λ owner slot. omega (arith, once owner slot)))
         (All-weaker (λ (e : QueuedEvent). 1 ≤ rests_at e.owner e.slot others) (NoneEnds (met_events side t order lots))
         (λ e rests.
@@ -191,14 +178,4 @@ is_taken-le (Some held) = omega arith
 -- what rests and ends at a place, by a side and the opposite one
 pub counts-sides : (side : Side) (m : Market) → PlacesAgree m → (owner : Address) (slot : ℕ)
     → rests_at owner slot (orders side m) + rests_at owner slot (orders (opposite side) m) + ends_at owner slot m.events ≡ is_taken (held_at owner slot m.traders)
-counts-sides Bid m agree owner slot = agree.counts owner slot
-counts-sides Ask m agree owner slot = omega (arith, agree.counts owner slot)
-
--- each order rests for its place
-pub rests-each : (orders : List Order) → All (λ (o : Order). 1 ≤ rests_at o.owner o.slot orders) orders
-rests-each [] = All-nil (λ (o : Order). 1 ≤ rests_at o.owner o.slot [])
-rests-each (order ∷ others) =
-    All-cons (λ (o : Order). 1 ≤ rests_at o.owner o.slot (order ∷ others)) order others
-    (counts-one (is_order_at order.owner order.slot order) (rests_at order.owner order.slot others) (is_place-itself order.owner order.slot))
-    (All-weaker (λ (o : Order). 1 ≤ rests_at o.owner o.slot others) (λ (o : Order). 1 ≤ rests_at o.owner o.slot (order ∷ others))
-    (λ o rests. omega (arith, rests)) others (rests-each others))
+counts-sides side m agree owner slot = omega (arith, agree.counts owner slot, sides-sum (rests_at owner slot) side m)

@@ -1,5 +1,5 @@
 -- what holds of each side of a market after a taker met one of them
-use Rattle.std.proofs.Common.{ℕ, ◌+◌, ◌<◌, ◌≡◌, List, Some, refl, arith}
+use Rattle.std.proofs.Common.{ℕ, ◌<◌, ◌≡◌, List, Some, arith}
 use Rattle.std.specs.List.{All}
 use Rattle.std.proofs.lemmas.List.Elements.{All-weaker}
 use Rattle.dex_types.specs.declared.orders.Order.{Order}
@@ -8,25 +8,12 @@ use Rattle.dex_types.specs.declared.terms.Side.{Side}
 use Rattle.dex_types.specs.declared.terms.Side.TheVariants.{Bid, Ask}
 use Rattle.dex_types.specs.Meeting.{TakerTerms, Demand, less, meet, maker_fill}
 use Rattle.dex_types.specs.QueuedEvent.{QueuedEvent}
-use Rattle.dex_types.specs.Side.{opposite, by_side}
+use Rattle.dex_types.specs.Side.{opposite}
 use Rattle.dex_types.specs.Soundness.{IsProper, held_at, order_holding, event_holding}
 use Rattle.dex_types.specs.Trader.{Traders}
 use Rattle.dex_laws.proofs.EachEventLaws.{meet-each, meet-words}
 use Rattle.dex_laws.proofs.LeftLaws.{meet-left, All-left}
 use Rattle.dex_laws.proofs.LockLaws.{IsPriced, order_lock-less}
-
--- what holds of the orders of a side and of those of the opposite one holds of those of each
-pub on-sides : (P : Side → List Order → Type 0) (side : Side) (own opposing : List Order) → P side own → P (opposite side) opposing
-    → (each : Side) → P each (by_side each (by_side side own opposing) (by_side side opposing own))
-on-sides P Bid own opposing here there Bid = here
-on-sides P Bid own opposing here there Ask = there
-on-sides P Ask own opposing here there Bid = there
-on-sides P Ask own opposing here there Ask = here
-
--- a sum over both sides
-pub sum-sides : (sum : List Order → ℕ) (side : Side) (own opposing : List Order) → sum (by_side side own opposing) + sum (by_side side opposing own) ≡ sum own + sum opposing
-sum-sides sum Bid own opposing = refl
-sum-sides sum Ask own opposing = omega arith
 
 -- an order with fewer lots, some of them, is proper
 proper-less : (side : Side) (sizes : Lots) (order : Order) (lots : ℕ) → 0 < lots → lots < order.lots → IsProper side sizes order → IsProper side sizes (less order lots)

@@ -33,12 +33,13 @@ use Rattle.dex_laws.proofs.PostLaws.{InBookOrder-post, length-post}
 use Rattle.dex_laws.proofs.TotalLaws.{total-each}
 use Rattle.dex_laws.proofs.TraderLaws.{free_slot-le}
 use Rattle.dex_sound.specs.Places.{PlacesAgree}
-use Rattle.dex_sound.proofs.MeetSides.{on-sides, proper-left, tiers-met}
+use Rattle.dex_sound.proofs.MeetSides.{proper-left, tiers-met}
 use Rattle.dex_sound.proofs.MeetSums.{last-each, taker-each}
 use Rattle.dex_sound.proofs.OrderSoundFunds.{ordered_market, order-funds}
 use Rattle.dex_sound.proofs.OrderSoundPlaces.{HasRoom, All-booted, order-places}
 use Rattle.dex_sound.proofs.OrderSoundReasons.{first_of-none, refused_where-none, queue_full-none, IsBounded-none}
 use Rattle.dex_sound.proofs.PlaceLaws.{SlotsAgree-places}
+use Rattle.dex_sound.proofs.PlaceParts.{sides-hold}
 use Rattle.dex_sound.proofs.TraderSums.{AreDistinct-put, HasSlots-put}
 
 -- what is known of an order that is not refused
@@ -173,12 +174,12 @@ order-form side m account n found priced form agree may funds =
       coin_lot = form.coin_lot;
       pc_lot = form.pc_lot;
       room = form.room;
-      in_order = on-sides InBookOrder side o.posting.side o.met.left
+      in_order = sides-hold InBookOrder side o.posting.side o.met.left m
           (InBookOrder-post side (capacity side m) o.order own (order-apart side m n form.sequence agree) (form.in_order side))
           (InBookOrder-left (opposite side) o.met.left opposing is_left (form.in_order (opposite side)));
-      proper = on-sides (λ each list. All (IsProper each sizes) list) side o.posting.side o.met.left (order-proper side m account n priced form funds)
+      proper = sides-hold (λ each list. All (IsProper each sizes) list) side o.posting.side o.met.left m (order-proper side m account n priced form funds)
           (proper-left (opposite side) sizes side terms wants opposing (form.proper (opposite side)));
-      within = on-sides (λ each list. length list ≤ capacity each m) side o.posting.side o.met.left
+      within = sides-hold (λ each list. length list ≤ capacity each m) side o.posting.side o.met.left m
           (length-post side (capacity side m) o.order own (form.room side) (form.within side))
           (omega (arith, length-left o.met.left opposing is_left, form.within (opposite side)));
       events_within = omega (arith, may.room, length-append m.events o.events);

@@ -23,10 +23,11 @@ use Rattle.dex_laws.proofs.PostLaws.{post-induction}
 use Rattle.dex_laws.proofs.TotalLaws.{total-append, total-none}
 use Rattle.dex_laws.proofs.TraderLaws.{free_slot-free, is_same-true, is_same-refl}
 use Rattle.dex_sound.specs.Places.{PlacesAgree, EndLast, HoldOnce, rests_at, ends_here, ends_at, is_taken}
-use Rattle.dex_sound.proofs.MeetPlaces.{counts-sides, is_taken-le, NoneEnds, EndLast-append, ends-freed, meet-rested, meet-ends_last, rests-each}
-use Rattle.dex_sound.proofs.MeetSides.{IsResting, IsPending, on-sides, sum-sides, priced, resting-left, pending-met}
+use Rattle.dex_sound.proofs.MeetPlaces.{counts-sides, is_taken-le, NoneEnds, EndLast-behind, ends-freed, meet-rested, meet-ends_last}
+use Rattle.dex_sound.proofs.MeetSides.{IsResting, IsPending, priced, resting-left, pending-met}
 use Rattle.dex_sound.proofs.MeetSums.{last-each, taker-each}
 use Rattle.dex_sound.proofs.OrderSoundFunds.{ordered_market, total-ordered}
+use Rattle.dex_sound.proofs.PlaceParts.{sides-hold, put-sides-sum, rests-itself}
 use Rattle.dex_sound.proofs.TraderSums.{held_at-put_slot}
 
 -- what the slot of a new order holds
@@ -147,7 +148,7 @@ order-resting side m account n room agree =
     let o : Ordering = order_on side m account n in
     let after : Traders = (ordered_market side m account n).traders in
     let still : (each : Side) → All (IsResting after each) (orders each m) = resting-still side m account n room agree in
-    on-sides (λ each list. All (IsResting after each) list) side o.posting.side o.met.left
+    sides-hold (λ each list. All (IsResting after each) list) side o.posting.side o.met.left m
     (All-post (IsResting after side) side (capacity side m) o.order (orders side m) (λ some. held-new side m account n room) (still side))
     (resting-left after (opposite side) side (terms_of m.listing.sizes n) (demand_of side m.listing.sizes n) (orders (opposite side) m) (still (opposite side)))
 
@@ -200,7 +201,7 @@ order-counts side m account n form room agree owner slot =
       arith,
       more,
       counts-sides side m agree owner slot,
-      sum-sides (rests_at owner slot) side o.posting.side o.met.left,
+      put-sides-sum (rests_at owner slot) side o.posting.side o.met.left m,
       total-ordered (ends_here owner slot) side m account n,
       meet-places owner slot side (terms_of sizes n) form.coin_lot form.pc_lot (demand_of side sizes n) opposing (priced (opposite side) sizes opposing (form.proper (opposite side))),
       post-places owner slot side sizes (capacity side m) o.order (orders side m) (form.room side),
@@ -247,7 +248,7 @@ behind-last side m account n form room agree =
     (λ none. behind-own side m account n form room agree)
     (λ gone is.
     let rests : 1 ≤ rests_at gone.owner gone.slot (orders side m) =
-    All-booted (λ (order : Order). 1 ≤ rests_at order.owner order.slot (orders side m)) side (capacity side m) o.order (orders side m) (rests-each (orders side m)) gone is in
+    All-booted (λ (order : Order). 1 ≤ rests_at order.owner order.slot (orders side m)) side (capacity side m) o.order (orders side m) (rests-itself (orders side m)) gone is in
     behind-none side m account n form agree gone.owner gone.slot (omega (arith, rests, is_taken-le (held_at gone.owner gone.slot m.traders))))
 
 -- one event is behind none
@@ -273,9 +274,9 @@ order-last side m account n form room agree =
     let last : List QueuedEvent = last_events side sizes o.order o.posting.booted in
     let IsBehind : QueuedEvent → Type 0 = λ e. IsBehindNone side m account n e.owner e.slot in
     let counts = counts-sides side m agree in
-    EndLast-append m.events (o.met.events ++ taker ++ last) agree.last
-    (EndLast-append (o.met.events ++ taker) last
-    (EndLast-append o.met.events taker
+    EndLast-behind m.events (o.met.events ++ taker ++ last) agree.last
+    (EndLast-behind (o.met.events ++ taker) last
+    (EndLast-behind o.met.events taker
     (meet-ends_last side terms wants opposing (λ owner slot. omega (arith, counts owner slot, is_taken-le (held_at owner slot m.traders))))
     (taker-ends_last side sizes n o.met o.order)
     (All-weaker IsBehind (NoneEnds o.met.events) (λ e none. none.1) taker (behind-taker side m account n form room agree)))

@@ -29,11 +29,12 @@ use Rattle.dex_laws.proofs.MovedLaws.{IsTestOfOrder-owner}
 use Rattle.dex_laws.proofs.TotalLaws.{total-append}
 use Rattle.dex_sound.specs.Places.{PlacesAgree, rests_at, ends_here, ends_at, is_taken}
 use Rattle.dex_sound.proofs.FillLaws.{take-balanced}
-use Rattle.dex_sound.proofs.MeetPlaces.{counts-sides, is_taken-le, NoneEnds, EndLast-append, ends-freed, meet-rested, meet-ends_last}
-use Rattle.dex_sound.proofs.MeetSides.{IsResting, IsPending, on-sides, sum-sides, proper-left, priced, resting-left, pending-met, tiers-met}
+use Rattle.dex_sound.proofs.MeetPlaces.{counts-sides, is_taken-le, NoneEnds, EndLast-behind, ends-freed, meet-rested, meet-ends_last}
+use Rattle.dex_sound.proofs.MeetSides.{IsResting, IsPending, proper-left, priced, resting-left, pending-met, tiers-met}
 use Rattle.dex_sound.proofs.MeetSums.{balanced-owed, met-locked, met-own, met-locked_all, met-own_all, met-referred}
 use Rattle.dex_sound.proofs.OrderSoundReasons.{first_of-none, queue_full-none, IsBounded-none}
 use Rattle.dex_sound.proofs.PlaceLaws.{SlotsAgree-places}
+use Rattle.dex_sound.proofs.PlaceParts.{sides-hold, put-sides-sum}
 
 -- what a take meets on a market, and what it leaves
 abbrev met_of : Side → Take → Market → Meeting
@@ -81,10 +82,10 @@ take-form side t m form allowed =
       coin_lot = form.coin_lot;
       pc_lot = form.pc_lot;
       room = form.room;
-      in_order = on-sides InBookOrder side (orders side m) met.left (form.in_order side) (InBookOrder-left (opposite side) met.left opposing is_left (form.in_order (opposite side)));
-      proper = on-sides (λ each list. All (IsProper each m.listing.sizes) list) side (orders side m) met.left (form.proper side)
+      in_order = sides-hold InBookOrder side (orders side m) met.left m (form.in_order side) (InBookOrder-left (opposite side) met.left opposing is_left (form.in_order (opposite side)));
+      proper = sides-hold (λ each list. All (IsProper each m.listing.sizes) list) side (orders side m) met.left m (form.proper side)
           (proper-left (opposite side) m.listing.sizes side terms wants opposing (form.proper (opposite side)));
-      within = on-sides (λ each list. length list ≤ capacity each m) side (orders side m) met.left (form.within side)
+      within = sides-hold (λ each list. length list ≤ capacity each m) side (orders side m) met.left m (form.within side)
           (omega (arith, length-left met.left opposing is_left, form.within (opposite side)));
       events_within = omega (arith, allowed.room, length-append m.events met.events);
       tiers = All-append (λ (e : QueuedEvent). e.tier < 7) m.events met.events form.tiers
@@ -106,19 +107,19 @@ take-places side t m form agree =
     let both : (owner : Address) (slot : ℕ) → rests_at owner slot own + rests_at owner slot opposing + ends_at owner slot m.events ≡ is_taken (held_at owner slot m.traders) =
     counts-sides side m agree in
     record {
-      resting = on-sides (λ each list. All (IsResting m.traders each) list) side own met.left (agree.resting side)
+      resting = sides-hold (λ each list. All (IsResting m.traders each) list) side own met.left m (agree.resting side)
           (resting-left m.traders (opposite side) side terms wants opposing (agree.resting (opposite side)));
       pending = All-append (IsPending m.traders) m.events met.events agree.pending (pending-met m.traders side terms wants opposing (agree.resting (opposite side)));
       counts = λ owner slot.
           omega (
             arith,
             both owner slot,
-            sum-sides (rests_at owner slot) side own met.left,
+            put-sides-sum (rests_at owner slot) side own met.left m,
             meet-places owner slot side terms form.coin_lot form.pc_lot wants opposing (priced (opposite side) m.listing.sizes opposing (form.proper (opposite side))),
             ends-freed owner slot met.events,
             total-append (ends_here owner slot) m.events met.events,
           );
-      last = EndLast-append m.events met.events agree.last
+      last = EndLast-behind m.events met.events agree.last
           (meet-ends_last side terms wants opposing (λ owner slot. omega (arith, both owner slot, is_taken-le (held_at owner slot m.traders))))
           (All-weaker (λ (e : QueuedEvent). 1 ≤ rests_at e.owner e.slot opposing) (NoneEnds m.events)
           (λ e rests. omega (arith, rests, both e.owner e.slot, is_taken-le (held_at e.owner e.slot m.traders)))
