@@ -1,14 +1,20 @@
 -- cranks add up
-use Rattle.std.proofs.Common.{ℕ, zero, suc, ◌+◌, ◌-◌, ◌≤◌, ◌<◌, ◌≡◌, true, ◌&&◌, ltb, min, List, [], ◌∷◌, ◌++◌, length, take, drop, IsTrue, refl, sym, ap, ◌∙◌, arith, take-add, drop-drop, ⊎_elim}
+use Rattle.std.proofs.Common.{ℕ, zero, suc, add-one, ◌+◌, ◌-◌, ◌≤◌, ◌<◌, ◌≡◌, true, ◌&&◌, ltb, min, List, [], ◌∷◌, ◌++◌, length, take, drop, IsTrue, get_or, false, None, Result, Ok, refl, sym, ap, ◌∙◌, arith, take-add, drop-drop, ⊎_elim}
 use Rattle.std.specs.List.{All}
 use Rattle.std.proofs.Math.Nat.{min-le_left, min-le_right, min-eq_left, min-eq_right}
-use Rattle.std.proofs.lemmas.Bool.{cond-true, cond_both, cases_lt, lt-ltb, ltb-true, and_parts, and_from}
-use Rattle.std.proofs.lemmas.List.Elements.{All-head, All-tail}
+use Rattle.std.proofs.lemmas.Bool.{cond-true, cond_both, cases_lt, lt-ltb, ltb-true, ltb-false, and_parts, and_cases, and_from}
+use Rattle.std.proofs.lemmas.List.Elements.{All-nil, All-cons, All-head, All-tail}
 use Rattle.dex_types.specs.declared.addresses.Address.{Address}
+use Rattle.dex_types.specs.declared.instructions.BadData.{BadData}
+use Rattle.dex_types.specs.declared.instructions.Ix.{Ix}
+use Rattle.dex_types.specs.declared.instructions.Ix.TheVariants.{ConsumeEvents}
+use Rattle.dex_types.specs.declared.rows.Seen.{Seen}
 use Rattle.dex_types.specs.Market.{Market}
 use Rattle.dex_types.specs.Payment.{pay_all, pay_owner, consumable, is_named, after_crank}
 use Rattle.dex_types.specs.QueuedEvent.{QueuedEvent}
+use Rattle.dex_types.specs.Requests.{Request}
 use Rattle.dex_types.specs.Trader.{Traders}
+use Rattle.dex_types.specs.Why.{why, why_decoded}
 use Rattle.dex_sound.specs.Cranks.{Crank, after_cranks, consumed_by}
 use Rattle.dex_types.specs.Steps.{act_consume}
 
@@ -77,3 +83,32 @@ consumable-all limit named (event ∷ events) all =
     (λ (right : length events ≤ limit - 1). omega (arith, more, rest, min-eq_right right, min-le_right limit (length events + 1)))
     (cases_lt (limit - 1) (length events)))
     (cases_lt limit 1)
+
+-- it names the owner of each event that it consumes
+pub consumable-named : (limit : ℕ) (named : List Address) (events : List QueuedEvent)
+    → All (λ (event : QueuedEvent). IsTrue (is_named event.owner named)) (take (consumable limit named events) events)
+consumable-named limit named [] = All-nil _
+consumable-named limit named (event ∷ events) =
+    let IsNamed : QueuedEvent → Type 0 = λ event. IsTrue (is_named event.owner named) in
+    cond_both (ltb 0 limit && is_named event.owner named) (consumable (limit - 1) named events + 1) 0 (λ count. All IsNamed (take count (event ∷ events)))
+    (λ more.
+    rw add-one
+    (All-cons IsNamed event (take (consumable (limit - 1) named events) events) (and_parts (ltb 0 limit) (is_named event.owner named) more).1
+    (consumable-named (limit - 1) named events)))
+    (λ over. All-nil IsNamed)
+
+-- and not that of the next one, where it may consume one more
+pub consumable-stops : (limit : ℕ) (named : List Address) (events : List QueuedEvent) (default : QueuedEvent) → consumable limit named events < limit
+    → consumable limit named events < length events → is_named (get_or events (consumable limit named events) default).owner named ≡ false
+consumable-stops limit named [] default = λ below within. absurd (omega arith)
+consumable-stops limit named (event ∷ events) default =
+    cond_both (ltb 0 limit && is_named event.owner named) (consumable (limit - 1) named events + 1) 0
+    (λ count. count < limit → count < suc (length events) → is_named (get_or (event ∷ events) count default).owner named ≡ false)
+    (λ more below within. rw add-one (consumable-stops (limit - 1) named events default (omega arith) (omega arith)))
+    (λ over below within.
+    ⊎_elim (λ (none : ltb 0 limit ≡ false). absurd (omega (arith, ltb-false 0 limit none))) (λ (apart : is_named event.owner named ≡ false). apart)
+    (and_cases (ltb 0 limit) (is_named event.owner named) over))
+
+-- a crank has no reason to be refused
+pub crank-not_refused : (request : Request) (seen : Seen) (m : Market) (limit : ℕ) → request.instruction ≡ Ok (ConsumeEvents limit) → why request seen m ≡ None
+crank-not_refused request seen m limit is = ap (λ (instruction : Result Ix BadData). why_decoded instruction request seen m) is
