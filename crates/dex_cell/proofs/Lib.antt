@@ -1,3 +1,4 @@
 mod JournalExamples
 pub mod HistoryLaws
 pub mod WalletLaws
+pub mod PriceLaws

@@ -3,3 +3,4 @@
 #![tactic(auto)]
 
 pub mod histories;
+pub mod soundness;

@@ -1,7 +1,7 @@
 -- what a cancel takes: orders that rest, each once; and taking them one after the other keeps a market sound
-use Rattle.std.proofs.Common.{ℕ, zero, suc, ◌+◌, ◌≤◌, ◌≡◌, ◌≢◌, true, false, ◌&&◌, eqb, leb, List, [], ◌∷◌, ◌++◌, Option, Some, None, length, take, refl, sym, ap, ◌∙◌, subst, arith, ⊎_elim, length-append}
+use Rattle.std.proofs.Common.{ℕ, zero, suc, ◌+◌, ◌≤◌, ◌≡◌, ◌≢◌, true, false, not, ◌&&◌, eqb, leb, List, [], ◌∷◌, ◌++◌, Option, Some, None, length, take, refl, sym, ap, ◌∙◌, subst, arith, ⊎_elim, length-append}
 use Rattle.std.specs.List.{All}
-use Rattle.std.proofs.lemmas.Bool.{cases_Bool, cond_both, cond-true, cond-false, eqb-true, ne_eqb, and_parts, and_left, and_right}
+use Rattle.std.proofs.lemmas.Bool.{not-false, cases_Bool, cond_both, cond-true, cond-false, eqb-true, ne_eqb, and_parts, and_left, and_right}
 use Rattle.std.proofs.lemmas.List.Elements.{All-nil, All-cons, All-head, All-tail, All-append, All-weaker, All-take}
 use Rattle.dex_types.specs.declared.addresses.Address.{Address}
 use Rattle.dex_types.specs.declared.orders.Order.{Order}
@@ -13,12 +13,17 @@ use Rattle.dex_types.specs.Market.{Market, orders, with_sides}
 use Rattle.dex_types.specs.Meeting.{releasing_out}
 use Rattle.dex_types.specs.Posting.{PrecedesAll, InBookOrder}
 use Rattle.dex_types.specs.Side.{opposite, precedes}
+use Rattle.dex_types.specs.Reasons.{not_resting, not_yours, queue_full}
+use Rattle.dex_types.specs.Soundness.{IsSound}
 use Rattle.dex_types.specs.Tokens.{is_same_side}
+use Rattle.dex_types.specs.Why.{why_not_named, why_cancelled}
+use Rattle.dex_types.specs.declared.refusals.Refusal.TheVariants as refusal
 use Rattle.dex_laws.proofs.BestFirstLaws.{All-PrecedesAll}
 use Rattle.dex_laws.proofs.IdLaws.{precedes-apart}
-use Rattle.dex_sound.specs.Cancels.{Rests, AreApart}
+use Rattle.dex_sound.specs.Cancels.{Rests, AreApart, AreOwnResting}
 use Rattle.dex_sound.specs.Places.{IsSoundByPlace}
 use Rattle.dex_sound.proofs.CancelSound.{cancel_one-sound}
+use Rattle.dex_sound.proofs.OrderSoundReasons.{first_of-none, refused_where-none}
 use Rattle.dex_sound.proofs.PlaceLaws.{is_same_side-true}
 use Rattle.dex_sound.proofs.WithoutLaws.{order_with-first, order_with-behind, order_with-without, found-All, found-id}
 
@@ -262,3 +267,39 @@ cancels-sound (first ∷ gone) m rests apart room sound =
         All-cons (λ (order : RestingOrder). Rests order (cancel_one first m)) other gone
         (rests-after first other m (All-head IsAway other gone apart) (All-head IsHere other gone rests))
         (both first gone m (All-tail IsAway other gone apart) (All-tail IsHere other gone rests))
+
+-- and it is the owner's, where an id names an order of the owner
+mine-own : (owner : Address) (m : Market) → ((side : Side) → InBookOrder side (orders side m)) → All (λ (gone : RestingOrder). is_same owner gone.order.owner ≡ true) (mine owner m)
+mine-own owner m sorted =
+    All-weaker (IsMine owner m) (λ (gone : RestingOrder). is_same owner gone.order.owner ≡ true) (λ o is. is.own) (mine owner m) (all-mine owner m sorted)
+
+not_yours-none : (owner : Address) (found : Option Order) (order : Order) → not_yours owner found ≡ None → found ≡ Some order → is_same owner order.owner ≡ true
+not_yours-none owner None order none is = absurd (cc)
+not_yours-none owner (Some other) order none is =
+    let same : other ≡ order = cc in
+    subst (λ (o : Order). is_same owner o.owner ≡ true) same (not-false (is_same owner other.owner) (refused_where-none (not (is_same owner other.owner)) (refusal.OrderNotYours other.owner) none))
+
+pub cancelled-own : (by : CancelBy) (owner : Address) (m : Market) → ((side : Side) → InBookOrder side (orders side m)) → why_not_named by owner m (cancelled by owner m.bids m.asks) ≡ None
+    → All (λ (gone : RestingOrder). is_same owner gone.order.owner ≡ true) (cancelled by owner m.bids m.asks)
+cancelled-own (ById side id) owner m sorted none =
+    let parts = first_of-none (not_resting (order_with id (orders side m)) (order_with id (orders (opposite side) m)) ∷ not_yours owner (order_with id (orders side m)) ∷ []) none in
+    on_side-All (λ (gone : RestingOrder). is_same owner gone.order.owner ≡ true) side (order_with id (orders side m))
+    (λ order found. not_yours-none owner (order_with id (orders side m)) order parts.1.0 found)
+cancelled-own (ByClient client) owner m sorted none =
+    at_most_one-All (λ (gone : RestingOrder). is_same owner gone.order.owner ≡ true) (oldest client (mine owner m))
+    (oldest-All (λ (gone : RestingOrder). is_same owner gone.order.owner ≡ true) client (mine owner m) (mine-own owner m sorted))
+cancelled-own (ByClients clients) owner m sorted none =
+    taken_by_all-All (λ (gone : RestingOrder). is_same owner gone.order.owner ≡ true) clients (mine owner m) (mine-own owner m sorted)
+cancelled-own (First count) owner m sorted none =
+    All-take (λ (gone : RestingOrder). is_same owner gone.order.owner ≡ true) count (mine owner m) (mine-own owner m sorted)
+
+-- so what a cancel that is not refused takes is the owner's, rests, and is taken once
+pub cancelled-taken : (by : CancelBy) (owner : Address) (m : Market) → IsSound m → why_cancelled by owner m ≡ None → AreOwnResting owner m (cancelled by owner m.bids m.asks)
+cancelled-taken by owner m sound none =
+    let gone = cancelled by owner m.bids m.asks in
+    let parts = first_of-none (why_not_named by owner m gone ∷ queue_full (length gone) m ∷ []) none in
+    record {
+      resting = cancelled-rests by owner m sound.form.in_order;
+      own = cancelled-own by owner m sound.form.in_order parts.0;
+      apart = cancelled-apart by owner m sound.form.in_order;
+    }

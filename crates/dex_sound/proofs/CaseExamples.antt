@@ -146,9 +146,9 @@ abbrev shared : Seen
 shared = record (ask_sees 1000) { discount = ann_coin 1000; srm = Some coin; referrer = ann_usd 7 }
 
 wallets_of_roles : (movements (program_sees Serum 1) (step buy_row (program_sees Serum 1) asked.market).transfers
-        ≡ probe (codes "bob_coin") 0 ∷ probe (codes "bob_msrm") 1 ∷ debit (codes "bob_usd") 2000 5000 ∷ [])
+    ≡ probe (codes "bob_coin") 0 ∷ probe (codes "bob_msrm") 1 ∷ debit (codes "bob_usd") 2000 5000 ∷ [])
     × (movements shared (step (row (new Ask 50 4 1 Decrement Limit 7 10) ann (amy ∷ [])) shared base).transfers
-        ≡ debit (codes "ann_coin") 400 1000 ∷ probe (codes "ann_usd") 7 ∷ [])
+    ≡ debit (codes "ann_coin") 400 1000 ∷ probe (codes "ann_usd") 7 ∷ [])
 unfolding taken demand_after price_of sequence_of id_of taker_rate maker_rate
 wallets_of_roles = (refl, refl)
 

@@ -1,14 +1,20 @@
 -- cranks add up
-use Rattle.std.proofs.Common.{ℕ, zero, suc, ◌+◌, ◌-◌, ◌≤◌, ◌<◌, ◌≡◌, true, false, ◌&&◌, ltb, min, List, [], ◌∷◌, ◌++◌, length, take, drop, IsTrue, refl, sym, ap, ◌∙◌, arith, take-add, drop-drop, ⊎_elim}
+use Rattle.std.proofs.Common.{ℕ, zero, suc, ◌+◌, ◌-◌, ◌≤◌, ◌<◌, ◌≡◌, true, false, ◌&&◌, ltb, min, List, [], ◌∷◌, ◌++◌, length, take, drop, IsTrue, None, Result, Ok, refl, sym, ap, ◌∙◌, arith, take-add, drop-drop, ⊎_elim}
 use Rattle.std.specs.List.{All}
 use Rattle.std.proofs.Math.Nat.{min-le_left, min-le_right, min-eq_left, min-eq_right}
 use Rattle.std.proofs.lemmas.Bool.{cond-true, cond_both, cases_lt, lt-ltb, ltb-true, and_parts, and_from}
 use Rattle.std.proofs.lemmas.List.Elements.{All-nil, All-cons, All-head, All-tail, All-same}
 use Rattle.dex_types.specs.declared.addresses.Address.{Address}
+use Rattle.dex_types.specs.declared.instructions.BadData.{BadData}
+use Rattle.dex_types.specs.declared.instructions.Ix.{Ix}
+use Rattle.dex_types.specs.declared.instructions.Ix.TheVariants.{ConsumeEvents}
+use Rattle.dex_types.specs.declared.rows.Seen.{Seen}
 use Rattle.dex_types.specs.Market.{Market}
 use Rattle.dex_types.specs.Payment.{pay_all, pay_owner, consumable, is_named, after_crank}
 use Rattle.dex_types.specs.QueuedEvent.{QueuedEvent}
+use Rattle.dex_types.specs.Requests.{Request}
 use Rattle.dex_types.specs.Trader.{Traders}
+use Rattle.dex_types.specs.Why.{why, why_decoded}
 use Rattle.dex_sound.specs.Cranks.{Crank, after_cranks, consumed_by}
 use Rattle.dex_types.specs.Steps.{act_consume}
 
@@ -109,3 +115,7 @@ consumable-stops limit named (event ∷ events) later next =
     (λ more left within. consumable-stops (limit - 1) named events later next
     (sym (drop-one_more (consumable (limit - 1) named events) event events) ∙ left) (omega (arith, within)))
     (λ over left within. let some : ltb 0 limit ≡ true = lt-ltb 0 limit within in cc)
+
+-- a crank has no reason to be refused
+pub crank-not_refused : (request : Request) (seen : Seen) (m : Market) (limit : ℕ) → request.instruction ≡ Ok (ConsumeEvents limit) → why request seen m ≡ None
+crank-not_refused request seen m limit is = ap (λ (instruction : Result Ix BadData). why_decoded instruction request seen m) is

@@ -21,6 +21,7 @@ pub mod OrderSoundPlaces
 pub mod OrderSoundReasons
 pub mod PlaceLaws
 pub mod PlaceParts
+pub mod StepSound
 pub mod TakeSound
 pub mod TraderSums
 pub mod WithoutLaws

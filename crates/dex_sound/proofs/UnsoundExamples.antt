@@ -110,7 +110,6 @@ abbrev of_amy : Account → Market
 of_amy account = record base { traders = (amy, Open account) ∷ [] }
 
 too_few_slots : IsSound (of_amy (account (replicate 127 None) 0 0)) → ⊥
-
 too_few_slots s = apart 127 128 (lit< tt) (s.form.slots amy (account (replicate 127 None) 0 0) refl)
 
 -- slots: what resting orders and pending events ask of them

@@ -1,11 +1,15 @@
 //! Laws of consuming events.
 
-ghost use Rattle.std.specs.Prelude.{◌≡◌, ℕ, ◌+◌, ◌≤◌, ◌<◌, List, ◌∷◌, IsTrue, false, min, length, take, drop};
+ghost use Rattle.std.specs.Prelude.{◌≡◌, ℕ, ◌+◌, ◌≤◌, ◌<◌, List, ◌∷◌, Ok, None, IsTrue, false, min, length, take, drop};
 ghost use Rattle.std.specs.List.{All};
 ghost use Rattle.dex_types.specs.declared.addresses.Address.{Address};
+ghost use Rattle.dex_types.specs.declared.instructions.Ix.TheVariants.{ConsumeEvents};
+ghost use Rattle.dex_types.specs.declared.rows.Seen.{Seen};
 ghost use Rattle.dex_types.specs.Market.{Market};
 ghost use Rattle.dex_types.specs.Payment.{consumable, is_named, after_crank};
 ghost use Rattle.dex_types.specs.QueuedEvent.{QueuedEvent};
+ghost use Rattle.dex_types.specs.Requests.{Request};
+ghost use Rattle.dex_types.specs.Why.{why};
 ghost use Rattle.dex_sound.specs.Cranks.{Crank, after_cranks, consumed_by};
 
 /// Cranks leave what one call leaves that consumes as many events as they do together. So any two ways to crank that
@@ -27,4 +31,9 @@ pub fn a_crank_consumes_what_it_may()
         drop (consumable limit named events) events ≡ next ∷ later → consumable limit named events < limit → is_named next.owner named ≡ false }
     ensures all_named { (limit : ℕ) (named : List Address) (events : List QueuedEvent) →
         All (λ (event : QueuedEvent). IsTrue (is_named event.owner named)) events → min limit (length events) ≤ consumable limit named events }
+{}
+
+/// A crank is never refused.
+pub fn a_crank_is_never_refused()
+    ensures { (request : Request) (seen : Seen) (m : Market) (limit : ℕ) → request.instruction ≡ Ok (ConsumeEvents limit) → why request seen m ≡ None }
 {}

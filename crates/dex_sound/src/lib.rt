@@ -9,3 +9,4 @@ pub mod made;
 pub mod orders;
 pub mod places;
 pub mod refusals;
+pub mod soundness;
