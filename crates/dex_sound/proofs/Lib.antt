@@ -4,12 +4,14 @@ mod Examples
 mod ReasonExamples
 mod RefusalExamples
 mod SolvencyExamples
+pub mod BoundLaws
 pub mod CancelSound
 pub mod CancelledLaws
 mod UnsoundExamples
 pub mod CrankLaws
 pub mod CrankSound
 pub mod FillLaws
+pub mod GivenLaws
 pub mod KeepLaws
 pub mod MadeLaws
 pub mod MeetPlaces

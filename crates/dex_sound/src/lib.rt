@@ -2,6 +2,7 @@
 //! sound. Each law is a function that does nothing, whose contract says it.
 #![tactic(auto)]
 
+pub mod bounds;
 pub mod cranks;
 pub mod fills;
 pub mod keeping;
