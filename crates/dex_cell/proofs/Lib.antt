@@ -2,3 +2,4 @@ mod JournalExamples
 pub mod HistoryLaws
 pub mod WalletLaws
 pub mod PriceLaws
+pub mod BalanceLaws

@@ -37,7 +37,7 @@ open-found address (Some (Open account)) party is =
     let same : named ≡ party = cc in
     (ap (λ (p : Party). p.address) same, ap (λ (p : Party). Some (Open p.account)) same)
 
-party-found : (named : List Address) (traders : Traders) (party : Party) → party_of named traders ≡ Some party → trader_at party.address traders ≡ Some (Open party.account)
+pub party-found : (named : List Address) (traders : Traders) (party : Party) → party_of named traders ≡ Some party → trader_at party.address traders ≡ Some (Open party.account)
 party-found [] traders party is = absurd (cc)
 party-found (address ∷ others) traders party is =
     let found : (address ≡ party.address) × (trader_at address traders ≡ Some (Open party.account)) = open-found address (trader_at address traders) party is in
