@@ -1,12 +1,11 @@
 -- worked examples of cases in which one word decides: ages of bids, tiers and programs of budgets, limits of takes, freed slots,
 -- counts that turn over, and wallets with several roles
-use Rattle.std.proofs.Common.{true, false, ◌≡◌, ◌^◌, ◌-◌, ℕ, List, [], ◌∷◌, Option, Some, None, refl, replicate, codes, map}
+use Rattle.std.proofs.Common.{◌≡◌, ◌^◌, ◌-◌, ℕ, List, [], ◌∷◌, Option, Some, None, refl, replicate, codes, map}
 use Rattle.dex_types.specs.declared.addresses.Address.{Address}
-use Rattle.dex_types.specs.declared.instructions.Ix.TheVariants.{CancelOrderV2, CancelOrderByClientIdV2, SendTake, SettleFunds}
-use Rattle.dex_types.specs.declared.orders.Order.{Order}
+use Rattle.dex_types.specs.declared.instructions.Ix.TheVariants.{CancelOrderV2, CancelOrderByClientIdV2, SendTake}
 use Rattle.dex_types.specs.declared.refusals.Refusal.TheVariants as refusal
 use Rattle.dex_types.specs.declared.replies.Reply.{Reply}
-use Rattle.dex_types.specs.declared.replies.Reply.TheVariants.{Ordered, Took, Cancelled, Consumed, Refused}
+use Rattle.dex_types.specs.declared.replies.Reply.TheVariants.{Ordered, Took, Refused}
 use Rattle.dex_types.specs.declared.rows.Seen.{Seen}
 use Rattle.dex_types.specs.declared.terms.OrderType.TheVariants.{Limit, Ioc}
 use Rattle.dex_types.specs.declared.terms.Program.{Program}
@@ -23,7 +22,7 @@ use Rattle.dex_types.specs.Side.{price_of, sequence_of, id_of}
 use Rattle.dex_types.specs.Steps.{Step, step}
 use Rattle.dex_types.specs.Trader.{Holding, trader_at}
 use Rattle.dex_types.specs.Wallets.{movements}
-use Rattle.dex_sound.proofs.ExampleMarket.{label, amy, ben, ann, bob, coin, listing, row, new, wallet, ann_coin, ann_usd, bob_coin, bob_usd, sees, nothing, debit, credit, probe, events, resting, held, funds, open_on, base, after, answer, ask_sees, asked, buy_row, buy_sees, bought, consume, slots_in}
+use Rattle.dex_sound.proofs.ExampleMarket.{label, amy, ben, ann, bob, coin, listing, row, new, wallet, ann_coin, ann_usd, bob_coin, bob_usd, sees, nothing, debit, probe, events, resting, open_on, base, after, answer, ask_sees, asked, buy_row, buy_sees, bought, consume, slots_in}
 
 -- amy bids and asks one lot, each time with one client id
 abbrev ann_bids : ℕ → Market → Market
