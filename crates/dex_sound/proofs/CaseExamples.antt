@@ -1,12 +1,11 @@
 -- worked examples of cases in which one word decides: ages of bids, tiers and programs of budgets, limits of takes, freed slots,
 -- counts that turn over, and wallets with several roles
-use Rattle.std.proofs.Common.{true, false, ◌≡◌, ◌^◌, ◌-◌, ℕ, List, [], ◌∷◌, Option, Some, None, refl, replicate, codes, map}
+use Rattle.std.proofs.Common.{◌≡◌, ◌^◌, ◌-◌, ℕ, List, [], ◌∷◌, Option, Some, None, refl, replicate, codes, map}
 use Rattle.dex_types.specs.declared.addresses.Address.{Address}
-use Rattle.dex_types.specs.declared.instructions.Ix.TheVariants.{CancelOrderV2, CancelOrderByClientIdV2, SendTake, SettleFunds}
-use Rattle.dex_types.specs.declared.orders.Order.{Order}
+use Rattle.dex_types.specs.declared.instructions.Ix.TheVariants.{CancelOrderV2, CancelOrderByClientIdV2, SendTake}
 use Rattle.dex_types.specs.declared.refusals.Refusal.TheVariants as refusal
 use Rattle.dex_types.specs.declared.replies.Reply.{Reply}
-use Rattle.dex_types.specs.declared.replies.Reply.TheVariants.{Ordered, Took, Cancelled, Consumed, Refused}
+use Rattle.dex_types.specs.declared.replies.Reply.TheVariants.{Ordered, Took, Refused}
 use Rattle.dex_types.specs.declared.rows.Seen.{Seen}
 use Rattle.dex_types.specs.declared.terms.OrderType.TheVariants.{Limit, Ioc}
 use Rattle.dex_types.specs.declared.terms.Program.{Program}
@@ -23,7 +22,7 @@ use Rattle.dex_types.specs.Side.{price_of, sequence_of, id_of}
 use Rattle.dex_types.specs.Steps.{Step, step}
 use Rattle.dex_types.specs.Trader.{Holding, trader_at}
 use Rattle.dex_types.specs.Wallets.{movements}
-use Rattle.dex_sound.proofs.ExampleMarket.{label, amy, ben, ann, bob, coin, listing, row, new, wallet, ann_coin, ann_usd, bob_coin, bob_usd, sees, nothing, debit, credit, probe, events, resting, held, funds, open_on, base, after, answer, ask_sees, asked, buy_row, buy_sees, bought, consume, slots_in}
+use Rattle.dex_sound.proofs.ExampleMarket.{label, amy, ben, ann, bob, coin, listing, row, new, wallet, ann_coin, ann_usd, bob_coin, bob_usd, sees, nothing, debit, probe, events, resting, open_on, base, after, answer, ask_sees, asked, buy_row, buy_sees, bought, consume, slots_in}
 
 -- amy bids and asks one lot, each time with one client id
 abbrev ann_bids : ℕ → Market → Market
@@ -46,19 +45,29 @@ unfolding taken demand_after price_of sequence_of id_of taker_rate maker_rate
 oldest_bid = (refl, refl, refl, refl, refl, refl)
 
 -- a bid and an ask of amy's that have one id, since their sequence numbers stand around 2^63
-abbrev twins : Market
-twins = record base {
-  bids = record { id = id_of Bid 40 (2 ^ 63 - 1); owner = amy; slot = 0; tier = 0; lots = 1; client = 7 } ∷ [];
-  asks = record { id = id_of Ask 40 (2 ^ 63); owner = amy; slot = 1; tier = 0; lots = 1; client = 7 } ∷ [];
+abbrev twins : ℕ → ℕ → Market
+twins bid ask = record base {
+  bids = record { id = id_of Bid 40 bid; owner = amy; slot = 0; tier = 0; lots = 1; client = 7 } ∷ [];
+  asks = record { id = id_of Ask 40 ask; owner = amy; slot = 1; tier = 0; lots = 1; client = 7 } ∷ [];
 }
 
+abbrev older_bid : Market
+older_bid = twins (2 ^ 63 - 1) (2 ^ 63)
+
+abbrev older_ask : Market
+older_ask = twins (2 ^ 63) (2 ^ 63 - 1)
+
+abbrev sides_taken : Market → List Side
+sides_taken m = map (λ (r : RestingOrder). r.side) (taken_by_all (7 ∷ 7 ∷ []) (all_orders_of amy m.bids m.asks))
+
+abbrev cancelled_ask : Market → Market
+cancelled_ask m = after (row (CancelOrderV2 Ask (id_of Ask 40 (2 ^ 63))) ann (amy ∷ [])) nothing m
+
 -- both are taken by a list that names their client id twice, the older one first; by id the named side's is
-one_id_on_both_sides : (id_of Bid 40 (2 ^ 63 - 1) ≡ id_of Ask 40 (2 ^ 63))
-    × (map (λ (r : RestingOrder). r.side) (taken_by_all (7 ∷ 7 ∷ []) (all_orders_of amy twins.bids twins.asks)) ≡ Bid ∷ Ask ∷ [])
-    × (resting (after (row (CancelOrderV2 Ask (id_of Ask 40 (2 ^ 63))) ann (amy ∷ [])) nothing twins).asks ≡ [])
-    × (resting (after (row (CancelOrderV2 Ask (id_of Ask 40 (2 ^ 63))) ann (amy ∷ [])) nothing twins).bids ≡ (id_of Ask 40 (2 ^ 63) ∷ 1 ∷ []) ∷ [])
+one_id_on_both_sides : (id_of Bid 40 (2 ^ 63 - 1) ≡ id_of Ask 40 (2 ^ 63)) × (sides_taken older_bid ≡ Bid ∷ Ask ∷ []) × (sides_taken older_ask ≡ Ask ∷ Bid ∷ [])
+    × (resting (cancelled_ask older_bid).asks ≡ []) × (resting (cancelled_ask older_bid).bids ≡ (id_of Ask 40 (2 ^ 63) ∷ 1 ∷ []) ∷ [])
 unfolding taken demand_after price_of sequence_of id_of taker_rate maker_rate
-one_id_on_both_sides = (refl, refl, refl, refl)
+one_id_on_both_sides = (refl, refl, refl, refl, refl)
 
 -- with a discount, or under the second program, a bid that locks so much has quote for one lot more
 abbrev program_sees : Program → ℕ → Seen

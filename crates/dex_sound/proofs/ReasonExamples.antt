@@ -1,12 +1,11 @@
 -- worked examples of the order of reasons: of those that hold the first is given, and each alone refuses
-use Rattle.std.proofs.Common.{true, false, ◌≡◌, ◌^◌, ◌-◌, ℕ, ℤ, pos, List, [], ◌∷◌, Option, Some, None, refl, replicate, codes}
+use Rattle.std.proofs.Common.{true, ◌≡◌, ◌^◌, ◌-◌, ℕ, ℤ, pos, List, [], ◌∷◌, Option, Some, None, refl, replicate, codes}
 use Rattle.dex_types.specs.declared.addresses.Address.{Address}
 use Rattle.dex_types.specs.declared.instructions.Ix.TheVariants.{SettleFunds, SweepFees, NewOrderV3, CancelOrderV2, CancelOrderByClientIdV2, DisableMarket, SendTake, CloseOpenOrders, InitOpenOrders, Prune}
 use Rattle.dex_types.specs.declared.orders.Order.{Order}
 use Rattle.dex_types.specs.declared.refusals.Refusal.TheVariants as refusal
 use Rattle.dex_types.specs.declared.replies.Reply.{Reply}
 use Rattle.dex_types.specs.declared.replies.Reply.TheVariants.{Ordered, Took, Cancelled, Settled, Done, Refused}
-use Rattle.dex_types.specs.declared.rows.Seen.{Seen}
 use Rattle.dex_types.specs.declared.rows.WalletSeen.{WalletSeen}
 use Rattle.dex_types.specs.declared.terms.OrderType.TheVariants.{Limit}
 use Rattle.dex_types.specs.declared.terms.SelfTrade.TheVariants.{Decrement, Abort}

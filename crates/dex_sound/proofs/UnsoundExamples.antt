@@ -1,19 +1,16 @@
 -- worked examples of markets that are not sound, each by a rule that it breaks
-use Rattle.std.proofs.Common.{true, ◌≡◌, ◌≤◌, ◌<◌, ◌^◌, ◌++◌, ℕ, List, [], ◌∷◌, Option, Some, None, refl, sym, ap, arith, replicate, codes, lit<}
-use Rattle.std.specs.List.{All}
+use Rattle.std.proofs.Common.{◌≡◌, ◌≤◌, ◌<◌, ◌^◌, ◌++◌, ℕ, List, [], ◌∷◌, Option, Some, None, refl, sym, ap, arith, replicate, lit<}
 use Rattle.std.proofs.lemmas.List.Elements.{All-head}
-use Rattle.dex_types.specs.declared.addresses.Address.{Address}
 use Rattle.dex_types.specs.declared.orders.Order.{Order}
-use Rattle.dex_types.specs.declared.terms.Side.{Side}
 use Rattle.dex_types.specs.declared.terms.Side.TheVariants.{Bid, Ask}
 use Rattle.dex_types.specs.Fees.{taker_rate, maker_rate}
-use Rattle.dex_types.specs.Market.{Market, Listing}
+use Rattle.dex_types.specs.Market.{Market}
 use Rattle.dex_types.specs.Meeting.{taken, demand_after}
 use Rattle.dex_types.specs.QueuedEvent.{EventKind, MakerFill, TakerFill, PlainOut, ReleasingOut, QueuedEvent}
 use Rattle.dex_types.specs.Side.{Coin, Pc, by_side, price_of, sequence_of, id_of}
 use Rattle.dex_types.specs.Soundness.{IsSound, IsProper, order_holding, held_at}
 use Rattle.dex_types.specs.Trader.{Account, Traders, Open, Blank, Holding, no_slots}
-use Rattle.dex_sound.proofs.ExampleMarket.{label, amy, ben, ann, bob, usd, listing, base, asked, bought}
+use Rattle.dex_sound.proofs.ExampleMarket.{amy, ann, usd, listing, base, bought}
 
 -- a number is not a greater one, and not below a lesser one
 apart : (less more : ℕ) → less < more → less ≡ more → ⊥
