@@ -1,1 +1,4 @@
 mod EagerExamples
+pub mod MeetSlots
+pub mod Sums
+pub mod WorthLists
