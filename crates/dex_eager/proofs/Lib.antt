@@ -1,4 +1,5 @@
 mod EagerExamples
+pub mod CancelSlots
 pub mod MeetSlots
 pub mod Sums
 pub mod WorthLists
