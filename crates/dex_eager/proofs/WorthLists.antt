@@ -73,7 +73,7 @@ net-agree gains pays more other in_same out_same =
     ∙ ap (λ c. made (more Coin) (other Coin) c (pays Pc)) (in_same Pc)
     ∙ ap (made (more Coin) (other Coin) (more Pc)) (out_same Pc)
 
-plus-none : (worth : Worth) → plus worth (net (λ token. 0) (λ token. 0)) ≡ worth
+pub plus-none : (worth : Worth) → plus worth (net (λ token. 0) (λ token. 0)) ≡ worth
 plus-none worth =
     let made : ℤ → ℤ → Worth = λ coin pc. record { coin = coin; pc = pc } in
     ap (λ coin. made coin (worth.pc +ℤ (net (λ token. 0) (λ token. 0)).pc)) (nothing-more worth.coin) ∙ ap (made worth.coin) (nothing-more worth.pc)

@@ -1,5 +1,6 @@
 -- Histories of a market, and the eager market beside them.
-use Rattle.std.specs.Prelude.{ℕ, List, [], ◌∷◌, ◌++◌, Bool, true, false, not, ◌&&◌, Result, Ok, length, map, drop, if◌then◌else◌}
+use Rattle.std.specs.Prelude.{ℕ, ◌≡◌, List, [], ◌∷◌, ◌++◌, Bool, true, false, not, ◌&&◌, Result, Ok, length, map, drop, if◌then◌else◌}
+use Rattle.dex_types.specs.declared.addresses.Address.{Address}
 use Rattle.dex_types.specs.declared.instructions.BadData.{BadData}
 use Rattle.dex_types.specs.declared.instructions.Ix.{Ix}
 use Rattle.dex_types.specs.declared.instructions.Ix.TheVariants.{ConsumeEvents}
@@ -11,6 +12,7 @@ use Rattle.dex_types.specs.Market.{Market}
 use Rattle.dex_types.specs.QueuedEvent.{QueuedEvent}
 use Rattle.dex_types.specs.Rows.{PlainRow}
 use Rattle.dex_types.specs.Soundness.{IsSound}
+use Rattle.dex_types.specs.Steps.{Step}
 use Rattle.dex_types.specs.Terms.{tier_seen}
 use Rattle.dex_instruction.specs.Reading.{decoded}
 use Rattle.dex_cell.specs.Journal.{Call, request_of, step_of}
@@ -103,3 +105,8 @@ trade_of call = record { row = call.row; tier = tier_seen call.seen; program = c
 -- what the accepted calls of a history but cranks go by
 abbrev pub trades : List Call → List Trade
 trades calls = map trade_of (counted calls)
+
+-- a step of a row that names these accounts leaves what an eager step leaves, and appends its fills
+pub record IsPaidAs (m : Market) (ledger : Ledger) (named : List Address) (s : Step) (paid : EagerStep) : Type 0 where
+  pub market : eager_at s.market (with_step named s ledger) ≡ paid.market
+  pub fills : maker_fills (appended m s.market) ≡ paid.fills
