@@ -1,5 +1,6 @@
 mod EagerExamples
 pub mod CancelSlots
+pub mod CrankSteps
 pub mod MeetSlots
 pub mod StepMoves
 pub mod Sums
