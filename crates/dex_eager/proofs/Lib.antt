@@ -1,6 +1,7 @@
 mod EagerExamples
 pub mod CancelSlots
 pub mod CrankSteps
+pub mod FundSteps
 pub mod MeetSlots
 pub mod StepMoves
 pub mod Sums
