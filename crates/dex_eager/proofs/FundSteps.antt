@@ -11,8 +11,8 @@ use Rattle.dex_types.specs.Solvency.{free_of, referrer_of, all_referrers}
 use Rattle.dex_types.specs.Soundness.{IsSound}
 use Rattle.dex_types.specs.Steps.{Step, done, settled, act_sweep, act_init, act_close}
 use Rattle.dex_types.specs.Totals.{total}
-use Rattle.dex_types.specs.Trader.{Account, Trader, Open, Blank, Closed, Traders, balance, trader_at}
-use Rattle.dex_types.specs.Upkeep.{all_funds, fresh_account}
+use Rattle.dex_types.specs.Trader.{Account, Trader, Open, Blank, Closed, Traders, balance, trader_at, put_trader}
+use Rattle.dex_types.specs.Upkeep.{all_funds, fresh_account, after_init, after_close, after_disable}
 use Rattle.dex_laws.proofs.TraderLaws.{traders-induction, trader_at-here, trader_at-there}
 use Rattle.dex_sound.specs.Kept.{KeepsMarket}
 use Rattle.dex_eager.specs.Eager.{eager_at, unchanged}
@@ -103,3 +103,50 @@ done-still m ledger named keeps =
     paid-still m ledger named (done m)
     (moves-inside m named (done m) no_gains no_gains 0 keeps (λ token. refl) (λ token. refl) (λ token a. omega arith) (omega arith))
     refl refl refl (ap maker_fills (drop-length m.events))
+
+-- disabling a market moves nothing
+pub disabled-still : (m : Market) (ledger : Ledger) (named : List Address) → KeepsMarket m (done (after_disable m))
+    → IsPaidAs m ledger named (done (after_disable m)) (unchanged (eager_at m ledger))
+disabled-still m ledger named keeps =
+    paid-still m ledger named (done (after_disable m))
+    (moves-inside m named (done (after_disable m)) no_gains no_gains 0 keeps (λ token. refl) (λ token. refl) (λ token a. omega arith) (omega arith))
+    refl refl refl (ap maker_fills (drop-length m.events))
+
+-- the market with another state of one account
+abbrev with_trader : Address → Trader → Market → Market
+with_trader address trader m = record m { traders = put_trader address trader m.traders }
+
+-- an account that has as much free as before
+put-still : (m : Market) (ledger : Ledger) (named : List Address) (address : Address) (old trader : Trader) → trader_at address m.traders ≡ Some old
+    → ((token : Token) → free_of token trader ≡ free_of token old) → KeepsMarket m (done (with_trader address trader m))
+    → IsPaidAs m ledger named (done (with_trader address trader m)) (unchanged (eager_at m ledger))
+put-still m ledger named address old trader found same keeps =
+    paid-still m ledger named (done (with_trader address trader m))
+    (moves-inside m named (done (with_trader address trader m)) no_gains no_gains 0 keeps (λ token. refl) (λ token. refl)
+    (λ token a.
+    let equal : cond (is_same a address) (free_of token trader) 0 ≡ cond (is_same a address) (free_of token old) 0 =
+    ap (λ amount. cond (is_same a address) amount 0) (same token) in
+    omega (arith, equal, free_in-put token address a old trader m.traders found))
+    (omega arith))
+    refl refl refl (ap maker_fills (drop-length m.events))
+
+-- an account that is opened has nothing free
+pub opened-still : (m : Market) (ledger : Ledger) (named : List Address) (address signer : Address) → trader_at address m.traders ≡ Some Blank
+    → KeepsMarket m (done (after_init address signer m)) → IsPaidAs m ledger named (done (after_init address signer m)) (unchanged (eager_at m ledger))
+opened-still m ledger named address signer found keeps =
+    put-still m ledger named address Blank (Open (fresh_account signer)) found (fresh-free signer) keeps
+  where
+    fresh-free : (signer : Address) (token : Token) → free_of token (Open (fresh_account signer)) ≡ 0
+    fresh-free signer Coin = refl
+    fresh-free signer Pc = refl
+
+-- an account without funds has nothing free either
+pub closed-still : (m : Market) (ledger : Ledger) (named : List Address) (party : Party) → IsSound m → IsParty named m.traders party → all_funds party.account ≡ 0
+    → KeepsMarket m (act_close m party) → IsPaidAs m ledger named (act_close m party) (unchanged (eager_at m ledger))
+closed-still m ledger named party sound is none keeps =
+    put-still m ledger named party.address (Open party.account) Closed is.found (nothing-free m party sound is.found none) keeps
+  where
+    nothing-free : (m : Market) (party : Party) → IsSound m → trader_at party.address m.traders ≡ Some (Open party.account) → all_funds party.account ≡ 0
+        → (token : Token) → 0 ≡ free_of token (Open party.account)
+    nothing-free m party sound found none Coin = omega (arith, sound.funds.adds_up party.address party.account found Coin, none)
+    nothing-free m party sound found none Pc = omega (arith, sound.funds.adds_up party.address party.account found Pc, none)
