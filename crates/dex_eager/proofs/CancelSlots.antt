@@ -90,7 +90,7 @@ on_side-slots : (side : Side) (order : Option Order) → on_side side (order_wit
 on_side-slots side None = refl
 on_side-slots side (Some order) = refl
 
-by_side-slots : (side : Side) (bids asks : List Order) → by_side side (without_slots bids) (without_slots asks) ≡ without_slots (by_side side bids asks)
+pub by_side-slots : (side : Side) (bids asks : List Order) → by_side side (without_slots bids) (without_slots asks) ≡ without_slots (by_side side bids asks)
 by_side-slots Bid bids asks = refl
 by_side-slots Ask bids asks = refl
 

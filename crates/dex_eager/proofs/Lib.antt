@@ -1,8 +1,10 @@
 mod EagerExamples
 pub mod CancelSlots
 pub mod CrankSteps
+pub mod FillSums
 pub mod FundSteps
 pub mod MeetSlots
 pub mod StepMoves
 pub mod Sums
+pub mod TakeSteps
 pub mod WorthLists
