@@ -4,6 +4,7 @@ pub mod CrankSteps
 pub mod FillSums
 pub mod FundSteps
 pub mod MeetSlots
+pub mod OrderSteps
 pub mod StepMoves
 pub mod Sums
 pub mod TakeSteps

@@ -78,7 +78,8 @@ plus-none worth =
     let made : ℤ → ℤ → Worth = λ coin pc. record { coin = coin; pc = pc } in
     ap (λ coin. made coin (worth.pc +ℤ (net (λ token. 0) (λ token. 0)).pc)) (nothing-more worth.coin) ∙ ap (made worth.coin) (nothing-more worth.pc)
 
-plus-again : (worth : Worth) (gains pays more other : Token → ℕ)
+-- a change and one more
+pub plus-again : (worth : Worth) (gains pays more other : Token → ℕ)
     → plus (plus worth (net gains pays)) (net more other) ≡ plus worth (net (λ token. gains token + more token) (λ token. pays token + other token))
 plus-again worth gains pays more other =
     let made : ℤ → ℤ → Worth = λ coin pc. record { coin = coin; pc = pc } in
