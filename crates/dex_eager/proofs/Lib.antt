@@ -1,5 +1,6 @@
 mod EagerExamples
 pub mod CancelSlots
+pub mod CancelSteps
 pub mod CrankSteps
 pub mod FillSums
 pub mod FundSteps
