@@ -53,7 +53,7 @@ worth-by a m after ledger later held deposited settled =
     ap (λ coin. made coin (worth_of a after later).pc) (each Coin) ∙ ap (made (worth_of a m ledger).coin) (each Pc)
 
 -- a step that deposits and pays out nothing leaves what moved
-ledger-still : (m : Market) (ledger : Ledger) (named : List Address) (s : Step) → ((token : Token) → deposit_in token s.reply s.transfers ≡ 0)
+pub ledger-still : (m : Market) (ledger : Ledger) (named : List Address) (s : Step) → ((token : Token) → deposit_in token s.reply s.transfers ≡ 0)
     → ((token : Token) → settled_in token s.reply ≡ 0) → swept_in s.reply ≡ 0 → referred_in s.reply ≡ 0 → eager_at m (with_step named s ledger) ≡ eager_at m ledger
 ledger-still m ledger named s deposits settles sweeps refers =
     let later : Ledger = with_step named s ledger in

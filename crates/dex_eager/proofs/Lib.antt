@@ -5,6 +5,7 @@ pub mod CrankSteps
 pub mod EachStep
 pub mod FillSums
 pub mod FundSteps
+pub mod HistorySteps
 pub mod MeetSlots
 pub mod OrderSteps
 pub mod StepMoves
