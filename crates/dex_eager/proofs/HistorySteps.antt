@@ -83,6 +83,29 @@ crank-unchanged : (instruction : Result Ix BadData) (request : Request) (seen : 
 crank-unchanged (Ok (ConsumeEvents limit)) request seen e crank = refl
 crank-unchanged instruction request seen e crank = absurd cc
 
+-- and is never refused
+crank-why : (instruction : Result Ix BadData) (request : Request) (seen : Seen) (m : Market) → is_crank instruction ≡ true
+    → why_decoded instruction request seen m ≡ None
+crank-why (Ok (ConsumeEvents limit)) request seen m crank = refl
+crank-why instruction request seen m crank = absurd cc
+
+pub crank-paid : (request : Request) (seen : Seen) (m : Market) (ledger : Ledger) → IsSound m → is_crank request.instruction ≡ true
+    → IsPaidAs m ledger request.named (step request seen m) (unchanged (eager_at m ledger))
+crank-paid request seen m ledger sound crank =
+    subst (IsPaidAs m ledger request.named (step request seen m)) (crank-unchanged request.instruction request seen (eager_at m ledger) crank)
+    (step-paid request seen m ledger sound (crank-why request.instruction request seen m crank))
+
+-- a row with a reason to be refused changes nothing
+reason-refused : (request : Request) (seen : Seen) (m : Market) (ledger : Ledger) (refusal : Refusal) → why request seen m ≡ Some refusal
+    → IsRefused m ledger request.named (step request seen m)
+reason-refused request seen m ledger refusal some =
+    let is : step request seen m ≡ refused refusal m = ap (λ reason. unless_refused reason m (act_decoded request.instruction request seen m)) some in
+    subst (IsRefused m ledger request.named) (sym is) (refused-paid m ledger request.named refusal)
+
+pub reason-paid : (request : Request) (seen : Seen) (m : Market) (ledger : Ledger) (refusal : Refusal) → why request seen m ≡ Some refusal
+    → IsPaidAs m ledger request.named (step request seen m) (unchanged (eager_at m ledger))
+reason-paid request seen m ledger refusal some = (reason-refused request seen m ledger refusal some).paid
+
 -- what a step does on the eager market, by whether it counts
 pub record Goes (m : Market) (ledger : Ledger) (request : Request) (seen : Seen) : Type 0 where
   pub counted : (not (is_refusal (step request seen m).reply) && not (is_crank request.instruction)) ≡ true
@@ -108,8 +131,7 @@ goes-done m ledger request seen sound none =
 
 goes-refused : (m : Market) (ledger : Ledger) (request : Request) (seen : Seen) (refusal : Refusal) → why request seen m ≡ Some refusal → Goes m ledger request seen
 goes-refused m ledger request seen refusal some =
-    let is : step request seen m ≡ refused refusal m = ap (λ reason. unless_refused reason m (act_decoded request.instruction request seen m)) some in
-    let kept : IsRefused m ledger request.named (step request seen m) = subst (IsRefused m ledger request.named) (sym is) (refused-paid m ledger request.named refusal) in
+    let kept : IsRefused m ledger request.named (step request seen m) = reason-refused request seen m ledger refusal some in
     record {
       counted = λ does. absurd (never (is_refusal (step request seen m).reply) (is_crank request.instruction) kept.answered does);
       passed = λ not_counted. kept.paid;

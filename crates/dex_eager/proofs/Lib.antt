@@ -2,6 +2,7 @@ mod EagerExamples
 pub mod CancelSlots
 pub mod CancelSteps
 pub mod CrankSteps
+pub mod DelayLaws
 pub mod EachStep
 pub mod FillSums
 pub mod FundSteps

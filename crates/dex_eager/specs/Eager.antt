@@ -1,5 +1,5 @@
 -- A market that pays at once: fills alone move worth. It has no events, slots, free funds or wallets.
-use Rattle.std.specs.Prelude.{ℕ, ◌+◌, ◌-◌, ◌*◌, ◌^◌, List, [], ◌∷◌, Option, None, Bool, false, ◌||◌, nat_le, ◌==◌, is_some, length, map, take, if◌then◌else◌, Result, Ok, Err}
+use Rattle.std.specs.Prelude.{ℕ, ◌+◌, ◌-◌, ◌*◌, ◌^◌, List, [], ◌∷◌, Option, Some, None, Bool, false, ◌||◌, nat_le, ◌==◌, is_some, length, map, take, if◌then◌else◌, Result, Ok, Err}
 use Rattle.dex_types.specs.declared.addresses.Address.{Address}
 use Rattle.dex_types.specs.declared.instructions.BadData.{BadData}
 use Rattle.dex_types.specs.declared.instructions.Ix.{Ix}
@@ -72,6 +72,11 @@ with_orders side own opposing e = record e { bids = by_side side own opposing; a
 abbrev pub has_account : Address → Worths → Bool
 has_account owner [] = false
 has_account owner (entry ∷ others) = is_same owner entry.0 || has_account owner others
+
+-- the worth of the account of this address, if there is one
+abbrev pub worth_at : Address → Worths → Option Worth
+worth_at owner [] = None
+worth_at owner (entry ∷ others) = if is_same owner entry.0 then Some entry.1 else worth_at owner others
 
 -- the accounts, where the worth of one changes
 abbrev pub with_change : Address → Worth → Worths → Worths

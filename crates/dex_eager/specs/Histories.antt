@@ -11,7 +11,6 @@ use Rattle.dex_types.specs.declared.terms.Tier.{Tier}
 use Rattle.dex_types.specs.Market.{Market}
 use Rattle.dex_types.specs.QueuedEvent.{QueuedEvent}
 use Rattle.dex_types.specs.Rows.{PlainRow}
-use Rattle.dex_types.specs.Soundness.{IsSound}
 use Rattle.dex_types.specs.Steps.{Step}
 use Rattle.dex_types.specs.Terms.{tier_seen}
 use Rattle.dex_instruction.specs.Reading.{decoded}
@@ -87,11 +86,6 @@ moves_after m (call ∷ calls) ledger = moves_after (step_of call m).market call
 -- what moved since the start
 abbrev pub moves_of : Market → List Call → Ledger
 moves_of m calls = moves_after m calls no_moves
-
--- every place of a history is sound, up to its end
-abbrev pub AreSound : Market → List Call → Type 0
-AreSound m [] = IsSound m
-AreSound m (call ∷ calls) = IsSound m × AreSound (step_of call m).market calls
 
 -- what a trade goes by: its row, the tier that it reaches, and the program that runs
 pub record Trade : Type 0 where
