@@ -236,7 +236,7 @@ cancelled-apart (ByClients clients) owner m sorted = taken_by_all-apart clients 
 cancelled-apart (First count) owner m sorted = take-apart count (mine owner m) (all-apart owner m sorted)
 
 -- after one order left, another rests as before
-rests-after : (gone other : RestingOrder) (m : Market) → is_same_order gone other ≡ false → Rests other m → Rests other (cancel_one gone m)
+pub rests-after : (gone other : RestingOrder) (m : Market) → is_same_order gone other ≡ false → Rests other m → Rests other (cancel_one gone m)
 rests-after gone other m apart rests =
     both-sides gone.side other.side gone.order.id other.order.id m apart ∙ rests
   where
