@@ -10,6 +10,7 @@ pub mod CancelledLaws
 mod UnsoundExamples
 pub mod CrankLaws
 pub mod CrankSound
+pub mod FieldLaws
 pub mod FillLaws
 pub mod GivenLaws
 pub mod KeepLaws

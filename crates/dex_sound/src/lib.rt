@@ -4,6 +4,7 @@
 
 pub mod bounds;
 pub mod cranks;
+pub mod fields;
 pub mod fills;
 pub mod keeping;
 pub mod made;

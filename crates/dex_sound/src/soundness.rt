@@ -18,7 +18,8 @@ pub fn every_step_keeps_a_market_sound()
     ensures { (request : Request) (seen : Seen) (m : Market) → IsSound m → HasPrice request.instruction → IsSound (step request seen m).market }
 {}
 
-/// In a sound market each vault holds what is free, locked, owed and earned, and no sum passes its field.
+/// In a sound market each vault holds what is free, locked, owed and earned, and with what pending fills are still to take
+/// off totals it is below 2^64.
 pub fn a_sound_market_is_solvent_and_bounded()
     ensures solvent { (m : Market) → IsSound m → IsSolvent m }
     ensures bounded { (m : Market) → IsSound m → IsBounded m }
