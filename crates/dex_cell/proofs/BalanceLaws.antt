@@ -21,36 +21,22 @@ use Rattle.dex_types.specs.Requests.{Request, Party, party_of}
 use Rattle.dex_types.specs.Rows.{PlainRow}
 use Rattle.dex_types.specs.Settle.{settlement, settle_transfers, sweep_transfers}
 use Rattle.dex_types.specs.Side.{Token, Coin, Pc, opposite}
-use Rattle.dex_types.specs.Solvency.{IsSolvent, vault}
+use Rattle.dex_types.specs.Solvency.{vault}
 use Rattle.dex_types.specs.Soundness.{IsSound}
 use Rattle.dex_types.specs.Take.{Take, take_meeting, take_transfers, take_paid, take_terms, take_demand, too_little, after_take}
 use Rattle.dex_types.specs.Terms.{terms_order, terms_take}
-use Rattle.dex_types.specs.Trader.{Account, Open, Closed, trader_at}
+use Rattle.dex_types.specs.Trader.{Account, Open, trader_at}
 use Rattle.dex_types.specs.Transfers.{Transfers}
 use Rattle.dex_types.specs.Wallets.{amount_at, brought_to}
 use Rattle.dex_types.specs.Why.{payer, of_party, why_order_early, why_ordering, why_order, why_take_early, why_taking, why_take, why_cancel, why_prune, why_close, why_settle, why_sweep, why_instruction, why_decoded, why}
 use Rattle.dex_laws.proofs.MovedLaws.{meet-moved_le}
 use Rattle.dex_laws.proofs.TraderLaws.{is_same-true, is_same-refl, is_same-sym}
+use Rattle.dex_sound.proofs.FieldLaws.{pays-out}
 use Rattle.dex_sound.proofs.GivenLaws.{is_plain, Gives, IsPlain, first_of-gives, plain-gives, none-gives, some-gives, where-gives, disabled-plain, missing-plain, not_owner-plain, not_authority-plain, other_mint-plain, would_self_trade-plain, below_minimum-plain, queue_full-plain, short_of-plain, why_init-plain, why_close-plain, why_disable-plain, why_order_early-plain, why_take_early-plain, why_cancel-plain, why_prune-plain}
 use Rattle.dex_sound.proofs.OrderSoundReasons.{first_of-none, refused_where-none}
 use Rattle.dex_sound.proofs.StepSound.{party-found}
-use Rattle.dex_sound.proofs.TraderSums.{all_free-put, all_referrers-put}
 use Rattle.dex_cell.specs.Balances.{mint_of, FitsVault, FitVaults}
 use Rattle.dex_cell.specs.Journal.{Agree, Sees, request_of}
-
--- what vaults pay out is in them: what is free of an account
-free-in_vault : (m : Market) (owner : Address) (account : Account) → IsSolvent m → trader_at owner m.traders ≡ Some (Open account) → account.coin.free ≤ m.coin_vault
-free-in_vault m owner account solvent found = omega (arith, solvent.vaults Coin, all_free-put Coin owner (Open account) Closed m.traders found)
-
-funds-in_vault : (m : Market) (owner : Address) (account : Account) → IsSolvent m → trader_at owner m.traders ≡ Some (Open account) → account.pc.free + account.referrer ≤ m.pc_vault
-funds-in_vault m owner account solvent found =
-    omega (
-      arith,
-      solvent.vaults Pc,
-      solvent.referrers,
-      all_free-put Pc owner (Open account) Closed m.traders found,
-      all_referrers-put owner (Open account) Closed m.traders found,
-    )
 
 -- what transfers pay out of each vault is in it, and a referrer is paid out of the quote vault
 pub record ArePaid (t : Transfers) (m : Market) : Type 0 where
@@ -60,10 +46,10 @@ pub record ArePaid (t : Transfers) (m : Market) : Type 0 where
 settle-paid : (m : Market) (owner : Address) (account : Account) (has_referrer : Bool) → IsSound m → trader_at owner m.traders ≡ Some (Open account)
     → ArePaid (settle_transfers (settlement has_referrer account)) m
 settle-paid m owner account has_referrer sound found = record {
-  coin = free-in_vault m owner account sound.funds.solvent found;
+  coin = (pays-out m sound).coin owner account found;
   pc = omega (
     arith,
-    funds-in_vault m owner account sound.funds.solvent found,
+    (pays-out m sound).pc owner account found,
     cond_both has_referrer account.referrer 0 (λ part. part ≤ account.referrer) (λ is. omega arith) (λ is. omega arith),
   );
 }
