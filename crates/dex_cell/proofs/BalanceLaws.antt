@@ -68,32 +68,32 @@ take-paid Ask t m sound = record {
 }
 
 -- an amount of a role at an address
-amount-le : (address : Address) (role : Option WalletSeen) (amount : ℕ) → amount_at address role amount ≤ amount
+pub amount-le : (address : Address) (role : Option WalletSeen) (amount : ℕ) → amount_at address role amount ≤ amount
 amount-le address None amount = omega arith
 amount-le address (Some wallet) amount = cond_both (is_same address wallet.address) amount 0 (λ part. part ≤ amount) (λ is. omega arith) (λ is. omega arith)
 
 -- a wallet in a role has its mint, where it has one
-right-mint : (mint : Address) (wallet : WalletSeen) → other_mint mint (Some wallet) ≡ None → is_same mint wallet.mint ≡ true
+pub right-mint : (mint : Address) (wallet : WalletSeen) → other_mint mint (Some wallet) ≡ None → is_same mint wallet.mint ≡ true
 right-mint mint wallet none = not-false (is_same mint wallet.mint) (refused_where-none (not (is_same mint wallet.mint)) (WrongMint wallet.mint) none)
 
 -- a role names the wallet, if it names its address
 abbrev pub IsOneWith : WalletSeen → Option WalletSeen → Type 0
 IsOneWith wallet role = (other : WalletSeen) → role ≡ Some other → wallet.address ≡ other.address → wallet ≡ other
 
-agree-one : (wallet : WalletSeen) (role : Option WalletSeen) → Agree (Some wallet) role → IsOneWith wallet role
+pub agree-one : (wallet : WalletSeen) (role : Option WalletSeen) → Agree (Some wallet) role → IsOneWith wallet role
 agree-one wallet None agree other is same = absurd (cc)
 agree-one wallet (Some found) agree other is same =
     let one : found ≡ other = cc in
     agree (same ∙ sym (ap (λ (w : WalletSeen). w.address) one)) ∙ one
 
-agree-one_back : (wallet : WalletSeen) (role : Option WalletSeen) → Agree role (Some wallet) → IsOneWith wallet role
+pub agree-one_back : (wallet : WalletSeen) (role : Option WalletSeen) → Agree role (Some wallet) → IsOneWith wallet role
 agree-one_back wallet None agree other is same = absurd (cc)
 agree-one_back wallet (Some found) agree other is same =
     let one : found ≡ other = cc in
     sym (agree (ap (λ (w : WalletSeen). w.address) one ∙ sym same)) ∙ one
 
 -- so a wallet of one mint is in no role of another
-apart-amount : (mint other : Address) (wallet : WalletSeen) (role : Option WalletSeen) (amount : ℕ) → is_same mint other ≡ false → is_same mint wallet.mint ≡ true
+pub apart-amount : (mint other : Address) (wallet : WalletSeen) (role : Option WalletSeen) (amount : ℕ) → is_same mint other ≡ false → is_same mint wallet.mint ≡ true
     → other_mint other role ≡ None → IsOneWith wallet role → amount_at wallet.address role amount ≡ 0
 apart-amount mint other wallet None amount apart here right one = refl
 apart-amount mint other wallet (Some found) amount apart here right one =

@@ -3,3 +3,5 @@ pub mod HistoryLaws
 pub mod WalletLaws
 pub mod PriceLaws
 pub mod BalanceLaws
+pub mod MoveLaws
+pub mod StepMoves
