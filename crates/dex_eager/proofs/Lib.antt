@@ -1,3 +1,4 @@
+mod CaseExamples
 mod EagerExamples
 pub mod CancelSlots
 pub mod CancelSteps
