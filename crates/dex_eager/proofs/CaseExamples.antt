@@ -1,11 +1,10 @@
 -- worked examples of rows that change nothing on an eager market, and of rows that do
-use Rattle.std.proofs.Common.{ℕ, ◌≡◌, ◌^◌, pos, negsuc, List, [], ◌∷◌, Some, None, Err, map, refl}
+use Rattle.std.proofs.Common.{ℕ, ◌≡◌, pos, negsuc, List, [], ◌∷◌, Err, map, refl}
 use Rattle.dex_types.specs.declared.addresses.Address.{Address}
 use Rattle.dex_types.specs.declared.instructions.BadData.TheVariants.{Short}
 use Rattle.dex_types.specs.declared.instructions.Ix.{Ix}
-use Rattle.dex_types.specs.declared.instructions.Ix.TheVariants.{MatchOrders, ConsumeEvents, SettleFunds, SweepFees, CloseOpenOrders, CancelOrderV2, CancelOrderByClientIdV2, SendTake, Prune}
+use Rattle.dex_types.specs.declared.instructions.Ix.TheVariants.{SettleFunds, CancelOrderV2, CancelOrderByClientIdV2, SendTake, Prune}
 use Rattle.dex_types.specs.declared.orders.Order.{Order}
-use Rattle.dex_types.specs.declared.rows.Seen.{Seen}
 use Rattle.dex_types.specs.declared.terms.OrderType.TheVariants.{Limit, Ioc}
 use Rattle.dex_types.specs.declared.terms.SelfTrade.TheVariants.{Decrement, Abort}
 use Rattle.dex_types.specs.declared.terms.Side.{Side}
@@ -14,8 +13,8 @@ use Rattle.dex_types.specs.Fees.{taker_rate, maker_rate}
 use Rattle.dex_types.specs.Meeting.{taken, demand_after}
 use Rattle.dex_types.specs.QueuedEvent.{QueuedEvent}
 use Rattle.dex_types.specs.Side.{price_of, sequence_of, id_of}
-use Rattle.dex_sound.proofs.ExampleMarket.{amy, ben, ann, bob, label, row, new, wallet, sees, nothing, ann_usd, resting}
-use Rattle.dex_eager.specs.Eager.{Eager, EagerStep, Worths, eager_step, worth_at}
+use Rattle.dex_sound.proofs.ExampleMarket.{amy, ben, ann, bob, row, new, nothing, resting}
+use Rattle.dex_eager.specs.Eager.{Eager, EagerStep, Worths, eager_step}
 use Rattle.dex_eager.specs.Worth.{Worth}
 
 abbrev order : Side → ℕ → ℕ → Address → ℕ → ℕ → Order
