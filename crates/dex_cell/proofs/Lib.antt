@@ -5,3 +5,4 @@ pub mod PriceLaws
 pub mod BalanceLaws
 pub mod MoveLaws
 pub mod StepMoves
+pub mod AddressOrder
