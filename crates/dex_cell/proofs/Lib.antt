@@ -6,3 +6,6 @@ pub mod BalanceLaws
 pub mod MoveLaws
 pub mod StepMoves
 pub mod AddressOrder
+pub mod MintLaws
+pub mod StepMints
+pub mod StepConserves
