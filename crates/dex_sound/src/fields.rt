@@ -10,7 +10,7 @@ ghost use Rattle.dex_types.specs.Soundness.{IsSound};
 ghost use Rattle.dex_types.specs.Steps.{step};
 ghost use Rattle.dex_sound.specs.Fields.{FieldsFit, CanBePaid, CanPayOut};
 
-/// In a sound market every native amount is below 2^64: both vaults, the fees, the referrer rebates, and of each account its
+/// In a sound market these native amounts are below 2^64: both vaults, the fees, the referrer rebates, and of each account its
 /// free amounts, which are part of their totals, its totals and its referrer part. So it is after every step.
 pub fn every_amount_fits_its_field()
     ensures now { (m : Market) → IsSound m → FieldsFit m }
