@@ -1,0 +1,4 @@
+pub mod Changes
+pub mod Nodes
+pub mod Slab
+pub mod Tree

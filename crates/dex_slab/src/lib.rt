@@ -1,0 +1,8 @@
+//! A side of the book as a critbit tree in the bytes of its account, changed in place node by node.
+#![tactic(auto)]
+
+mod slab_ref;
+mod slab_view;
+
+pub use slab_ref::SlabRef;
+pub use slab_view::SlabView;
