@@ -1,5 +1,5 @@
 -- Which bytes are a side's slab, and which orders rest there.
-use Rattle.std.specs.Prelude.{◌≡◌, ◌≢◌, ℕ, zero, suc, ◌<◌, ◌≤◌, List, [], ◌∷◌, ◌++◌, length, All, AllPairs, Option, Some, None, IfSome, if◌then◌else◌, ◌==◌}
+use Rattle.std.specs.Prelude.{◌≡◌, ℕ, zero, suc, ◌+◌, ◌-◌, ◌<◌, ◌≤◌, List, [], ◌∷◌, ◌++◌, length, All, Option, Some, None, IfSome, if◌then◌else◌, ◌==◌}
 use Rattle.dex_types.specs.declared.orders.Order.{Order}
 use Rattle.dex_types.specs.declared.terms.Side.{Side}
 use Rattle.dex_types.specs.declared.terms.Side.TheVariants.{Ask}
@@ -38,6 +38,15 @@ AreFree bytes [] = Unit {0}
 AreFree bytes (node ∷ []) = tag_of bytes node ≡ 4
 AreFree bytes (node ∷ next ∷ others) = (tag_of bytes node ≡ 3) × AreFree bytes (next ∷ others)
 
+-- 1 where two numbers are equal, else 0
+abbrev pub same : ℕ → ℕ → ℕ
+same a b = 1 - ((a - b) + (b - a))
+
+-- how often a node is met in a list of nodes
+abbrev pub times : ℕ → List ℕ → ℕ
+times node [] = 0
+times node (first ∷ others) = same first node + times node others
+
 -- ---- which bytes are a slab
 
 -- an account of so many bytes can be a side's: it has from 1 to 65,536 nodes
@@ -49,9 +58,9 @@ pub record IsSlabSize (size : ℕ) : Type 0 where
 pub record IsSlabOf (bytes : List ℕ) (tree : Option Tree) (free : List ℕ) : Type 0 where
   pub bump : bump_of bytes ≤ nodes_within (length bytes)
   pub count : count_of bytes ≡ length (orders_in Ask tree)
-  pub below : All (λ node. node < bump_of bytes) (nodes_in tree ++ free)
+  pub below : (node : ℕ) → 1 ≤ times node (nodes_in tree ++ free) → node < bump_of bytes
   pub known : IfSome tree IsKnown
-  pub once : AllPairs ◌≢◌ (nodes_in tree ++ free)
+  pub once : (node : ℕ) → times node (nodes_in tree ++ free) ≤ 1
   pub prefixes : IfSome tree (HasPrefixes 0)
   pub keys : IfSome tree KeysAgree
   pub free_nodes : AreFree bytes free
