@@ -39,7 +39,7 @@ room_of nodes = (nodes + 1) / 2
 
 -- ---- a node
 
--- the bytes of a node
+-- where a node stands
 abbrev pub node_field : ℕ → Field
 node_field node = record { at = 45 + node * 72; len = 72 }
 
@@ -47,36 +47,44 @@ node_field node = record { at = 45 + node * 72; len = 72 }
 abbrev pub in_node : ℕ → Field → Field
 in_node node field = moved_by (45 + node * 72) field
 
+-- the 72 bytes of a node
+abbrev pub node_bytes : List ℕ → ℕ → List ℕ
+node_bytes bytes node = bytes_in bytes (node_field node)
+
 -- which kind of node it is: 1 an inner node, 2 a leaf, 3 a free node and 4 the last free one
 abbrev pub tag_of : List ℕ → ℕ → ℕ
-tag_of bytes node = number_in bytes (in_node node inner.TAG)
+tag_of bytes node = number_in (node_bytes bytes node) inner.TAG
 
 -- how many leading bits all keys below an inner node have in common
 abbrev pub prefix_of : List ℕ → ℕ → ℕ
-prefix_of bytes node = number_in bytes (in_node node inner.PREFIX_LEN)
+prefix_of bytes node = number_in (node_bytes bytes node) inner.PREFIX_LEN
 
 -- a key that begins with those bits
 abbrev pub key_of : List ℕ → ℕ → ℕ
-key_of bytes node = number_in bytes (in_node node inner.KEY)
+key_of bytes node = number_in (node_bytes bytes node) inner.KEY
 
 -- the node below whose keys have 0 as their next bit, and the one below whose keys have 1
 abbrev pub first_child_of : List ℕ → ℕ → ℕ
-first_child_of bytes node = number_in bytes (in_node node inner.FIRST_CHILD)
+first_child_of bytes node = number_in (node_bytes bytes node) inner.FIRST_CHILD
 
 abbrev pub second_child_of : List ℕ → ℕ → ℕ
-second_child_of bytes node = number_in bytes (in_node node inner.SECOND_CHILD)
+second_child_of bytes node = number_in (node_bytes bytes node) inner.SECOND_CHILD
+
+-- the order that the bytes of a leaf say
+unfoldable pub order_in : List ℕ → Order
+order_in piece = record {
+  id = number_in piece leaf.KEY;
+  owner = record { 0 = bytes_in piece leaf.OWNER };
+  slot = number_in piece leaf.OWNER_SLOT;
+  tier = number_in piece leaf.FEE_TIER;
+  lots = number_in piece leaf.QUANTITY;
+  client = number_in piece leaf.CLIENT_ORDER_ID;
+}
 
 -- the order that a leaf is
 abbrev pub order_of : List ℕ → ℕ → Order
-order_of bytes node = record {
-  id = number_in bytes (in_node node leaf.KEY);
-  owner = record { 0 = bytes_in bytes (in_node node leaf.OWNER) };
-  slot = number_in bytes (in_node node leaf.OWNER_SLOT);
-  tier = number_in bytes (in_node node leaf.FEE_TIER);
-  lots = number_in bytes (in_node node leaf.QUANTITY);
-  client = number_in bytes (in_node node leaf.CLIENT_ORDER_ID);
-}
+order_of bytes node = order_in (node_bytes bytes node)
 
 -- the free node behind a free node
 abbrev pub next_of : List ℕ → ℕ → ℕ
-next_of bytes node = number_in bytes (in_node node free.NEXT)
+next_of bytes node = number_in (node_bytes bytes node) free.NEXT

@@ -1,11 +1,9 @@
 -- Which bytes are a side's slab, and which orders rest there.
-use Rattle.std.specs.Prelude.{◌≡◌, ℕ, zero, suc, ◌+◌, ◌-◌, ◌<◌, ◌≤◌, List, [], ◌∷◌, ◌++◌, length, All, Option, Some, None, IfSome, if◌then◌else◌, ◌==◌}
+use Rattle.std.specs.Prelude.{◌≡◌, ℕ, zero, suc, ◌+◌, ◌-◌, ◌<◌, ◌≤◌, List, [], ◌∷◌, ◌++◌, length, Option, Some, None, IfSome, if◌then◌else◌, ◌==◌}
 use Rattle.dex_types.specs.declared.orders.Order.{Order}
 use Rattle.dex_types.specs.declared.terms.Side.{Side}
-use Rattle.dex_types.specs.declared.terms.Side.TheVariants.{Ask}
-use Rattle.dex_types.specs.BookSide.{CanRest}
 use Rattle.dex_slab.specs.Nodes.{bump_of, count_of, free_head_of, free_len_of, next_of, nodes_within, room_of, root_of, tag_of}
-use Rattle.dex_slab.specs.Tree.{Tree, HasPrefixes, IsKnown, KeysAgree, nodes_of, orders_of, tree_from}
+use Rattle.dex_slab.specs.Tree.{Tree, CanAllRest, HasPrefixes, IsKnown, KeysAgree, leaves_of, nodes_of, orders_of, tree_from}
 
 -- ---- what the bytes hold
 
@@ -22,6 +20,11 @@ nodes_in (Some tree) = nodes_of tree
 abbrev pub orders_in : Side → Option Tree → List Order
 orders_in side None = []
 orders_in side (Some tree) = orders_of side tree
+
+-- how many leaves are reached from the root
+abbrev pub leaves_in : Option Tree → ℕ
+leaves_in None = 0
+leaves_in (Some tree) = leaves_of tree
 
 -- the free nodes, so many from this one on
 unfoldable pub free_from : List ℕ → ℕ → ℕ → List ℕ
@@ -54,23 +57,28 @@ pub record IsSlabSize (size : ℕ) : Type 0 where
   pub some : 1 ≤ nodes_within size
   pub few : nodes_within size ≤ 65536
 
--- the rules of a slab with this tree and these free nodes
-pub record IsSlabOf (bytes : List ℕ) (tree : Option Tree) (free : List ℕ) : Type 0 where
+-- the nodes below `bump_index` are those in use and those on the free list, each once: the rules of the free list, and of the
+-- nodes of both together
+pub record IsShared (bytes used free : List ℕ) : Type 0 where
   pub bump : bump_of bytes ≤ nodes_within (length bytes)
-  pub count : count_of bytes ≡ length (orders_in Ask tree)
-  pub below : (node : ℕ) → 1 ≤ times node (nodes_in tree ++ free) → node < bump_of bytes
-  pub known : IfSome tree IsKnown
-  pub once : (node : ℕ) → times node (nodes_in tree ++ free) ≤ 1
-  pub prefixes : IfSome tree (HasPrefixes 0)
-  pub keys : IfSome tree KeysAgree
+  pub below : (node : ℕ) → 1 ≤ times node (used ++ free) → node < bump_of bytes
+  pub once : (node : ℕ) → times node (used ++ free) ≤ 1
+  pub whole : length (used ++ free) ≡ bump_of bytes
   pub free_nodes : AreFree bytes free
-  pub whole : length (nodes_in tree ++ free) ≡ bump_of bytes
-  pub can_rest : All CanRest (orders_in Ask tree)
+
+-- the rules of a tree
+pub record IsTree (tree : Tree) : Type 0 where
+  pub known : IsKnown tree
+  pub prefixes : HasPrefixes 0 tree
+  pub keys : KeysAgree tree
+  pub can_rest : CanAllRest tree
 
 -- the bytes are a slab: it has a size that is allowed, and keeps the ten rules
 pub record IsSlab (bytes : List ℕ) : Type 0 where
   pub size : IsSlabSize (length bytes)
-  pub rules : IsSlabOf bytes (tree_of bytes) (free_of bytes)
+  pub shared : IsShared bytes (nodes_in (tree_of bytes)) (free_of bytes)
+  pub count : count_of bytes ≡ leaves_in (tree_of bytes)
+  pub tree : IfSome (tree_of bytes) IsTree
 
 -- the orders that rest on a side
 abbrev pub resting : Side → List ℕ → List Order

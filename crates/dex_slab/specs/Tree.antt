@@ -2,6 +2,7 @@
 use Rattle.std.specs.Prelude.{◌≡◌, ℕ, zero, suc, ◌+◌, ◌-◌, ◌*◌, ◌/◌, ◌^◌, ◌<◌, ◌≤◌, List, [], ◌∷◌, ◌++◌, if◌then◌else◌, ◌==◌}
 use Rattle.dex_types.specs.declared.orders.Order.{Order}
 use Rattle.dex_types.specs.declared.terms.Side.{Side}
+use Rattle.dex_types.specs.BookSide.{CanRest}
 use Rattle.dex_types.specs.Side.{by_side}
 use Rattle.dex_slab.specs.Nodes.{first_child_of, key_of, order_of, prefix_of, second_child_of, tag_of}
 
@@ -42,6 +43,12 @@ orders_of side (Inner node prefix key first second) =
     by_side side (orders_of side second ++ orders_of side first) (orders_of side first ++ orders_of side second)
 orders_of side (Other node) = []
 
+-- how many leaves it has
+abbrev pub leaves_of : Tree → ℕ
+leaves_of (Leaf node order) = 1
+leaves_of (Inner node prefix key first second) = leaves_of first + leaves_of second
+leaves_of (Other node) = 0
+
 -- ---- the rules of a tree
 
 -- each node is an inner node or a leaf
@@ -77,3 +84,9 @@ KeysAgree (Leaf node order) = Unit {0}
 KeysAgree (Inner node prefix key first second) =
     AllKeys (Begins prefix key 0) first × AllKeys (Begins prefix key 1) second × KeysAgree first × KeysAgree second
 KeysAgree (Other node) = Unit {0}
+
+-- each leaf is an order that can rest
+abbrev pub CanAllRest : Tree → Type 0
+CanAllRest (Leaf node order) = CanRest order
+CanAllRest (Inner node prefix key first second) = CanAllRest first × CanAllRest second
+CanAllRest (Other node) = Unit {0}
