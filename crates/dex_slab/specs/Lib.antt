@@ -1,4 +1,6 @@
 pub mod Changes
+pub mod Held
 pub mod Nodes
+pub mod Path
 pub mod Slab
 pub mod Tree
