@@ -1,5 +1,9 @@
+pub mod Holding
 pub mod IdLists
 pub mod KeyBits
+pub mod PieceLaw
 pub mod Plugs
+pub mod Standing
 pub mod Times
 pub mod TreeOrders
+pub mod Wrote

@@ -1,7 +1,9 @@
 -- Which bytes of an account hold the nodes of a tree.
-use Rattle.std.specs.Prelude.{◌≡◌, ℕ, List}
+use Rattle.std.specs.Prelude.{◌≡◌, ℕ, List, replicate}
+use Rattle.dex_fields.specs.declared.free_node.TheConstants as free
 use Rattle.dex_fields.specs.declared.inner_node.TheConstants as inner
-use Rattle.dex_fields.specs.Bytes.{number_in}
+use Rattle.dex_fields.specs.declared.leaf_node.TheConstants as leaf
+use Rattle.dex_fields.specs.Bytes.{bytes_in, number_in}
 use Rattle.dex_types.specs.declared.orders.Order.{Order}
 use Rattle.dex_slab.specs.Nodes.{node_bytes, order_in}
 use Rattle.dex_slab.specs.Path.{top_of}
@@ -19,6 +21,21 @@ pub record IsInner (piece : List ℕ) (prefix key first second : ℕ) : Type 0 w
   pub keys : number_in piece inner.KEY ≡ key
   pub firsts : number_in piece inner.FIRST_CHILD ≡ first
   pub seconds : number_in piece inner.SECOND_CHILD ≡ second
+
+-- 72 bytes are a free node with this tag, before this one
+pub record IsFree (piece : List ℕ) (tag next : ℕ) : Type 0 where
+  pub tags : number_in piece free.TAG ≡ tag
+  pub nexts : number_in piece free.NEXT ≡ next
+
+-- the padding of a leaf, of an inner node and of a free node is zero
+abbrev pub HasLeafPadding : List ℕ → Type 0
+HasLeafPadding piece = bytes_in piece leaf.PADDING ≡ replicate 2 0
+
+abbrev pub HasInnerPadding : List ℕ → Type 0
+HasInnerPadding piece = bytes_in piece inner.PADDING ≡ replicate 40 0
+
+abbrev pub HasFreePadding : List ℕ → Type 0
+HasFreePadding piece = bytes_in piece free.PADDING ≡ replicate 64 0
 
 -- each node of the tree stands in the bytes
 abbrev pub Holds : List ℕ → Tree → Type 0

@@ -1,5 +1,5 @@
 -- What stands in the header of a side's account, and in one of its nodes.
-use Rattle.std.specs.Prelude.{ℕ, ◌+◌, ◌-◌, ◌*◌, ◌/◌, List}
+use Rattle.std.specs.Prelude.{ℕ, ◌+◌, ◌-◌, ◌*◌, ◌/◌, List, Option, Some, None, if◌then◌else◌, ◌==◌}
 use Rattle.dex_fields.specs.declared.field.Field.{Field}
 use Rattle.dex_fields.specs.declared.inner_node.TheConstants as inner
 use Rattle.dex_fields.specs.declared.leaf_node.TheConstants as leaf
@@ -7,6 +7,7 @@ use Rattle.dex_fields.specs.declared.free_node.TheConstants as free
 use Rattle.dex_fields.specs.declared.slab.TheConstants.{BUMP_INDEX, FREE_LIST_HEAD, FREE_LIST_LEN, LEAF_COUNT, ROOT_NODE}
 use Rattle.dex_fields.specs.Bytes.{bytes_in, moved_by, number_in}
 use Rattle.dex_types.specs.declared.orders.Order.{Order}
+use Rattle.dex_slab.specs.declared.nodes.Branch.{Branch}
 
 -- ---- the header
 
@@ -88,3 +89,15 @@ order_of bytes node = order_in (node_bytes bytes node)
 -- the free node behind a free node
 abbrev pub next_of : List ℕ → ℕ → ℕ
 next_of bytes node = number_in (node_bytes bytes node) free.NEXT
+
+-- what an inner node says; None of any other node
+abbrev pub branch_of : List ℕ → ℕ → Option Branch
+branch_of bytes node =
+    if tag_of bytes node == 1
+    then Some (record {
+      prefix = prefix_of bytes node;
+      key = key_of bytes node;
+      first = first_child_of bytes node;
+      second = second_child_of bytes node;
+    })
+    else None
