@@ -1,6 +1,7 @@
 pub mod Holding
 pub mod IdLists
 pub mod KeyBits
+pub mod NodeWrites
 pub mod PieceLaw
 pub mod Plugs
 pub mod Standing

@@ -1,9 +1,9 @@
 -- Which bytes of a side's account a call may change.
-use Rattle.std.specs.Prelude.{◌≡◌, ℕ, ◌<◌, ◌≤◌, ◌⊎◌, List, slice_index}
+use Rattle.std.specs.Prelude.{◌≡◌, ◌≢◌, ℕ, ◌<◌, ◌≤◌, ◌⊎◌, List, slice_index}
 use Rattle.dex_fields.specs.declared.field.Field.{Field}
 use Rattle.dex_fields.specs.declared.leaf_node.TheConstants.{QUANTITY}
-use Rattle.dex_fields.specs.Bytes.{ChangesOnly, end_of}
-use Rattle.dex_slab.specs.Nodes.{in_node, node_field}
+use Rattle.dex_fields.specs.Bytes.{ChangesOnly, end_of, number_in}
+use Rattle.dex_slab.specs.Nodes.{in_node, node_bytes, node_field}
 
 -- the place is in no byte of the field
 abbrev pub IsBeside : Field → ℕ → Type 0
@@ -26,3 +26,14 @@ ChangesThreeNodes old new = (a : ℕ) × (b : ℕ) × (c : ℕ) × ChangesNodes 
 -- only the eight bytes of a leaf's lots differ
 abbrev pub ChangesLots : ℕ → List ℕ → List ℕ → Type 0
 ChangesLots node old new = ChangesOnly (in_node node QUANTITY) old new
+
+-- only this node differs
+pub record ChangesNode (node : ℕ) (old new : List ℕ) : Type 0 where
+  pub nodes : (other : ℕ) → other ≢ node → node_bytes new other ≡ node_bytes old other
+  pub header_numbers : (field : Field) → end_of field ≤ 45 → number_in new field ≡ number_in old field
+  pub places : (place : ℕ) → IsBeside (node_field node) place → slice_index new place ≡ slice_index old place
+
+-- only the slab's header differs
+pub record ChangesHeader (old new : List ℕ) : Type 0 where
+  pub nodes : (node : ℕ) → node_bytes new node ≡ node_bytes old node
+  pub places : (place : ℕ) → IsBeside header place → slice_index new place ≡ slice_index old place
