@@ -4,6 +4,7 @@ pub mod KeyBits
 pub mod NodeWrites
 pub mod PieceLaw
 pub mod Plugs
+pub mod PoolLaw
 pub mod Standing
 pub mod Times
 pub mod TreeOrders

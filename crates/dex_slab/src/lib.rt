@@ -4,6 +4,7 @@
 mod node_writes;
 mod nodes;
 mod pieces;
+mod pool;
 mod slab_ref;
 mod slab_view;
 
