@@ -8,4 +8,5 @@ pub mod PoolLaw
 pub mod Standing
 pub mod Times
 pub mod TreeOrders
+pub mod WalkLaw
 pub mod Wrote

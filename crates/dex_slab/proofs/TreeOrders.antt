@@ -9,6 +9,7 @@ use Rattle.dex_types.specs.Posting.{InBookOrder, PrecedesAll}
 use Rattle.dex_types.specs.Side.{precedes}
 use Rattle.dex_slab.specs.Path.{Path, Root, InFirst, InSecond, Leads, plug}
 use Rattle.dex_slab.specs.Tree.{Tree, Leaf, Inner, Other, AllKeys, Begins, KeysAgree, leaves_of, orders_of}
+use Rattle.dex_slab.specs.Walks.{RestsIn}
 use Rattle.dex_slab.proofs.IdLists.{AllIds, AllIds-append, AllIds-map, HasId, HasId-append, InBookOrder-append, PrecedesAll-from}
 use Rattle.dex_slab.proofs.KeyBits.{Begins-lt}
 use Rattle.dex_slab.proofs.Plugs.{keys-part}
@@ -145,12 +146,6 @@ behind-follows Ask id (InFirst node prefix key second up) t h leads =
 behind-follows Ask id (InSecond node prefix key first up) t h leads = behind-follows Ask id up (Inner node prefix key first t) h leads.1
 
 -- ---- ids that rest
-
--- some leaf of the tree has the id
-abbrev pub RestsIn : ℕ → Tree → Type 0
-RestsIn id (Leaf node order) = order.id ≡ id
-RestsIn id (Inner node prefix key first second) = RestsIn id first ⊎ RestsIn id second
-RestsIn id (Other node) = ⊥
 
 pub RestsIn-from : (side : Side) (id : ℕ) (t : Tree) → HasId id (orders_of side t) → RestsIn id t
 RestsIn-from side id (Leaf node order) (inl same) = same

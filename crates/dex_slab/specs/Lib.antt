@@ -5,3 +5,4 @@ pub mod Path
 pub mod Pool
 pub mod Slab
 pub mod Tree
+pub mod Walks

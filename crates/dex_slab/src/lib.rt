@@ -7,6 +7,7 @@ mod pieces;
 mod pool;
 mod slab_ref;
 mod slab_view;
+mod walks;
 
 pub use slab_ref::SlabRef;
 pub use slab_view::SlabView;
