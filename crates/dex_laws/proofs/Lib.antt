@@ -16,6 +16,7 @@ pub mod PostLaws
 pub mod LockLaws
 pub mod EachEventLaws
 pub mod SideLaws
+pub mod BookSideLaws
 pub mod OrderLaws
 pub mod FillLaws
 pub mod BookLaws
