@@ -1,17 +1,17 @@
 -- laws of a book side's calls: an order looked up by its id, the one that follows it, and the side without it or with other lots of it
-use Rattle.std.proofs.Common.{ℕ, suc, ◌+◌, ◌-◌, ◌≤◌, ◌<◌, ◌≡◌, ◌≢◌, ⊎_elim, true, false, eqb, List, [], ◌∷◌, ◌++◌, Some, None, length, take, refl, sym, ap, ◌∙◌, subst, arith, length-append}
-use Rattle.std.specs.List.{All}
-use Rattle.std.specs.Option.{IsSome}
+use Rattle.std.proofs.Common.{append-nil, ℕ, suc, ◌+◌, ◌-◌, ◌≤◌, ◌<◌, ◌≡◌, ◌≢◌, ⊎_elim, true, false, eqb, List, [], ◌∷◌, ◌++◌, Some, None, length, take, refl, sym, ap, ◌∙◌, subst, arith, length-append}
+use Rattle.std.specs.List.{All, slice_get}
+use Rattle.std.specs.Option.{IsSome, is_some}
 use Rattle.std.proofs.lemmas.Bool.{cases_Bool, cond-true, cond-false, cond_both, eq-eqb, ne_eqb, eqb-true, eqb-false, false≢true}
 use Rattle.std.proofs.lemmas.List.Elements.{All-nil, All-cons, All-head, All-tail, All-weaker}
 use Rattle.dex_types.specs.declared.orders.Order.{Order}
 use Rattle.dex_types.specs.declared.terms.Side.{Side}
 use Rattle.dex_types.specs.BookSide.{best_of, order_after, with_lots, CanRest, IsNewId, IsBookSide}
 use Rattle.dex_types.specs.Cancel.{order_with, without_order}
-use Rattle.dex_types.specs.Posting.{PrecedesAll, InBookOrder, posted, last_of}
+use Rattle.dex_types.specs.Posting.{PrecedesAll, InBookOrder, post, posted, last_of}
 use Rattle.dex_types.specs.Side.{precedes}
 use Rattle.dex_laws.proofs.IdLaws.{precedes-apart}
-use Rattle.dex_laws.proofs.PostLaws.{length-posted, last_of-split, All-posted, InBookOrder-posted}
+use Rattle.dex_laws.proofs.PostLaws.{length-posted, last_of-split, last_of-none, post-full, All-posted, InBookOrder-posted}
 use Rattle.dex_laws.proofs.SideLaws.{All-before}
 
 -- each of these orders has another id
@@ -248,3 +248,39 @@ last_of-between side orders last sorted is =
       id_is = refl;
       apart = (between-sorted side (take (length orders - 1) orders) last [] (subst (InBookOrder side) split sorted)).apart;
     }
+
+-- the last order stands at the last place
+pub last_of-slice_get : (orders : List Order) → last_of orders ≡ slice_get orders (length orders - 1)
+last_of-slice_get [] = refl
+last_of-slice_get (order ∷ []) = refl
+last_of-slice_get (order ∷ next ∷ others) =
+    let place : length (order ∷ next ∷ others) - 1 ≡ suc (length (next ∷ others) - 1) = omega arith in
+    rw place (last_of-slice_get (next ∷ others))
+
+-- what the last order of a full side tells, where another is to be posted in its place
+pub record GivesWay (side : Side) (room : ℕ) (order : Order) (orders : List Order) (last : Order) : Type 0 where
+  pub found : order_with last.id orders ≡ Some last
+  pub new : IsNewId order.id (without_order last.id orders)
+  pub space : length (without_order last.id orders) < room
+  pub posting : post side room order orders ≡ record { side = posted side order (without_order last.id orders); booted = Some last }
+
+pub gives-way : (side : Side) (room : ℕ) (order : Order) (orders : List Order) (last : Order) → IsBookSide side room orders → IsNewId order.id orders → 1 ≤ order.lots
+    → room ≤ length orders → last_of orders ≡ Some last → GivesWay side room order orders last
+gives-way side room order orders last held new lots full is =
+    let at : IsBetween last.id orders (take (length orders - 1) orders) last [] = last_of-between side orders last held.in_order is in
+    let left : without_order last.id orders ≡ take (length orders - 1) orders =
+    without_order-between last.id orders (take (length orders - 1) orders) last [] at ∙ append-nil (take (length orders - 1) orders) in
+    let found : order_with last.id orders ≡ Some last = order_with-between last.id orders (take (length orders - 1) orders) last [] at in record {
+      found = found;
+      new =
+          order_with-none order.id (without_order last.id orders)
+          (All-without_order (λ (o : Order). o.id ≢ order.id) last.id orders (apart-order_with order.id orders new));
+      space = omega (arith, length-without_resting last.id orders (ap is_some found), held.within);
+      posting =
+          post-full side room order orders (omega arith) full
+          ∙ cc;
+    }
+
+-- only an empty side has no last order
+pub last_of-some : (orders : List Order) → 0 < length orders → last_of orders ≡ None → ⊥
+last_of-some orders some none = let empty : length orders ≡ 0 = ap length (last_of-none orders none) in omega arith

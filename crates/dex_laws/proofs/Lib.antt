@@ -17,6 +17,7 @@ pub mod LockLaws
 pub mod EachEventLaws
 pub mod SideLaws
 pub mod BookSideLaws
+pub mod WalkLaws
 pub mod OrderLaws
 pub mod FillLaws
 pub mod BookLaws
