@@ -10,3 +10,7 @@ pub mod Times
 pub mod TreeOrders
 pub mod WalkLaw
 pub mod Wrote
+pub mod Descents
+pub mod Ends
+pub mod Parts
+pub mod Rooted

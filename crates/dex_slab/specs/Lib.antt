@@ -1,3 +1,4 @@
+pub mod Below
 pub mod Changes
 pub mod Held
 pub mod Nodes
@@ -6,3 +7,4 @@ pub mod Pool
 pub mod Slab
 pub mod Tree
 pub mod Walks
+pub mod SlabSide
