@@ -10,7 +10,8 @@ use Rattle.dex_types.specs.Cancel.{order_with}
 use Rattle.dex_types.specs.Posting.{last_of}
 use Rattle.dex_types.specs.Side.{by_side, opposite}
 use Rattle.dex_slab.specs.declared.nodes.Branch.{Branch}
-use Rattle.dex_slab.specs.Below.{below, first_below, child_towards, child_beyond, IsPart}
+use Rattle.dex_slab.specs.Below.{first_below, child_beyond, IsPart}
+use Rattle.dex_slab.specs.Walks.{tree_at, child_towards}
 use Rattle.dex_slab.specs.Held.{Holds}
 use Rattle.dex_slab.specs.Path.{bit_behind}
 use Rattle.dex_slab.specs.Tree.{Tree, Leaf, Inner, Other, AllKeys, Begins, KeysAgree, nodes_of, orders_of}
@@ -54,13 +55,13 @@ or-assoc (Some a) b c = refl
 
 -- below an inner node the first order is below the near child: the second of a bid, the first of an ask
 pub best-branch : (bytes : List ℕ) (side : Side) (t : Tree) (branch : Branch) → IsBranch bytes t branch
-    → best_of (orders_of side t) ≡ best_of (orders_of side (below bytes (by_side side branch.second branch.first)))
+    → best_of (orders_of side t) ≡ best_of (orders_of side (tree_at bytes (by_side side branch.second branch.first)))
 best-branch bytes Bid t branch b =
-    ap (λ u. best_of (orders_of Bid u)) b.is ∙ best-append (orders_of Bid (below bytes branch.second)) (orders_of Bid (below bytes branch.first))
-    ∙ or-first _ _ (first-some bytes Bid (below bytes branch.second) b.second_part.held)
+    ap (λ u. best_of (orders_of Bid u)) b.is ∙ best-append (orders_of Bid (tree_at bytes branch.second)) (orders_of Bid (tree_at bytes branch.first))
+    ∙ or-first _ _ (first-some bytes Bid (tree_at bytes branch.second) b.second_part.held)
 best-branch bytes Ask t branch b =
-    ap (λ u. best_of (orders_of Ask u)) b.is ∙ best-append (orders_of Ask (below bytes branch.first)) (orders_of Ask (below bytes branch.second))
-    ∙ or-first _ _ (first-some bytes Ask (below bytes branch.first) b.first_part.held)
+    ap (λ u. best_of (orders_of Ask u)) b.is ∙ best-append (orders_of Ask (tree_at bytes branch.first)) (orders_of Ask (tree_at bytes branch.second))
+    ∙ or-first _ _ (first-some bytes Ask (tree_at bytes branch.first) b.first_part.held)
 
 -- the last order of a side is the first of the other side
 pub last-first : (side : Side) (t : Tree) → last_of (orders_of side t) ≡ best_of (orders_of (opposite side) t)
@@ -89,62 +90,62 @@ other_ids side prefix key bit id t small keys apart =
 
 -- the ids below the child to which the bit does not lead
 apart_first : (bytes : List ℕ) (side : Side) (id : ℕ) (t : Tree) (branch : Branch) → IsPart bytes t → IsBranch bytes t branch → bit_behind branch.prefix id ≡ 1
-    → AllIds (λ other. other ≢ id) (orders_of side (below bytes branch.first))
+    → AllIds (λ other. other ≢ id) (orders_of side (tree_at bytes branch.first))
 apart_first bytes side id t branch part b bit =
     let keys = subst KeysAgree b.is part.keys in
-    other_ids side branch.prefix branch.key 0 id (below bytes branch.first) (omega arith) keys.0 (λ same. omega arith)
+    other_ids side branch.prefix branch.key 0 id (tree_at bytes branch.first) (omega arith) keys.0 (λ same. omega arith)
 
 apart_second : (bytes : List ℕ) (side : Side) (id : ℕ) (t : Tree) (branch : Branch) → IsPart bytes t → IsBranch bytes t branch → bit_behind branch.prefix id ≢ 1
-    → AllIds (λ other. other ≢ id) (orders_of side (below bytes branch.second))
+    → AllIds (λ other. other ≢ id) (orders_of side (tree_at bytes branch.second))
 apart_second bytes side id t branch part b bit =
     let keys = subst KeysAgree b.is part.keys in
-    other_ids side branch.prefix branch.key 1 id (below bytes branch.second) (omega arith) keys.1 bit
+    other_ids side branch.prefix branch.key 1 id (tree_at bytes branch.second) (omega arith) keys.1 bit
 
 -- so it is found below the child to which its bit leads
 pub find-second : (bytes : List ℕ) (side : Side) (id : ℕ) (t : Tree) (branch : Branch) → IsPart bytes t → IsBranch bytes t branch → bit_behind branch.prefix id ≡ 1
-    → order_with id (orders_of side t) ≡ order_with id (orders_of side (below bytes branch.second))
+    → order_with id (orders_of side t) ≡ order_with id (orders_of side (tree_at bytes branch.second))
 find-second bytes Bid id t branch part b bit =
     ap (λ u. order_with id (orders_of Bid u)) b.is
-    ∙ order_with-front id (orders_of Bid (below bytes branch.second)) (orders_of Bid (below bytes branch.first)) (apart_first bytes Bid id t branch part b bit)
+    ∙ order_with-front id (orders_of Bid (tree_at bytes branch.second)) (orders_of Bid (tree_at bytes branch.first)) (apart_first bytes Bid id t branch part b bit)
 find-second bytes Ask id t branch part b bit =
     ap (λ u. order_with id (orders_of Ask u)) b.is
-    ∙ order_with-back id (orders_of Ask (below bytes branch.first)) (orders_of Ask (below bytes branch.second)) (apart_first bytes Ask id t branch part b bit)
+    ∙ order_with-back id (orders_of Ask (tree_at bytes branch.first)) (orders_of Ask (tree_at bytes branch.second)) (apart_first bytes Ask id t branch part b bit)
 
 pub find-first : (bytes : List ℕ) (side : Side) (id : ℕ) (t : Tree) (branch : Branch) → IsPart bytes t → IsBranch bytes t branch → bit_behind branch.prefix id ≢ 1
-    → order_with id (orders_of side t) ≡ order_with id (orders_of side (below bytes branch.first))
+    → order_with id (orders_of side t) ≡ order_with id (orders_of side (tree_at bytes branch.first))
 find-first bytes Bid id t branch part b bit =
     ap (λ u. order_with id (orders_of Bid u)) b.is
-    ∙ order_with-back id (orders_of Bid (below bytes branch.second)) (orders_of Bid (below bytes branch.first)) (apart_second bytes Bid id t branch part b bit)
+    ∙ order_with-back id (orders_of Bid (tree_at bytes branch.second)) (orders_of Bid (tree_at bytes branch.first)) (apart_second bytes Bid id t branch part b bit)
 find-first bytes Ask id t branch part b bit =
     ap (λ u. order_with id (orders_of Ask u)) b.is
-    ∙ order_with-front id (orders_of Ask (below bytes branch.first)) (orders_of Ask (below bytes branch.second)) (apart_second bytes Ask id t branch part b bit)
+    ∙ order_with-front id (orders_of Ask (tree_at bytes branch.first)) (orders_of Ask (tree_at bytes branch.second)) (apart_second bytes Ask id t branch part b bit)
 
 -- ---- the order behind that of an id
 
 -- where the bit leads to the far child, what is behind is there; where it leads to the near child, it may be the first of the far one
 pub after-first : (bytes : List ℕ) (side : Side) (id : ℕ) (t : Tree) (branch : Branch) → IsPart bytes t → IsBranch bytes t branch → bit_behind branch.prefix id ≢ 1
-    → IsSome (order_with id (orders_of side (below bytes branch.first)))
+    → IsSome (order_with id (orders_of side (tree_at bytes branch.first)))
     → order_after id (orders_of side t)
-    ≡ option_or (order_after id (orders_of side (below bytes branch.first))) (first_below bytes side (by_side side None (Some branch.second)))
+    ≡ option_or (order_after id (orders_of side (tree_at bytes branch.first))) (first_below bytes side (by_side side None (Some branch.second)))
 after-first bytes Bid id t branch part b bit rests =
     ap (λ u. order_after id (orders_of Bid u)) b.is
-    ∙ order_after-back id (orders_of Bid (below bytes branch.second)) (orders_of Bid (below bytes branch.first)) (apart_second bytes Bid id t branch part b bit)
-    ∙ or-none (order_after id (orders_of Bid (below bytes branch.first)))
+    ∙ order_after-back id (orders_of Bid (tree_at bytes branch.second)) (orders_of Bid (tree_at bytes branch.first)) (apart_second bytes Bid id t branch part b bit)
+    ∙ or-none (order_after id (orders_of Bid (tree_at bytes branch.first)))
 after-first bytes Ask id t branch part b bit rests =
     ap (λ u. order_after id (orders_of Ask u)) b.is
-    ∙ order_after-front id (orders_of Ask (below bytes branch.first)) (orders_of Ask (below bytes branch.second)) rests
+    ∙ order_after-front id (orders_of Ask (tree_at bytes branch.first)) (orders_of Ask (tree_at bytes branch.second)) rests
 
 pub after-second : (bytes : List ℕ) (side : Side) (id : ℕ) (t : Tree) (branch : Branch) → IsPart bytes t → IsBranch bytes t branch → bit_behind branch.prefix id ≡ 1
-    → IsSome (order_with id (orders_of side (below bytes branch.second)))
+    → IsSome (order_with id (orders_of side (tree_at bytes branch.second)))
     → order_after id (orders_of side t)
-    ≡ option_or (order_after id (orders_of side (below bytes branch.second))) (first_below bytes side (by_side side (Some branch.first) None))
+    ≡ option_or (order_after id (orders_of side (tree_at bytes branch.second))) (first_below bytes side (by_side side (Some branch.first) None))
 after-second bytes Bid id t branch part b bit rests =
     ap (λ u. order_after id (orders_of Bid u)) b.is
-    ∙ order_after-front id (orders_of Bid (below bytes branch.second)) (orders_of Bid (below bytes branch.first)) rests
+    ∙ order_after-front id (orders_of Bid (tree_at bytes branch.second)) (orders_of Bid (tree_at bytes branch.first)) rests
 after-second bytes Ask id t branch part b bit rests =
     ap (λ u. order_after id (orders_of Ask u)) b.is
-    ∙ order_after-back id (orders_of Ask (below bytes branch.first)) (orders_of Ask (below bytes branch.second)) (apart_first bytes Ask id t branch part b bit)
-    ∙ or-none (order_after id (orders_of Ask (below bytes branch.second)))
+    ∙ order_after-back id (orders_of Ask (tree_at bytes branch.first)) (orders_of Ask (tree_at bytes branch.second)) (apart_first bytes Ask id t branch part b bit)
+    ∙ or-none (order_after id (orders_of Ask (tree_at bytes branch.second)))
 
 -- ---- the child to which the bit leads
 
@@ -162,15 +163,15 @@ child-cases id branch P side second first =
 -- what one step tells: a part below, with fewer nodes, in which the id's order is found, and the order behind it but for the
 -- first one beyond
 pub record IsStep (bytes : List ℕ) (id : ℕ) (side : Side) (t : Tree) (child : ℕ) (beyond : Option ℕ) : Type 0 where
-  pub part : IsPart bytes (below bytes child)
-  pub fewer : length (nodes_of (below bytes child)) < length (nodes_of t)
-  pub found : order_with id (orders_of side t) ≡ order_with id (orders_of side (below bytes child))
-  pub beyond_part : IfSome beyond (λ n. IsPart bytes (below bytes n))
+  pub part : IsPart bytes (tree_at bytes child)
+  pub fewer : length (nodes_of (tree_at bytes child)) < length (nodes_of t)
+  pub found : order_with id (orders_of side t) ≡ order_with id (orders_of side (tree_at bytes child))
+  pub beyond_part : IfSome beyond (λ n. IsPart bytes (tree_at bytes n))
   pub behind : IsSome (order_with id (orders_of side t))
-      → order_after id (orders_of side t) ≡ option_or (order_after id (orders_of side (below bytes child))) (first_below bytes side beyond)
+      → order_after id (orders_of side t) ≡ option_or (order_after id (orders_of side (tree_at bytes child))) (first_below bytes side beyond)
 
 beyond_of : (bytes : List ℕ) (side : Side) (t : Tree) (branch : Branch) → IsBranch bytes t branch
-    → IfSome (by_side side (Some branch.first) None) (λ n. IsPart bytes (below bytes n)) × IfSome (by_side side None (Some branch.second)) (λ n. IsPart bytes (below bytes n))
+    → IfSome (by_side side (Some branch.first) None) (λ n. IsPart bytes (tree_at bytes n)) × IfSome (by_side side None (Some branch.second)) (λ n. IsPart bytes (tree_at bytes n))
 beyond_of bytes Bid t branch b = (b.first_part, tt)
 beyond_of bytes Ask t branch b = (tt, b.second_part)
 
@@ -196,27 +197,27 @@ step bytes id side t branch part b =
     })
 
 -- the first order beyond, or else one further on
-pub first_below-or : (bytes : List ℕ) (side : Side) (beyond next : Option ℕ) → IfSome beyond (λ n. IsPart bytes (below bytes n))
+pub first_below-or : (bytes : List ℕ) (side : Side) (beyond next : Option ℕ) → IfSome beyond (λ n. IsPart bytes (tree_at bytes n))
     → option_or (first_below bytes side beyond) (first_below bytes side next) ≡ first_below bytes side (option_or beyond next)
 first_below-or bytes side None next part = refl
-first_below-or bytes side (Some n) next part = or-first _ _ (first-some bytes side (below bytes n) part.held)
+first_below-or bytes side (Some n) next part = or-first _ _ (first-some bytes side (tree_at bytes n) part.held)
 
 -- what was found so far on the way down, a step further
 pub behind-step : (bytes : List ℕ) (id : ℕ) (side : Side) (t : Tree) (child : ℕ) (beyond next : Option ℕ) → IsStep bytes id side t child beyond
     → IsSome (order_with id (orders_of side t))
     → option_or (order_after id (orders_of side t)) (first_below bytes side next)
-    ≡ option_or (order_after id (orders_of side (below bytes child))) (first_below bytes side (option_or beyond next))
+    ≡ option_or (order_after id (orders_of side (tree_at bytes child))) (first_below bytes side (option_or beyond next))
 behind-step bytes id side t child beyond next s rests =
     ap (λ o. option_or o (first_below bytes side next)) (s.behind rests)
-    ∙ or-assoc (order_after id (orders_of side (below bytes child))) (first_below bytes side beyond) (first_below bytes side next)
-    ∙ ap (λ o. option_or (order_after id (orders_of side (below bytes child))) o) (first_below-or bytes side beyond next s.beyond_part)
+    ∙ or-assoc (order_after id (orders_of side (tree_at bytes child))) (first_below bytes side beyond) (first_below bytes side next)
+    ∙ ap (λ o. option_or (order_after id (orders_of side (tree_at bytes child))) o) (first_below-or bytes side beyond next s.beyond_part)
 
 -- no order is behind the only one
 pub after-alone : (id : ℕ) (order : Order) → order_after id (order ∷ []) ≡ None
 after-alone id order = cond_both (eqb order.id id) None None (λ o. o ≡ None) (λ same. refl) (λ apart. refl)
 
 -- what holds of each of two nodes that may be there holds of the first of them
-pub part-or : (bytes : List ℕ) (beyond next : Option ℕ) → IfSome beyond (λ n. IsPart bytes (below bytes n)) → IfSome next (λ n. IsPart bytes (below bytes n))
-    → IfSome (option_or beyond next) (λ n. IsPart bytes (below bytes n))
+pub part-or : (bytes : List ℕ) (beyond next : Option ℕ) → IfSome beyond (λ n. IsPart bytes (tree_at bytes n)) → IfSome next (λ n. IsPart bytes (tree_at bytes n))
+    → IfSome (option_or beyond next) (λ n. IsPart bytes (tree_at bytes n))
 part-or bytes None next one two = two
 part-or bytes (Some n) next one two = one

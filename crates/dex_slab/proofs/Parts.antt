@@ -7,7 +7,8 @@ use Rattle.dex_types.specs.declared.terms.Side.{Side}
 use Rattle.dex_types.specs.declared.terms.Side.TheVariants.{Bid, Ask}
 use Rattle.dex_types.specs.Side.{by_side}
 use Rattle.dex_slab.specs.declared.nodes.Branch.{Branch}
-use Rattle.dex_slab.specs.Below.{below, IsPart}
+use Rattle.dex_slab.specs.Below.{IsPart}
+use Rattle.dex_slab.specs.Walks.{tree_at}
 use Rattle.dex_slab.specs.Held.{IsInner, IsLeaf}
 use Rattle.dex_slab.specs.Nodes.{branch_of, first_child_of, key_of, node_bytes, node_field, order_of, second_child_of, tag_of}
 use Rattle.dex_slab.specs.Path.{top_of}
@@ -17,12 +18,10 @@ use Rattle.dex_slab.proofs.Holding.{top-tree_from, tree_from-held}
 use Rattle.dex_slab.proofs.Times.{times-append, times-some}
 
 -- the part is what is below its top
-pub below-top : (bytes : List ℕ) (t : Tree) → IsPart bytes t → below bytes (top_of t) ≡ t
-unfolding below
+pub below-top : (bytes : List ℕ) (t : Tree) → IsPart bytes t → tree_at bytes (top_of t) ≡ t
 below-top bytes t part = tree_from-held 129 bytes t part.least part.held part.prefixes part.low (omega arith)
 
-pub top-below : (bytes : List ℕ) (node : ℕ) → top_of (below bytes node) ≡ node
-unfolding below
+pub top-below : (bytes : List ℕ) (node : ℕ) → top_of (tree_at bytes node) ≡ node
 top-below bytes node = top-tree_from 129 bytes node
 
 -- the parts below an inner node are parts
@@ -55,15 +54,15 @@ times-top (Other node) = times-some node []
 pub inside-top : (bytes : List ℕ) (t : Tree) → IsPart bytes t → end_of (node_field (top_of t)) ≤ length bytes
 inside-top bytes t part = omega (arith, part.inside (top_of t) (times-top t))
 
-pub inside-below : (bytes : List ℕ) (node : ℕ) → IsPart bytes (below bytes node) → end_of (node_field node) ≤ length bytes
-inside-below bytes node part = subst (λ n. end_of (node_field n) ≤ length bytes) (top-below bytes node) (inside-top bytes (below bytes node) part)
+pub inside-below : (bytes : List ℕ) (node : ℕ) → IsPart bytes (tree_at bytes node) → end_of (node_field node) ≤ length bytes
+inside-below bytes node part = subst (λ n. end_of (node_field n) ≤ length bytes) (top-below bytes node) (inside-top bytes (tree_at bytes node) part)
 
 -- a part is an inner node that says this, with two parts below
 pub record IsBranch (bytes : List ℕ) (t : Tree) (branch : Branch) : Type 0 where
-  pub is : t ≡ Inner (top_of t) branch.prefix branch.key (below bytes branch.first) (below bytes branch.second)
+  pub is : t ≡ Inner (top_of t) branch.prefix branch.key (tree_at bytes branch.first) (tree_at bytes branch.second)
   pub prefix_is : branch.prefix < 128
-  pub first_part : IsPart bytes (below bytes branch.first)
-  pub second_part : IsPart bytes (below bytes branch.second)
+  pub first_part : IsPart bytes (tree_at bytes branch.first)
+  pub second_part : IsPart bytes (tree_at bytes branch.second)
 
 branch-inner : (bytes : List ℕ) (node prefix key : ℕ) (first second : Tree) → IsPart bytes (Inner node prefix key first second)
     → IsBranch bytes (Inner node prefix key first second) (record { prefix = prefix; key = key; first = top_of first; second = top_of second })
@@ -72,7 +71,7 @@ branch-inner bytes node prefix key first second part =
     let two = part-second bytes node prefix key first second part in
     let first_is = below-top bytes first one in
     let second_is = below-top bytes second two in record {
-      is = ap (λ (t : Tree). Inner node prefix key t second) (sym first_is) ∙ ap (λ (t : Tree). Inner node prefix key (below bytes (top_of first)) t) (sym second_is);
+      is = ap (λ (t : Tree). Inner node prefix key t second) (sym first_is) ∙ ap (λ (t : Tree). Inner node prefix key (tree_at bytes (top_of first)) t) (sym second_is);
       prefix_is = part.prefixes.1;
       first_part = subst (IsPart bytes) (sym first_is) one;
       second_part = subst (IsPart bytes) (sym second_is) two;
@@ -108,33 +107,33 @@ leaf-part bytes (Inner node prefix key first second) part none = absurd (let sai
 leaf-part bytes (Other node) part none = absurd part.held
 
 -- what is below a node, by what the node says
-pub branch-below : (bytes : List ℕ) (node : ℕ) (branch : Branch) → IsPart bytes (below bytes node) → branch_of bytes node ≡ Some branch
-    → IsBranch bytes (below bytes node) branch
-branch-below bytes node branch part said = branch-part bytes (below bytes node) branch part (ap (branch_of bytes) (top-below bytes node) ∙ said)
+pub branch-below : (bytes : List ℕ) (node : ℕ) (branch : Branch) → IsPart bytes (tree_at bytes node) → branch_of bytes node ≡ Some branch
+    → IsBranch bytes (tree_at bytes node) branch
+branch-below bytes node branch part said = branch-part bytes (tree_at bytes node) branch part (ap (branch_of bytes) (top-below bytes node) ∙ said)
 
-pub leaf-below : (bytes : List ℕ) (node : ℕ) → IsPart bytes (below bytes node) → branch_of bytes node ≡ None → below bytes node ≡ Leaf node (order_of bytes node)
+pub leaf-below : (bytes : List ℕ) (node : ℕ) → IsPart bytes (tree_at bytes node) → branch_of bytes node ≡ None → tree_at bytes node ≡ Leaf node (order_of bytes node)
 leaf-below bytes node part none =
-    leaf-part bytes (below bytes node) part (ap (branch_of bytes) (top-below bytes node) ∙ none) ∙ ap (λ n. Leaf n (order_of bytes n)) (top-below bytes node)
+    leaf-part bytes (tree_at bytes node) part (ap (branch_of bytes) (top-below bytes node) ∙ none) ∙ ap (λ n. Leaf n (order_of bytes n)) (top-below bytes node)
 
 -- fewer nodes are below each child
-pub nodes-first : (bytes : List ℕ) (t : Tree) (branch : Branch) → IsBranch bytes t branch → length (nodes_of (below bytes branch.first)) < length (nodes_of t)
+pub nodes-first : (bytes : List ℕ) (t : Tree) (branch : Branch) → IsBranch bytes t branch → length (nodes_of (tree_at bytes branch.first)) < length (nodes_of t)
 nodes-first bytes t branch b =
-    omega (arith, ap (λ u. length (nodes_of u)) b.is, length-append (nodes_of (below bytes branch.first)) (nodes_of (below bytes branch.second)))
+    omega (arith, ap (λ u. length (nodes_of u)) b.is, length-append (nodes_of (tree_at bytes branch.first)) (nodes_of (tree_at bytes branch.second)))
 
-pub nodes-second : (bytes : List ℕ) (t : Tree) (branch : Branch) → IsBranch bytes t branch → length (nodes_of (below bytes branch.second)) < length (nodes_of t)
+pub nodes-second : (bytes : List ℕ) (t : Tree) (branch : Branch) → IsBranch bytes t branch → length (nodes_of (tree_at bytes branch.second)) < length (nodes_of t)
 nodes-second bytes t branch b =
-    omega (arith, ap (λ u. length (nodes_of u)) b.is, length-append (nodes_of (below bytes branch.first)) (nodes_of (below bytes branch.second)))
+    omega (arith, ap (λ u. length (nodes_of u)) b.is, length-append (nodes_of (tree_at bytes branch.first)) (nodes_of (tree_at bytes branch.second)))
 
 -- the same of the near child
-pub part-near : (bytes : List ℕ) (side : Side) (t : Tree) (branch : Branch) → IsBranch bytes t branch → IsPart bytes (below bytes (by_side side branch.second branch.first))
+pub part-near : (bytes : List ℕ) (side : Side) (t : Tree) (branch : Branch) → IsBranch bytes t branch → IsPart bytes (tree_at bytes (by_side side branch.second branch.first))
 part-near bytes Bid t branch b = b.second_part
 part-near bytes Ask t branch b = b.first_part
 
 pub nodes-near : (bytes : List ℕ) (side : Side) (t : Tree) (branch : Branch) → IsBranch bytes t branch
-    → length (nodes_of (below bytes (by_side side branch.second branch.first))) < length (nodes_of t)
+    → length (nodes_of (tree_at bytes (by_side side branch.second branch.first))) < length (nodes_of t)
 nodes-near bytes Bid t branch b = nodes-second bytes t branch b
 nodes-near bytes Ask t branch b = nodes-first bytes t branch b
 
 -- a node that is not a leaf says a prefix of fewer than 128 bits
-pub prefix-below : (bytes : List ℕ) (node : ℕ) (branch : Branch) → IsPart bytes (below bytes node) → branch_of bytes node ≡ Some branch → branch.prefix < 128
+pub prefix-below : (bytes : List ℕ) (node : ℕ) (branch : Branch) → IsPart bytes (tree_at bytes node) → branch_of bytes node ≡ Some branch → branch.prefix < 128
 prefix-below bytes node branch part said = (branch-below bytes node branch part said).prefix_is

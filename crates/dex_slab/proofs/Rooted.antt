@@ -1,7 +1,8 @@
 -- The part of a slab's tree below its root.
 use Rattle.std.proofs.Common.{◌≡◌, ℕ, ◌≤◌, List, [], length, Option, Some, None, refl, sym, ap, ◌∙◌, subst, arith, inl, inr}
 use Rattle.dex_types.specs.declared.terms.Side.{Side}
-use Rattle.dex_slab.specs.Below.{below, IsPart, IsRoot}
+use Rattle.dex_slab.specs.Below.{IsPart, IsRoot}
+use Rattle.dex_slab.specs.Walks.{tree_at}
 use Rattle.dex_slab.specs.Nodes.{count_of, root_of}
 use Rattle.dex_slab.specs.Slab.{IsSlab, free_of, orders_in, resting, room_in, tree_of}
 use Rattle.dex_slab.specs.Tree.{Tree, nodes_of}
@@ -24,12 +25,11 @@ part_of bytes t h = record {
 }
 
 pub rooted : (bytes : List ℕ) → IsSlab bytes → 1 ≤ count_of bytes → IsRoot bytes (root_of bytes)
-unfolding below
 rooted bytes slab some =
     elim (tree_of-cases bytes) [
       | inl none ↦ absurd (omega (arith, none.0))
       | inr there ↦ record {
-        part = part_of bytes (below bytes (root_of bytes)) (subst (Stands bytes) there.1 (stands_of bytes slab));
+        part = part_of bytes (tree_at bytes (root_of bytes)) (subst (Stands bytes) there.1 (stands_of bytes slab));
         orders = λ side. ap (orders_in side) there.1;
       }
     ]

@@ -9,11 +9,8 @@ use Rattle.dex_slab.specs.Held.{Holds}
 use Rattle.dex_slab.specs.Nodes.{nodes_within}
 use Rattle.dex_slab.specs.Path.{bit_behind}
 use Rattle.dex_slab.specs.Slab.{resting, times}
-use Rattle.dex_slab.specs.Tree.{Tree, HasPrefixes, KeysAgree, nodes_of, orders_of, tree_from}
-
--- the tree below a node, with the node at its top; no way down has more than 128 inner nodes and a leaf
-unfoldable pub below : List ℕ → ℕ → Tree
-below bytes node = tree_from 129 bytes node
+use Rattle.dex_slab.specs.Tree.{Tree, HasPrefixes, KeysAgree, nodes_of, orders_of}
+use Rattle.dex_slab.specs.Walks.{tree_at}
 
 -- the tree is a part of a slab's: its nodes stand in the bytes, its prefixes grow and its keys agree
 pub record IsPart (bytes : List ℕ) (t : Tree) : Type 0 where
@@ -27,11 +24,7 @@ pub record IsPart (bytes : List ℕ) (t : Tree) : Type 0 where
 -- the first order below a node, if there is one
 abbrev pub first_below : List ℕ → Side → Option ℕ → Option Order
 first_below bytes side None = None
-first_below bytes side (Some node) = best_of (orders_of side (below bytes node))
-
--- the child to which the bit of an id behind the prefix leads
-abbrev pub child_towards : ℕ → Branch → ℕ
-child_towards id branch = if bit_behind branch.prefix id == 1 then branch.second else branch.first
+first_below bytes side (Some node) = best_of (orders_of side (tree_at bytes node))
 
 -- the child whose orders come next behind those of that child on a side, if there is one: of bids the first child behind the
 -- second, of asks the second behind the first
@@ -41,5 +34,5 @@ child_beyond side id branch =
 
 -- all orders of the side are below this node
 pub record IsRoot (bytes : List ℕ) (node : ℕ) : Type 0 where
-  pub part : IsPart bytes (below bytes node)
-  pub orders : (side : Side) → resting side bytes ≡ orders_of side (below bytes node)
+  pub part : IsPart bytes (tree_at bytes node)
+  pub orders : (side : Side) → resting side bytes ≡ orders_of side (tree_at bytes node)

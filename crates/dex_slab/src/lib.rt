@@ -10,8 +10,8 @@ mod reading;
 mod search;
 mod slab_ref;
 mod slab_view;
-mod walks;
 mod view_reads;
+mod walks;
 
 pub use slab_ref::SlabRef;
 pub use slab_view::SlabView;

@@ -1,7 +1,8 @@
 use Rattle.std.proofs.Common.{◌∙◌, ap, sym, subst}
 use Rattle.std.specs.Option.{IsSome, option_or}
 use Rattle.dex_types.specs.BookSide.{order_after}
-use Rattle.dex_slab.specs.Below.{below, child_beyond, child_towards, first_below}
+use Rattle.dex_slab.specs.Below.{child_beyond, first_below}
+use Rattle.dex_slab.specs.Walks.{tree_at, child_towards}
 use Rattle.dex_slab.specs.Nodes.{order_of}
 use Rattle.dex_slab.specs.Tree.{orders_of}
 use Rattle.dex_slab.proofs.Descents.{IsStep, after-alone, behind-step, part-or, step}
@@ -10,10 +11,10 @@ use Rattle.dex_slab.proofs.behind.part_behind.Goals as goal
 
 -- the step to the child
 on_step : (c : goal.After-child_towards-leaf)
-    → IsStep c.args.bytes.now c.args.id c.args.side (below c.args.bytes.now c.down.leaf) (child_towards c.args.id c.in-Some.branch)
+    → IsStep c.args.bytes.now c.args.id c.args.side (tree_at c.args.bytes.now c.down.leaf) (child_towards c.args.id c.in-Some.branch)
     (child_beyond c.args.side c.args.id c.in-Some.branch)
 on_step c =
-    step c.args.bytes.now c.args.id c.args.side (below c.args.bytes.now c.down.leaf) c.in-Some.branch c.down.invariant.part
+    step c.args.bytes.now c.args.id c.args.side (tree_at c.args.bytes.now c.down.leaf) c.in-Some.branch c.down.invariant.part
     (branch-below c.args.bytes.now c.down.leaf c.in-Some.branch c.down.invariant.part (sym c.branch_of.ensures ∙ c.in-Some.is))
 
 pub branch_of-requires : goal.branch_of-requires

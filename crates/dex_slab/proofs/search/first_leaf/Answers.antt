@@ -1,13 +1,13 @@
 use Rattle.std.proofs.Common.{◌∙◌, ap, sym}
 use Rattle.dex_types.specs.BookSide.{best_of}
-use Rattle.dex_slab.specs.Below.{below}
+use Rattle.dex_slab.specs.Walks.{tree_at}
 use Rattle.dex_slab.specs.Tree.{orders_of}
 use Rattle.dex_slab.proofs.Descents.{best-branch}
 use Rattle.dex_slab.proofs.Parts.{IsBranch, branch-below, inside-below, leaf-below, nodes-near, part-near}
 use Rattle.dex_slab.proofs.search.first_leaf.Goals as goal
 
 -- what is below a node that is not a leaf
-on_branch : (c : goal.After-near_child-leaf) → IsBranch c.args.bytes.now (below c.args.bytes.now c.down.leaf) c.in-Some.branch
+on_branch : (c : goal.After-near_child-leaf) → IsBranch c.args.bytes.now (tree_at c.args.bytes.now c.down.leaf) c.in-Some.branch
 on_branch c = branch-below c.args.bytes.now c.down.leaf c.in-Some.branch c.down.invariant.part (sym c.branch_of.ensures ∙ c.in-Some.is)
 
 pub branch_of-requires : goal.branch_of-requires

@@ -2,20 +2,21 @@ use Rattle.std.proofs.Common.{◌∙◌, ap, sym}
 use Rattle.dex_types.specs.declared.terms.Side.TheVariants.{Bid}
 use Rattle.dex_types.specs.declared.terms.Side.{Side}
 use Rattle.dex_types.specs.Cancel.{order_with}
-use Rattle.dex_slab.specs.Below.{below, child_beyond, child_towards}
+use Rattle.dex_slab.specs.Below.{child_beyond}
+use Rattle.dex_slab.specs.Walks.{tree_at, child_towards}
 use Rattle.dex_slab.specs.Tree.{orders_of}
 use Rattle.dex_slab.proofs.Descents.{IsStep, step}
 use Rattle.dex_slab.proofs.Parts.{IsBranch, branch-below, inside-below, leaf-below, prefix-below}
 use Rattle.dex_slab.proofs.search.leaf_towards.Goals as goal
 
 -- what is below a node that is not a leaf
-on_branch : (c : goal.After-child_towards-leaf) → IsBranch c.args.bytes.now (below c.args.bytes.now c.down.leaf) c.in-Some.branch
+on_branch : (c : goal.After-child_towards-leaf) → IsBranch c.args.bytes.now (tree_at c.args.bytes.now c.down.leaf) c.in-Some.branch
 on_branch c = branch-below c.args.bytes.now c.down.leaf c.in-Some.branch c.down.invariant.part (sym c.branch_of.ensures ∙ c.in-Some.is)
 
 -- and the step to its child
 on_step : (c : goal.After-child_towards-leaf) (side : Side)
-    → IsStep c.args.bytes.now c.args.id side (below c.args.bytes.now c.down.leaf) (child_towards c.args.id c.in-Some.branch) (child_beyond side c.args.id c.in-Some.branch)
-on_step c side = step c.args.bytes.now c.args.id side (below c.args.bytes.now c.down.leaf) c.in-Some.branch c.down.invariant.part (on_branch c)
+    → IsStep c.args.bytes.now c.args.id side (tree_at c.args.bytes.now c.down.leaf) (child_towards c.args.id c.in-Some.branch) (child_beyond side c.args.id c.in-Some.branch)
+on_step c side = step c.args.bytes.now c.args.id side (tree_at c.args.bytes.now c.down.leaf) c.in-Some.branch c.down.invariant.part (on_branch c)
 
 pub branch_of-requires : goal.branch_of-requires
 branch_of-requires c = inside-below c.args.bytes.now c.down.leaf c.down.invariant.part
