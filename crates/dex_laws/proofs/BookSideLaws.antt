@@ -11,7 +11,7 @@ use Rattle.dex_types.specs.Cancel.{order_with, without_order}
 use Rattle.dex_types.specs.Posting.{PrecedesAll, InBookOrder, post, posted, last_of}
 use Rattle.dex_types.specs.Side.{precedes}
 use Rattle.dex_laws.proofs.IdLaws.{precedes-apart}
-use Rattle.dex_laws.proofs.PostLaws.{length-posted, last_of-split, last_of-none, post-full, All-posted, InBookOrder-posted}
+use Rattle.dex_laws.proofs.PostLaws.{length-posted, posted-induction, last_of-split, last_of-none, post-full, All-posted, InBookOrder-posted}
 use Rattle.dex_laws.proofs.SideLaws.{All-before}
 
 -- each of these orders has another id
@@ -284,3 +284,27 @@ gives-way side room order orders last held new lots full is =
 -- only an empty side has no last order
 pub last_of-some : (orders : List Order) → 0 < length orders → last_of orders ≡ None → ⊥
 last_of-some orders some none = let empty : length orders ≡ 0 = ap length (last_of-none orders none) in omega arith
+
+-- an order rests on where another is posted, and so does the order that is posted
+pub rests-posted : (side : Side) (id : ℕ) (order : Order) (orders : List Order) → IsSome (order_with id orders) → IsSome (order_with id (posted side order orders))
+rests-posted side id order =
+    posted-induction side order (λ orders after. IsSome (order_with id orders) → IsSome (order_with id after)) (λ some. absurd (false≢true some))
+    (λ first others behind some. cond_both (eqb order.id id) (Some order) (order_with id (first ∷ others)) IsSome (λ same. refl) (λ apart. some))
+    (λ first others rest before held some.
+    cond_both (eqb first.id id) (Some first) (order_with id rest) IsSome (λ same. refl) (λ apart. held (subst IsSome (cond-false _ _ _ apart) some)))
+
+pub posted-rests : (side : Side) (order : Order) (orders : List Order) → IsSome (order_with order.id (posted side order orders))
+posted-rests side order =
+    posted-induction side order (λ orders after. IsSome (order_with order.id after))
+    (cond_both (eqb order.id order.id) (Some order) None IsSome (λ same. refl) (λ apart. absurd (eqb-false order.id order.id apart refl)))
+    (λ first others behind. cond_both (eqb order.id order.id) (Some order) (order_with order.id (first ∷ others)) IsSome (λ same. refl) (λ apart. absurd (eqb-false order.id order.id apart refl)))
+    (λ first others rest before held. cond_both (eqb first.id order.id) (Some first) (order_with order.id rest) IsSome (λ same. refl) (λ apart. held))
+
+-- and where another leaves
+pub rests-without : (id other : ℕ) → id ≢ other → (orders : List Order) → IsSome (order_with id orders) → IsSome (order_with id (without_order other orders))
+rests-without id other differ [] some = some
+rests-without id other differ (first ∷ others) some =
+    cond_both (eqb first.id other) others (first ∷ without_order other others) (λ left. IsSome (order_with id left))
+    (λ gone. subst IsSome (cond-false _ _ _ (ne_eqb first.id id (λ same. differ (sym same ∙ eqb-true first.id other gone)))) some)
+    (λ stays. cond_both (eqb first.id id) (Some first) (order_with id (without_order other others)) IsSome (λ same. refl)
+    (λ apart. rests-without id other differ others (subst IsSome (cond-false _ _ _ apart) some)))
