@@ -1,10 +1,13 @@
+pub mod Entering
 pub mod Holding
 pub mod IdLists
 pub mod KeyBits
 pub mod NodeWrites
+pub mod Parting
 pub mod PieceLaw
 pub mod Plugs
 pub mod PoolLaw
+pub mod Retop
 pub mod Standing
 pub mod Times
 pub mod TreeOrders
