@@ -1,5 +1,5 @@
 -- A new leaf beside a part of a tree: the tree that a new order makes.
-use Rattle.std.proofs.Common.{◌≡◌, ◌≢◌, ℕ, suc, ◌+◌, ◌-◌, ◌<◌, ◌≤◌, ◌^◌, Bool, true, false, ◌==◌, eqb, List, [], ◌∷◌, ◌++◌, length, append_assoc, refl, sym, ap, subst, ◌∙◌, arith}
+use Rattle.std.proofs.Common.{◌≡◌, ◌≢◌, ℕ, suc, ◌+◌, ◌-◌, ◌<◌, ◌≤◌, ◌^◌, Bool, true, false, ◌==◌, eqb, List, [], ◌∷◌, ◌++◌, length, append_assoc, Option, Some, refl, sym, ap, subst, ◌∙◌, arith}
 use Rattle.std.proofs.lemmas.Bool.{eqb-false, eqb-true, le-ltb, lt-ltb}
 use Rattle.std.proofs.lemmas.List.{length-append}
 use Rattle.dex_types.specs.declared.orders.Order.{Order}
@@ -9,16 +9,19 @@ use Rattle.dex_types.specs.BookSide.{CanRest}
 use Rattle.dex_types.specs.Posting.{posted}
 use Rattle.dex_types.specs.Side.{precedes}
 use Rattle.dex_slab.specs.Held.{Holds, IsInner, IsLeaf}
-use Rattle.dex_slab.specs.Nodes.{node_bytes}
+use Rattle.dex_slab.specs.Nodes.{count_of, node_bytes, root_of}
 use Rattle.dex_slab.specs.Path.{Path, Leads, bit_behind, plug, shared_bits, top_key, top_of}
-use Rattle.dex_slab.specs.Slab.{IsTree, same, times}
+use Rattle.dex_slab.specs.Slab.{IsShared, IsSlabSize, IsTree, free_of, same, times}
 use Rattle.dex_slab.specs.Tree.{Tree, Leaf, Inner, Other, AllKeys, Begins, CanAllRest, HasPrefixes, IsKnown, KeysAgree, leaves_of, nodes_of, orders_of}
 use Rattle.dex_slab.specs.Walks.{Stops}
+use Rattle.dex_slab.proofs.Holding.{AreSame, Holds-part, Holds-plug, top-plug}
 use Rattle.dex_slab.proofs.IdLists.{AllIds, AllIds-append, AllIds-map, posted-behind, posted-front}
 use Rattle.dex_slab.proofs.KeyBits.{Begins-from, Begins-lt, bit_behind-lt}
 use Rattle.dex_slab.proofs.Parting.{IsNewAt, least-shared, parts-keys, parts-low, top-key}
-use Rattle.dex_slab.proofs.Plugs.{keys-part, keys-plug, known-part, known-plug, leaves-plug, least_at, path_nodes, prefixes-part, prefixes-plug, rest-part, rest-plug, times-plug}
-use Rattle.dex_slab.proofs.Retop.{agree-retop, keys-retop, known-retop, leaves-retop, nodes-retop, nodes-top, orders-retop, prefixes-retop, rest-retop, retop, rest_of, top-retop}
+use Rattle.dex_slab.proofs.Plugs.{keys-part, keys-plug, known-part, known-plug, leaves-plug, least_at, nodes-plug, path_nodes, prefixes-part, prefixes-plug, rest-part, rest-plug, times-plug}
+use Rattle.dex_slab.proofs.PoolLaw.{IsShared-order}
+use Rattle.dex_slab.proofs.Retop.{Holds-retop, agree-retop, keys-retop, known-retop, leaves-retop, nodes-retop, nodes-top, orders-retop, prefixes-retop, rest-retop, retop, rest_of, top-retop}
+use Rattle.dex_slab.proofs.Standing.{IsHeld, Stands}
 use Rattle.dex_slab.proofs.Times.{times-append}
 use Rattle.dex_slab.proofs.TreeOrders.{AllIds-of, before, before-precedes, behind, behind-follows, orders-plug}
 
@@ -70,11 +73,11 @@ module _ (node prefix key : ℕ) (new old : Tree) where
   times-joined true n = omega (arith, times-append n (nodes_of old) (nodes_of new))
   times-joined false n = omega (arith, times-append n (nodes_of new) (nodes_of old))
 
-  length-joined : (one : Bool) → length (nodes_of (joined one node prefix key new old)) ≡ suc (length (nodes_of new) + length (nodes_of old))
+  pub length-joined : (one : Bool) → length (nodes_of (joined one node prefix key new old)) ≡ suc (length (nodes_of new) + length (nodes_of old))
   length-joined true = omega (arith, length-append (nodes_of old) (nodes_of new))
   length-joined false = omega (arith, length-append (nodes_of new) (nodes_of old))
 
-  top-joined : (one : Bool) → top_of (joined one node prefix key new old) ≡ node
+  pub top-joined : (one : Bool) → top_of (joined one node prefix key new old) ≡ node
   top-joined true = refl
   top-joined false = refl
 
@@ -117,7 +120,7 @@ posted-joined false Bid order node leaf prefix old others here beside last =
 -- ---- the whole tree
 
 module _ (path : Path) (part : Tree) (order : Order) (leaf moved : ℕ) (good : IsTree (plug path part)) (fits : order.id < 2 ^ 128) (low : top_key part < 2 ^ 128)
-    (leads : Leads order.id path) (stops : Stops order.id part) (new : IsNewAt order.id part) (can_rest : CanRest order) (one : Bool)
+    (leads : Leads order.id path) (stops : Stops order.id part) (fresh : IsNewAt order.id part) (can_rest : CanRest order) (one : Bool)
     (bit : bit_behind (shared_bits (top_key part) order.id) order.id ≡ bit_number one) where
   abbrev s : ℕ
   s = shared_bits (top_key part) order.id
@@ -136,14 +139,14 @@ module _ (path : Path) (part : Tree) (order : Order) (leaf moved : ℕ) (good : 
   known = known-part path part good.known
 
   s_low : s < 128
-  s_low = parts-low order.id fits part (least_at path) low stops new prefixed
+  s_low = parts-low order.id fits part (least_at path) low stops fresh prefixed
 
   bit-lt : (b : Bool) → bit_number b < 2
   bit-lt true = omega arith
   bit-lt false = omega arith
 
   beside_begins : AllKeys (Begins s order.id (1 - bit_number one)) part
-  beside_begins = parts-keys order.id fits part (least_at path) low stops new prefixed agreed (1 - bit_number one) (omega (arith, bit-lt one))
+  beside_begins = parts-keys order.id fits part (least_at path) low stops fresh prefixed agreed (1 - bit_number one) (omega (arith, bit-lt one))
 
   here_begins : Begins s order.id (bit_number one) order.id
   here_begins = Begins-from s order.id (bit_number one) order.id s_low refl bit
@@ -193,3 +196,55 @@ module _ (path : Path) (part : Tree) (order : Order) (leaf moved : ℕ) (good : 
   times_grown n =
       omega (arith, times-plug n path grown, times-plug n path part, times-joined (top_of part) s order.id (Leaf leaf order) (retop moved part) one n,
       ap (times n) (nodes-retop moved part), ap (times n) (nodes-top part))
+
+  pub length_grown : length (nodes_of (plug path grown)) ≡ length (leaf ∷ moved ∷ nodes_of (plug path part))
+  length_grown =
+      omega (arith, nodes-plug path grown, nodes-plug path part, length-joined (top_of part) s order.id (Leaf leaf order) (retop moved part) one,
+      ap (λ (l : List ℕ). length l) (nodes-retop moved part), ap (λ (l : List ℕ). length l) (nodes-top part))
+
+  -- the bytes in which the new leaf, the moved node and the new inner node were written
+  pub record IsGrown (old new : List ℕ) : Type 0 where
+    pub held : IsHeld old (plug path part)
+    pub size : IsSlabSize (length new)
+    pub shared : IsShared new (leaf ∷ moved ∷ nodes_of (plug path part)) (free_of new)
+    pub count : count_of new ≡ leaves_of (plug path part) + 1
+    pub root : root_of new ≡ root_of old
+    pub leaf_is : IsLeaf (node_bytes new leaf) order
+    pub copied : node_bytes new moved ≡ node_bytes old (top_of part)
+    pub inner_is : IsInner (node_bytes new (top_of part)) s order.id (first_of one leaf moved) (second_of one leaf moved)
+    pub kept : (n : ℕ) → n ≢ leaf → n ≢ moved → n ≢ top_of part → node_bytes new n ≡ node_bytes old n
+
+  module _ (old new : List ℕ) (h : IsGrown old new) where
+    -- each node is used once
+    once : (n : ℕ) → same leaf n + same moved n + same (top_of part) n + times n (rest_of part) + times n (path_nodes path) ≤ 1
+    once n =
+        omega (arith, h.shared.once n, times-append n (leaf ∷ moved ∷ nodes_of (plug path part)) (free_of new), times-plug n path part, ap (times n) (nodes-top part))
+
+    rest_same : AreSame (rest_of part) old new
+    rest_same n met = h.kept n (λ e. absurd (omega (arith, once n))) (λ e. absurd (omega (arith, once n))) (λ e. absurd (omega (arith, once n)))
+
+    path_same : AreSame (path_nodes path) old new
+    path_same n met = h.kept n (λ e. absurd (omega (arith, once n))) (λ e. absurd (omega (arith, once n))) (λ e. absurd (omega (arith, once n)))
+
+    holds_moved : Holds new (retop moved part)
+    holds_moved = Holds-retop moved old new part (Holds-part old path part h.held.nodes) h.copied rest_same
+
+    holds_grown : Holds new grown
+    holds_grown =
+        Holds-joined (top_of part) s order.id (Leaf leaf order) (retop moved part) one new
+        (subst (λ (n : ℕ). IsInner (node_bytes new (top_of part)) s order.id (first_of one leaf n) (second_of one leaf n)) (sym (top-retop moved part)) h.inner_is)
+        h.leaf_is holds_moved
+
+    pub stands_grown : Stands new (Some (plug path grown))
+    stands_grown =
+        let top : top_of grown ≡ top_of part = top-joined (top_of part) s order.id (Leaf leaf order) (retop moved part) one in
+        record {
+          size = h.size;
+          shared = IsShared-order new (leaf ∷ moved ∷ nodes_of (plug path part)) (nodes_of (plug path grown)) (free_of new) h.shared times_grown length_grown;
+          count = h.count ∙ sym leaves_grown;
+          good = good_grown;
+          held = record {
+            nodes = Holds-plug old new path part grown h.held.nodes holds_grown top path_same;
+            root = top-plug path grown part top ∙ h.held.root ∙ sym h.root;
+          };
+        }
