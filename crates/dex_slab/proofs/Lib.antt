@@ -1,4 +1,5 @@
 pub mod Entering
+pub mod FirstLaw
 pub mod Holding
 pub mod IdLists
 pub mod KeyBits
@@ -12,4 +13,5 @@ pub mod Standing
 pub mod Times
 pub mod TreeOrders
 pub mod WalkLaw
+pub mod Written
 pub mod Wrote

@@ -1,6 +1,7 @@
 //! A side of the book as a critbit tree in the bytes of its account, changed in place node by node.
 #![tactic(auto)]
 
+mod insert;
 mod node_writes;
 mod nodes;
 mod pieces;
