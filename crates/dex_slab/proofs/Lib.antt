@@ -1,3 +1,4 @@
+pub mod BesideLaw
 pub mod Entering
 pub mod FirstLaw
 pub mod Holding

@@ -1,6 +1,6 @@
 //! Walks down the tree: to where a new key enters, and to the leaf of an order that rests.
 
-ghost use Rattle.std.specs.Prelude.{◌≡◌, ◌<◌, ◌≤◌, ◌==◌, IfSome, length};
+ghost use Rattle.std.specs.Prelude.{◌≡◌, ◌<◌, ◌≤◌, ◌==◌, ◌^◌, IfSome, length};
 ghost use Rattle.dex_fields.specs.Bytes.{end_of};
 ghost use Rattle.dex_slab.specs.Nodes.{branch_of, count_of, key_of, node_field, root_of};
 ghost use Rattle.dex_slab.specs.Path.{bit_behind, shared_bits};
@@ -85,7 +85,8 @@ fn next_towards(bytes: &[u8], node: u32, id: u128) -> Option<u32>
 pub fn place_for(bytes: &[u8], id: u128) -> Place
     requires slab { IsSlab bytes.now }
     requires some { 1 ≤ count_of bytes.now }
-    ensures { IsPlace (tree_at bytes.now (root_of bytes.now)) id result.node result.shared }
+    ensures place { IsPlace (tree_at bytes.now (root_of bytes.now)) id result.node result.shared }
+    ensures key { key_of bytes.now result.node < 2 ^ 128 }
 {
     let mut node = get_u32(bytes, ROOT_NODE);
     while let Some(child) = next_towards(bytes, node, id) {

@@ -41,8 +41,8 @@ loop-child-preserved c =
     let fits : c.args.id < 2 ^ 128 = search rules in
     (way-step c.args.bytes.now r c.args.id c.loop-child.node c.in-Some.child are fits c.loop-child.invariant (sym c.in-Some.ensures)).way
 
-pub returns : goal.returns
-returns c =
+pub returns-clause-place : goal.returns-clause-place
+returns-clause-place c =
     let bytes = c.args.bytes.now in
     let r = rooted bytes c.requires.slab c.requires.some in
     let way = c.loop-child.invariant in
@@ -51,3 +51,6 @@ returns c =
       stops = way-stops bytes r c.args.id c.loop-child.node way (sym c.next_towards.ensures ∙ c.in_default.is);
       shares = c.shared_bits.ensures ∙ ap (λ n. shared_bits n c.args.id) (c.key_of.ensures ∙ way-key bytes r c.args.id c.loop-child.node way);
     }
+
+pub returns-clause-key : goal.returns-clause-key
+returns-clause-key c = omega (arith, c.key_of.ensures)
