@@ -59,3 +59,10 @@ pub record IsFound (tree : Tree) (id : ℕ) (parent : Option ℕ) (leaf : ℕ) :
   pub same : order.id ≡ id
   pub leads : Leads id path
   pub above : parent_of path ≡ parent
+
+-- the inner node above a new leaf and the node that it stands beside
+abbrev pub branch_above : ℕ → ℕ → ℕ → ℕ → Branch
+branch_above shared id leaf beside =
+    if bit_behind shared id == 1
+    then record { prefix = shared; key = id; first = beside; second = leaf }
+    else record { prefix = shared; key = id; first = leaf; second = beside }

@@ -2,6 +2,7 @@
 #![tactic(auto)]
 
 mod behind;
+mod insert;
 mod node_writes;
 mod nodes;
 mod pieces;

@@ -1,6 +1,6 @@
 //! The nodes that are not in use: taking one, and giving one back.
 
-ghost use Rattle.std.specs.Prelude.{◌≡◌, ◌≢◌, ◌<◌, ◌≤◌, ◌∷◌, List, ℕ, length, slice_index};
+ghost use Rattle.std.specs.Prelude.{◌≡◌, ◌≢◌, ◌+◌, ◌-◌, ◌<◌, ◌≤◌, ◌∷◌, List, ℕ, length, slice_index};
 ghost use Rattle.dex_fields.specs.Bytes.{end_of};
 ghost use Rattle.dex_slab.specs.Changes.{ChangesHeader, IsBeside, header};
 ghost use Rattle.dex_slab.specs.Nodes.{bump_of, count_of, free_head_of, free_len_of, next_of, node_bytes, node_field, nodes_within, root_of};
@@ -28,6 +28,8 @@ fn take_unused(bytes: &mut [u8]) -> u32
     requires none_free { free_len_of bytes.old ≡ 0 }
     ensures shared { (used : List ℕ) → IsShared bytes.old used (free_of bytes.old) → length used < nodes_within (length bytes.old)
         → IsShared bytes.new (result ∷ used) (free_of bytes.new) }
+    ensures bump { bump_of bytes.new ≡ bump_of bytes.old + (1 - free_len_of bytes.old) }
+    ensures freed { free_len_of bytes.new ≡ free_len_of bytes.old - 1 }
     ensures root { root_of bytes.new ≡ root_of bytes.old }
     ensures count { count_of bytes.new ≡ count_of bytes.old }
     ensures changes { ChangesHeader bytes.old bytes.new }
@@ -42,6 +44,8 @@ fn take_freed(bytes: &mut [u8]) -> u32
     requires spare { HasSpare bytes.old }
     requires some_free { 1 ≤ free_len_of bytes.old }
     ensures shared { (used : List ℕ) → IsShared bytes.old used (free_of bytes.old) → IsShared bytes.new (result ∷ used) (free_of bytes.new) }
+    ensures bump { bump_of bytes.new ≡ bump_of bytes.old + (1 - free_len_of bytes.old) }
+    ensures freed { free_len_of bytes.new ≡ free_len_of bytes.old - 1 }
     ensures root { root_of bytes.new ≡ root_of bytes.old }
     ensures count { count_of bytes.new ≡ count_of bytes.old }
     ensures changes { ChangesHeader bytes.old bytes.new }
@@ -59,6 +63,8 @@ pub fn take_node(bytes: &mut [u8]) -> u32
     requires { HasSpare bytes.old }
     ensures shared { (used : List ℕ) → IsShared bytes.old used (free_of bytes.old) → length used < nodes_within (length bytes.old)
         → IsShared bytes.new (result ∷ used) (free_of bytes.new) }
+    ensures bump { bump_of bytes.new ≡ bump_of bytes.old + (1 - free_len_of bytes.old) }
+    ensures freed { free_len_of bytes.new ≡ free_len_of bytes.old - 1 }
     ensures root { root_of bytes.new ≡ root_of bytes.old }
     ensures count { count_of bytes.new ≡ count_of bytes.old }
     ensures changes { ChangesHeader bytes.old bytes.new }
@@ -74,6 +80,8 @@ pub fn take_node(bytes: &mut [u8]) -> u32
 pub fn free_node(bytes: &mut [u8], node: u32)
     requires { IsUsed node bytes.old }
     ensures shared { (used : List ℕ) → IsShared bytes.old (node ∷ used) (free_of bytes.old) → IsShared bytes.new used (free_of bytes.new) }
+    ensures bump { bump_of bytes.new ≡ bump_of bytes.old }
+    ensures freed { free_len_of bytes.new ≡ free_len_of bytes.old + 1 }
     ensures root { root_of bytes.new ≡ root_of bytes.old }
     ensures count { count_of bytes.new ≡ count_of bytes.old }
     ensures nodes { (other : ℕ) → other ≢ node → node_bytes bytes.new other ≡ node_bytes bytes.old other }

@@ -1,6 +1,6 @@
 //! Walks down the tree: to where a new key enters, and to the leaf of an order that rests.
 
-ghost use Rattle.std.specs.Prelude.{◌≡◌, ◌<◌, ◌≤◌, ◌==◌, length};
+ghost use Rattle.std.specs.Prelude.{◌≡◌, ◌<◌, ◌≤◌, ◌==◌, ◌^◌, IfSome, length};
 ghost use Rattle.dex_fields.specs.Bytes.{end_of};
 ghost use Rattle.dex_slab.specs.Nodes.{branch_of, count_of, key_of, node_field, root_of};
 ghost use Rattle.dex_slab.specs.Path.{bit_behind, shared_bits};
@@ -61,4 +61,55 @@ fn key_of(bytes: &[u8], node: u32) -> u128
     ensures { result ≡ key_of bytes.now node }
 {
     get_u128(node_bytes(bytes, node), inner_node::KEY)
+}
+
+/// The next node on the way of a new key; None where it enters the tree.
+fn next_towards(bytes: &[u8], node: u32, id: u128) -> Option<u32>
+    requires within { end_of (node_field node) ≤ length bytes.now }
+    requires prefix { IfSome (branch_of bytes.now node) (λ branch. branch.prefix < 128) }
+    ensures { result ≡ next_towards id (branch_of bytes.now node) }
+{
+    match branch_of(bytes, node) {
+        None => None,
+        Some(branch) => {
+            if branch.prefix <= shared_bits(branch.key, id) {
+                Some(child_towards(id, branch))
+            } else {
+                None
+            }
+        }
+    }
+}
+
+/// Where a new key enters a tree that is not empty.
+pub fn place_for(bytes: &[u8], id: u128) -> Place
+    requires slab { IsSlab bytes.now }
+    requires some { 1 ≤ count_of bytes.now }
+    ensures place { IsPlace (tree_at bytes.now (root_of bytes.now)) id result.node result.shared }
+    ensures key { key_of bytes.now result.node < 2 ^ 128 }
+{
+    let mut node = get_u32(bytes, ROOT_NODE);
+    while let Some(child) = next_towards(bytes, node, id) {
+        node = child;
+    }
+    Place {
+        node,
+        shared: shared_bits(key_of(bytes, node), id),
+    }
+}
+
+/// The leaf of an order that rests.
+pub fn find_leaf(bytes: &[u8], id: u128) -> Found
+    requires slab { IsSlab bytes.now }
+    requires some { 1 ≤ count_of bytes.now }
+    requires rests { RestsIn id (tree_at bytes.now (root_of bytes.now)) }
+    ensures { IsFound (tree_at bytes.now (root_of bytes.now)) id result.parent result.leaf }
+{
+    let mut parent = None;
+    let mut node = get_u32(bytes, ROOT_NODE);
+    while let Some(branch) = branch_of(bytes, node) {
+        parent = Some(node);
+        node = child_towards(id, branch);
+    }
+    Found { parent, leaf: node }
 }

@@ -73,3 +73,12 @@ returns-clause-shared c used h =
     let head : free_head_of new ≡ node =
     number_kept next new FREE_LIST_LEN _ FREE_LIST_HEAD c.put_u64.ensures.bytes refl ∙ c.put_u32.ensures.given in
     shared-freed old new used node c.if-freed-eq0.tag h (λ n apart. kept.nodes n ∙ c.put_node.ensures.changes.nodes n apart) piece last more (search rules) bump len head
+
+pub returns-clause-bump : goal.returns-clause-bump
+returns-clause-bump c =
+    number_kept c.put_u32.new.bytes c.put_u64.new.bytes FREE_LIST_LEN _ BUMP_INDEX c.put_u64.ensures.bytes refl
+    ∙ number_kept c.put_node.new.bytes c.put_u32.new.bytes FREE_LIST_HEAD _ BUMP_INDEX c.put_u32.ensures.bytes refl
+    ∙ c.put_node.ensures.changes.header_numbers BUMP_INDEX (lit≤ tt)
+
+pub returns-clause-freed : goal.returns-clause-freed
+returns-clause-freed c = omega (arith, c.put_u64.ensures.given, c.get_u64-freed.ensures)

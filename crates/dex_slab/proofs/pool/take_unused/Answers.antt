@@ -23,3 +23,10 @@ returns-clause-count c = number_kept c.args.bytes.now c.put_u64.new.bytes BUMP_I
 
 pub returns-clause-changes : goal.returns-clause-changes
 returns-clause-changes c = ChangesHeader-by c.args.bytes.now c.put_u64.new.bytes BUMP_INDEX _ c.put_u64.ensures.bytes (lit≤ tt) (lit≤ tt)
+
+pub returns-clause-bump : goal.returns-clause-bump
+returns-clause-bump c = omega (arith, c.put_u64.ensures.given, c.get_u64-node.ensures, c.requires.none_free)
+
+pub returns-clause-freed : goal.returns-clause-freed
+returns-clause-freed c =
+    omega (arith, number_kept c.args.bytes.now c.put_u64.new.bytes BUMP_INDEX _ FREE_LIST_LEN c.put_u64.ensures.bytes refl, c.requires.none_free)
