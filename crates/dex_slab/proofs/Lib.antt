@@ -4,6 +4,7 @@ pub mod FirstLaw
 pub mod Holding
 pub mod IdLists
 pub mod KeyBits
+pub mod Leaving
 pub mod NodeWrites
 pub mod Parting
 pub mod PieceLaw

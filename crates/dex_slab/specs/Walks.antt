@@ -66,3 +66,12 @@ branch_above shared id leaf beside =
     if bit_behind shared id == 1
     then record { prefix = shared; key = id; first = beside; second = leaf }
     else record { prefix = shared; key = id; first = leaf; second = beside }
+
+-- an order with this id rests on a side with this tree
+abbrev pub RestsOn : ℕ → Option Tree → Type 0
+RestsOn id None = ⊥
+RestsOn id (Some tree) = RestsIn id tree
+
+-- how many nodes a new order takes on a side with so many orders: its leaf, and an inner node where there are others
+abbrev pub nodes_taken : ℕ → ℕ
+nodes_taken count = if count == 0 then 1 else 2

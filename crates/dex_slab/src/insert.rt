@@ -6,8 +6,8 @@ ghost use Rattle.dex_types.specs.BookSide.{CanRest, IsNewId};
 ghost use Rattle.dex_types.specs.Posting.{posted};
 ghost use Rattle.dex_slab.specs.Changes.{ChangesThreeNodes};
 ghost use Rattle.dex_slab.specs.Nodes.{bump_of, count_of, free_len_of, root_of};
-ghost use Rattle.dex_slab.specs.Slab.{IsSlab, resting, room_in};
-ghost use Rattle.dex_slab.specs.Walks.{RestsIn, branch_above, tree_at};
+ghost use Rattle.dex_slab.specs.Slab.{IsSlab, resting, room_in, tree_of};
+ghost use Rattle.dex_slab.specs.Walks.{RestsIn, RestsOn, branch_above, nodes_taken, tree_at};
 
 use crate::node_writes::{copy_node, write_inner, write_leaf};
 use crate::nodes::Branch;
@@ -75,4 +75,23 @@ fn insert_beside(bytes: &mut [u8], order: Order)
     write_inner(bytes, place.node, branch);
     let count = get_u64(bytes, LEAF_COUNT);
     put_u64(bytes, LEAF_COUNT, count + 1);
+}
+
+/// Puts an order in its place. A new node is the first of the free list, else the first that was never used.
+pub fn insert_order(bytes: &mut [u8], order: Order)
+    requires slab { IsSlab bytes.old }
+    requires new { RestsOn order.id (tree_of bytes.old) → ⊥ }
+    requires can_rest { CanRest order }
+    requires room { count_of bytes.old < room_in bytes.old }
+    ensures slab { IsSlab bytes.new }
+    ensures orders { (side : Side) → resting side bytes.new ≡ posted side order (resting side bytes.old) }
+    ensures bump { bump_of bytes.new ≡ bump_of bytes.old + (nodes_taken (count_of bytes.old) - free_len_of bytes.old) }
+    ensures freed { free_len_of bytes.new ≡ free_len_of bytes.old - nodes_taken (count_of bytes.old) }
+    ensures three { ChangesThreeNodes bytes.old bytes.new }
+{
+    if get_u64(bytes, LEAF_COUNT) == 0 {
+        insert_first(bytes, order);
+    } else {
+        insert_beside(bytes, order);
+    }
 }
