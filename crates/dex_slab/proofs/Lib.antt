@@ -1,5 +1,6 @@
 pub mod Entering
 pub mod FirstLaw
+pub mod FreeLaws
 pub mod Holding
 pub mod IdLists
 pub mod KeyBits
@@ -9,9 +10,15 @@ pub mod PieceLaw
 pub mod Plugs
 pub mod PoolLaw
 pub mod Retop
+pub mod OnceLaws
+pub mod PrefixLaws
+pub mod RootLaws
+pub mod SoundLaws
 pub mod Standing
 pub mod Times
+pub mod TreeLaws
 pub mod TreeOrders
 pub mod WalkLaw
 pub mod Written
+pub mod WellFormedLaws
 pub mod Wrote

@@ -1,4 +1,6 @@
 pub mod Changes
+pub mod Checked
+pub mod Faults
 pub mod Held
 pub mod Nodes
 pub mod Path
