@@ -1,6 +1,7 @@
 pub mod BesideLaw
 pub mod Entering
 pub mod FirstLaw
+pub mod FreeLaws
 pub mod Holding
 pub mod IdLists
 pub mod KeyBits
@@ -11,11 +12,17 @@ pub mod PieceLaw
 pub mod Plugs
 pub mod PoolLaw
 pub mod Retop
+pub mod OnceLaws
+pub mod PrefixLaws
+pub mod RootLaws
+pub mod SoundLaws
 pub mod Standing
 pub mod Times
+pub mod TreeLaws
 pub mod TreeOrders
 pub mod WalkLaw
 pub mod Written
+pub mod WellFormedLaws
 pub mod Wrote
 pub mod Descents
 pub mod Ends

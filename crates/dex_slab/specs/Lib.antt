@@ -1,5 +1,7 @@
 pub mod Below
 pub mod Changes
+pub mod Checked
+pub mod Faults
 pub mod Held
 pub mod Nodes
 pub mod Path
