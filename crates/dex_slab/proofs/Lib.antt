@@ -10,8 +10,10 @@ pub mod Parting
 pub mod PieceLaw
 pub mod Plugs
 pub mod PoolLaw
+pub mod RemoveLaw
 pub mod Retop
 pub mod Standing
+pub mod TakenOff
 pub mod Times
 pub mod TreeOrders
 pub mod WalkLaw
