@@ -6,6 +6,7 @@ pub mod IdLists
 pub mod KeyBits
 pub mod Leaving
 pub mod NodeWrites
+pub mod OnlyLaw
 pub mod Parting
 pub mod PieceLaw
 pub mod Plugs

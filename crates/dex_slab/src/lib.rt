@@ -6,6 +6,7 @@ mod node_writes;
 mod nodes;
 mod pieces;
 mod pool;
+mod remove;
 mod slab_ref;
 mod slab_view;
 mod walks;
