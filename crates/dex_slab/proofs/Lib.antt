@@ -1,6 +1,7 @@
 pub mod BesideLaw
 pub mod Entering
 pub mod FirstLaw
+pub mod FoundLaw
 pub mod Holding
 pub mod IdLists
 pub mod KeyBits

@@ -68,3 +68,23 @@ fn remove_beside(bytes: &mut [u8], parent: u32, leaf: u32)
     let count = get_u64(bytes, LEAF_COUNT);
     put_u64(bytes, LEAF_COUNT, count - 1);
 }
+
+/// Takes the order of an id off the side, and answers it.
+pub fn remove_order(bytes: &mut [u8], id: u128) -> Order
+    requires slab { IsSlab bytes.old }
+    requires rests { RestsOn id (tree_of bytes.old) }
+    ensures order { (side : Side) → order_with id (resting side bytes.old) ≡ Some result }
+    ensures slab { IsSlab bytes.new }
+    ensures orders { (side : Side) → resting side bytes.new ≡ without_order id (resting side bytes.old) }
+    ensures bump { bump_of bytes.new ≡ bump_of bytes.old }
+    ensures freed { free_len_of bytes.new ≡ free_len_of bytes.old + nodes_given (count_of bytes.old) }
+    ensures three { ChangesThreeNodes bytes.old bytes.new }
+{
+    let found = find_leaf(bytes, id);
+    let order = order_of(bytes, found.leaf);
+    match found.parent {
+        None => remove_only(bytes),
+        Some(parent) => remove_beside(bytes, parent, found.leaf),
+    }
+    order
+}
