@@ -2,7 +2,7 @@
 use Rattle.std.specs.Prelude.{◌≡◌, ℕ, ◌<◌, ◌⊎◌, List, Option, Some, None, nat_le, if◌then◌else◌, ◌==◌}
 use Rattle.dex_types.specs.declared.orders.Order.{Order}
 use Rattle.dex_slab.specs.declared.nodes.Branch.{Branch}
-use Rattle.dex_slab.specs.Nodes.{branch_of, root_of}
+use Rattle.dex_slab.specs.Nodes.{branch_of, first_child_of, root_of, second_child_of}
 use Rattle.dex_slab.specs.Path.{Path, Root, InFirst, InSecond, Leads, bit_behind, plug, shared_bits, top_key, top_of}
 use Rattle.dex_slab.specs.Tree.{Tree, Leaf, Inner, Other, tree_from}
 
@@ -75,3 +75,12 @@ RestsOn id (Some tree) = RestsIn id tree
 -- how many nodes a new order takes on a side with so many orders: its leaf, and an inner node where there are others
 abbrev pub nodes_taken : ℕ → ℕ
 nodes_taken count = if count == 0 then 1 else 2
+
+-- the other child of an inner node than this one
+abbrev pub sibling_of : List ℕ → ℕ → ℕ → ℕ
+sibling_of bytes parent child =
+    if first_child_of bytes parent == child then second_child_of bytes parent else first_child_of bytes parent
+
+-- how many nodes an order gives back: its leaf, and the inner node above it where there are others
+abbrev pub nodes_given : ℕ → ℕ
+nodes_given count = if count == 1 then 1 else 2

@@ -15,6 +15,7 @@ mod nodes;
 mod pieces;
 mod pool;
 mod reading;
+mod remove;
 mod search;
 mod slab_fault;
 mod slab_ref;
