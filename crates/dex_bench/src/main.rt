@@ -4,6 +4,7 @@
 #![tactic(auto)]
 
 mod batches;
+mod slabs;
 mod timing;
 
 use crate::batches::{insert_all, remove_all};
