@@ -7,6 +7,7 @@ mod nodes;
 mod pieces;
 mod pool;
 mod remove;
+mod set_lots;
 mod slab_ref;
 mod slab_view;
 mod walks;
