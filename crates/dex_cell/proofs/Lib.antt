@@ -1,3 +1,7 @@
 mod JournalExamples
 pub mod HistoryLaws
 pub mod WalletLaws
+pub mod PriceLaws
+pub mod BalanceLaws
+pub mod MoveLaws
+pub mod StepMoves

@@ -1,1 +1,3 @@
+pub mod Balances
 pub mod Journal
+pub mod Moves

@@ -2,4 +2,6 @@
 //! nothing, whose contract says it.
 #![tactic(auto)]
 
+pub mod balances;
 pub mod histories;
+pub mod soundness;

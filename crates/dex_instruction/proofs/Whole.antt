@@ -14,7 +14,7 @@ use Rattle.dex_instruction.specs.Codes.{side_code, side_of, self_trade_code, sel
 use Rattle.dex_instruction.specs.IdFacts.{length-numbers_at}
 use Rattle.dex_instruction.specs.IdList.{id_count, ids_in}
 use Rattle.dex_instruction.specs.Numbers.{AreBytes, Field, number_at, numbers_at, spelled}
-use Rattle.dex_instruction.specs.Rules.{tag_in, is_retired, is_body_length, has_bad_enum, broken}
+use Rattle.dex_instruction.specs.Rules.{tag_in, is_retired, is_body_length, has_zero_field, has_bad_enum, broken}
 use Rattle.dex_instruction.specs.Reading.{instruction, latest_in, order_in, tagged}
 use Rattle.dex_instruction.specs.Spelling.{AllFit, Fits, id_fields, spelling}
 use Rattle.dex_instruction.proofs.Bytes.{number_at-lt}
@@ -29,6 +29,7 @@ pub record IsWhole (tag : ℕ) (bytes : List ℕ) : Type 0 where
   pub known : tag ≤ 18
   pub current : is_retired tag ≡ false
   pub size : is_body_length tag (length bytes - 5) ≡ true
+  pub fields : has_zero_field tag bytes ≡ false
   pub codes : has_bad_enum tag bytes ≡ false
 
 passed : (b : Bool) (fault : BadData) (others : Option BadData) → cond b (Some fault) others ≡ None → (b ≡ false) × (others ≡ None)
@@ -56,6 +57,7 @@ is_whole bytes e =
       known = ltb-false 18 (tag_in bytes) unknown.0;
       current = retired.0;
       size = not_false _ size.0;
+      fields = zero_field.0;
       codes = codes.0;
     }
 

@@ -6,7 +6,8 @@ use Rattle.std.proofs.lemmas.List.{get_or-set_other, set_past}
 use Rattle.dex_types.specs.declared.terms.Side.{Side}
 use Rattle.dex_types.specs.declared.terms.Side.TheVariants.{Bid, Ask}
 use Rattle.dex_types.specs.Trader.{Holding}
-use Rattle.dex_orders.specs.OrdersAccount.{AreDistinct, HasNoOrder, hold_one, is_same_side}
+use Rattle.dex_types.specs.Tokens.{is_same_side}
+use Rattle.dex_orders.specs.OrdersAccount.{AreDistinct, HasNoOrder, hold_one}
 
 -- ---- one order in two slots, looked at from either
 

@@ -9,7 +9,8 @@ use lib.Count.{ones-le, ones_step}
 use Rattle.dex_fields.specs.declared.open_orders.TheConstants.{FREE_SLOT_BITS}
 use Rattle.dex_fields.specs.Bytes.{number_in}
 use Rattle.dex_types.specs.Trader.{Holding, free_slot}
-use Rattle.dex_orders.specs.OrdersAccount.{slots_of, taken_of}
+use Rattle.dex_types.specs.Upkeep.{taken_slots}
+use Rattle.dex_orders.specs.OrdersAccount.{slots_of}
 use Rattle.dex_orders.proofs.SlotLaw.{free_bit, free_bit-slot_in, get_or-slots_of, length-slots_of}
 
 -- ---- a list of slots and a mask whose bits are set where they are free
@@ -21,17 +22,17 @@ ones-zero n none =
 
 -- a slot in front of others
 with_first : (slot : Option Holding) (slots : List (Option Holding)) (bits : ℕ) → free_bit slot ≡ bits % 2
-    → taken_of slots + count_ones (bits / 2) ≡ length slots → taken_of (slot ∷ slots) + count_ones bits ≡ suc (length slots)
+    → taken_slots slots + count_ones (bits / 2) ≡ length slots → taken_slots (slot ∷ slots) + count_ones bits ≡ suc (length slots)
 with_first None slots bits first rest = omega (arith, ones_step bits)
 with_first (Some held) slots bits first rest = omega (arith, ones_step bits)
 
 taken-ones : (slots : List (Option Holding)) (bits : ℕ) → bits < 2 ^ length slots
-    → ((i : ℕ) → i < length slots → free_bit (get_or slots i None) ≡ bit_at bits i) → taken_of slots + count_ones bits ≡ length slots
+    → ((i : ℕ) → i < length slots → free_bit (get_or slots i None) ≡ bit_at bits i) → taken_slots slots + count_ones bits ≡ length slots
 taken-ones [] bits low marks = omega (arith, ones-zero bits (omega arith))
 taken-ones (slot ∷ slots) bits low marks =
     let wide : 2 ^ suc (length slots) ≡ 2 ^ length slots * 2 = pow-suc 2 (length slots) in
     let half : bits / 2 < 2 ^ length slots = div_below bits 2 (2 ^ length slots) (omega arith) (omega (arith, wide)) in
-    let rest : taken_of slots + count_ones (bits / 2) ≡ length slots = taken-ones slots (bits / 2) half (λ i lt. marks (suc i) (omega arith) ∙ bit_at-suc bits i) in
+    let rest : taken_slots slots + count_ones (bits / 2) ≡ length slots = taken-ones slots (bits / 2) half (λ i lt. marks (suc i) (omega arith) ∙ bit_at-suc bits i) in
     let first : free_bit slot ≡ bits % 2 = marks 0 (omega arith) ∙ bit_at_lowest bits in
     with_first slot slots bits first rest
 
@@ -60,18 +61,18 @@ module _ (bytes : List ℕ) (low : number_in bytes FREE_SLOT_BITS < 2 ^ 128) whe
   marks : (i : ℕ) → i < 128 → free_bit (get_or (slots_of bytes) i None) ≡ bit_at bits i
   marks i lt = ap free_bit (get_or-slots_of bytes i lt) ∙ free_bit-slot_in bytes i
 
-  pub taken_of-slots_of : taken_of (slots_of bytes) + count_ones bits ≡ 128
-  taken_of-slots_of =
+  pub taken_slots-slots_of : taken_slots (slots_of bytes) + count_ones bits ≡ 128
+  taken_slots-slots_of =
       let size = length-slots_of bytes in
       let fits : bits < 2 ^ length (slots_of bytes) = rw size low in
       taken-ones (slots_of bytes) bits fits (λ i lt. marks i (omega (arith, size))) ∙ size
 
   -- all slots are taken exactly where no bit is set
-  pub full_from_zero : bits ≡ 0 → taken_of (slots_of bytes) ≡ 128
-  full_from_zero none = omega (arith, taken_of-slots_of, ones-zero bits none)
+  pub full_from_zero : bits ≡ 0 → taken_slots (slots_of bytes) ≡ 128
+  full_from_zero none = omega (arith, taken_slots-slots_of, ones-zero bits none)
 
-  pub zero_from_full : taken_of (slots_of bytes) ≡ 128 → bits ≡ 0
-  zero_from_full full = zero_from_ones bits (omega (arith, taken_of-slots_of))
+  pub zero_from_full : taken_slots (slots_of bytes) ≡ 128 → bits ≡ 0
+  zero_from_full full = zero_from_ones bits (omega (arith, taken_slots-slots_of))
 
   module _ (some : 0 < bits) where
     abbrev lowest : ℕ

@@ -1,5 +1,5 @@
 -- What an open-orders account says, which bytes are one, and what each call leaves.
-use Rattle.std.specs.Prelude.{◌≡◌, ℕ, ◌+◌, ◌-◌, ◌<◌, ◌≤◌, ◌^◌, ◌⊎◌, Bool, true, false, ◌&&◌, ◌==◌, List, [], ◌∷◌, length, map, slice_index, slice_index_or, Option, Some, None, if◌then◌else◌}
+use Rattle.std.specs.Prelude.{◌≡◌, ℕ, ◌-◌, ◌<◌, ◌≤◌, ◌^◌, ◌⊎◌, Bool, false, ◌&&◌, ◌==◌, List, length, map, slice_index, slice_index_or, Option, Some, None, if◌then◌else◌}
 use Rattle.std.specs.List.{range_with_len}
 use Rattle.dex_fields.specs.declared.field.Field.{Field}
 use Rattle.dex_fields.specs.declared.frame.TheConstants.{END_TEXT, FRONT_TEXT}
@@ -10,7 +10,9 @@ use Rattle.dex_types.specs.declared.addresses.Address.{Address}
 use Rattle.dex_types.specs.declared.terms.Side.{Side}
 use Rattle.dex_types.specs.declared.terms.Side.TheVariants.{Bid, Ask}
 use Rattle.dex_types.specs.Side.{by_side}
+use Rattle.dex_types.specs.Tokens.{is_same_side}
 use Rattle.dex_types.specs.Trader.{Account, Holding}
+use Rattle.dex_types.specs.Upkeep.{taken_slots}
 use Rattle.dex_orders.specs.declared.amounts.Funds.{Funds}
 use Rattle.dex_orders.specs.Bits.{is_set, with_bit, without_bit}
 
@@ -84,19 +86,6 @@ with_funds funds account = record account {
 
 -- ---- slots
 
--- how many slots are taken
-abbrev pub taken_of : List (Option Holding) → ℕ
-taken_of [] = 0
-taken_of (None ∷ slots) = taken_of slots
-taken_of ((Some held) ∷ slots) = taken_of slots + 1
-
--- two sides are one
-abbrev pub is_same_side : Side → Side → Bool
-is_same_side Bid Bid = true
-is_same_side Bid Ask = false
-is_same_side Ask Bid = false
-is_same_side Ask Ask = true
-
 -- the slot holds the order of this id and side
 abbrev pub holds_order : ℕ → Side → Option Holding → Bool
 holds_order id side None = false
@@ -153,7 +142,7 @@ pub record IsEmptyAccount (account : Account) : Type 0 where
   pub coin : account.coin.total ≡ 0
   pub pc : account.pc.total ≡ 0
   pub referrer : account.referrer ≡ 0
-  pub slots : taken_of account.slots ≡ 0
+  pub slots : taken_slots account.slots ≡ 0
 
 -- ---- what the calls leave
 

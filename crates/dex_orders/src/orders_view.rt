@@ -3,7 +3,8 @@
 ghost use Rattle.std.specs.Prelude.{◌≡◌, ◌<◌, ◌≤◌, ◌↔◌, length, IsNone, IfSome, IsSome, None, Some, slice_index_or, slice_set};
 ghost use Rattle.std.specs.Option.{option_map};
 ghost use Rattle.dex_types.specs.Trader.{free_slot};
-ghost use Rattle.dex_orders.specs.OrdersAccount.{HasNoOrder, IsOpen, account_of, added, funded, funds_of, market_of, removed, taken_of, told_holding, with_funds};
+ghost use Rattle.dex_types.specs.Upkeep.{taken_slots};
+ghost use Rattle.dex_orders.specs.OrdersAccount.{HasNoOrder, IsOpen, account_of, added, funded, funds_of, market_of, removed, told_holding, with_funds};
 
 use crate::Funds;
 use crate::orders_ref::read_funds;
@@ -73,7 +74,7 @@ impl OrdersView<'_> {
     /// How many slots are taken, of 128.
     pub fn taken(&self) -> u8
         requires { IsOpen self.now.bytes.now }
-        ensures { result ≡ taken_of (account_of self.now.bytes.now).slots }
+        ensures { result ≡ taken_slots (account_of self.now.bytes.now).slots }
     {
         taken_of(self.bytes)
     }
@@ -81,7 +82,7 @@ impl OrdersView<'_> {
     /// The lowest free slot; None where all 128 are taken.
     pub fn free_slot(&self) -> Option<u8>
         requires { IsOpen self.now.bytes.now }
-        ensures none { IsNone result ↔ (taken_of (account_of self.now.bytes.now).slots ≡ 128) }
+        ensures none { IsNone result ↔ (taken_slots (account_of self.now.bytes.now).slots ≡ 128) }
         ensures lowest { IfSome result (λ slot. slot ≡ free_slot (account_of self.now.bytes.now).slots) }
         ensures within { IfSome result (λ slot. slot < 128) }
         ensures free { IfSome result (λ slot. slice_index_or (account_of self.now.bytes.now).slots slot None ≡ None) }

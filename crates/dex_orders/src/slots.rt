@@ -6,7 +6,8 @@ ghost use Rattle.dex_fields.specs.Bytes.{number_in};
 ghost use Rattle.dex_types.specs.Side.{by_side};
 ghost use Rattle.dex_types.specs.Trader.{free_slot};
 ghost use Rattle.dex_orders.specs.Bits.{is_set, with_bit, without_bit};
-ghost use Rattle.dex_orders.specs.OrdersAccount.{AreDistinct, HasNoOrder, IsOpen, account_of, added, client_field, hold_one, holding_of, id_field, market_of, removed, side_by_bit, slot_in, slots_of, taken_of, told_holding, with_slot};
+ghost use Rattle.dex_types.specs.Upkeep.{taken_slots};
+ghost use Rattle.dex_orders.specs.OrdersAccount.{AreDistinct, HasNoOrder, IsOpen, account_of, added, client_field, hold_one, holding_of, id_field, market_of, removed, side_by_bit, slot_in, slots_of, told_holding, with_slot};
 
 use crate::bits::{is_set, with_bit, without_bit};
 use dex_fields::open_orders::{CLIENT_ORDER_IDS, FREE_SLOT_BITS, IS_BID_BITS, ORDERS};
@@ -103,7 +104,7 @@ pub fn hold_one(bytes: &[u8], slot: u8, other: u8) -> bool
 /// How many slots are taken.
 pub fn taken_of(bytes: &[u8]) -> u8
     requires { length bytes.now ≡ 3228 }
-    ensures { result ≡ taken_of (slots_of bytes.now) }
+    ensures { result ≡ taken_slots (slots_of bytes.now) }
 {
     SLOT_COUNT - get_u128(bytes, FREE_SLOT_BITS).count_ones() as u8
 }
@@ -111,7 +112,7 @@ pub fn taken_of(bytes: &[u8]) -> u8
 /// The lowest free slot.
 pub fn lowest_free(bytes: &[u8]) -> Option<u8>
     requires { length bytes.now ≡ 3228 }
-    ensures none { IsNone result ↔ (taken_of (slots_of bytes.now) ≡ 128) }
+    ensures none { IsNone result ↔ (taken_slots (slots_of bytes.now) ≡ 128) }
     ensures lowest { IfSome result (λ slot. slot ≡ free_slot (slots_of bytes.now)) }
     ensures within { IfSome result (λ slot. slot < 128) }
     ensures free { IfSome result (λ slot. slice_index_or (slots_of bytes.now) slot None ≡ None) }

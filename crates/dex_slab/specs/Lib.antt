@@ -1,4 +1,7 @@
+pub mod Below
 pub mod Changes
+pub mod Checked
+pub mod Faults
 pub mod Held
 pub mod Nodes
 pub mod Path
@@ -6,3 +9,4 @@ pub mod Pool
 pub mod Slab
 pub mod Tree
 pub mod Walks
+pub mod SlabSide

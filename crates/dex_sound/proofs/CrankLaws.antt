@@ -1,14 +1,20 @@
 -- cranks add up
-use Rattle.std.proofs.Common.{ℕ, zero, suc, ◌+◌, ◌-◌, ◌≤◌, ◌<◌, ◌≡◌, true, ◌&&◌, ltb, min, List, [], ◌∷◌, ◌++◌, length, take, drop, IsTrue, refl, sym, ap, ◌∙◌, arith, take-add, drop-drop, ⊎_elim}
+use Rattle.std.proofs.Common.{ℕ, zero, suc, ◌+◌, ◌-◌, ◌≤◌, ◌<◌, ◌≡◌, true, false, ◌&&◌, ltb, min, List, [], ◌∷◌, ◌++◌, length, take, drop, IsTrue, None, Result, Ok, refl, sym, ap, ◌∙◌, arith, take-add, drop-drop, ⊎_elim}
 use Rattle.std.specs.List.{All}
 use Rattle.std.proofs.Math.Nat.{min-le_left, min-le_right, min-eq_left, min-eq_right}
 use Rattle.std.proofs.lemmas.Bool.{cond-true, cond_both, cases_lt, lt-ltb, ltb-true, and_parts, and_from}
-use Rattle.std.proofs.lemmas.List.Elements.{All-head, All-tail}
+use Rattle.std.proofs.lemmas.List.Elements.{All-nil, All-cons, All-head, All-tail, All-same}
 use Rattle.dex_types.specs.declared.addresses.Address.{Address}
+use Rattle.dex_types.specs.declared.instructions.BadData.{BadData}
+use Rattle.dex_types.specs.declared.instructions.Ix.{Ix}
+use Rattle.dex_types.specs.declared.instructions.Ix.TheVariants.{ConsumeEvents}
+use Rattle.dex_types.specs.declared.rows.Seen.{Seen}
 use Rattle.dex_types.specs.Market.{Market}
 use Rattle.dex_types.specs.Payment.{pay_all, pay_owner, consumable, is_named, after_crank}
 use Rattle.dex_types.specs.QueuedEvent.{QueuedEvent}
+use Rattle.dex_types.specs.Requests.{Request}
 use Rattle.dex_types.specs.Trader.{Traders}
+use Rattle.dex_types.specs.Why.{why, why_decoded}
 use Rattle.dex_sound.specs.Cranks.{Crank, after_cranks, consumed_by}
 use Rattle.dex_types.specs.Steps.{act_consume}
 
@@ -77,3 +83,39 @@ consumable-all limit named (event ∷ events) all =
     (λ (right : length events ≤ limit - 1). omega (arith, more, rest, min-eq_right right, min-le_right limit (length events + 1)))
     (cases_lt (limit - 1) (length events)))
     (cases_lt limit 1)
+
+take-one_more : (n : ℕ) (event : QueuedEvent) (events : List QueuedEvent) → take (n + 1) (event ∷ events) ≡ event ∷ take n events
+take-one_more n event events = let next : n + 1 ≡ suc n = omega arith in ap (λ count. take count (event ∷ events)) next
+
+drop-one_more : (n : ℕ) (event : QueuedEvent) (events : List QueuedEvent) → drop (n + 1) (event ∷ events) ≡ drop n events
+drop-one_more n event events = let next : n + 1 ≡ suc n = omega arith in ap (λ count. drop count (event ∷ events)) next
+
+-- whatever it consumes is of an owner that it names
+pub consumable-names : (limit : ℕ) (named : List Address) (events : List QueuedEvent)
+    → All (λ (event : QueuedEvent). IsTrue (is_named event.owner named)) (take (consumable limit named events) events)
+consumable-names limit named [] = All-nil (λ (event : QueuedEvent). IsTrue (is_named event.owner named))
+consumable-names limit named (event ∷ events) =
+    cond_both (ltb 0 limit && is_named event.owner named) (consumable (limit - 1) named events + 1) 0
+    (λ count. All (λ (event : QueuedEvent). IsTrue (is_named event.owner named)) (take count (event ∷ events)))
+    (λ more.
+    let taken = take (consumable (limit - 1) named events) events in
+    All-same (λ (event : QueuedEvent). IsTrue (is_named event.owner named)) (take (consumable (limit - 1) named events + 1) (event ∷ events)) (event ∷ taken)
+    (take-one_more (consumable (limit - 1) named events) event events)
+    (All-cons (λ (event : QueuedEvent). IsTrue (is_named event.owner named)) event taken
+    (and_parts (ltb 0 limit) (is_named event.owner named) more).1 (consumable-names (limit - 1) named events)))
+    (λ over. All-nil (λ (event : QueuedEvent). IsTrue (is_named event.owner named)))
+
+-- and where it may consume more, and events are left, it does not name the owner of the next
+pub consumable-stops : (limit : ℕ) (named : List Address) (events later : List QueuedEvent) (next : QueuedEvent)
+    → drop (consumable limit named events) events ≡ next ∷ later → consumable limit named events < limit → is_named next.owner named ≡ false
+consumable-stops limit named [] later next = λ left more. absurd (let e : [] ≡ next ∷ later = left in cc)
+consumable-stops limit named (event ∷ events) later next =
+    cond_both (ltb 0 limit && is_named event.owner named) (consumable (limit - 1) named events + 1) 0
+    (λ count. drop count (event ∷ events) ≡ next ∷ later → count < limit → is_named next.owner named ≡ false)
+    (λ more left within. consumable-stops (limit - 1) named events later next
+    (sym (drop-one_more (consumable (limit - 1) named events) event events) ∙ left) (omega (arith, within)))
+    (λ over left within. let some : ltb 0 limit ≡ true = lt-ltb 0 limit within in cc)
+
+-- a crank has no reason to be refused
+pub crank-not_refused : (request : Request) (seen : Seen) (m : Market) (limit : ℕ) → request.instruction ≡ Ok (ConsumeEvents limit) → why request seen m ≡ None
+crank-not_refused request seen m limit is = ap (λ (instruction : Result Ix BadData). why_decoded instruction request seen m) is

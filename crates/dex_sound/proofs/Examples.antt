@@ -308,7 +308,7 @@ times = (refl, refl, refl)
 
 -- the market of these examples is sound as it is made
 can_make : CanMake (listing 100 455 2978) (amy ∷ ben ∷ [])
-can_make = record { coin_lot = lit≤ tt; pc_lot = lit≤ tt; bids = lit≤ tt; asks = lit≤ tt; distinct = (refl, (refl, tt)) }
+can_make = record { mints = refl; coin_lot = lit≤ tt; pc_lot = lit≤ tt; bids = lit≤ tt; asks = lit≤ tt; distinct = (refl, (refl, tt)) }
 
 made_is_sound : IsSound (made (listing 100 455 2978))
 made_is_sound = made_market-sound (listing 100 455 2978) (amy ∷ ben ∷ []) can_make

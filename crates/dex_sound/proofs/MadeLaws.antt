@@ -83,6 +83,7 @@ made-bounded listing addresses Pc = lit< tt
 pub made_market-sound : (listing : Listing) (addresses : List Address) → CanMake listing addresses → IsSound (made_market listing addresses)
 made_market-sound listing addresses can = record {
   form = record {
+    mints = can.mints;
     coin_lot = can.coin_lot;
     pc_lot = can.pc_lot;
     room = made-room listing addresses can;

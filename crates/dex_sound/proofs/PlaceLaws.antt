@@ -31,17 +31,17 @@ and-false : (test : Bool) → (test && false) ≡ false
 and-false true = refl
 and-false false = refl
 
-is_same_side-true : (side other : Side) → is_same_side side other ≡ true → side ≡ other
+pub is_same_side-true : (side other : Side) → is_same_side side other ≡ true → side ≡ other
 is_same_side-true Bid Bid same = refl
 is_same_side-true Bid Ask same = absurd (false≢true same)
 is_same_side-true Ask Bid same = absurd (false≢true same)
 is_same_side-true Ask Ask same = refl
 
-is_same_side-refl : (side : Side) → is_same_side side side ≡ true
+pub is_same_side-refl : (side : Side) → is_same_side side side ≡ true
 is_same_side-refl Bid = refl
 is_same_side-refl Ask = refl
 
-is_same_side-opposite : (side : Side) → is_same_side side (opposite side) ≡ false
+pub is_same_side-opposite : (side : Side) → is_same_side side (opposite side) ≡ false
 is_same_side-opposite Bid = refl
 is_same_side-opposite Ask = refl
 
@@ -52,12 +52,12 @@ is_one_order-refl held = and_from _ _ (eq-eqb held.id held.id refl) (is_same_sid
 abbrev pub is_place : Address → ℕ → Address → ℕ → Bool
 is_place owner slot other at = is_same owner other && (eqb slot at)
 
-is_place-true : (owner other : Address) (slot at : ℕ) → is_place owner slot other at ≡ true → (owner ≡ other) × (slot ≡ at)
+pub is_place-true : (owner other : Address) (slot at : ℕ) → is_place owner slot other at ≡ true → (owner ≡ other) × (slot ≡ at)
 is_place-true owner other slot at here =
     let parts : (is_same owner other ≡ true) × (eqb slot at ≡ true) = and_parts (is_same owner other) (eqb slot at) here in
     (is_same-true owner other parts.0, eqb-true slot at parts.1)
 
-is_place-from : (owner other : Address) (slot at : ℕ) → owner ≡ other → slot ≡ at → is_place owner slot other at ≡ true
+pub is_place-from : (owner other : Address) (slot at : ℕ) → owner ≡ other → slot ≡ at → is_place owner slot other at ≡ true
 is_place-from owner other slot at same here =
     and_from _ _ (subst (λ a. is_same owner a ≡ true) same (is_same-refl owner)) (eq-eqb slot at here)
 

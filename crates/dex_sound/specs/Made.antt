@@ -1,6 +1,7 @@
 -- Markets as they are made.
-use Rattle.std.specs.Prelude.{◌≤◌, false, List, [], map}
+use Rattle.std.specs.Prelude.{◌≡◌, ◌≤◌, false, List, [], map}
 use Rattle.dex_types.specs.declared.addresses.Address.{Address}
+use Rattle.dex_types.specs.Addresses.{is_same}
 use Rattle.dex_types.specs.Market.{Market, Listing}
 use Rattle.dex_types.specs.Soundness.{AreDistinct}
 use Rattle.dex_types.specs.Trader.{Trader, Blank, Traders}
@@ -31,8 +32,9 @@ made_market listing addresses = record {
   is_disabled = false;
 }
 
--- a market can be made: lot sizes and capacities are not 0, and no account is named twice
+-- a market can be made: it has two mints, lot sizes and capacities are not 0, and no account is named twice
 pub record CanMake (listing : Listing) (addresses : List Address) : Type 0 where
+  pub mints : is_same listing.coin_mint listing.pc_mint ≡ false
   pub coin_lot : 1 ≤ listing.sizes.coin
   pub pc_lot : 1 ≤ listing.sizes.pc
   pub bids : 1 ≤ listing.bid_capacity

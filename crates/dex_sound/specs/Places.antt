@@ -7,7 +7,7 @@ use Rattle.dex_types.specs.declared.terms.Side.{Side}
 use Rattle.dex_types.specs.Market.{Market, orders}
 use Rattle.dex_types.specs.QueuedEvent.{QueuedEvent}
 use Rattle.dex_types.specs.Side.{sequence_of}
-use Rattle.dex_types.specs.Soundness.{held_at, order_holding, event_holding, is_final}
+use Rattle.dex_types.specs.Soundness.{IsWellFormed, FundsAgree, held_at, order_holding, event_holding, is_final}
 use Rattle.dex_types.specs.Totals.{total, weighed_where}
 use Rattle.dex_types.specs.Trader.{Holding, Traders}
 use Rattle.dex_laws.specs.Places.{is_order_at, is_event_at}
@@ -53,3 +53,9 @@ pub record PlacesAgree (m : Market) : Type 0 where
   pub last : EndLast m.events
   pub given : (owner : Address) (slot : ℕ) (held : Holding) → held_at owner slot m.traders ≡ Some held → sequence_of held.side held.id < m.next_sequence
   pub once : HoldOnce m.traders
+
+-- a market that is sound, with its slots counted by place
+pub record IsSoundByPlace (m : Market) : Type 0 where
+  pub form : IsWellFormed m
+  pub places : PlacesAgree m
+  pub funds : FundsAgree m

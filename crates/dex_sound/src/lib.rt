@@ -2,9 +2,13 @@
 //! sound. Each law is a function that does nothing, whose contract says it.
 #![tactic(auto)]
 
+pub mod bounds;
 pub mod cranks;
+pub mod fields;
 pub mod fills;
 pub mod keeping;
 pub mod made;
+pub mod orders;
 pub mod places;
 pub mod refusals;
+pub mod soundness;

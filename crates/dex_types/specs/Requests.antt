@@ -1,8 +1,9 @@
 -- What a row asks of a market, and the open account that it names.
-use Rattle.std.specs.Prelude.{ℤ, List, [], ◌∷◌, Option, Some, None, Result}
+use Rattle.std.specs.Prelude.{ℤ, ◌≤◌, List, [], ◌∷◌, Option, Some, None, Result, Ok}
 use Rattle.dex_types.specs.declared.addresses.Address.{Address}
 use Rattle.dex_types.specs.declared.instructions.BadData.{BadData}
 use Rattle.dex_types.specs.declared.instructions.Ix.{Ix}
+use Rattle.dex_types.specs.declared.instructions.Ix.TheVariants.{NewOrderV3, SendTake}
 use Rattle.dex_types.specs.Trader.{Account, Trader, Open, Traders, trader_at}
 
 -- what a row asks of its market, beside the wallets that it names: the instruction, or the rule that its data breaks; the
@@ -12,6 +13,12 @@ pub record Request : Type 0 where
   pub signer : Address
   pub named : List Address
   pub now : ℤ
+
+-- what was decoded states a price, where it is an order or a take
+abbrev pub HasPrice : Result Ix BadData → Type 0
+HasPrice (Ok (NewOrderV3 side price lots max_pc self_trade order_type client limit latest)) = 1 ≤ price
+HasPrice (Ok (SendTake side price lots max_pc min_lots min_pc limit)) = 1 ≤ price
+HasPrice _ = Unit {0}
 
 -- an open account of a market, with its address
 pub record Party : Type 0 where

@@ -5,6 +5,7 @@ use Rattle.dex_types.specs.declared.addresses.Address.{Address}
 use Rattle.dex_types.specs.declared.orders.Order.{Order}
 use Rattle.dex_types.specs.declared.terms.Lots.{Lots}
 use Rattle.dex_types.specs.declared.terms.Side.{Side}
+use Rattle.dex_types.specs.Addresses.{is_same}
 use Rattle.dex_types.specs.Market.{Market, orders, capacity}
 use Rattle.dex_types.specs.Owed.{order_lock}
 use Rattle.dex_types.specs.Posting.{InBookOrder}
@@ -31,9 +32,10 @@ AreDistinct (entry ∷ others) = (trader_at entry.0 others ≡ None) × AreDisti
 abbrev pub HasSlots : Traders → Type 0
 HasSlots traders = (owner : Address) (account : Account) → trader_at owner traders ≡ Some (Open account) → length account.slots ≡ 128
 
--- each part of a market by itself is as it can be: sizes and capacities, the order and the room of the sides, the orders,
--- the tiers of events, the two counters, and the accounts' addresses and slots
+-- each part of a market by itself is as it can be: two mints, sizes and capacities, the order and the room of the sides, the
+-- orders, the tiers of events, the two counters, and the accounts' addresses and slots
 pub record IsWellFormed (m : Market) : Type 0 where
+  pub mints : is_same m.listing.coin_mint m.listing.pc_mint ≡ false
   pub coin_lot : 1 ≤ m.listing.sizes.coin
   pub pc_lot : 1 ≤ m.listing.sizes.pc
   pub room : (side : Side) → 1 ≤ capacity side m

@@ -1,0 +1,4 @@
+pub mod Slots
+pub mod Worth
+pub mod Eager
+pub mod Histories
