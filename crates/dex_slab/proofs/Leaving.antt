@@ -139,7 +139,7 @@ other_id Bid id other before_it e = absurd (omega (arith, ltb-true id other befo
 other_id Ask id other before_it e = absurd (omega (arith, ltb-true other id before_it))
 
 module _ (side : Side) (id leaf : ℕ) (order : Order) (path : Path) (good : IsTree (plug path (Leaf leaf order))) (leads : Leads id path) (is : order.id ≡ id) where
-  others_before : AllIds (λ other. other ≢ id) (before side path)
+  pub others_before : AllIds (λ other. other ≢ id) (before side path)
   others_before =
       AllIds-map (λ other. precedes side other id ≡ true) (λ other. other ≢ id) (λ other before_it. other_id side id other before_it) (before side path)
       (before-precedes side id path (Leaf leaf order) good.keys leads)

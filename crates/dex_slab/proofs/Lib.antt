@@ -7,6 +7,8 @@ pub mod Holding
 pub mod IdLists
 pub mod KeyBits
 pub mod Leaving
+pub mod LotsLaw
+pub mod LotsTree
 pub mod NodeWrites
 pub mod OnlyLaw
 pub mod Parting

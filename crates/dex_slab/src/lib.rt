@@ -17,6 +17,7 @@ mod pool;
 mod reading;
 mod remove;
 mod search;
+mod set_lots;
 mod slab_fault;
 mod slab_ref;
 mod slab_view;
