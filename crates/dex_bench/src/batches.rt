@@ -1,6 +1,6 @@
 //! Batches of asks that go into a side and come out again.
 
-ghost use Rattle.std.specs.Prelude.{◌≡◌, ℕ, ◌+◌, ◌-◌, ◌≤◌, length};
+ghost use Rattle.std.specs.Prelude.{◌≡◌, ℕ, ◌+◌, ◌-◌, ◌≤◌, [], length};
 ghost use Rattle.dex_types.specs.BookSide.{CanRest};
 ghost use Rattle.dex_bench.specs.Numbered.{AreNumbered, RestFrom, id_by, price_by};
 
@@ -70,4 +70,17 @@ pub fn remove_all<B: SideBook>(book: &mut B, first: u32, end: u32)
     for number in first..end {
         let _ = book.remove(id_by(number));
     }
+}
+
+/// Puts a hundred orders into an empty side and takes them out again: how many rest between and how many at the end.
+pub fn there_and_back<B: SideBook>(book: &mut B) -> (u32, u32)
+    requires holds { B.holds book.old }
+    requires empty { B.orders book.old ≡ [] }
+    requires room { 100 ≤ B.room book.old }
+    ensures { result ≡ record { 0 = 100; 1 = 0 } }
+{
+    insert_all(book, 0, 100);
+    let full = book.count();
+    remove_all(book, 0, 100);
+    (full, book.count())
 }

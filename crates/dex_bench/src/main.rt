@@ -7,11 +7,12 @@ mod batches;
 mod slabs;
 mod timing;
 
-use crate::batches::{insert_all, remove_all};
-use crate::timing::time_batches;
+use crate::batches::there_and_back;
+use crate::slabs::{account, slab_there_and_back, time_slab};
+use crate::timing::{Times, time_batches};
 use anyhow::Error;
 use dex_book::ListSide;
-use dex_types::{Side, SideRead};
+use dex_types::Side;
 use std::env;
 use std::io::Print;
 use std::time::Clock;
@@ -27,13 +28,15 @@ fn main(rt: HostRuntime) -> Result<(), Error> {
     }
 }
 
-/// Puts a hundred orders in and takes them out again.
+/// Puts a hundred orders into each kind of side, and takes them out again.
 fn check<R: Print + AllocGlobal>(rt: &R) -> Result<(), Error> {
     let mut list = ListSide::with_room(rt.alloc(), Side::Ask, 100)?;
-    insert_all(&mut list, 0, 100);
-    let full = list.count();
-    remove_all(&mut list, 0, 100);
-    println!(rt; "list: {full} in, {} left", list.count())?;
+    let (full, left) = there_and_back(&mut list);
+    println!(rt; "list: {full} in, {left} left")?;
+    let mut bytes = account(rt.alloc(), 100)?;
+    if let Some((full, left)) = slab_there_and_back(&mut bytes) {
+        println!(rt; "slab: {full} in, {left} left")?;
+    }
     Ok(())
 }
 
@@ -41,11 +44,19 @@ fn check<R: Print + AllocGlobal>(rt: &R) -> Result<(), Error> {
 fn time<R: Print + Clock + AllocGlobal>(rt: &R) -> Result<(), Error> {
     for resting in SIZES {
         let mut list = ListSide::with_room(rt.alloc(), Side::Ask, resting)?;
-        let times = time_batches(rt, &mut list, resting)?;
-        println!(rt;
-            "list of {resting}: {} ns an insert, {} ns a remove",
-            times.insert, times.remove
-        )?;
+        print_times(rt, "list", resting, time_batches(rt, &mut list, resting)?)?;
+        let mut bytes = account(rt.alloc(), resting)?;
+        if let Some(times) = time_slab(rt, &mut bytes, resting)? {
+            print_times(rt, "slab", resting, times)?;
+        }
     }
+    Ok(())
+}
+
+fn print_times<R: Print>(rt: &R, kind: &str, resting: u32, times: Times) -> Result<(), Error> {
+    println!(rt;
+        "{kind} of {resting}: {} ns an insert, {} ns a remove",
+        times.insert, times.remove
+    )?;
     Ok(())
 }

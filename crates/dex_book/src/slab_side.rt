@@ -2,8 +2,8 @@
 
 ghost use Rattle.std.specs.Prelude.{◌≡◌};
 
-use dex_slab::SlabRef;
-use dex_types::{Order, Side, SideRead};
+use dex_slab::{SlabRef, SlabView};
+use dex_types::{Order, Side, SideBook, SideRead};
 
 /// A side of the book over the bytes of its account, changed in place: the bytes, and which side it is.
 #[derive(Debug, Drop)]
@@ -61,5 +61,40 @@ impl SideRead for SlabSide<'_> {
 
     fn after(&self, id: u128) -> Option<Order> {
         self.read().after(id)
+    }
+}
+
+/// Every call works on the account's bytes in place: what it writes is seen by whoever lent them.
+impl SideBook for SlabSide<'_> {
+    ghost use Rattle.std.proofs.Common.{refl, ◌∙◌};
+
+    ghost same_place = { λ x y. y.bytes.ghost_name ≡ x.bytes.ghost_name };
+
+    ghost stays = { λ x. refl };
+
+    ghost chains = { λ x y z p q. q ∙ p };
+
+    fn insert(&mut self, order: Order) {
+        let mut view = SlabView {
+            bytes: self.bytes,
+            side: self.side,
+        };
+        view.insert(order);
+    }
+
+    fn set_lots(&mut self, id: u128, lots: u64) {
+        let mut view = SlabView {
+            bytes: self.bytes,
+            side: self.side,
+        };
+        view.set_lots(id, lots);
+    }
+
+    fn remove(&mut self, id: u128) -> Order {
+        let mut view = SlabView {
+            bytes: self.bytes,
+            side: self.side,
+        };
+        view.remove(id)
     }
 }
