@@ -3,20 +3,21 @@ use Rattle.std.proofs.Common.{◌≡◌, ◌≢◌, ℕ, ◌+◌, ◌<◌, ◌�
 use Rattle.std.proofs.lemmas.Bool.{eq-eqb, ne_eqb}
 use Rattle.dex_types.specs.declared.orders.Order.{Order}
 use Rattle.dex_types.specs.declared.terms.Side.{Side}
+use Rattle.dex_types.specs.declared.terms.Side.TheVariants.{Bid, Ask}
 use Rattle.dex_types.specs.Cancel.{order_with, without_order}
 use Rattle.dex_slab.specs.Held.{Holds}
 use Rattle.dex_slab.specs.Nodes.{count_of, nodes_within, order_of, root_of}
 use Rattle.dex_slab.specs.Path.{Path, Root, InFirst, InSecond, plug, top_of}
 use Rattle.dex_slab.specs.Slab.{IsShared, IsSlab, IsTree, free_of, orders_in, resting, times, tree_of}
-use Rattle.dex_slab.specs.Tree.{Tree, Leaf, Inner, IsKnown, leaves_of, nodes_of, orders_of}
+use Rattle.dex_slab.specs.Tree.{Tree, Leaf, Inner, Other, IsKnown, leaves_of, nodes_of, orders_of}
 use Rattle.dex_slab.specs.Walks.{IsFound, RestsIn, RestsOn, nodes_given, parent_of, tree_at}
 use Rattle.dex_slab.proofs.BesideLaw.{leaves_rooted}
 use Rattle.dex_slab.proofs.Holding.{Holds-part}
-use Rattle.dex_slab.proofs.IdLists.{HasId-found}
+use Rattle.dex_slab.proofs.IdLists.{AllIds, AllIds-new, HasId, HasId-found}
 use Rattle.dex_slab.proofs.Leaving.{order-found}
 use Rattle.dex_slab.proofs.Plugs.{known-part, leaves-plug, times-plug}
 use Rattle.dex_slab.proofs.PoolLaw.{used-below}
-use Rattle.dex_slab.proofs.Standing.{IsHeld, leaves-some, tree_of-cases}
+use Rattle.dex_slab.proofs.Standing.{IsHeld, leaves-some, length-orders_in, tree_of-cases}
 use Rattle.dex_slab.proofs.TreeOrders.{RestsIn-from}
 use Rattle.dex_slab.proofs.WalkLaw.{Rooted, rooted}
 
@@ -108,3 +109,36 @@ given-one count one = rw (eq-eqb count 1 one) refl
 
 pub given-two : (count : ℕ) → 2 ≤ count → nodes_given count ≡ 2
 given-two count more = rw (ne_eqb count 1 (omega arith)) refl
+
+-- ---- an order of the tree is one of the list
+
+HasId-front : (id : ℕ) (xs ys : List Order) → HasId id xs → HasId id (xs ++ ys)
+HasId-front id [] ys h = absurd h
+HasId-front id (x ∷ xs) ys (inl same) = inl same
+HasId-front id (x ∷ xs) ys (inr others) = inr (HasId-front id xs ys others)
+
+HasId-back : (id : ℕ) (xs ys : List Order) → HasId id ys → HasId id (xs ++ ys)
+HasId-back id [] ys h = h
+HasId-back id (x ∷ xs) ys h = inr (HasId-back id xs ys h)
+
+HasId-of : (side : Side) (id : ℕ) (t : Tree) → RestsIn id t → HasId id (orders_of side t)
+HasId-of side id (Leaf node order) same = inl same
+HasId-of Bid id (Inner node prefix key first second) (inl here) = HasId-back id (orders_of Bid second) (orders_of Bid first) (HasId-of Bid id first here)
+HasId-of Bid id (Inner node prefix key first second) (inr there) = HasId-front id (orders_of Bid second) (orders_of Bid first) (HasId-of Bid id second there)
+HasId-of Ask id (Inner node prefix key first second) (inl here) = HasId-front id (orders_of Ask first) (orders_of Ask second) (HasId-of Ask id first here)
+HasId-of Ask id (Inner node prefix key first second) (inr there) = HasId-back id (orders_of Ask first) (orders_of Ask second) (HasId-of Ask id second there)
+HasId-of side id (Other node) none = absurd none
+
+HasId-none : (id : ℕ) (xs : List Order) → AllIds (λ other. other ≢ id) xs → HasId id xs → ⊥
+HasId-none id [] h none = none
+HasId-none id (x ∷ xs) h (inl same) = h.0 same
+HasId-none id (x ∷ xs) h (inr others) = HasId-none id xs h.1 others
+
+-- a new id does not rest
+pub new-rests : (side : Side) (id : ℕ) (tree : Option Tree) → order_with id (orders_in side tree) ≡ None → RestsOn id tree → ⊥
+new-rests side id None new rests = rests
+new-rests side id (Some t) new rests = HasId-none id (orders_of side t) (AllIds-new id (orders_of side t) new) (HasId-of side id t rests)
+
+-- the count is the length of the list
+pub count-listed : (side : Side) (bytes : List ℕ) → IsSlab bytes → length (resting side bytes) ≡ count_of bytes
+count-listed side bytes h = length-orders_in side (tree_of bytes) ∙ sym h.count

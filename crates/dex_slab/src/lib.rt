@@ -22,6 +22,7 @@ mod slab_fault;
 mod slab_ref;
 mod slab_view;
 mod view_reads;
+mod view_writes;
 mod walks;
 
 pub use check::{is_slab_size, is_well_formed};
