@@ -16,6 +16,8 @@ pub mod PostLaws
 pub mod LockLaws
 pub mod EachEventLaws
 pub mod SideLaws
+pub mod BookSideLaws
+pub mod WalkLaws
 pub mod OrderLaws
 pub mod FillLaws
 pub mod BookLaws

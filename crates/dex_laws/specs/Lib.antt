@@ -10,3 +10,4 @@ pub mod Fits
 pub mod Fills
 pub mod Book
 pub mod Meetings
+pub mod Walks

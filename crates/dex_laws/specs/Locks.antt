@@ -1,12 +1,9 @@
-use Rattle.std.specs.Prelude.{ℕ, ◌+◌, List, Bool, if◌then◌else◌}
-use Rattle.dex_types.specs.declared.addresses.Address.{Address}
+use Rattle.std.specs.Prelude.{ℕ, ◌+◌, List}
 use Rattle.dex_types.specs.declared.orders.Order.{Order}
 use Rattle.dex_types.specs.declared.terms.Lots.{Lots}
 use Rattle.dex_types.specs.declared.terms.Side.{Side}
 use Rattle.dex_types.specs.declared.terms.Side.TheVariants.{Bid, Ask}
-use Rattle.dex_types.specs.Addresses.{is_same}
 use Rattle.dex_types.specs.QueuedEvent.{QueuedEvent, EventKind, MakerFill, ReleasingOut}
-use Rattle.dex_types.specs.Side.{price_of, lock}
 use Rattle.dex_types.specs.Totals.{total}
 use Rattle.dex_types.specs.Owed.{order_lock}
 

@@ -1,0 +1,2 @@
+pub mod ListSide
+pub mod Places

@@ -1,0 +1,14 @@
+use Rattle.std.proofs.Common.{◌<◌, arith}
+use Rattle.dex_slab.specs.Slab.{tree_of}
+use Rattle.dex_slab.proofs.FoundLaw.{count-listed, new-rests}
+use Rattle.dex_slab.proofs.view_writes.SlabViewSideBook.insert.Goals as goal
+
+pub insert_order-requires-clause-new : goal.insert_order-requires-clause-new
+insert_order-requires-clause-new c =
+    let view = c.args.self.now in
+    new-rests view.side c.args.order.id (tree_of view.bytes.now) c.requires.new
+
+pub insert_order-requires-clause-room : goal.insert_order-requires-clause-room
+insert_order-requires-clause-room c =
+    let view = c.args.self.now in
+    omega (arith, c.requires.room, count-listed view.side view.bytes.now c.requires.holds)

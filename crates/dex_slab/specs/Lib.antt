@@ -1,0 +1,12 @@
+pub mod Below
+pub mod Changes
+pub mod Checked
+pub mod Faults
+pub mod Held
+pub mod Nodes
+pub mod Path
+pub mod Pool
+pub mod Slab
+pub mod Tree
+pub mod Walks
+pub mod SlabSide

@@ -1,0 +1,31 @@
+//! A side of the book as a critbit tree in the bytes of its account, changed in place node by node.
+#![tactic(auto)]
+
+mod behind;
+mod check;
+mod check_free;
+mod check_nodes;
+#[cfg(test)]
+mod check_tests;
+mod check_tree;
+mod insert;
+mod node_reads;
+mod node_writes;
+mod nodes;
+mod pieces;
+mod pool;
+mod reading;
+mod remove;
+mod search;
+mod set_lots;
+mod slab_fault;
+mod slab_ref;
+mod slab_view;
+mod view_reads;
+mod view_writes;
+mod walks;
+
+pub use check::{is_slab_size, is_well_formed};
+pub use slab_fault::SlabFault;
+pub use slab_ref::SlabRef;
+pub use slab_view::SlabView;

@@ -1,0 +1,52 @@
+//! A side of the book over account bytes, for reading.
+
+use crate::reading::{after, best, capacity, count, find, worst};
+use dex_types::{Order, Side, SideRead};
+
+/// A side of the book, for reading: the bytes of its account, and which side it is.
+#[derive(Clone, Copy, Debug)]
+pub struct SlabRef<'a> {
+    pub bytes: &'a [u8],
+    pub side: Side,
+}
+
+/// The account's bytes are a slab; no call's work grows with the number of orders or nodes, only with the depth of the
+/// tree, which is 128 at most.
+impl SideRead for SlabRef<'_> {
+    ghost use Rattle.dex_slab.specs.Slab.{IsSlab, resting, room_in};
+    ghost use Rattle.dex_slab.specs.SlabSide.{slab_side};
+
+    ghost side = { λ s. s.side };
+
+    ghost orders = { λ s. resting s.side s.bytes.now };
+
+    ghost room = { λ s. room_in s.bytes.now };
+
+    ghost holds = { λ s. IsSlab s.bytes.now };
+
+    ghost is_book_side = { λ s held. slab_side s.side s.bytes.now held };
+
+    fn count(&self) -> u32 {
+        count(self.bytes)
+    }
+
+    fn capacity(&self) -> u32 {
+        capacity(self.bytes)
+    }
+
+    fn best(&self) -> Option<Order> {
+        best(self.bytes, self.side)
+    }
+
+    fn worst(&self) -> Option<Order> {
+        worst(self.bytes, self.side)
+    }
+
+    fn find(&self, id: u128) -> Option<Order> {
+        find(self.bytes, id)
+    }
+
+    fn after(&self, id: u128) -> Option<Order> {
+        after(self.bytes, self.side, id)
+    }
+}
