@@ -183,14 +183,14 @@ module _ (old b1 b2 b3 b4 b5 new : List ℕ) (moved leaf shared : ℕ) (order : 
     held = subst (λ (t : Tree). IsHeld old t) (sym whole) r.held;
     size = subst (λ (n : ℕ). IsSlabSize n) (sym (e.long ∙ e.length_old)) slab.size;
     shared = subst (λ (t : Tree). IsShared new (leaf ∷ moved ∷ nodes_of t) (free_of new)) (sym whole)
-    (shared_now old b1 b2 b3 b4 b5 new (top_of part) moved leaf (count_of old + 1) order (branch_above shared order.id leaf moved) e path part whole refl);
+        (shared_now old b1 b2 b3 b4 b5 new (top_of part) moved leaf (count_of old + 1) order (branch_above shared order.id leaf moved) e path part whole refl);
     count = e.counts ∙ ap (λ (n : ℕ). n + 1) (leaves_rooted old slab r) ∙ ap (λ (t : Tree). leaves_of t + 1) (sym whole);
     root = root_now old b1 b2 b3 b4 b5 new (top_of part) moved leaf (count_of old + 1) order (branch_above shared order.id leaf moved) e path part whole refl;
     leaf_is = leaf_now old b1 b2 b3 b4 b5 new (top_of part) moved leaf (count_of old + 1) order (branch_above shared order.id leaf moved) e path part whole refl;
     copied = copied_now old b1 b2 b3 b4 b5 new (top_of part) moved leaf (count_of old + 1) order (branch_above shared order.id leaf moved) e path part whole refl;
     inner_is = inner_by one (node_bytes new (top_of part)) (shared_bits (top_key part) order.id) order.id leaf moved
-    (subst (λ (s : ℕ). let b : Branch = branch_above s order.id leaf moved in IsInner (node_bytes new (top_of part)) b.prefix b.key b.first b.second) shares
-    (inner_now old b1 b2 b3 b4 b5 new (top_of part) moved leaf (count_of old + 1) order (branch_above shared order.id leaf moved) e path part whole refl));
+        (subst (λ (s : ℕ). let b : Branch = branch_above s order.id leaf moved in IsInner (node_bytes new (top_of part)) b.prefix b.key b.first b.second) shares
+        (inner_now old b1 b2 b3 b4 b5 new (top_of part) moved leaf (count_of old + 1) order (branch_above shared order.id leaf moved) e path part whole refl));
     kept = kept_beside old b1 b2 b3 b4 b5 new (top_of part) moved leaf (count_of old + 1) order (branch_above shared order.id leaf moved) e path part whole refl;
   }
 
@@ -199,9 +199,9 @@ module _ (old b1 b2 b3 b4 b5 new : List ℕ) (moved leaf shared : ℕ) (order : 
     tree = Some (plug path (grown path part order leaf moved good fits low leads stops fresh_at can_rest one bit));
     stands = stands_grown path part order leaf moved good fits low leads stops fresh_at can_rest one bit old new is_grown;
     orders = λ side.
-    orders_grown path part order leaf moved good fits low leads stops fresh_at can_rest one bit side
-    ∙ ap (λ (t : Tree). posted side order (orders_of side t)) whole
-    ∙ ap (λ (o : Option Tree). posted side order (orders_in side o)) (sym r.is);
+        orders_grown path part order leaf moved good fits low leads stops fresh_at can_rest one bit side
+        ∙ ap (λ (t : Tree). posted side order (orders_of side t)) whole
+        ∙ ap (λ (o : Option Tree). posted side order (orders_in side o)) (sym r.is);
   }
 
 pub inserted-slab : (old new : List ℕ) (order : Order) → IsInserted old new order → IsSlab new

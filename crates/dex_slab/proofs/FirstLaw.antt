@@ -17,7 +17,7 @@ use Rattle.dex_slab.proofs.Standing.{Stands, tree_of-cases, tree_of-stands}
 use Rattle.dex_slab.proofs.Written.{IsShared-written, IsWritten, written-count, written-node, written-root, written-then}
 
 pub tree-none : (bytes : List ℕ) → count_of bytes ≡ 0 → tree_of bytes ≡ None
-tree-none bytes none = elim (tree_of-cases bytes) [ | inl empty ↦ empty.1 | inr some ↦ absurd (omega (arith, some.0)) ]
+tree-none bytes none = elim (tree_of-cases bytes) [ inl empty ↦ empty.1 | inr some ↦ absurd (omega (arith, some.0)) ]
 
 -- no node of an empty side is in use
 pub shared-none : (bytes : List ℕ) → IsSlab bytes → count_of bytes ≡ 0 → IsShared bytes [] (free_of bytes)

@@ -82,8 +82,8 @@ module _ (bytes : List ℕ) (slab : IsSlab bytes) (r : Rooted bytes) (id leaf : 
       ap (λ (o : Option Tree). without_order id (orders_in side o)) r.is
       ∙ ap (λ (t : Tree). without_order id (orders_of side t)) only_leaf
       ∙ alone where
-    alone : without_order id (f.order ∷ []) ≡ []
-    alone = rw (eq-eqb f.order.id id f.same) refl
+        alone : without_order id (f.order ∷ []) ≡ []
+        alone = rw (eq-eqb f.order.id id f.same) refl
 
 -- with one above it, it is not
 some_is_none : (n : ℕ) → None ≡ Some n → ⊥

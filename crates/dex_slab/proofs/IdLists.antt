@@ -69,7 +69,7 @@ pub HasId-append : (id : ℕ) (xs ys : List Order) → HasId id (xs ++ ys) → H
 HasId-append id [] ys h = inr h
 HasId-append id (x ∷ xs) ys (inl same) = inl (inl same)
 HasId-append id (x ∷ xs) ys (inr others) =
-    elim (HasId-append id xs ys others) [ | inl here ↦ inl (inr here) | inr there ↦ inr there ]
+    elim (HasId-append id xs ys others) [ inl here ↦ inl (inr here) | inr there ↦ inr there ]
 
 -- a new id is no order's
 pub AllIds-new : (id : ℕ) (xs : List Order) → order_with id xs ≡ None → AllIds (λ other. other ≢ id) xs

@@ -42,8 +42,8 @@ first_bits-fewer q zero x y le within same =
 first_bits-fewer q (suc p) x y le within same =
     elim (cases_lt p q) [
       | inl more ↦
-        let all : q ≡ suc p = omega arith in
-        subst (λ (n : ℕ). first_bits n x ≡ first_bits n y) (sym all) same
+          let all : q ≡ suc p = omega arith in
+          subst (λ (n : ℕ). first_bits n x ≡ first_bits n y) (sym all) same
       | inr less ↦ first_bits-fewer q p x y less (omega arith) (first_bits-half p x (omega arith) ∙ ap (λ (n : ℕ). n / 2) same ∙ sym (first_bits-half p y (omega arith)))
     ]
 
@@ -113,8 +113,8 @@ module _ (a b : ℕ) (low : a < 2 ^ 128) (below : b < 2 ^ 128) where
       let low_part : bit_xor a b < 2 ^ k = omega (arith, lt-div-mul-add {a = bit_xor a b} {b = 2 ^ k} (pow_pos k), ap (λ (n : ℕ). n * 2 ^ k) none) in
       elim (cases_lt k rest.0) [
         | inl more ↦
-          let wide : 2 ^ suc k ≤ 2 ^ rest.0 = pow-le-pow_right (omega arith) more in
-          absurd (omega (arith, rest.3, pow-suc 2 k))
+            let wide : 2 ^ suc k ≤ 2 ^ rest.0 = pow-le-pow_right (omega arith) more in
+            absurd (omega (arith, rest.3, pow-suc 2 k))
         | inr fewer ↦ omega (arith, rest.1)
       ]
 
@@ -136,7 +136,7 @@ module _ (a b : ℕ) (low : a < 2 ^ 128) (below : b < 2 ^ 128) where
         | inr ge ↦ elim (cases_lt (bit_behind s a) (bit_behind s b)) [
           | inl lt ↦ omega (arith, bit_behind-lt s a, bit_behind-lt s b)
           | inr le ↦
-            let more : suc s ≤ s = shared_bits-most (suc s) (omega arith) (omega (arith, first_bits-more s a less, first_bits-more s b less)) in
-            absurd (omega arith)
+              let more : suc s ≤ s = shared_bits-most (suc s) (omega arith) (omega (arith, first_bits-more s a less, first_bits-more s b less)) in
+              absurd (omega arith)
         ]
       ]

@@ -25,7 +25,7 @@ module _ (bytes : List ℕ) (leaf lots : ℕ) (order : Order) (within : end_of (
   pub other_nodes : (n : ℕ) → n ≢ leaf → node_bytes lotted n ≡ node_bytes bytes n
   other_nodes n other =
       bytes_in-with_number_apart bytes (node_field n) (in_node leaf leaf_node.QUANTITY) lots
-      (elim (cases_lt n leaf) [ | inl lt ↦ inl (omega arith) | inr ge ↦ inr (omega arith) ])
+      (elim (cases_lt n leaf) [ inl lt ↦ inl (omega arith) | inr ge ↦ inr (omega arith) ])
 
   -- and so does the header
   pub header_number : (field : Field) → end_of field ≤ 45 → number_in lotted field ≡ number_in bytes field

@@ -99,12 +99,12 @@ module _ (bytes : List ℕ) (slab : IsSlab bytes) (r : Rooted bytes) (id leaf lo
     size = subst (λ (n : ℕ). IsSlabSize n) (sym long) slab.size;
     shared = shared_lotted;
     count = header_number bytes leaf lots f.order within fits leaf_is LEAF_COUNT (lit≤ tt) ∙ leaves_rooted bytes slab r ∙ ap (λ (t : Tree). leaves_of t) (sym f.whole)
-    ∙ leaves-plug f.path (Leaf leaf f.order) ∙ sym (leaves-plug f.path lotted_leaf);
+        ∙ leaves-plug f.path (Leaf leaf f.order) ∙ sym (leaves-plug f.path lotted_leaf);
     good = good_lotted;
     held = record {
       nodes = Holds-plug bytes new f.path (Leaf leaf f.order) lotted_leaf old_held.nodes (leaf_lotted bytes leaf lots f.order within fits leaf_is) refl path_same;
       root = top-plug f.path lotted_leaf (Leaf leaf f.order) refl ∙ old_held.root
-      ∙ sym (header_number bytes leaf lots f.order within fits leaf_is ROOT_NODE (lit≤ tt));
+          ∙ sym (header_number bytes leaf lots f.order within fits leaf_is ROOT_NODE (lit≤ tt));
     };
   }
 

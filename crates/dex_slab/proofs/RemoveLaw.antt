@@ -71,13 +71,13 @@ sibling_is bytes leaf parent order (InFirst node prefix key second up) above hel
     let here : node ≡ parent = same_some node parent above in
     let inner : IsInner (node_bytes bytes node) prefix key leaf (top_of second) = (Holds-part bytes up (Inner node prefix key (Leaf leaf order) second) held).0 in
     ap (λ (n : ℕ). sibling_of bytes n leaf) (sym here) ∙ first_read inner where
-  first_read : IsInner (node_bytes bytes node) prefix key leaf (top_of second) → sibling_of bytes node leaf ≡ top_of second
-  first_read inner = rw (eq-eqb (first_child_of bytes node) leaf inner.firsts) inner.seconds
+      first_read : IsInner (node_bytes bytes node) prefix key leaf (top_of second) → sibling_of bytes node leaf ≡ top_of second
+      first_read inner = rw (eq-eqb (first_child_of bytes node) leaf inner.firsts) inner.seconds
 sibling_is bytes leaf parent order (InSecond node prefix key first up) above held once =
     let here : node ≡ parent = same_some node parent above in
     let part : Tree = Inner node prefix key first (Leaf leaf order) in
     let inner : IsInner (node_bytes bytes node) prefix key (top_of first) leaf = (Holds-part bytes up part held).0 in
     let other : top_of first ≢ leaf = (λ e. absurd (omega (arith, once (top_of first), times-plug (top_of first) up part, times-append (top_of first) (nodes_of first) (leaf ∷ []), top-met first))) in
     ap (λ (n : ℕ). sibling_of bytes n leaf) (sym here) ∙ second_read inner other where
-  second_read : IsInner (node_bytes bytes node) prefix key (top_of first) leaf → top_of first ≢ leaf → sibling_of bytes node leaf ≡ top_of first
-  second_read inner other = rw (ne_eqb (first_child_of bytes node) leaf (λ e. other (sym inner.firsts ∙ e))) inner.firsts
+      second_read : IsInner (node_bytes bytes node) prefix key (top_of first) leaf → top_of first ≢ leaf → sibling_of bytes node leaf ≡ top_of first
+      second_read inner other = rw (ne_eqb (first_child_of bytes node) leaf (λ e. other (sym inner.firsts ∙ e))) inner.firsts

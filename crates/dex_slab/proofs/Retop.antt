@@ -72,10 +72,11 @@ module _ (to : ℕ) where
   -- the node was copied, and those below it stay
   pub Holds-retop : (old new : List ℕ) (t : Tree) → Holds old t → node_bytes new to ≡ node_bytes old (top_of t) → AreSame (rest_of t) old new → Holds new (retop to t)
   Holds-retop old new (Leaf node order) h copied kept = subst (λ (l : List ℕ). IsLeaf l order) (sym copied) h
-  Holds-retop old new (Inner node prefix key first second) h copied kept =
-      (subst (λ (l : List ℕ). IsInner l prefix key (top_of first) (top_of second)) (sym copied) h.0,
-      Holds-same old new first h.1 (AreSame-front (nodes_of first) (nodes_of second) old new kept),
-      Holds-same old new second h.2 (AreSame-back (nodes_of first) (nodes_of second) old new kept))
+  Holds-retop old new (Inner node prefix key first second) h copied kept = (
+    subst (λ (l : List ℕ). IsInner l prefix key (top_of first) (top_of second)) (sym copied) h.0,
+    Holds-same old new first h.1 (AreSame-front (nodes_of first) (nodes_of second) old new kept),
+    Holds-same old new second h.2 (AreSame-back (nodes_of first) (nodes_of second) old new kept),
+  )
   Holds-retop old new (Other node) h copied kept = h
 
 pub nodes-top : (t : Tree) → nodes_of t ≡ top_of t ∷ rest_of t

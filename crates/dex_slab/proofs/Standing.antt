@@ -82,10 +82,10 @@ held_of bytes good =
     elim (tree_of-cases bytes) [
       | inl none ↦ subst (λ (o : Option Tree). IfSome o (IsHeld bytes)) (sym none.1) tt
       | inr some ↦
-        let t : Tree = tree_from 129 bytes (root_of bytes) in
-        let known : IsTree t = subst (λ (o : Option Tree). IfSome o IsTree) some.1 good in
-        subst (λ (o : Option Tree). IfSome o (IsHeld bytes)) (sym some.1)
-        (record { nodes = Holds-from 129 bytes (root_of bytes) known.known; root = top-tree_from 129 bytes (root_of bytes) })
+          let t : Tree = tree_from 129 bytes (root_of bytes) in
+          let known : IsTree t = subst (λ (o : Option Tree). IfSome o IsTree) some.1 good in
+          subst (λ (o : Option Tree). IfSome o (IsHeld bytes)) (sym some.1)
+          (record { nodes = Holds-from 129 bytes (root_of bytes) known.known; root = top-tree_from 129 bytes (root_of bytes) })
     ]
 
 pub stands_of : (bytes : List ℕ) → IsSlab bytes → Stands bytes (tree_of bytes)

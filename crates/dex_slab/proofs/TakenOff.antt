@@ -98,13 +98,14 @@ module _ (old b1 b2 b3 new : List ℕ) (r : Rooted old) (slab : IsSlab old) (id 
   shared_copied changes long =
       IsShared-written (parent ∷ []) old b1 (top_of (beside f.path) ∷ leaf ∷ nodes_of (left f.path)) (written-node parent old b1 changes)
       (shared_found old r id leaf parent f) among long where
-    elsewhere : (n : ℕ) → times n (top_of (beside f.path) ∷ leaf ∷ nodes_of (left f.path)) ≡ 0 → n ≢ parent
-    elsewhere n none e =
-        let absent : times parent (top_of (beside f.path) ∷ leaf ∷ nodes_of (left f.path)) ≡ 0 =
-        subst (λ (k : ℕ). times k (top_of (beside f.path) ∷ leaf ∷ nodes_of (left f.path)) ≡ 0) e none in
-        absurd (omega (arith, parent_used old r id leaf parent f))
-    among : (n : ℕ) → times n (top_of (beside f.path) ∷ leaf ∷ nodes_of (left f.path)) ≡ 0 → times n (parent ∷ []) ≡ 0
-    among n none = omega (arith, elsewhere n none)
+        elsewhere : (n : ℕ) → times n (top_of (beside f.path) ∷ leaf ∷ nodes_of (left f.path)) ≡ 0 → n ≢ parent
+        elsewhere n none e =
+            let absent : times parent (top_of (beside f.path) ∷ leaf ∷ nodes_of (left f.path)) ≡ 0 =
+            subst (λ (k : ℕ). times k (top_of (beside f.path) ∷ leaf ∷ nodes_of (left f.path)) ≡ 0) e none in
+            absurd (omega (arith, parent_used old r id leaf parent f))
+
+        among : (n : ℕ) → times n (top_of (beside f.path) ∷ leaf ∷ nodes_of (left f.path)) ≡ 0 → times n (parent ∷ []) ≡ 0
+        among n none = omega (arith, elsewhere n none)
 
   module _ (e : IsTaken old b1 b2 b3 new parent leaf (top_of (beside f.path)) (count_of old - 1)) where
     counted_nodes : (n : ℕ) → node_bytes new n ≡ node_bytes b3 n
@@ -146,7 +147,7 @@ module _ (old b1 b2 b3 new : List ℕ) (r : Rooted old) (slab : IsSlab old) (id 
       tree = Some (left f.path);
       stands = stands_now;
       orders = λ side.
-      orders-left side id leaf f.order f.path (found_good old r id leaf parent f) f.leads f.same parent f.above
-      ∙ ap (λ (t : Tree). without_order id (orders_of side t)) f.whole
-      ∙ ap (λ (o : Option Tree). without_order id (orders_in side o)) (sym r.is);
+          orders-left side id leaf f.order f.path (found_good old r id leaf parent f) f.leads f.same parent f.above
+          ∙ ap (λ (t : Tree). without_order id (orders_of side t)) f.whole
+          ∙ ap (λ (o : Option Tree). without_order id (orders_in side o)) (sym r.is);
     }

@@ -36,13 +36,13 @@ rooted bytes h some =
     elim (tree_of-cases bytes) [
       | inl none ↦ absurd (omega (arith, none.0))
       | inr more ↦
-        let stands = stands_of bytes h in
-        record {
-          is = more.1;
-          good = subst (λ (o : Option Tree). IfSome o IsTree) more.1 stands.good;
-          held = subst (λ (o : Option Tree). IfSome o (IsHeld bytes)) more.1 stands.held;
-          shared = subst (λ (o : Option Tree). IsShared bytes (nodes_in o) (free_of bytes)) more.1 stands.shared;
-        }
+          let stands = stands_of bytes h in
+          record {
+            is = more.1;
+            good = subst (λ (o : Option Tree). IfSome o IsTree) more.1 stands.good;
+            held = subst (λ (o : Option Tree). IfSome o (IsHeld bytes)) more.1 stands.held;
+            shared = subst (λ (o : Option Tree). IsShared bytes (nodes_in o) (free_of bytes)) more.1 stands.shared;
+          }
     ]
 
 pub top-met : (t : Tree) → 1 ≤ times (top_of t) (nodes_of t)
@@ -139,12 +139,12 @@ next-inner bytes r id node prefix key first second path whole leads low id_fits 
     let same : first_bits prefix id ≡ first_bits prefix key = sym (shared_bits-same key id key_fits id_fits prefix le) in
     elim (cases_eq (bit_behind prefix id) 1) [
       | inl one ↦
-        subst (λ (n : ℕ). IsStep bytes id node n) (sym (towards-second id prefix key (top_of first) (top_of second) one))
-        (step-second bytes r id node prefix key first second path whole leads (Begins-from prefix key 1 id low same one))
+          subst (λ (n : ℕ). IsStep bytes id node n) (sym (towards-second id prefix key (top_of first) (top_of second) one))
+          (step-second bytes r id node prefix key first second path whole leads (Begins-from prefix key 1 id low same one))
       | inr other ↦
-        let none : bit_behind prefix id ≡ 0 = omega (arith, bit_behind-lt prefix id) in
-        subst (λ (n : ℕ). IsStep bytes id node n) (sym (towards-first id prefix key (top_of first) (top_of second) none))
-        (step-first bytes r id node prefix key first second path whole leads (Begins-from prefix key 0 id low same none))
+          let none : bit_behind prefix id ≡ 0 = omega (arith, bit_behind-lt prefix id) in
+          subst (λ (n : ℕ). IsStep bytes id node n) (sym (towards-first id prefix key (top_of first) (top_of second) none))
+          (step-first bytes r id node prefix key first second path whole leads (Begins-from prefix key 0 id low same none))
     ]
 
 module _ (bytes : List ℕ) (r : Rooted bytes) (path : Path) (part : Tree) (whole : plug path part ≡ tree_at bytes (root_of bytes)) where
@@ -184,9 +184,9 @@ next-step bytes r id child (Inner node prefix key first second) path are fits wh
     elim (cases_lt (shared_bits key id) prefix) [
       | inl lt ↦ absurd (none_some child (sym (is ∙ goes_nowhere id branch lt) ∙ next))
       | inr le ↦
-        let same : child_towards id branch ≡ child = same_some (child_towards id branch) child (sym (is ∙ goes_on id branch le) ∙ next) in
-        subst (λ (n : ℕ). IsStep bytes id node n) same
-        (next-inner bytes r id node prefix key first second path whole leads (prefixed-part bytes r path part whole).1 fits key_fits le)
+          let same : child_towards id branch ≡ child = same_some (child_towards id branch) child (sym (is ∙ goes_on id branch le) ∙ next) in
+          subst (λ (n : ℕ). IsStep bytes id node n) same
+          (next-inner bytes r id node prefix key first second path whole leads (prefixed-part bytes r path part whole).1 fits key_fits le)
     ]
 next-step bytes r id child (Other node) path are fits whole leads next = absurd (held-part bytes r path (Other node) whole)
 

@@ -54,5 +54,5 @@ pub IsShared-written : (nodes old new used : List ℕ) → IsWritten nodes old n
     → length new ≡ length old → IsShared new used (free_of new)
 IsShared-written nodes old new used w h among long =
     IsShared-same old new used h (λ n met. w.kept n (among n (unused n met))) long w.bump w.len w.head where
-  unused : (n : ℕ) → 1 ≤ times n (free_of old) → times n used ≡ 0
-  unused n met = omega (arith, h.once n, times-append n used (free_of old))
+      unused : (n : ℕ) → 1 ≤ times n (free_of old) → times n used ≡ 0
+      unused n met = omega (arith, h.once n, times-append n used (free_of old))

@@ -137,12 +137,27 @@ returns c =
     record {
       slab = inserted-slab old new order done;
       orders = inserted-orders old new order done;
-      bump = omega (arith, bump_entered old b1 b2 b3 b4 b5 new place moved leaf (count_of old + 1) order branch entered, c.take_node-leaf.ensures.bump,
-      c.take_node-leaf.ensures.freed, c.take_node-moved.ensures.bump, c.take_node-moved.ensures.freed);
-      freed = omega (arith, free_entered old b1 b2 b3 b4 b5 new place moved leaf (count_of old + 1) order branch entered, c.take_node-leaf.ensures.freed,
-      c.take_node-moved.ensures.freed);
-      three = (moved, leaf, place, λ at in_header at_moved at_leaf at_place.
-      (ChangesHeader-by b5 new LEAF_COUNT _ c.put_u64.ensures.bytes (lit≤ tt) (lit≤ tt)).places at in_header
-      ∙ c.write_inner.ensures.changes.places at at_place ∙ c.write_leaf.ensures.changes.places at at_leaf ∙ c.copy_node.ensures.changes.places at at_moved
-      ∙ c.take_node-leaf.ensures.changes.places at in_header ∙ c.take_node-moved.ensures.changes.places at in_header);
+      bump = omega (
+        arith,
+        bump_entered old b1 b2 b3 b4 b5 new place moved leaf (count_of old + 1) order branch entered,
+        c.take_node-leaf.ensures.bump,
+        c.take_node-leaf.ensures.freed,
+        c.take_node-moved.ensures.bump,
+        c.take_node-moved.ensures.freed,
+      );
+      freed = omega (
+        arith,
+        free_entered old b1 b2 b3 b4 b5 new place moved leaf (count_of old + 1) order branch entered,
+        c.take_node-leaf.ensures.freed,
+        c.take_node-moved.ensures.freed,
+      );
+      three = (
+        moved,
+        leaf,
+        place,
+        λ at in_header at_moved at_leaf at_place.
+            (ChangesHeader-by b5 new LEAF_COUNT _ c.put_u64.ensures.bytes (lit≤ tt) (lit≤ tt)).places at in_header
+            ∙ c.write_inner.ensures.changes.places at at_place ∙ c.write_leaf.ensures.changes.places at at_leaf ∙ c.copy_node.ensures.changes.places at at_moved
+            ∙ c.take_node-leaf.ensures.changes.places at in_header ∙ c.take_node-moved.ensures.changes.places at in_header,
+      );
     }

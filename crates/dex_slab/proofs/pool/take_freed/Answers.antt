@@ -51,8 +51,12 @@ returns-clause-count c =
 
 pub returns-clause-bump : goal.returns-clause-bump
 returns-clause-bump c =
-    omega (arith, number_kept c.put_u32.new.bytes c.put_u64.new.bytes FREE_LIST_LEN _ BUMP_INDEX c.put_u64.ensures.bytes refl,
-    number_kept c.args.bytes.now c.put_u32.new.bytes FREE_LIST_HEAD _ BUMP_INDEX c.put_u32.ensures.bytes refl, c.requires.some_free)
+    omega (
+      arith,
+      number_kept c.put_u32.new.bytes c.put_u64.new.bytes FREE_LIST_LEN _ BUMP_INDEX c.put_u64.ensures.bytes refl,
+      number_kept c.args.bytes.now c.put_u32.new.bytes FREE_LIST_HEAD _ BUMP_INDEX c.put_u32.ensures.bytes refl,
+      c.requires.some_free,
+    )
 
 pub returns-clause-freed : goal.returns-clause-freed
 returns-clause-freed c = omega (arith, c.put_u64.ensures.given, c.get_u64-freed.ensures)
