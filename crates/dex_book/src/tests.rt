@@ -173,7 +173,10 @@ fn bids_stand_by_falling_price_and_then_by_age(rt: HostRuntime) -> Result<(), Fa
     bids.insert(order(50, 9, 1));
     assert_eq!(rt; clients(&bids), [1, 2, 3, 0]);
     bids.set_lots(50 * PER_PRICE + 8, 5);
-    assert_eq!(rt; bids.find(50 * PER_PRICE + 8).map(|order| order.lots), Some(5));
+    assert_eq!(rt;
+        bids.find(50 * PER_PRICE + 8).map(|order| order.lots),
+        Some(5)
+    );
     assert_eq!(rt; all_lots(&bids), 7);
     assert_eq!(rt; bids.remove(50 * PER_PRICE + 9).client, 1);
     assert_eq!(rt; clients(&bids), [2, 3, 0, 0]);
