@@ -1,0 +1,95 @@
+ghost use Rattle.std.specs.Prelude.{◌≡◌, ◌≤◌};
+ghost use Rattle.dex_types.specs.BookSide.{CanRest};
+ghost use Rattle.dex_slab.specs.Slab.{IsSlab, IsSlabSize};
+ghost use Rattle.std.specs.Prelude.{length};
+
+use super::*;
+use dex_fields::get_u64;
+use dex_fields::slab::{BUMP_INDEX, FREE_LIST_LEN, LEAF_COUNT};
+use dex_types::{Address, Order, Side, SideBook, SideRead};
+use std::test::Fail;
+
+/// The ids of one price: the distance of two prices in an id.
+const PER_PRICE: u128 = 1 << 64;
+
+/// An ask at a price, of so many lots.
+#[tactic(auto, unfolding(dex_types::specs::Side::price_of))]
+fn ask(price: u64, sequence: u64, lots: u64) -> Order
+    requires price { 1 ≤ price }
+    requires lots { 1 ≤ lots }
+    ensures { CanRest result }
+{
+    Order {
+        id: price as u128 * PER_PRICE + sequence as u128,
+        owner: Address([7; 32]),
+        slot: 127,
+        tier: 6,
+        lots,
+        client: sequence,
+    }
+}
+
+/// Puts an order on, where the side has room for it and no order of its id.
+fn put(view: &mut SlabView<'_>, order: Order) -> bool
+    requires holds { IsSlab view.old.bytes.now }
+    requires can_rest { CanRest order }
+    ensures { IsSlab view.new.bytes.now }
+{
+    if view.count() >= view.capacity() {
+        return false;
+    }
+    if view.find(order.id).is_some() {
+        return false;
+    }
+    view.insert(order);
+    true
+}
+
+/// Takes an order off, where it rests.
+fn take(view: &mut SlabView<'_>, id: u128) -> Option<Order>
+    requires { IsSlab view.old.bytes.now }
+    ensures { IsSlab view.new.bytes.now }
+{
+    view.find(id)?;
+    Some(view.remove(id))
+}
+
+/// The words of the header that a call keeps: `bump_index`, `free_list_len` and `leaf_count`.
+fn words(view: &SlabView<'_>) -> (u64, u64, u64)
+    requires { IsSlab view.now.bytes.now }
+{
+    (
+        get_u64(view.bytes, BUMP_INDEX),
+        get_u64(view.bytes, FREE_LIST_LEN),
+        get_u64(view.bytes, LEAF_COUNT),
+    )
+}
+
+/// The header's words after two asks of one price, after the first of them left, and after one of the next price.
+fn asks_come_and_go(bytes: &mut [u8]) -> [(u64, u64, u64); 3]
+    requires { IsSlab bytes.old }
+{
+    let mut view = SlabView {
+        bytes,
+        side: Side::Ask,
+    };
+    put(&mut view, ask(50, 0, 1));
+    put(&mut view, ask(50, 1, 1));
+    let two = words(&view);
+    take(&mut view, 50 * PER_PRICE);
+    let one = words(&view);
+    put(&mut view, ask(51, 2, 1));
+    [two, one, words(&view)]
+}
+
+#[test]
+fn new_nodes_come_from_the_free_list_first(rt: HostRuntime) -> Result<(), Fail> {
+    let mut bytes = vec![in rt.alloc(); 0; 65548]?;
+    is_well_formed(&bytes, Side::Ask)?;
+    assert_eq!(rt;
+        asks_come_and_go(&mut bytes),
+        [(3, 0, 2), (3, 2, 1), (3, 0, 2)]
+    );
+    is_well_formed(&bytes, Side::Ask)?;
+    Ok(())
+}
