@@ -93,3 +93,33 @@ fn new_nodes_come_from_the_free_list_first(rt: HostRuntime) -> Result<(), Fail> 
     is_well_formed(&bytes, Side::Ask)?;
     Ok(())
 }
+
+/// How many orders a side has room for, and whether it takes one and a second one.
+fn room_and_takings(bytes: &mut [u8]) -> (u32, bool, bool)
+    requires { IsSlab bytes.old }
+{
+    let mut view = SlabView {
+        bytes,
+        side: Side::Bid,
+    };
+    let room = view.capacity();
+    let first = put(&mut view, ask(50, 0, 1));
+    let second = put(&mut view, ask(50, 1, 1));
+    (room, first, second)
+}
+
+#[test]
+fn half_of_the_nodes_are_room_for_orders(rt: HostRuntime) -> Result<(), Fail> {
+    for (size, expected) in [
+        (124, (1, true, false)),
+        (195, (1, true, false)),
+        (268, (2, true, true)),
+        (65548, (455, true, true)),
+    ] {
+        let mut bytes = vec![in rt.alloc(); 0; size]?;
+        is_well_formed(&bytes, Side::Bid)?;
+        assert_eq!(rt; room_and_takings(&mut bytes), expected);
+        is_well_formed(&bytes, Side::Bid)?;
+    }
+    Ok(())
+}
