@@ -123,3 +123,61 @@ fn half_of_the_nodes_are_room_for_orders(rt: HostRuntime) -> Result<(), Fail> {
     }
     Ok(())
 }
+
+/// The prices and lots of the first four orders, in book order; zeros where there are fewer.
+fn listed(view: &SlabView<'_>) -> [(u64, u64); 4]
+    requires { IsSlab view.now.bytes.now }
+{
+    let mut rows = [(0, 0); 4];
+    let mut next = view.best();
+    for row in &mut rows {
+        if let Some(order) = next {
+            *row = ((order.id >> 64) as u64, order.lots);
+            next = if view.find(order.id).is_some() {
+                view.after(order.id)
+            } else {
+                None
+            };
+        }
+    }
+    rows
+}
+
+/// What rests on a side after four orders, after one of them got other lots, and after another one left.
+fn orders_change(bytes: &mut [u8], side: Side) -> [[(u64, u64); 4]; 3]
+    requires { IsSlab bytes.old }
+{
+    let mut view = SlabView { bytes, side };
+    put(&mut view, ask(6, 0, 6));
+    put(&mut view, ask(1, 0, 1));
+    put(&mut view, ask(7, 0, 7));
+    put(&mut view, ask(2, 0, 2));
+    let four = listed(&view);
+    if view.find(7 * PER_PRICE).is_some() {
+        view.set_lots(7 * PER_PRICE, 9);
+    }
+    let other_lots = listed(&view);
+    take(&mut view, 2 * PER_PRICE);
+    [four, other_lots, listed(&view)]
+}
+
+#[test]
+fn orders_stand_in_book_order(rt: HostRuntime) -> Result<(), Fail> {
+    let rising = [
+        [(1, 1), (2, 2), (6, 6), (7, 7)],
+        [(1, 1), (2, 2), (6, 6), (7, 9)],
+        [(1, 1), (6, 6), (7, 9), (0, 0)],
+    ];
+    let falling = [
+        [(7, 7), (6, 6), (2, 2), (1, 1)],
+        [(7, 9), (6, 6), (2, 2), (1, 1)],
+        [(7, 9), (6, 6), (1, 1), (0, 0)],
+    ];
+    for (side, expected) in [(Side::Ask, rising), (Side::Bid, falling)] {
+        let mut bytes = [0; 700];
+        is_well_formed(&bytes, side)?;
+        assert_eq!(rt; orders_change(&mut bytes, side), expected);
+        is_well_formed(&bytes, side)?;
+    }
+    Ok(())
+}
