@@ -1,6 +1,6 @@
 -- A new leaf beside a part of a tree: the tree that a new order makes.
-use Rattle.std.proofs.Common.{◌≡◌, ◌≢◌, ℕ, suc, ◌+◌, ◌-◌, ◌<◌, ◌≤◌, ◌^◌, Bool, true, false, ◌==◌, eqb, List, [], ◌∷◌, ◌++◌, length, append_assoc, Option, Some, refl, sym, ap, subst, ◌∙◌, arith}
-use Rattle.std.proofs.lemmas.Bool.{eqb-false, eqb-true, le-ltb, lt-ltb}
+use Rattle.std.proofs.Common.{◌≡◌, ◌≢◌, ℕ, suc, ◌+◌, ◌-◌, ◌<◌, ◌≤◌, ◌^◌, Bool, true, false, List, [], ◌∷◌, ◌++◌, length, append_assoc, Some, refl, sym, ap, subst, ◌∙◌, arith}
+use Rattle.std.proofs.lemmas.Bool.{le-ltb, lt-ltb}
 use Rattle.std.proofs.lemmas.List.{length-append}
 use Rattle.dex_types.specs.declared.orders.Order.{Order}
 use Rattle.dex_types.specs.declared.terms.Side.{Side}
@@ -16,8 +16,8 @@ use Rattle.dex_slab.specs.Tree.{Tree, Leaf, Inner, Other, AllKeys, Begins, CanAl
 use Rattle.dex_slab.specs.Walks.{Stops}
 use Rattle.dex_slab.proofs.Holding.{AreSame, Holds-part, Holds-plug, top-plug}
 use Rattle.dex_slab.proofs.IdLists.{AllIds, AllIds-append, AllIds-map, posted-behind, posted-front}
-use Rattle.dex_slab.proofs.KeyBits.{Begins-from, Begins-lt, bit_behind-lt}
-use Rattle.dex_slab.proofs.Parting.{IsNewAt, least-shared, parts-keys, parts-low, top-key}
+use Rattle.dex_slab.proofs.KeyBits.{Begins-from, Begins-lt}
+use Rattle.dex_slab.proofs.Parting.{IsNewAt, least-shared, parts-keys, parts-low}
 use Rattle.dex_slab.proofs.Plugs.{keys-part, keys-plug, known-part, known-plug, leaves-plug, least_at, nodes-plug, path_nodes, prefixes-part, prefixes-plug, rest-part, rest-plug, times-plug}
 use Rattle.dex_slab.proofs.PoolLaw.{IsShared-order}
 use Rattle.dex_slab.proofs.Retop.{Holds-retop, agree-retop, keys-retop, known-retop, leaves-retop, nodes-retop, nodes-top, orders-retop, prefixes-retop, rest-retop, retop, rest_of, top-retop}
@@ -165,15 +165,15 @@ module _ (path : Path) (part : Tree) (order : Order) (leaf moved : ℕ) (good : 
   pub good_grown : IsTree (plug path grown)
   good_grown = record {
     known = known-plug path part grown good.known
-    (known-joined (top_of part) s order.id (Leaf leaf order) (retop moved part) one tt (known-retop moved part known));
+        (known-joined (top_of part) s order.id (Leaf leaf order) (retop moved part) one tt (known-retop moved part known));
     prefixes = prefixes-plug path part grown good.prefixes
-    (prefixes-joined (top_of part) s order.id (Leaf leaf order) (retop moved part) one (least_at path)
-    (least-shared order.id fits path part low known good.keys good.prefixes leads) s_low tt
-    (prefixes-retop moved (suc s) part (beside_prefixes part (least_at path) stops prefixed)));
+        (prefixes-joined (top_of part) s order.id (Leaf leaf order) (retop moved part) one (least_at path)
+        (least-shared order.id fits path part low known good.keys good.prefixes leads) s_low tt
+        (prefixes-retop moved (suc s) part (beside_prefixes part (least_at path) stops prefixed)));
     keys = keys-plug order.id path part grown good.keys leads agreed_grown
-    (λ Fact here all. keys-joined (top_of part) s order.id (Leaf leaf order) (retop moved part) one Fact here here (keys-retop moved Fact part all));
+        (λ Fact here all. keys-joined (top_of part) s order.id (Leaf leaf order) (retop moved part) one Fact here here (keys-retop moved Fact part all));
     can_rest = rest-plug path part grown good.can_rest
-    (rest-joined (top_of part) s order.id (Leaf leaf order) (retop moved part) one can_rest (rest-retop moved part (rest-part path part good.can_rest)));
+        (rest-joined (top_of part) s order.id (Leaf leaf order) (retop moved part) one can_rest (rest-retop moved part (rest-part path part good.can_rest)));
   }
 
   -- the order is posted
@@ -194,13 +194,25 @@ module _ (path : Path) (part : Tree) (order : Order) (leaf moved : ℕ) (good : 
 
   pub times_grown : (n : ℕ) → times n (nodes_of (plug path grown)) ≡ times n (leaf ∷ moved ∷ nodes_of (plug path part))
   times_grown n =
-      omega (arith, times-plug n path grown, times-plug n path part, times-joined (top_of part) s order.id (Leaf leaf order) (retop moved part) one n,
-      ap (times n) (nodes-retop moved part), ap (times n) (nodes-top part))
+      omega (
+        arith,
+        times-plug n path grown,
+        times-plug n path part,
+        times-joined (top_of part) s order.id (Leaf leaf order) (retop moved part) one n,
+        ap (times n) (nodes-retop moved part),
+        ap (times n) (nodes-top part),
+      )
 
   pub length_grown : length (nodes_of (plug path grown)) ≡ length (leaf ∷ moved ∷ nodes_of (plug path part))
   length_grown =
-      omega (arith, nodes-plug path grown, nodes-plug path part, length-joined (top_of part) s order.id (Leaf leaf order) (retop moved part) one,
-      ap (λ (l : List ℕ). length l) (nodes-retop moved part), ap (λ (l : List ℕ). length l) (nodes-top part))
+      omega (
+        arith,
+        nodes-plug path grown,
+        nodes-plug path part,
+        length-joined (top_of part) s order.id (Leaf leaf order) (retop moved part) one,
+        ap (λ (l : List ℕ). length l) (nodes-retop moved part),
+        ap (λ (l : List ℕ). length l) (nodes-top part),
+      )
 
   -- the bytes in which the new leaf, the moved node and the new inner node were written
   pub record IsGrown (old new : List ℕ) : Type 0 where

@@ -1,5 +1,5 @@
 -- A side with one order: its leaf is the root.
-use Rattle.std.proofs.Common.{◌≡◌, ℕ, ◌+◌, ◌<◌, ◌≤◌, List, [], ◌∷◌, length, Option, Some, None, inl, inr, refl, sym, ap, subst, ◌∙◌, arith, lit≤}
+use Rattle.std.proofs.Common.{◌≡◌, ℕ, List, [], ◌∷◌, length, Option, Some, None, inl, inr, refl, sym, ap, subst, ◌∙◌, arith, lit≤}
 use Rattle.dex_fields.specs.declared.slab.TheConstants.{LEAF_COUNT, ROOT_NODE}
 use Rattle.dex_fields.specs.Bytes.{with_number}
 use Rattle.dex_types.specs.declared.orders.Order.{Order}
@@ -8,7 +8,7 @@ use Rattle.dex_types.specs.BookSide.{CanRest}
 use Rattle.dex_types.specs.Posting.{posted}
 use Rattle.dex_slab.specs.Changes.{ChangesNode}
 use Rattle.dex_slab.specs.Held.{IsLeaf}
-use Rattle.dex_slab.specs.Nodes.{count_of, node_bytes, nodes_within, root_of}
+use Rattle.dex_slab.specs.Nodes.{count_of, node_bytes, root_of}
 use Rattle.dex_slab.specs.Pool.{HasSpare}
 use Rattle.dex_slab.specs.Slab.{IsShared, IsSlab, IsSlabSize, free_of, nodes_in, orders_in, resting, tree_of}
 use Rattle.dex_slab.specs.Tree.{Tree, Leaf}
@@ -17,7 +17,7 @@ use Rattle.dex_slab.proofs.Standing.{Stands, tree_of-cases, tree_of-stands}
 use Rattle.dex_slab.proofs.Written.{IsShared-written, IsWritten, written-count, written-node, written-root, written-then}
 
 pub tree-none : (bytes : List ℕ) → count_of bytes ≡ 0 → tree_of bytes ≡ None
-tree-none bytes none = elim (tree_of-cases bytes) [ | inl empty ↦ empty.1 | inr some ↦ absurd (omega (arith, some.0)) ]
+tree-none bytes none = elim (tree_of-cases bytes) [ inl empty ↦ empty.1 | inr some ↦ absurd (omega (arith, some.0)) ]
 
 -- no node of an empty side is in use
 pub shared-none : (bytes : List ℕ) → IsSlab bytes → count_of bytes ≡ 0 → IsShared bytes [] (free_of bytes)

@@ -1,13 +1,11 @@
 -- Which tree the bytes of an account hold.
-use Rattle.std.proofs.Common.{◌≡◌, ◌≢◌, ℕ, zero, suc, ◌+◌, ◌-◌, ◌<◌, ◌≤◌, List, [], ◌∷◌, ◌++◌, refl, sym, ap, ◌∙◌, subst, arith, inl, inr}
+use Rattle.std.proofs.Common.{◌≡◌, ◌≢◌, ℕ, zero, suc, ◌+◌, ◌≤◌, List, [], ◌∷◌, ◌++◌, refl, sym, ap, ◌∙◌, subst, arith, inl, inr}
 use Rattle.std.proofs.lemmas.Bool.{cases_eq, eq-eqb, ne_eqb}
-use Rattle.dex_fields.specs.declared.inner_node.TheConstants as inner
-use Rattle.dex_fields.specs.Bytes.{number_in}
 use Rattle.dex_types.specs.declared.orders.Order.{Order}
 use Rattle.dex_slab.specs.Held.{Holds, IsInner, IsLeaf}
 use Rattle.dex_slab.specs.Nodes.{first_child_of, key_of, node_bytes, order_of, prefix_of, second_child_of, tag_of}
 use Rattle.dex_slab.specs.Path.{Path, Root, InFirst, InSecond, plug, top_of}
-use Rattle.dex_slab.specs.Slab.{same, times}
+use Rattle.dex_slab.specs.Slab.{times}
 use Rattle.dex_slab.specs.Tree.{Tree, Leaf, Inner, Other, HasPrefixes, IsKnown, nodes_of, tree_from}
 use Rattle.dex_slab.proofs.Plugs.{path_nodes}
 use Rattle.dex_slab.proofs.Times.{times-append}
@@ -33,10 +31,11 @@ AreSame-tail x xs old new h n met = h n (omega arith)
 pub Holds-same : (old new : List ℕ) (t : Tree) → Holds old t → AreSame (nodes_of t) old new → Holds new t
 Holds-same old new (Leaf node order) h kept = subst (λ (l : List ℕ). IsLeaf l order) (sym (AreSame-head node [] old new kept)) h
 Holds-same old new (Inner node prefix key first second) h kept =
-    let below = AreSame-tail node (nodes_of first ++ nodes_of second) old new kept in
-    (subst (λ (l : List ℕ). IsInner l prefix key (top_of first) (top_of second)) (sym (AreSame-head node (nodes_of first ++ nodes_of second) old new kept)) h.0,
-    Holds-same old new first h.1 (AreSame-front (nodes_of first) (nodes_of second) old new below),
-    Holds-same old new second h.2 (AreSame-back (nodes_of first) (nodes_of second) old new below))
+    let below = AreSame-tail node (nodes_of first ++ nodes_of second) old new kept in (
+      subst (λ (l : List ℕ). IsInner l prefix key (top_of first) (top_of second)) (sym (AreSame-head node (nodes_of first ++ nodes_of second) old new kept)) h.0,
+      Holds-same old new first h.1 (AreSame-front (nodes_of first) (nodes_of second) old new below),
+      Holds-same old new second h.2 (AreSame-back (nodes_of first) (nodes_of second) old new below),
+    )
 Holds-same old new (Other node) h kept = h
 
 pub Holds-part : (bytes : List ℕ) (path : Path) (t : Tree) → Holds bytes (plug path t) → Holds bytes t
@@ -53,18 +52,22 @@ Holds-plug old new (InFirst node prefix key second up) t u h held top kept =
     let below = AreSame-tail node (nodes_of second ++ path_nodes up) old new kept in
     let here : IsInner (node_bytes new node) prefix key (top_of t) (top_of second) =
     subst (λ (l : List ℕ). IsInner l prefix key (top_of t) (top_of second)) (sym (AreSame-head node (nodes_of second ++ path_nodes up) old new kept)) before.0 in
-    Holds-plug old new up (Inner node prefix key t second) (Inner node prefix key u second) h
-    (subst (λ (n : ℕ). IsInner (node_bytes new node) prefix key n (top_of second)) (sym top) here, held,
-    Holds-same old new second before.2 (AreSame-front (nodes_of second) (path_nodes up) old new below))
+    Holds-plug old new up (Inner node prefix key t second) (Inner node prefix key u second) h (
+      subst (λ (n : ℕ). IsInner (node_bytes new node) prefix key n (top_of second)) (sym top) here,
+      held,
+      Holds-same old new second before.2 (AreSame-front (nodes_of second) (path_nodes up) old new below),
+    )
     refl (AreSame-back (nodes_of second) (path_nodes up) old new below)
 Holds-plug old new (InSecond node prefix key first up) t u h held top kept =
     let before = Holds-part old up (Inner node prefix key first t) h in
     let below = AreSame-tail node (nodes_of first ++ path_nodes up) old new kept in
     let here : IsInner (node_bytes new node) prefix key (top_of first) (top_of t) =
     subst (λ (l : List ℕ). IsInner l prefix key (top_of first) (top_of t)) (sym (AreSame-head node (nodes_of first ++ path_nodes up) old new kept)) before.0 in
-    Holds-plug old new up (Inner node prefix key first t) (Inner node prefix key first u) h
-    (subst (λ (n : ℕ). IsInner (node_bytes new node) prefix key (top_of first) n) (sym top) here,
-    Holds-same old new first before.1 (AreSame-front (nodes_of first) (path_nodes up) old new below), held)
+    Holds-plug old new up (Inner node prefix key first t) (Inner node prefix key first u) h (
+      subst (λ (n : ℕ). IsInner (node_bytes new node) prefix key (top_of first) n) (sym top) here,
+      Holds-same old new first before.1 (AreSame-front (nodes_of first) (path_nodes up) old new below),
+      held,
+    )
     refl (AreSame-back (nodes_of first) (path_nodes up) old new below)
 
 -- the node at the top of a part is the same whatever the way
@@ -126,23 +129,26 @@ Holds-from zero bytes node known = known
 Holds-from (suc steps) bytes node known =
     elim (cases_eq (tag_of bytes node) 2) [
       | inl leaf ↦
-        let here : Holds bytes (Leaf node (order_of bytes node)) = record { tag = leaf; said = refl } in
-        subst (λ (t : Tree). Holds bytes t) (sym (tree_from-leaf steps bytes node leaf)) here
+          let here : Holds bytes (Leaf node (order_of bytes node)) = record { tag = leaf; said = refl } in
+          subst (λ (t : Tree). Holds bytes t) (sym (tree_from-leaf steps bytes node leaf)) here
       | inr no_leaf ↦ elim (cases_eq (tag_of bytes node) 1) [
         | inl branch ↦
-          let is = tree_from-inner steps bytes node branch in
-          let below : IsKnown (Inner node (prefix_of bytes node) (key_of bytes node) (tree_from steps bytes (first_child_of bytes node)) (tree_from steps bytes (second_child_of bytes node)))
-          = subst (λ (t : Tree). IsKnown t) is known in
-          let one = Holds-from steps bytes (first_child_of bytes node) below.0 in
-          let two = Holds-from steps bytes (second_child_of bytes node) below.1 in
-          subst (λ (t : Tree). Holds bytes t) (sym is)
-          (record {
-            tag = branch;
-            prefixes = refl;
-            keys = refl;
-            firsts = sym (top-tree_from steps bytes (first_child_of bytes node));
-            seconds = sym (top-tree_from steps bytes (second_child_of bytes node));
-          }, one, two)
+            let is = tree_from-inner steps bytes node branch in
+            let below : IsKnown (Inner node (prefix_of bytes node) (key_of bytes node) (tree_from steps bytes (first_child_of bytes node)) (tree_from steps bytes (second_child_of bytes node)))
+            = subst (λ (t : Tree). IsKnown t) is known in
+            let one = Holds-from steps bytes (first_child_of bytes node) below.0 in
+            let two = Holds-from steps bytes (second_child_of bytes node) below.1 in
+            subst (λ (t : Tree). Holds bytes t) (sym is) (
+              record {
+                tag = branch;
+                prefixes = refl;
+                keys = refl;
+                firsts = sym (top-tree_from steps bytes (first_child_of bytes node));
+                seconds = sym (top-tree_from steps bytes (second_child_of bytes node));
+              },
+              one,
+              two,
+            )
         | inr no_inner ↦ absurd (subst (λ (t : Tree). IsKnown t) (tree_from-other steps bytes node no_leaf no_inner) known)
       ]
     ]

@@ -1,9 +1,8 @@
 -- Lists of orders by their ids: where an order is posted, found, changed and taken out.
-use Rattle.std.proofs.Common.{◌≡◌, ◌≢◌, ℕ, ◌+◌, ◌<◌, ◌≤◌, ◌⊎◌, inl, inr, ltb, eqb, cond, true, false, List, [], ◌∷◌, ◌++◌, length, Option, Some, None, IsSome, refl, sym, ap, ◌∙◌, subst, arith, rules}
+use Rattle.std.proofs.Common.{◌≡◌, ◌≢◌, ℕ, ◌⊎◌, inl, inr, true, false, List, [], ◌∷◌, ◌++◌, Some, None, IsSome, refl, ap}
 use Rattle.std.proofs.lemmas.Bool.{cases_eq, eq-eqb, ne_eqb}
 use Rattle.dex_types.specs.declared.orders.Order.{Order}
 use Rattle.dex_types.specs.declared.terms.Side.{Side}
-use Rattle.dex_types.specs.declared.terms.Side.TheVariants.{Bid, Ask}
 use Rattle.dex_types.specs.BookSide.{with_lots}
 use Rattle.dex_types.specs.Cancel.{order_with, without_order}
 use Rattle.dex_types.specs.Posting.{InBookOrder, PrecedesAll, posted}
@@ -69,7 +68,7 @@ pub HasId-append : (id : ℕ) (xs ys : List Order) → HasId id (xs ++ ys) → H
 HasId-append id [] ys h = inr h
 HasId-append id (x ∷ xs) ys (inl same) = inl (inl same)
 HasId-append id (x ∷ xs) ys (inr others) =
-    elim (HasId-append id xs ys others) [ | inl here ↦ inl (inr here) | inr there ↦ inr there ]
+    elim (HasId-append id xs ys others) [ inl here ↦ inl (inr here) | inr there ↦ inr there ]
 
 -- a new id is no order's
 pub AllIds-new : (id : ℕ) (xs : List Order) → order_with id xs ≡ None → AllIds (λ other. other ≢ id) xs

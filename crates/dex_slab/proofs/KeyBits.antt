@@ -1,11 +1,10 @@
 -- The leading bits of keys: which keys share how many, and how that orders them.
-use Rattle.std.proofs.Common.{◌≡◌, ◌≢◌, ℕ, zero, suc, ◌+◌, ◌-◌, ◌*◌, ◌/◌, ◌%◌, ◌^◌, ◌<◌, ◌≤◌, ◌⊎◌, inl, inr, refl, sym, ap, ◌∙◌, subst, arith}
+use Rattle.std.proofs.Common.{◌≡◌, ◌≢◌, ℕ, zero, suc, ◌+◌, ◌-◌, ◌*◌, ◌/◌, ◌^◌, ◌<◌, ◌≤◌, inl, inr, sym, ap, ◌∙◌, subst, arith}
 use Rattle.std.proofs.Math.Nat.{div-div-eq-div-mul, div-eq_of_lt, div-mul-le_self, lt-div-mul-add, pow-le-pow_right, pow-suc}
-use Rattle.std.proofs.Math.Pow.{pow-lt}
 use Rattle.std.proofs.lemmas.Bool.{cases_lt}
 use Rattle.std.proofs.lemmas.Nat.{and_le_l, and_le_r, le-div, leading_length, pow_pos, xor_lt, xor_shr}
 use Rattle.std.specs.Int.{leading_zeros, w128}
-use Rattle.std.specs.Int.Bits.{bit_and, bit_xor, xor_add_and, xor_self}
+use Rattle.std.specs.Int.Bits.{bit_xor, xor_add_and, xor_self}
 use Rattle.dex_slab.specs.Path.{bit_behind, shared_bits}
 use Rattle.dex_slab.specs.Tree.{Begins, first_bits}
 
@@ -42,8 +41,8 @@ first_bits-fewer q zero x y le within same =
 first_bits-fewer q (suc p) x y le within same =
     elim (cases_lt p q) [
       | inl more ↦
-        let all : q ≡ suc p = omega arith in
-        subst (λ (n : ℕ). first_bits n x ≡ first_bits n y) (sym all) same
+          let all : q ≡ suc p = omega arith in
+          subst (λ (n : ℕ). first_bits n x ≡ first_bits n y) (sym all) same
       | inr less ↦ first_bits-fewer q p x y less (omega arith) (first_bits-half p x (omega arith) ∙ ap (λ (n : ℕ). n / 2) same ∙ sym (first_bits-half p y (omega arith)))
     ]
 
@@ -113,8 +112,8 @@ module _ (a b : ℕ) (low : a < 2 ^ 128) (below : b < 2 ^ 128) where
       let low_part : bit_xor a b < 2 ^ k = omega (arith, lt-div-mul-add {a = bit_xor a b} {b = 2 ^ k} (pow_pos k), ap (λ (n : ℕ). n * 2 ^ k) none) in
       elim (cases_lt k rest.0) [
         | inl more ↦
-          let wide : 2 ^ suc k ≤ 2 ^ rest.0 = pow-le-pow_right (omega arith) more in
-          absurd (omega (arith, rest.3, pow-suc 2 k))
+            let wide : 2 ^ suc k ≤ 2 ^ rest.0 = pow-le-pow_right (omega arith) more in
+            absurd (omega (arith, rest.3, pow-suc 2 k))
         | inr fewer ↦ omega (arith, rest.1)
       ]
 
@@ -136,7 +135,7 @@ module _ (a b : ℕ) (low : a < 2 ^ 128) (below : b < 2 ^ 128) where
         | inr ge ↦ elim (cases_lt (bit_behind s a) (bit_behind s b)) [
           | inl lt ↦ omega (arith, bit_behind-lt s a, bit_behind-lt s b)
           | inr le ↦
-            let more : suc s ≤ s = shared_bits-most (suc s) (omega arith) (omega (arith, first_bits-more s a less, first_bits-more s b less)) in
-            absurd (omega arith)
+              let more : suc s ≤ s = shared_bits-most (suc s) (omega arith) (omega (arith, first_bits-more s a less, first_bits-more s b less)) in
+              absurd (omega arith)
         ]
       ]

@@ -1,6 +1,5 @@
 -- A tree without one of its leaves: the leaf's sibling takes the place of the inner node above both.
-use Rattle.std.proofs.Common.{◌≡◌, ◌≢◌, ℕ, suc, ◌+◌, ◌-◌, ◌<◌, ◌≤◌, true, false, List, [], ◌∷◌, ◌++◌, length, append_assoc, Option, Some, None, refl, sym, ap, subst, ◌∙◌, arith}
-use Rattle.std.proofs.lemmas.Bool.{eq-eqb, ne_eqb}
+use Rattle.std.proofs.Common.{◌≡◌, ◌≢◌, ℕ, suc, ◌+◌, ◌≤◌, true, List, [], ◌∷◌, ◌++◌, length, append_assoc, Some, None, sym, ap, subst, ◌∙◌, arith}
 use borrow.Author.Tests.{ltb-true}
 use Rattle.std.proofs.lemmas.List.{length-append}
 use Rattle.dex_types.specs.declared.orders.Order.{Order}
@@ -8,16 +7,14 @@ use Rattle.dex_types.specs.declared.terms.Side.{Side}
 use Rattle.dex_types.specs.declared.terms.Side.TheVariants.{Bid, Ask}
 use Rattle.dex_types.specs.Cancel.{order_with, without_order}
 use Rattle.dex_types.specs.Side.{precedes}
-use Rattle.dex_slab.specs.Held.{Holds, IsInner}
-use Rattle.dex_slab.specs.Nodes.{first_child_of, node_bytes, second_child_of}
 use Rattle.dex_slab.specs.Path.{Path, Root, InFirst, InSecond, Leads, plug, top_of}
-use Rattle.dex_slab.specs.Slab.{IsTree, same, times}
-use Rattle.dex_slab.specs.Tree.{Tree, Leaf, Inner, Other, AllKeys, HasPrefixes, leaves_of, nodes_of, orders_of}
+use Rattle.dex_slab.specs.Slab.{IsTree, times}
+use Rattle.dex_slab.specs.Tree.{Tree, Leaf, Inner, Other, HasPrefixes, leaves_of, nodes_of, orders_of}
 use Rattle.dex_slab.specs.Walks.{parent_of}
-use Rattle.dex_slab.proofs.Holding.{AreSame, Holds-part, Holds-plug, top-plug}
+use Rattle.dex_slab.proofs.Holding.{top-plug}
 use Rattle.dex_slab.proofs.IdLists.{AllIds, AllIds-map, order_with-behind, without_order-behind}
-use Rattle.dex_slab.proofs.Plugs.{keys-part, keys-plug, known-part, known-plug, leaves-plug, least_at, nodes-plug, path_nodes, prefixes-part, prefixes-plug, rest-part, rest-plug, times-plug}
-use Rattle.dex_slab.proofs.Retop.{Holds-retop, agree-retop, keys-retop, known-retop, leaves-retop, nodes-retop, nodes-top, orders-retop, prefixes-retop, rest-retop, retop, rest_of, top-retop}
+use Rattle.dex_slab.proofs.Plugs.{keys-part, keys-plug, known-part, known-plug, leaves-plug, least_at, nodes-plug, prefixes-part, prefixes-plug, rest-part, rest-plug, times-plug}
+use Rattle.dex_slab.proofs.Retop.{agree-retop, keys-retop, known-retop, leaves-retop, nodes-retop, nodes-top, orders-retop, prefixes-retop, rest-retop, retop, top-retop}
 use Rattle.dex_slab.proofs.Times.{times-append}
 use Rattle.dex_slab.proofs.TreeOrders.{before, before-precedes, behind, orders-plug}
 
@@ -54,9 +51,9 @@ module _ (id leaf parent : ℕ) (order : Order) where
       record {
         known = known-plug up part (retop node second) good.known (known-retop node second (known-part up part good.known).1);
         prefixes = prefixes-plug up part (retop node second) good.prefixes
-        (prefixes-retop node (least_at up) second (HasPrefixes-fewer (least_at up) (suc prefix) second (omega (arith, prefixed.0)) prefixed.3));
+            (prefixes-retop node (least_at up) second (HasPrefixes-fewer (least_at up) (suc prefix) second (omega (arith, prefixed.0)) prefixed.3));
         keys = keys-plug id up part (retop node second) good.keys leads.1 (agree-retop node second (keys-part up part good.keys).3)
-        (λ Fact here all. keys-retop node Fact second all.2);
+            (λ Fact here all. keys-retop node Fact second all.2);
         can_rest = rest-plug up part (retop node second) good.can_rest (rest-retop node second (rest-part up part good.can_rest).1);
       }
   good_left (InSecond node prefix key first up) above good leads =
@@ -65,9 +62,9 @@ module _ (id leaf parent : ℕ) (order : Order) where
       record {
         known = known-plug up part (retop node first) good.known (known-retop node first (known-part up part good.known).0);
         prefixes = prefixes-plug up part (retop node first) good.prefixes
-        (prefixes-retop node (least_at up) first (HasPrefixes-fewer (least_at up) (suc prefix) first (omega (arith, prefixed.0)) prefixed.2));
+            (prefixes-retop node (least_at up) first (HasPrefixes-fewer (least_at up) (suc prefix) first (omega (arith, prefixed.0)) prefixed.2));
         keys = keys-plug id up part (retop node first) good.keys leads.1 (agree-retop node first (keys-part up part good.keys).2)
-        (λ Fact here all. keys-retop node Fact first all.1);
+            (λ Fact here all. keys-retop node Fact first all.1);
         can_rest = rest-plug up part (retop node first) good.can_rest (rest-retop node first (rest-part up part good.can_rest).0);
       }
 
@@ -84,21 +81,43 @@ module _ (id leaf parent : ℕ) (order : Order) where
       → (n : ℕ) → times n (top_of (beside path) ∷ leaf ∷ nodes_of (left path)) ≡ times n (nodes_of (plug path (Leaf leaf order)))
   times_left Root above n = absurd (none_is_some parent above)
   times_left (InFirst node prefix key second up) above n =
-      omega (arith, times-plug n up (Inner node prefix key (Leaf leaf order) second), times-plug n up (retop node second), ap (times n) (nodes-retop node second),
-      ap (times n) (nodes-top second))
+      omega (
+        arith,
+        times-plug n up (Inner node prefix key (Leaf leaf order) second),
+        times-plug n up (retop node second),
+        ap (times n) (nodes-retop node second),
+        ap (times n) (nodes-top second),
+      )
   times_left (InSecond node prefix key first up) above n =
-      omega (arith, times-plug n up (Inner node prefix key first (Leaf leaf order)), times-plug n up (retop node first), ap (times n) (nodes-retop node first),
-      ap (times n) (nodes-top first), times-append n (nodes_of first) (leaf ∷ []))
+      omega (
+        arith,
+        times-plug n up (Inner node prefix key first (Leaf leaf order)),
+        times-plug n up (retop node first),
+        ap (times n) (nodes-retop node first),
+        ap (times n) (nodes-top first),
+        times-append n (nodes_of first) (leaf ∷ []),
+      )
 
   pub length_left : (path : Path) → parent_of path ≡ Some parent
       → length (top_of (beside path) ∷ leaf ∷ nodes_of (left path)) ≡ length (nodes_of (plug path (Leaf leaf order)))
   length_left Root above = absurd (none_is_some parent above)
   length_left (InFirst node prefix key second up) above =
-      omega (arith, nodes-plug up (Inner node prefix key (Leaf leaf order) second), nodes-plug up (retop node second),
-      ap (λ (l : List ℕ). length l) (nodes-retop node second), ap (λ (l : List ℕ). length l) (nodes-top second))
+      omega (
+        arith,
+        nodes-plug up (Inner node prefix key (Leaf leaf order) second),
+        nodes-plug up (retop node second),
+        ap (λ (l : List ℕ). length l) (nodes-retop node second),
+        ap (λ (l : List ℕ). length l) (nodes-top second),
+      )
   length_left (InSecond node prefix key first up) above =
-      omega (arith, nodes-plug up (Inner node prefix key first (Leaf leaf order)), nodes-plug up (retop node first),
-      ap (λ (l : List ℕ). length l) (nodes-retop node first), ap (λ (l : List ℕ). length l) (nodes-top first), length-append (nodes_of first) (leaf ∷ []))
+      omega (
+        arith,
+        nodes-plug up (Inner node prefix key first (Leaf leaf order)),
+        nodes-plug up (retop node first),
+        ap (λ (l : List ℕ). length l) (nodes-retop node first),
+        ap (λ (l : List ℕ). length l) (nodes-top first),
+        length-append (nodes_of first) (leaf ∷ []),
+      )
 
   -- the inner node above is in use still
   pub parent_left : (path : Path) → parent_of path ≡ Some parent → 1 ≤ times parent (nodes_of (left path))

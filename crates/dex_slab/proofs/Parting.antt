@@ -1,6 +1,5 @@
 -- Where a new id parts from the keys of a tree.
-use Rattle.std.proofs.Common.{◌≡◌, ◌≢◌, ℕ, suc, ◌+◌, ◌-◌, ◌*◌, ◌<◌, ◌≤◌, ◌^◌, List, [], ◌∷◌, refl, sym, ap, subst, ◌∙◌, arith}
-use Rattle.dex_types.specs.declared.orders.Order.{Order}
+use Rattle.std.proofs.Common.{◌≡◌, ◌≢◌, ℕ, suc, ◌+◌, ◌<◌, ◌≤◌, ◌^◌, refl, arith}
 use Rattle.dex_slab.specs.Path.{Path, Root, InFirst, InSecond, Leads, bit_behind, plug, shared_bits, top_key}
 use Rattle.dex_slab.specs.Tree.{Tree, Leaf, Inner, Other, AllKeys, Begins, HasPrefixes, IsKnown, KeysAgree, first_bits}
 use Rattle.dex_slab.specs.Walks.{Stops}
@@ -32,12 +31,13 @@ module _ (id : ℕ) (fits : id < 2 ^ 128) where
   agree_more (Inner node prefix key first second) least stops h agree =
       let s : ℕ = shared_bits key id in
       let fewer : (other : ℕ) → first_bits prefix other ≡ first_bits prefix key → first_bits (suc s) other ≡ first_bits (suc s) key
-      = (λ other same. first_bits-fewer (suc s) prefix other key stops (omega (arith, h.1)) same) in
-      (refl,
-      AllKeys-map (Begins prefix key 0) (λ other. first_bits (suc s) other ≡ first_bits (suc s) key)
-      (λ other begins. fewer other (Begins-first prefix key 0 other h.1 (omega arith) begins)) first agree.0,
-      AllKeys-map (Begins prefix key 1) (λ other. first_bits (suc s) other ≡ first_bits (suc s) key)
-      (λ other begins. fewer other (Begins-first prefix key 1 other h.1 (omega arith) begins)) second agree.1)
+      = (λ other same. first_bits-fewer (suc s) prefix other key stops (omega (arith, h.1)) same) in (
+        refl,
+        AllKeys-map (Begins prefix key 0) (λ other. first_bits (suc s) other ≡ first_bits (suc s) key)
+            (λ other begins. fewer other (Begins-first prefix key 0 other h.1 (omega arith) begins)) first agree.0,
+        AllKeys-map (Begins prefix key 1) (λ other. first_bits (suc s) other ≡ first_bits (suc s) key)
+            (λ other begins. fewer other (Begins-first prefix key 1 other h.1 (omega arith) begins)) second agree.1,
+      )
   agree_more (Other node) least stops h agree = absurd stops
 
   -- so behind the shared bits they have the other bit

@@ -1,12 +1,10 @@
 -- The 72 bytes of each kind of node, as the fields that are written over zeros.
-use Rattle.std.proofs.Common.{◌≡◌, ℕ, ◌^◌, ◌<◌, List, [], ◌∷◌, length, replicate, refl, sym, ap, ◌∙◌, arith, lit≤}
-use Rattle.dex_fields.specs.declared.field.Field.{Field}
+use Rattle.std.proofs.Common.{◌≡◌, ℕ, ◌^◌, ◌<◌, List, [], ◌∷◌, length, replicate, refl, ◌∙◌, arith, lit≤}
 use Rattle.dex_fields.specs.declared.free_node.TheConstants as free
 use Rattle.dex_fields.specs.declared.inner_node.TheConstants as inner
 use Rattle.dex_fields.specs.declared.leaf_node.TheConstants as leaf
 use Rattle.dex_fields.specs.Bytes.{bytes_in, number_in}
 use Rattle.dex_fields.proofs.Places.{bytes_in-replicate}
-use Rattle.dex_types.specs.declared.addresses.Address.{Address}
 use Rattle.dex_types.specs.declared.orders.Order.{Order}
 use Rattle.dex_slab.specs.Held.{HasFreePadding, HasInnerPadding, HasLeafPadding, IsFree, IsInner, IsLeaf}
 use Rattle.dex_slab.specs.Nodes.{order_in}
@@ -47,13 +45,13 @@ leaf-wrote o fits =
     record {
       tag = number_at zeros (leaf_writes o) 0 leaf.TAG 2 refl refl (lit≤ tt) (omega arith);
       said = same_order o (number_in piece leaf.KEY) (number_in piece leaf.OWNER_SLOT) (number_in piece leaf.FEE_TIER) (number_in piece leaf.QUANTITY)
-      (number_in piece leaf.CLIENT_ORDER_ID) (bytes_in piece leaf.OWNER)
-      (number_at zeros (leaf_writes o) 3 leaf.KEY o.id refl refl (lit≤ tt) fits.id)
-      (bytes_at zeros (leaf_writes o) 4 refl (lit≤ tt) fits.owner)
-      (number_at zeros (leaf_writes o) 1 leaf.OWNER_SLOT o.slot refl refl (lit≤ tt) fits.slot)
-      (number_at zeros (leaf_writes o) 2 leaf.FEE_TIER o.tier refl refl (lit≤ tt) fits.tier)
-      (number_at zeros (leaf_writes o) 5 leaf.QUANTITY o.lots refl refl (lit≤ tt) fits.lots)
-      (number_at zeros (leaf_writes o) 6 leaf.CLIENT_ORDER_ID o.client refl refl (lit≤ tt) fits.client);
+          (number_in piece leaf.CLIENT_ORDER_ID) (bytes_in piece leaf.OWNER)
+          (number_at zeros (leaf_writes o) 3 leaf.KEY o.id refl refl (lit≤ tt) fits.id)
+          (bytes_at zeros (leaf_writes o) 4 refl (lit≤ tt) fits.owner)
+          (number_at zeros (leaf_writes o) 1 leaf.OWNER_SLOT o.slot refl refl (lit≤ tt) fits.slot)
+          (number_at zeros (leaf_writes o) 2 leaf.FEE_TIER o.tier refl refl (lit≤ tt) fits.tier)
+          (number_at zeros (leaf_writes o) 5 leaf.QUANTITY o.lots refl refl (lit≤ tt) fits.lots)
+          (number_at zeros (leaf_writes o) 6 leaf.CLIENT_ORDER_ID o.client refl refl (lit≤ tt) fits.client);
     }
 
 pub leaf-padding : (o : Order) → HasLeafPadding (wrote zeros (leaf_writes o))

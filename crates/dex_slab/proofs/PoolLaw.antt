@@ -1,13 +1,12 @@
 -- The nodes in use and the free list: taking a node, and giving one back.
-use Rattle.std.proofs.Common.{◌≡◌, ◌≢◌, ℕ, zero, suc, ◌+◌, ◌-◌, ◌*◌, ◌/◌, ◌<◌, ◌≤◌, List, [], ◌∷◌, ◌++◌, length, refl, sym, ap, subst, ◌∙◌, arith, inl, inr}
+use Rattle.std.proofs.Common.{◌≡◌, ◌≢◌, ℕ, zero, suc, ◌+◌, ◌-◌, ◌<◌, ◌≤◌, List, [], ◌∷◌, ◌++◌, length, refl, sym, ap, subst, ◌∙◌, arith, inl, inr}
 use Rattle.std.proofs.lemmas.Bool.{cases_eq}
 use Rattle.std.proofs.lemmas.List.{length-append}
 use Rattle.dex_fields.specs.declared.free_node.TheConstants as free
-use Rattle.dex_fields.specs.Bytes.{end_of, number_in}
-use Rattle.dex_slab.specs.Changes.{ChangesHeader, ChangesNode}
+use Rattle.dex_fields.specs.Bytes.{number_in}
 use Rattle.dex_slab.specs.Held.{IsFree}
-use Rattle.dex_slab.specs.Nodes.{bump_of, free_head_of, free_len_of, next_of, node_bytes, node_field, nodes_within, tag_of}
-use Rattle.dex_slab.specs.Slab.{AreFree, IsShared, free_from, free_of, same, times}
+use Rattle.dex_slab.specs.Nodes.{bump_of, free_head_of, free_len_of, next_of, node_bytes, nodes_within, tag_of}
+use Rattle.dex_slab.specs.Slab.{AreFree, IsShared, free_from, free_of, times}
 use Rattle.dex_slab.proofs.Holding.{AreSame, AreSame-head, AreSame-tail}
 use Rattle.dex_slab.proofs.Times.{times-append}
 
@@ -28,9 +27,10 @@ tag_of-same old new node tag kept is = ap (λ (l : List ℕ). number_in l free.T
 pub AreFree-same : (old new xs : List ℕ) → AreFree old xs → AreSame xs old new → AreFree new xs
 AreFree-same old new [] h kept = tt
 AreFree-same old new (node ∷ []) h kept = tag_of-same old new node 4 (AreSame-head node [] old new kept) h
-AreFree-same old new (node ∷ next ∷ others) h kept =
-    (tag_of-same old new node 3 (AreSame-head node (next ∷ others) old new kept) h.0,
-    AreFree-same old new (next ∷ others) h.1 (AreSame-tail node (next ∷ others) old new kept))
+AreFree-same old new (node ∷ next ∷ others) h kept = (
+  tag_of-same old new node 3 (AreSame-head node (next ∷ others) old new kept) h.0,
+  AreFree-same old new (next ∷ others) h.1 (AreSame-tail node (next ∷ others) old new kept),
+)
 
 AreFree-tail : (bytes : List ℕ) (node : ℕ) (others : List ℕ) → AreFree bytes (node ∷ others) → AreFree bytes others
 AreFree-tail bytes node [] h = tt
@@ -81,22 +81,23 @@ shared-bumped old new used h spare none long bump still =
       whole = omega (arith, before.whole);
       free_nodes = tt;
     }) where
-  below_bumped : (n : ℕ) → 1 ≤ times n ((bump_of old ∷ used) ++ []) → IsShared old used [] → n < bump_of new
-  below_bumped n met before =
-      elim (cases_eq (bump_of old) n) [
-        | inl this ↦ omega arith
-        | inr other ↦ omega (arith, before.below n (omega arith))
-      ]
-  once_bumped : (n : ℕ) → IsShared old used [] → times n ((bump_of old ∷ used) ++ []) ≤ 1
-  once_bumped n before =
-      elim (cases_eq (bump_of old) n) [
-        | inl this ↦
-          elim (cases_eq (times n (used ++ [])) 0) [
-            | inl none_met ↦ omega arith
-            | inr met ↦ absurd (omega (arith, before.below n (omega arith)))
+      below_bumped : (n : ℕ) → 1 ≤ times n ((bump_of old ∷ used) ++ []) → IsShared old used [] → n < bump_of new
+      below_bumped n met before =
+          elim (cases_eq (bump_of old) n) [
+            | inl this ↦ omega arith
+            | inr other ↦ omega (arith, before.below n (omega arith))
           ]
-        | inr other ↦ omega (arith, before.once n)
-      ]
+
+      once_bumped : (n : ℕ) → IsShared old used [] → times n ((bump_of old ∷ used) ++ []) ≤ 1
+      once_bumped n before =
+          elim (cases_eq (bump_of old) n) [
+            | inl this ↦
+                elim (cases_eq (times n (used ++ [])) 0) [
+                  | inl none_met ↦ omega arith
+                  | inr met ↦ absurd (omega (arith, before.below n (omega arith)))
+                ]
+            | inr other ↦ omega (arith, before.once n)
+          ]
 
 -- else the head of the free list
 pub shared-popped : (old new used : List ℕ) (count : ℕ) → IsShared old used (free_of old) → free_len_of old ≡ suc count
@@ -154,15 +155,15 @@ shared-freed old new used node tag h kept freed last more long bump len head =
       once = λ n. omega (arith, h.once n, times-append n used (node ∷ others), times-append n used others);
       whole = omega (arith, h.whole, length-append used (node ∷ others), length-append used others);
       free_nodes = AreFree-cons new node others (λ none. freed.tags ∙ last (sym size ∙ none)) (λ some. freed.tags ∙ more (omega arith))
-      (AreFree-same old new others h.free_nodes same_free);
+          (AreFree-same old new others h.free_nodes same_free);
     }) where
-  list_of : (new : List ℕ) (count node next : ℕ) (others : List ℕ) → free_len_of new ≡ suc count → free_head_of new ≡ node
-      → next_of new node ≡ next → free_from new count next ≡ others → free_of new ≡ node ∷ others
-  list_of new count node next others len head nexts rest =
-      ap (λ (n : ℕ). free_from new n (free_head_of new)) len
-      ∙ ap (free_from new (suc count)) head
-      ∙ step new count node
-      ∙ ap (λ (l : List ℕ). node ∷ l) (ap (free_from new count) nexts ∙ rest)
+      list_of : (new : List ℕ) (count node next : ℕ) (others : List ℕ) → free_len_of new ≡ suc count → free_head_of new ≡ node
+          → next_of new node ≡ next → free_from new count next ≡ others → free_of new ≡ node ∷ others
+      list_of new count node next others len head nexts rest =
+          ap (λ (n : ℕ). free_from new n (free_head_of new)) len
+          ∙ ap (free_from new (suc count)) head
+          ∙ step new count node
+          ∙ ap (λ (l : List ℕ). node ∷ l) (ap (free_from new count) nexts ∙ rest)
 
 -- ---- where nodes stand
 

@@ -1,29 +1,19 @@
 -- An order that leaves a side, from the bytes of each write.
-use Rattle.std.proofs.Common.{◌≡◌, ◌≢◌, ℕ, suc, ◌+◌, ◌-◌, ◌*◌, ◌<◌, ◌≤◌, true, false, ◌==◌, cond, List, [], ◌∷◌, ◌++◌, length, Option, Some, None, refl, sym, ap, subst, ◌∙◌, arith, lit≤}
+use Rattle.std.proofs.Common.{◌≡◌, ◌≢◌, ℕ, ◌+◌, ◌≤◌, List, [], ◌∷◌, Some, None, sym, ap, ◌∙◌, arith}
 use Rattle.std.proofs.lemmas.Bool.{eq-eqb, ne_eqb}
-use Rattle.dex_fields.specs.declared.slab.TheConstants.{LEAF_COUNT, ROOT_NODE}
-use Rattle.dex_fields.specs.Bytes.{with_number}
 use Rattle.dex_types.specs.declared.orders.Order.{Order}
-use Rattle.dex_types.specs.declared.terms.Side.{Side}
-use Rattle.dex_types.specs.Cancel.{order_with, without_order}
-use Rattle.dex_slab.specs.Changes.{ChangesNode}
 use Rattle.dex_slab.specs.Held.{Holds, IsInner}
-use Rattle.dex_slab.specs.Nodes.{count_of, first_child_of, node_bytes, nodes_within, root_of, second_child_of}
-use Rattle.dex_slab.specs.Path.{Path, Root, InFirst, InSecond, Leads, plug, top_of}
-use Rattle.dex_slab.specs.Slab.{IsShared, IsSlab, IsSlabSize, IsTree, free_of, leaves_in, nodes_in, orders_in, resting, same, times, tree_of}
-use Rattle.dex_slab.specs.Tree.{Tree, Leaf, Inner, Other, leaves_of, nodes_of, orders_of}
-use Rattle.dex_slab.specs.Walks.{IsFound, parent_of, sibling_of, tree_at}
-use Rattle.dex_slab.proofs.BesideLaw.{leaves_rooted}
+use Rattle.dex_slab.specs.Nodes.{first_child_of, node_bytes}
+use Rattle.dex_slab.specs.Path.{Path, Root, InFirst, InSecond, plug, top_of}
+use Rattle.dex_slab.specs.Slab.{same, times}
+use Rattle.dex_slab.specs.Tree.{Tree, Leaf, Inner, nodes_of}
+use Rattle.dex_slab.specs.Walks.{parent_of, sibling_of}
 use Rattle.dex_slab.proofs.Holding.{AreSame, Holds-part, Holds-plug}
-use Rattle.dex_slab.proofs.Leaving.{beside, good_left, leaves_left, left, length_left, order-found, orders-left, parent_left, times_left, top_left}
-use Rattle.dex_slab.proofs.NodeWrites.{ChangesHeader-by, number_kept}
+use Rattle.dex_slab.proofs.Leaving.{beside, left}
 use Rattle.dex_slab.proofs.Plugs.{path_nodes, times-plug}
-use Rattle.dex_slab.proofs.PoolLaw.{IsShared-order}
 use Rattle.dex_slab.proofs.Retop.{Holds-retop, nodes-top, rest_of, retop, top-retop}
-use Rattle.dex_slab.proofs.Standing.{IsHeld, IsSlab-from, Stands, tree_of-stands}
 use Rattle.dex_slab.proofs.Times.{times-append}
-use Rattle.dex_slab.proofs.WalkLaw.{Rooted, top-met}
-use Rattle.dex_slab.proofs.Written.{IsShared-written, written-count, written-node}
+use Rattle.dex_slab.proofs.WalkLaw.{top-met}
 
 none_is_some : (n : ℕ) → None ≡ Some n → ⊥
 none_is_some n e = cc
@@ -71,13 +61,13 @@ sibling_is bytes leaf parent order (InFirst node prefix key second up) above hel
     let here : node ≡ parent = same_some node parent above in
     let inner : IsInner (node_bytes bytes node) prefix key leaf (top_of second) = (Holds-part bytes up (Inner node prefix key (Leaf leaf order) second) held).0 in
     ap (λ (n : ℕ). sibling_of bytes n leaf) (sym here) ∙ first_read inner where
-  first_read : IsInner (node_bytes bytes node) prefix key leaf (top_of second) → sibling_of bytes node leaf ≡ top_of second
-  first_read inner = rw (eq-eqb (first_child_of bytes node) leaf inner.firsts) inner.seconds
+      first_read : IsInner (node_bytes bytes node) prefix key leaf (top_of second) → sibling_of bytes node leaf ≡ top_of second
+      first_read inner = rw (eq-eqb (first_child_of bytes node) leaf inner.firsts) inner.seconds
 sibling_is bytes leaf parent order (InSecond node prefix key first up) above held once =
     let here : node ≡ parent = same_some node parent above in
     let part : Tree = Inner node prefix key first (Leaf leaf order) in
     let inner : IsInner (node_bytes bytes node) prefix key (top_of first) leaf = (Holds-part bytes up part held).0 in
     let other : top_of first ≢ leaf = (λ e. absurd (omega (arith, once (top_of first), times-plug (top_of first) up part, times-append (top_of first) (nodes_of first) (leaf ∷ []), top-met first))) in
     ap (λ (n : ℕ). sibling_of bytes n leaf) (sym here) ∙ second_read inner other where
-  second_read : IsInner (node_bytes bytes node) prefix key (top_of first) leaf → top_of first ≢ leaf → sibling_of bytes node leaf ≡ top_of first
-  second_read inner other = rw (ne_eqb (first_child_of bytes node) leaf (λ e. other (sym inner.firsts ∙ e))) inner.firsts
+      second_read : IsInner (node_bytes bytes node) prefix key (top_of first) leaf → top_of first ≢ leaf → sibling_of bytes node leaf ≡ top_of first
+      second_read inner other = rw (ne_eqb (first_child_of bytes node) leaf (λ e. other (sym inner.firsts ∙ e))) inner.firsts

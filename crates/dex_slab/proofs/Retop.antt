@@ -1,12 +1,10 @@
 -- A tree whose topmost node was moved to another place.
-use Rattle.std.proofs.Common.{◌≡◌, ℕ, ◌+◌, ◌≤◌, List, [], ◌∷◌, ◌++◌, length, refl, sym, ap, subst, ◌∙◌, arith}
-use Rattle.dex_types.specs.declared.orders.Order.{Order}
+use Rattle.std.proofs.Common.{◌≡◌, ℕ, List, [], ◌∷◌, ◌++◌, refl, sym, subst}
 use Rattle.dex_types.specs.declared.terms.Side.{Side}
 use Rattle.dex_types.specs.declared.terms.Side.TheVariants.{Bid, Ask}
 use Rattle.dex_slab.specs.Held.{Holds, IsInner, IsLeaf}
 use Rattle.dex_slab.specs.Nodes.{node_bytes}
-use Rattle.dex_slab.specs.Path.{top_key, top_of}
-use Rattle.dex_slab.specs.Slab.{same, times}
+use Rattle.dex_slab.specs.Path.{top_of}
 use Rattle.dex_slab.specs.Tree.{Tree, Leaf, Inner, Other, AllKeys, CanAllRest, HasPrefixes, IsKnown, KeysAgree, leaves_of, nodes_of, orders_of}
 use Rattle.dex_slab.proofs.Holding.{AreSame, AreSame-back, AreSame-front, Holds-same}
 
@@ -72,10 +70,11 @@ module _ (to : ℕ) where
   -- the node was copied, and those below it stay
   pub Holds-retop : (old new : List ℕ) (t : Tree) → Holds old t → node_bytes new to ≡ node_bytes old (top_of t) → AreSame (rest_of t) old new → Holds new (retop to t)
   Holds-retop old new (Leaf node order) h copied kept = subst (λ (l : List ℕ). IsLeaf l order) (sym copied) h
-  Holds-retop old new (Inner node prefix key first second) h copied kept =
-      (subst (λ (l : List ℕ). IsInner l prefix key (top_of first) (top_of second)) (sym copied) h.0,
-      Holds-same old new first h.1 (AreSame-front (nodes_of first) (nodes_of second) old new kept),
-      Holds-same old new second h.2 (AreSame-back (nodes_of first) (nodes_of second) old new kept))
+  Holds-retop old new (Inner node prefix key first second) h copied kept = (
+    subst (λ (l : List ℕ). IsInner l prefix key (top_of first) (top_of second)) (sym copied) h.0,
+    Holds-same old new first h.1 (AreSame-front (nodes_of first) (nodes_of second) old new kept),
+    Holds-same old new second h.2 (AreSame-back (nodes_of first) (nodes_of second) old new kept),
+  )
   Holds-retop old new (Other node) h copied kept = h
 
 pub nodes-top : (t : Tree) → nodes_of t ≡ top_of t ∷ rest_of t

@@ -1,5 +1,5 @@
 -- One step of a walk down the tree of a slab.
-use Rattle.std.proofs.Common.{◌≡◌, ◌≢◌, ℕ, suc, ◌+◌, ◌*◌, ◌<◌, ◌≤◌, ◌^◌, ◌⊎◌, inl, inr, Bool, true, false, cond, eqb, leb, nat_le, ◌==◌, List, [], ◌∷◌, ◌++◌, length, take, drop, Option, Some, None, IfSome, refl, sym, ap, subst, ◌∙◌, arith}
+use Rattle.std.proofs.Common.{◌≡◌, ℕ, ◌<◌, ◌≤◌, ◌^◌, ◌⊎◌, inl, inr, List, length, drop, Option, Some, None, IfSome, refl, sym, ap, subst, ◌∙◌, arith}
 use Rattle.std.proofs.Math.Nat.{pow-le-pow_right}
 use Rattle.std.proofs.lemmas.Bool.{cases_eq, cases_lt, eq-eqb, le-leb, lt-leb, ne_eqb}
 use Rattle.std.proofs.lemmas.List.{length-append, length-take}
@@ -9,18 +9,17 @@ use Rattle.dex_fields.proofs.Numbers.{number_of_bytes-lt}
 use Rattle.dex_fields.proofs.Reading.{AreBytes-bytes_in}
 use Rattle.dex_types.specs.declared.orders.Order.{Order}
 use Rattle.dex_slab.specs.declared.nodes.Branch.{Branch}
-use Rattle.dex_slab.specs.Held.{Holds, IsInner, IsLeaf}
-use Rattle.dex_slab.specs.Nodes.{branch_of, count_of, first_child_of, key_of, node_bytes, node_field, nodes_within, order_in, prefix_of, root_of, second_child_of, tag_of}
-use Rattle.dex_slab.specs.Path.{Path, Root, InFirst, InSecond, Leads, bit_behind, plug, shared_bits, top_key, top_of}
+use Rattle.dex_slab.specs.Held.{Holds}
+use Rattle.dex_slab.specs.Nodes.{branch_of, count_of, key_of, node_bytes, node_field, nodes_within, order_in, root_of, tag_of}
+use Rattle.dex_slab.specs.Path.{Path, InFirst, InSecond, Leads, bit_behind, plug, shared_bits, top_key, top_of}
 use Rattle.dex_slab.specs.Slab.{IsShared, IsSlab, IsTree, free_of, nodes_in, times, tree_of}
-use Rattle.dex_slab.specs.Tree.{Tree, Leaf, Inner, Other, AllKeys, Begins, HasPrefixes, IsKnown, KeysAgree, first_bits, nodes_of, tree_from}
+use Rattle.dex_slab.specs.Tree.{Tree, Leaf, Inner, Other, Begins, HasPrefixes, KeysAgree, first_bits, nodes_of}
 use Rattle.dex_slab.specs.Walks.{IsFound, IsOnWay, RestsIn, Stops, child_towards, next_towards, parent_of, tree_at}
 use Rattle.dex_slab.proofs.Holding.{Holds-part, tree_from-held}
 use Rattle.dex_slab.proofs.KeyBits.{Begins-from, Begins-bit, bit_behind-lt, shared_bits-same}
 use Rattle.dex_slab.proofs.Plugs.{keys-part, least_at, prefixes-part, times-plug}
 use Rattle.dex_slab.proofs.PoolLaw.{used-below}
-use Rattle.dex_slab.proofs.Standing.{IsHeld, Stands, stands_of, tree_of-cases}
-use Rattle.dex_slab.proofs.Times.{times-append}
+use Rattle.dex_slab.proofs.Standing.{IsHeld, stands_of, tree_of-cases}
 use Rattle.dex_slab.proofs.TreeOrders.{RestsIn-key}
 
 -- ---- the tree of a slab that is not empty
@@ -36,13 +35,13 @@ rooted bytes h some =
     elim (tree_of-cases bytes) [
       | inl none ↦ absurd (omega (arith, none.0))
       | inr more ↦
-        let stands = stands_of bytes h in
-        record {
-          is = more.1;
-          good = subst (λ (o : Option Tree). IfSome o IsTree) more.1 stands.good;
-          held = subst (λ (o : Option Tree). IfSome o (IsHeld bytes)) more.1 stands.held;
-          shared = subst (λ (o : Option Tree). IsShared bytes (nodes_in o) (free_of bytes)) more.1 stands.shared;
-        }
+          let stands = stands_of bytes h in
+          record {
+            is = more.1;
+            good = subst (λ (o : Option Tree). IfSome o IsTree) more.1 stands.good;
+            held = subst (λ (o : Option Tree). IfSome o (IsHeld bytes)) more.1 stands.held;
+            shared = subst (λ (o : Option Tree). IsShared bytes (nodes_in o) (free_of bytes)) more.1 stands.shared;
+          }
     ]
 
 pub top-met : (t : Tree) → 1 ≤ times (top_of t) (nodes_of t)
@@ -139,12 +138,12 @@ next-inner bytes r id node prefix key first second path whole leads low id_fits 
     let same : first_bits prefix id ≡ first_bits prefix key = sym (shared_bits-same key id key_fits id_fits prefix le) in
     elim (cases_eq (bit_behind prefix id) 1) [
       | inl one ↦
-        subst (λ (n : ℕ). IsStep bytes id node n) (sym (towards-second id prefix key (top_of first) (top_of second) one))
-        (step-second bytes r id node prefix key first second path whole leads (Begins-from prefix key 1 id low same one))
+          subst (λ (n : ℕ). IsStep bytes id node n) (sym (towards-second id prefix key (top_of first) (top_of second) one))
+          (step-second bytes r id node prefix key first second path whole leads (Begins-from prefix key 1 id low same one))
       | inr other ↦
-        let none : bit_behind prefix id ≡ 0 = omega (arith, bit_behind-lt prefix id) in
-        subst (λ (n : ℕ). IsStep bytes id node n) (sym (towards-first id prefix key (top_of first) (top_of second) none))
-        (step-first bytes r id node prefix key first second path whole leads (Begins-from prefix key 0 id low same none))
+          let none : bit_behind prefix id ≡ 0 = omega (arith, bit_behind-lt prefix id) in
+          subst (λ (n : ℕ). IsStep bytes id node n) (sym (towards-first id prefix key (top_of first) (top_of second) none))
+          (step-first bytes r id node prefix key first second path whole leads (Begins-from prefix key 0 id low same none))
     ]
 
 module _ (bytes : List ℕ) (r : Rooted bytes) (path : Path) (part : Tree) (whole : plug path part ≡ tree_at bytes (root_of bytes)) where
@@ -184,9 +183,9 @@ next-step bytes r id child (Inner node prefix key first second) path are fits wh
     elim (cases_lt (shared_bits key id) prefix) [
       | inl lt ↦ absurd (none_some child (sym (is ∙ goes_nowhere id branch lt) ∙ next))
       | inr le ↦
-        let same : child_towards id branch ≡ child = same_some (child_towards id branch) child (sym (is ∙ goes_on id branch le) ∙ next) in
-        subst (λ (n : ℕ). IsStep bytes id node n) same
-        (next-inner bytes r id node prefix key first second path whole leads (prefixed-part bytes r path part whole).1 fits key_fits le)
+          let same : child_towards id branch ≡ child = same_some (child_towards id branch) child (sym (is ∙ goes_on id branch le) ∙ next) in
+          subst (λ (n : ℕ). IsStep bytes id node n) same
+          (next-inner bytes r id node prefix key first second path whole leads (prefixed-part bytes r path part whole).1 fits key_fits le)
     ]
 next-step bytes r id child (Other node) path are fits whole leads next = absurd (held-part bytes r path (Other node) whole)
 

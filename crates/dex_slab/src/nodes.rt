@@ -5,8 +5,7 @@ ghost use Rattle.dex_fields.specs.Bytes.{end_of};
 ghost use Rattle.dex_slab.specs.Nodes.{branch_of, node_bytes, node_field, nodes_within, order_of, tag_of};
 
 use dex_fields::slab::LAYOUT as HEADER;
-use dex_fields::{END_TEXT, get_addr, get_u8, get_u32, get_u64, get_u128};
-use dex_fields::{inner_node, leaf_node};
+use dex_fields::{END_TEXT, get_addr, get_u8, get_u32, get_u64, get_u128, inner_node, leaf_node};
 use dex_types::{Address, Order};
 
 /// How many bytes a node has.

@@ -3,8 +3,7 @@
 ghost use Rattle.dex_slab.specs.Held.{HasFreePadding, HasInnerPadding, HasLeafPadding, IsFree, IsInner, IsLeaf};
 
 use crate::nodes::{Branch, INNER, LEAF, NODE_SIZE};
-use dex_fields::{free_node, inner_node, leaf_node};
-use dex_fields::{put_addr, put_u8, put_u32, put_u64, put_u128};
+use dex_fields::{free_node, inner_node, leaf_node, put_addr, put_u8, put_u32, put_u64, put_u128};
 use dex_types::Order;
 
 /// A leaf with this order.

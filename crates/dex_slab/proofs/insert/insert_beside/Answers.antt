@@ -1,17 +1,16 @@
-use Rattle.std.proofs.Common.{rules, ◌≡◌, ◌∷◌, ◌+◌, ◌<◌, ◌^◌, ℕ, length, ap, subst, sym, ◌∙◌, arith, lit≤}
+use Rattle.std.proofs.Common.{rules, ◌≡◌, ◌∷◌, ◌+◌, ◌<◌, ◌^◌, ℕ, ap, subst, sym, ◌∙◌, arith, lit≤}
 use Rattle.dex_fields.specs.declared.slab.TheConstants.{LEAF_COUNT}
 use Rattle.dex_fields.specs.Bytes.{with_number}
 use Rattle.dex_slab.specs.declared.nodes.Branch.{Branch}
 use Rattle.dex_slab.specs.Held.{IsInner}
-use Rattle.dex_slab.specs.Nodes.{count_of, key_of, node_bytes, nodes_within, root_of}
-use Rattle.dex_slab.specs.Path.{top_key, top_of}
-use Rattle.dex_slab.specs.Slab.{IsShared, free_of}
-use Rattle.dex_slab.specs.Tree.{Tree, HasPrefixes, nodes_of}
-use Rattle.dex_slab.specs.Walks.{IsOnWay, RestsIn, Stops, branch_above, tree_at}
+use Rattle.dex_slab.specs.Nodes.{count_of, node_bytes, root_of}
+use Rattle.dex_slab.specs.Path.{top_key}
+use Rattle.dex_slab.specs.Tree.{Tree, nodes_of}
+use Rattle.dex_slab.specs.Walks.{RestsIn, branch_above, tree_at}
 use Rattle.dex_slab.proofs.BesideLaw.{IsEntered, IsInserted, bump_entered, free_entered, inserted, inserted-orders, inserted-slab, new_at, nodes_spare}
 use Rattle.dex_slab.proofs.NodeWrites.{ChangesHeader-by, node_within}
 use Rattle.dex_slab.proofs.Parting.{parts-low}
-use Rattle.dex_slab.proofs.Plugs.{least_at, prefixes-part}
+use Rattle.dex_slab.proofs.Plugs.{least_at}
 use Rattle.dex_slab.proofs.PoolLaw.{used-below}
 use Rattle.dex_slab.proofs.Times.{times-some}
 use Rattle.dex_slab.proofs.WalkLaw.{prefixed-part, rooted, way-below, way-key}
@@ -137,12 +136,27 @@ returns c =
     record {
       slab = inserted-slab old new order done;
       orders = inserted-orders old new order done;
-      bump = omega (arith, bump_entered old b1 b2 b3 b4 b5 new place moved leaf (count_of old + 1) order branch entered, c.take_node-leaf.ensures.bump,
-      c.take_node-leaf.ensures.freed, c.take_node-moved.ensures.bump, c.take_node-moved.ensures.freed);
-      freed = omega (arith, free_entered old b1 b2 b3 b4 b5 new place moved leaf (count_of old + 1) order branch entered, c.take_node-leaf.ensures.freed,
-      c.take_node-moved.ensures.freed);
-      three = (moved, leaf, place, λ at in_header at_moved at_leaf at_place.
-      (ChangesHeader-by b5 new LEAF_COUNT _ c.put_u64.ensures.bytes (lit≤ tt) (lit≤ tt)).places at in_header
-      ∙ c.write_inner.ensures.changes.places at at_place ∙ c.write_leaf.ensures.changes.places at at_leaf ∙ c.copy_node.ensures.changes.places at at_moved
-      ∙ c.take_node-leaf.ensures.changes.places at in_header ∙ c.take_node-moved.ensures.changes.places at in_header);
+      bump = omega (
+        arith,
+        bump_entered old b1 b2 b3 b4 b5 new place moved leaf (count_of old + 1) order branch entered,
+        c.take_node-leaf.ensures.bump,
+        c.take_node-leaf.ensures.freed,
+        c.take_node-moved.ensures.bump,
+        c.take_node-moved.ensures.freed,
+      );
+      freed = omega (
+        arith,
+        free_entered old b1 b2 b3 b4 b5 new place moved leaf (count_of old + 1) order branch entered,
+        c.take_node-leaf.ensures.freed,
+        c.take_node-moved.ensures.freed,
+      );
+      three = (
+        moved,
+        leaf,
+        place,
+        λ at in_header at_moved at_leaf at_place.
+            (ChangesHeader-by b5 new LEAF_COUNT _ c.put_u64.ensures.bytes (lit≤ tt) (lit≤ tt)).places at in_header
+            ∙ c.write_inner.ensures.changes.places at at_place ∙ c.write_leaf.ensures.changes.places at at_leaf ∙ c.copy_node.ensures.changes.places at at_moved
+            ∙ c.take_node-leaf.ensures.changes.places at in_header ∙ c.take_node-moved.ensures.changes.places at in_header,
+      );
     }

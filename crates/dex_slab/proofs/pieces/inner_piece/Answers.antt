@@ -12,6 +12,6 @@ returns c =
     let made : c.put_u32-4.new.bytes ≡ wrote zeros (inner_writes b.prefix b.key b.first b.second) = search rules in
     record {
       inner = subst (λ l. IsInner l b.prefix b.key b.first b.second) (sym made)
-      (inner-wrote b.prefix b.key b.first b.second (search rules) (search rules) (search rules) (search rules));
+          (inner-wrote b.prefix b.key b.first b.second (search rules) (search rules) (search rules) (search rules));
       padding = subst HasInnerPadding (sym made) (inner-padding b.prefix b.key b.first b.second);
     }

@@ -1,7 +1,7 @@
-use Rattle.std.proofs.Common.{rules, ◌≡◌, ◌∷◌, ◌+◌, ◌-◌, ◌<◌, ◌≤◌, ℕ, Some, length, ap, List, subst, sym, ◌∙◌, arith, lit≤}
+use Rattle.std.proofs.Common.{rules, ◌≡◌, ◌∷◌, ◌-◌, ℕ, Some, ap, List, subst, sym, ◌∙◌, arith, lit≤}
 use Rattle.dex_fields.specs.declared.slab.TheConstants.{BUMP_INDEX, FREE_LIST_LEN, LEAF_COUNT}
 use Rattle.dex_fields.specs.Bytes.{with_number}
-use Rattle.dex_slab.specs.Nodes.{count_of, node_bytes, nodes_within, root_of}
+use Rattle.dex_slab.specs.Nodes.{count_of, root_of}
 use Rattle.dex_slab.specs.Path.{top_of}
 use Rattle.dex_slab.specs.Slab.{IsShared, free_of}
 use Rattle.dex_slab.specs.Tree.{nodes_of}
@@ -32,8 +32,12 @@ copy_node-requires-clause-from c =
     let is : c.sibling_of-sibling.result ≡ top_of (beside f.path) =
     c.sibling_of-sibling.ensures ∙ sibling_found old r c.requires.found.0 c.args.leaf c.args.parent f in
     node_within old c.sibling_of-sibling.result
-    (omega (arith, is, used-below old (top_of (beside f.path) ∷ c.args.leaf ∷ nodes_of (left f.path)) (top_of (beside f.path))
-    (shared_found old r c.requires.found.0 c.args.leaf c.args.parent f) (times-some (top_of (beside f.path)) (c.args.leaf ∷ nodes_of (left f.path)))))
+    (omega (
+      arith,
+      is,
+      used-below old (top_of (beside f.path) ∷ c.args.leaf ∷ nodes_of (left f.path)) (top_of (beside f.path))
+          (shared_found old r c.requires.found.0 c.args.leaf c.args.parent f) (times-some (top_of (beside f.path)) (c.args.leaf ∷ nodes_of (left f.path))),
+    ))
 
 pub copy_node-requires-clause-to : goal.copy_node-requires-clause-to
 copy_node-requires-clause-to c =
@@ -56,7 +60,7 @@ free_node-requires c =
     record {
       used = used;
       shared = subst (λ (n : ℕ). IsShared b1 (n ∷ used) (free_of b1)) (sym is)
-      (shared_copied old b1 b1 b1 b1 r c.requires.slab c.requires.found.0 c.args.leaf c.args.parent f c.copy_node.ensures.changes (search rules));
+          (shared_copied old b1 b1 b1 b1 r c.requires.slab c.requires.found.0 c.args.leaf c.args.parent f c.copy_node.ensures.changes (search rules));
       few = omega (arith, c.requires.slab.size.few);
     }
 
@@ -72,7 +76,7 @@ free_node-requires-2 c =
     record {
       used = nodes_of (left f.path);
       shared = c.free_node.ensures.shared used (subst (λ (n : ℕ). IsShared b1 (n ∷ used) (free_of b1)) (sym is)
-      (shared_copied old b1 b1 b1 b1 r c.requires.slab c.requires.found.0 c.args.leaf c.args.parent f c.copy_node.ensures.changes (search rules)));
+          (shared_copied old b1 b1 b1 b1 r c.requires.slab c.requires.found.0 c.args.leaf c.args.parent f c.copy_node.ensures.changes (search rules)));
       few = omega (arith, c.requires.slab.size.few);
     }
 
@@ -120,7 +124,12 @@ returns c =
       orders = λ id f. removed-orders old new id (removed id f);
       bump = written.bump ∙ c.free_node-2.ensures.bump ∙ c.free_node.ensures.bump ∙ c.copy_node.ensures.changes.header_numbers BUMP_INDEX (lit≤ tt);
       freed = omega (arith, written.len, c.free_node-2.ensures.freed, c.free_node.ensures.freed, c.copy_node.ensures.changes.header_numbers FREE_LIST_LEN (lit≤ tt));
-      three = (parent, sibling, leaf, λ at in_header at_parent at_sibling at_leaf.
-      (ChangesHeader-by b3 new LEAF_COUNT _ c.put_u64.ensures.bytes (lit≤ tt) (lit≤ tt)).places at in_header
-      ∙ c.free_node-2.ensures.places at in_header at_leaf ∙ c.free_node.ensures.places at in_header at_sibling ∙ c.copy_node.ensures.changes.places at at_parent);
+      three = (
+        parent,
+        sibling,
+        leaf,
+        λ at in_header at_parent at_sibling at_leaf.
+            (ChangesHeader-by b3 new LEAF_COUNT _ c.put_u64.ensures.bytes (lit≤ tt) (lit≤ tt)).places at in_header
+            ∙ c.free_node-2.ensures.places at in_header at_leaf ∙ c.free_node.ensures.places at in_header at_sibling ∙ c.copy_node.ensures.changes.places at at_parent,
+      );
     }

@@ -1,6 +1,5 @@
-use Rattle.std.proofs.Common.{rules, ◌≡◌, ◌∷◌, [], length, None, refl, subst, sym, ◌∙◌, arith, lit≤}
+use Rattle.std.proofs.Common.{rules, ◌∷◌, [], None, refl, subst, sym, ◌∙◌, lit≤}
 use Rattle.dex_fields.specs.declared.slab.TheConstants.{LEAF_COUNT, ROOT_NODE}
-use Rattle.dex_slab.specs.Nodes.{root_of}
 use Rattle.dex_slab.specs.Slab.{IsShared, free_of}
 use Rattle.dex_slab.proofs.NodeWrites.{ChangesHeader-by, number_kept}
 use Rattle.dex_slab.proofs.OnlyLaw.{orders-empty, shared-only, stands-empty, written-only}
@@ -32,8 +31,13 @@ returns c =
       root = number_kept b2 new LEAF_COUNT _ ROOT_NODE c.put_u64.ensures.bytes refl ∙ c.put_u32.ensures.given;
       bump = written.bump ∙ c.free_node.ensures.bump;
       freed = written.len ∙ c.free_node.ensures.freed;
-      three = (c.get_u32-leaf.result, 0, 0, λ at in_header at_leaf at_0 at_1.
-      (ChangesHeader-by b2 new LEAF_COUNT _ c.put_u64.ensures.bytes (lit≤ tt) (lit≤ tt)).places at in_header
-      ∙ (ChangesHeader-by b1 b2 ROOT_NODE _ c.put_u32.ensures.bytes (lit≤ tt) (lit≤ tt)).places at in_header
-      ∙ c.free_node.ensures.places at in_header at_leaf);
+      three = (
+        c.get_u32-leaf.result,
+        0,
+        0,
+        λ at in_header at_leaf at_0 at_1.
+            (ChangesHeader-by b2 new LEAF_COUNT _ c.put_u64.ensures.bytes (lit≤ tt) (lit≤ tt)).places at in_header
+            ∙ (ChangesHeader-by b1 b2 ROOT_NODE _ c.put_u32.ensures.bytes (lit≤ tt) (lit≤ tt)).places at in_header
+            ∙ c.free_node.ensures.places at in_header at_leaf,
+      );
     }
