@@ -13,7 +13,7 @@ pub const BATCH: u32 = 50;
 /// How many rounds are timed.
 pub const ROUNDS: u32 = 400;
 
-/// The time for one order to go in and for one to come out, in nanoseconds.
+/// The time for one order to go in and for one to come out, in nanoseconds: of the round that took the least time for it.
 #[derive(Clone, Copy, Debug)]
 pub struct Times {
     pub insert: u128,
@@ -33,8 +33,8 @@ pub fn time_batches<B: SideBook, C: Clock>(
     requires most { resting < 10000 }
 {
     insert_all(book, 0, resting - BATCH);
-    let mut inserting: u128 = 0;
-    let mut removing: u128 = 0;
+    let mut inserting = u128::MAX;
+    let mut removing = u128::MAX;
     for round in 0..ROUNDS {
         let first = resting - BATCH + round * BATCH;
         let start = Instant::now(clock)?;
@@ -42,10 +42,10 @@ pub fn time_batches<B: SideBook, C: Clock>(
         let full = Instant::now(clock)?;
         remove_all(book, first, first + BATCH);
         let end = Instant::now(clock)?;
-        inserting = inserting.saturating_add(full.duration_since(start).as_nanos());
-        removing = removing.saturating_add(end.duration_since(full).as_nanos());
+        inserting = inserting.min(full.duration_since(start).as_nanos());
+        removing = removing.min(end.duration_since(full).as_nanos());
     }
-    let orders = u128::from(ROUNDS * BATCH);
+    let orders = u128::from(BATCH);
     Ok(Times {
         insert: inserting / orders,
         remove: removing / orders,

@@ -1,6 +1,11 @@
 //! A side of the book over the bytes of its account.
 
-ghost use Rattle.std.specs.Prelude.{◌≡◌};
+ghost use Rattle.std.specs.Prelude.{◌≡◌, ◌<◌, ◌≤◌, IsSome, Some, length};
+ghost use Rattle.dex_types.specs.BookSide.{CanRest, IsNewId, with_lots};
+ghost use Rattle.dex_types.specs.Cancel.{order_with, without_order};
+ghost use Rattle.dex_types.specs.Posting.{posted};
+ghost use Rattle.dex_slab.specs.Changes.{ChangesLotsOf, ChangesThreeNodes};
+ghost use Rattle.dex_slab.specs.Slab.{IsSlab, resting, room_in};
 
 use dex_slab::{SlabRef, SlabView};
 use dex_types::{Order, Side, SideBook, SideRead};
@@ -68,13 +73,25 @@ impl SideRead for SlabSide<'_> {
 impl SideBook for SlabSide<'_> {
     ghost use Rattle.std.proofs.Common.{refl, ◌∙◌};
 
-    ghost same_place = { λ x y. y.bytes.ghost_name ≡ x.bytes.ghost_name };
+    ghost same_place = { λ old new. new.bytes.ghost_name ≡ old.bytes.ghost_name };
 
-    ghost stays = { λ x. refl };
+    ghost stays = { λ s. refl };
 
-    ghost chains = { λ x y z p q. q ∙ p };
+    ghost chains = { λ first second third here there. there ∙ here };
 
-    fn insert(&mut self, order: Order) {
+    /// Puts an order in its place. At most three nodes change, beside the slab's header.
+    fn insert(&mut self, order: Order)
+        requires holds { IsSlab self.old.bytes.now }
+        requires new { IsNewId order.id (resting self.old.side self.old.bytes.now) }
+        requires can_rest { CanRest order }
+        requires room { length (resting self.old.side self.old.bytes.now) < room_in self.old.bytes.now }
+        ensures orders { resting self.new.side self.new.bytes.now ≡ posted self.old.side order (resting self.old.side self.old.bytes.now) }
+        ensures holds { IsSlab self.new.bytes.now }
+        ensures side { self.new.side ≡ self.old.side }
+        ensures room { room_in self.new.bytes.now ≡ room_in self.old.bytes.now }
+        ensures place { self.new.bytes.ghost_name ≡ self.old.bytes.ghost_name }
+        ensures three { ChangesThreeNodes self.old.bytes.now self.new.bytes.now }
+    {
         let mut view = SlabView {
             bytes: self.bytes,
             side: self.side,
@@ -82,7 +99,18 @@ impl SideBook for SlabSide<'_> {
         view.insert(order);
     }
 
-    fn set_lots(&mut self, id: u128, lots: u64) {
+    /// Gives the resting order of an id other lots, not 0. Only the eight bytes of its leaf that hold them change.
+    fn set_lots(&mut self, id: u128, lots: u64)
+        requires holds { IsSlab self.old.bytes.now }
+        requires rests { IsSome (order_with id (resting self.old.side self.old.bytes.now)) }
+        requires lots { 1 ≤ lots }
+        ensures orders { resting self.new.side self.new.bytes.now ≡ with_lots id lots (resting self.old.side self.old.bytes.now) }
+        ensures holds { IsSlab self.new.bytes.now }
+        ensures side { self.new.side ≡ self.old.side }
+        ensures room { room_in self.new.bytes.now ≡ room_in self.old.bytes.now }
+        ensures place { self.new.bytes.ghost_name ≡ self.old.bytes.ghost_name }
+        ensures eight { ChangesLotsOf id self.old.bytes.now self.new.bytes.now }
+    {
         let mut view = SlabView {
             bytes: self.bytes,
             side: self.side,
@@ -90,7 +118,18 @@ impl SideBook for SlabSide<'_> {
         view.set_lots(id, lots);
     }
 
-    fn remove(&mut self, id: u128) -> Order {
+    /// Takes the resting order of an id off the side, and answers it. At most three nodes change, beside the slab's header.
+    fn remove(&mut self, id: u128) -> Order
+        requires holds { IsSlab self.old.bytes.now }
+        requires rests { IsSome (order_with id (resting self.old.side self.old.bytes.now)) }
+        ensures order { order_with id (resting self.old.side self.old.bytes.now) ≡ Some result }
+        ensures orders { resting self.new.side self.new.bytes.now ≡ without_order id (resting self.old.side self.old.bytes.now) }
+        ensures holds { IsSlab self.new.bytes.now }
+        ensures side { self.new.side ≡ self.old.side }
+        ensures room { room_in self.new.bytes.now ≡ room_in self.old.bytes.now }
+        ensures place { self.new.bytes.ghost_name ≡ self.old.bytes.ghost_name }
+        ensures three { ChangesThreeNodes self.old.bytes.now self.new.bytes.now }
+    {
         let mut view = SlabView {
             bytes: self.bytes,
             side: self.side,

@@ -1,12 +1,15 @@
-ghost use Rattle.std.specs.Prelude.{◌≡◌, ◌*◌, ◌+◌, ◌≤◌, ◌<◌, ◌↔◌, ◌^◌, length, IsSome};
+ghost use Rattle.std.specs.Prelude.{◌≡◌, ◌*◌, ◌+◌, ◌≤◌, ◌<◌, ◌↔◌, ◌^◌, [], length, IsSome};
 ghost use Rattle.dex_types.specs.BookSide.{CanRest, IsNewId};
 ghost use Rattle.dex_types.specs.Posting.{post};
 ghost use Rattle.dex_types.specs.Side.{price_of};
 ghost use Rattle.dex_types.specs.Totals.{total};
 ghost use Rattle.dex_book.specs.ListSide.{IsListed};
+ghost use Rattle.std.specs.Bool.{OnTrue};
+ghost use Rattle.dex_slab.specs.Slab.{IsSlab, resting, room_in};
 ghost use Rattle.std.proofs.Common.{refl, ◌∙◌};
 
 use super::*;
+use dex_slab::{SlabRef, is_slab_size, is_well_formed};
 use dex_types::{Address, Order, Side, SideBook, SideRead};
 use std::test::Fail;
 
@@ -194,5 +197,39 @@ fn asks_stand_by_rising_price_and_then_by_age(rt: HostRuntime) -> Result<(), Fai
     let booted = post_through(&mut asks, order(49, 9, 4));
     assert_eq!(rt; booted.map(|order| order.client), Some(3));
     assert_eq!(rt; clients(&asks), [4, 1, 2, 0]);
+    Ok(())
+}
+
+/// Whether the bytes are an empty side's account with room for three orders.
+fn is_empty_side(bytes: &[u8], side: Side) -> bool
+    ensures slab { OnTrue result (IsSlab bytes.now) }
+    ensures empty { OnTrue result (resting side bytes.now ≡ []) }
+    ensures room { OnTrue result (3 ≤ room_in bytes.now) }
+{
+    if !is_slab_size(bytes.len()) || is_well_formed(bytes, side).is_err() {
+        return false;
+    }
+    let slab = SlabRef { bytes, side };
+    slab.count() == 0 && 3 <= slab.capacity()
+}
+
+/// The same bids on a side over an account of five zeroed nodes, which has room for three.
+#[test]
+fn bids_stand_in_the_same_order_on_a_slab(rt: HostRuntime) -> Result<(), Fail> {
+    let mut bytes = [0; 412];
+    assert!(rt; is_empty_side(&bytes, Side::Bid));
+    let mut bids = SlabSide {
+        bytes: &mut bytes,
+        side: Side::Bid,
+    };
+    bids.insert(order(50, 8, 2));
+    bids.insert(order(49, 9, 3));
+    bids.insert(order(50, 9, 1));
+    assert_eq!(rt; clients(&bids), [1, 2, 3, 0]);
+    bids.set_lots(50 * PER_PRICE + 8, 5);
+    assert_eq!(rt; all_lots(&bids), 7);
+    assert_eq!(rt; bids.remove(50 * PER_PRICE + 9).client, 1);
+    assert_eq!(rt; clients(&bids), [2, 3, 0, 0]);
+    assert_eq!(rt; bids.worst().map(|order| order.client), Some(3));
     Ok(())
 }

@@ -1,5 +1,5 @@
 -- A new leaf on a side that has others, from the bytes of each write.
-use Rattle.std.proofs.Common.{◌≡◌, ◌≢◌, ℕ, suc, ◌+◌, ◌-◌, ◌*◌, ◌/◌, ◌<◌, ◌≤◌, ◌^◌, Bool, true, false, ◌==◌, eqb, cond, List, [], ◌∷◌, ◌++◌, length, Option, Some, None, inl, inr, refl, sym, ap, subst, ◌∙◌, arith, lit≤}
+use Rattle.std.proofs.Common.{◌≡◌, ◌≢◌, ℕ, ◌+◌, ◌<◌, ◌≤◌, ◌^◌, Bool, true, false, ◌==◌, cond, List, [], ◌∷◌, length, Option, Some, inl, inr, refl, sym, ap, subst, ◌∙◌, arith, lit≤}
 use Rattle.std.proofs.lemmas.Bool.{cases_eq, eq-eqb, ne_eqb}
 use Rattle.dex_fields.specs.declared.slab.TheConstants.{LEAF_COUNT, ROOT_NODE}
 use Rattle.dex_fields.specs.Bytes.{with_number}
@@ -10,20 +10,19 @@ use Rattle.dex_types.specs.Posting.{posted}
 use Rattle.dex_slab.specs.declared.nodes.Branch.{Branch}
 use Rattle.dex_slab.specs.Changes.{ChangesHeader, ChangesNode}
 use Rattle.dex_slab.specs.Held.{IsInner, IsLeaf}
-use Rattle.dex_slab.specs.Nodes.{bump_of, count_of, free_head_of, free_len_of, node_bytes, nodes_within, root_of}
+use Rattle.dex_slab.specs.Nodes.{bump_of, count_of, free_len_of, node_bytes, nodes_within, root_of}
 use Rattle.dex_slab.specs.Path.{Path, Root, InFirst, InSecond, Leads, bit_behind, plug, shared_bits, top_key, top_of}
-use Rattle.dex_slab.specs.Pool.{HasSpare}
-use Rattle.dex_slab.specs.Slab.{IsShared, IsSlab, IsSlabSize, IsTree, free_of, leaves_in, nodes_in, orders_in, resting, room_in, times, tree_of}
+use Rattle.dex_slab.specs.Slab.{IsShared, IsSlab, IsSlabSize, IsTree, free_of, leaves_in, orders_in, resting, room_in, times}
 use Rattle.dex_slab.specs.Tree.{Tree, Leaf, Inner, Other, leaves_of, nodes_of, orders_of}
-use Rattle.dex_slab.specs.Walks.{IsOnWay, IsPlace, RestsIn, Stops, branch_above, tree_at}
+use Rattle.dex_slab.specs.Walks.{RestsIn, Stops, branch_above, tree_at}
 use Rattle.dex_slab.proofs.Entering.{IsGrown, bit_number, first_of, grown, orders_grown, second_of, stands_grown}
 use Rattle.dex_slab.proofs.KeyBits.{bit_behind-lt}
 use Rattle.dex_slab.proofs.NodeWrites.{ChangesHeader-by, ChangesHeader-then, number_kept}
-use Rattle.dex_slab.proofs.Parting.{IsNewAt, parts-low}
-use Rattle.dex_slab.proofs.Plugs.{least_at, prefixes-part, times-plug}
+use Rattle.dex_slab.proofs.Parting.{IsNewAt}
+use Rattle.dex_slab.proofs.Plugs.{times-plug}
 use Rattle.dex_slab.proofs.Standing.{IsHeld, IsSlab-from, Stands, nodes-leaves, tree_of-stands}
 use Rattle.dex_slab.proofs.Times.{times-append}
-use Rattle.dex_slab.proofs.WalkLaw.{Rooted, rooted, top-met}
+use Rattle.dex_slab.proofs.WalkLaw.{Rooted, top-met}
 use Rattle.dex_slab.proofs.Written.{IsShared-written, IsWritten, written-count, written-node, written-then}
 
 -- ---- what the bytes before are

@@ -1,6 +1,6 @@
 -- A new leaf beside a part of a tree: the tree that a new order makes.
-use Rattle.std.proofs.Common.{◌≡◌, ◌≢◌, ℕ, suc, ◌+◌, ◌-◌, ◌<◌, ◌≤◌, ◌^◌, Bool, true, false, ◌==◌, eqb, List, [], ◌∷◌, ◌++◌, length, append_assoc, Option, Some, refl, sym, ap, subst, ◌∙◌, arith}
-use Rattle.std.proofs.lemmas.Bool.{eqb-false, eqb-true, le-ltb, lt-ltb}
+use Rattle.std.proofs.Common.{◌≡◌, ◌≢◌, ℕ, suc, ◌+◌, ◌-◌, ◌<◌, ◌≤◌, ◌^◌, Bool, true, false, List, [], ◌∷◌, ◌++◌, length, append_assoc, Some, refl, sym, ap, subst, ◌∙◌, arith}
+use Rattle.std.proofs.lemmas.Bool.{le-ltb, lt-ltb}
 use Rattle.std.proofs.lemmas.List.{length-append}
 use Rattle.dex_types.specs.declared.orders.Order.{Order}
 use Rattle.dex_types.specs.declared.terms.Side.{Side}
@@ -16,8 +16,8 @@ use Rattle.dex_slab.specs.Tree.{Tree, Leaf, Inner, Other, AllKeys, Begins, CanAl
 use Rattle.dex_slab.specs.Walks.{Stops}
 use Rattle.dex_slab.proofs.Holding.{AreSame, Holds-part, Holds-plug, top-plug}
 use Rattle.dex_slab.proofs.IdLists.{AllIds, AllIds-append, AllIds-map, posted-behind, posted-front}
-use Rattle.dex_slab.proofs.KeyBits.{Begins-from, Begins-lt, bit_behind-lt}
-use Rattle.dex_slab.proofs.Parting.{IsNewAt, least-shared, parts-keys, parts-low, top-key}
+use Rattle.dex_slab.proofs.KeyBits.{Begins-from, Begins-lt}
+use Rattle.dex_slab.proofs.Parting.{IsNewAt, least-shared, parts-keys, parts-low}
 use Rattle.dex_slab.proofs.Plugs.{keys-part, keys-plug, known-part, known-plug, leaves-plug, least_at, nodes-plug, path_nodes, prefixes-part, prefixes-plug, rest-part, rest-plug, times-plug}
 use Rattle.dex_slab.proofs.PoolLaw.{IsShared-order}
 use Rattle.dex_slab.proofs.Retop.{Holds-retop, agree-retop, keys-retop, known-retop, leaves-retop, nodes-retop, nodes-top, orders-retop, prefixes-retop, rest-retop, retop, rest_of, top-retop}

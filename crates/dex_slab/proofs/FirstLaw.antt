@@ -1,5 +1,5 @@
 -- A side with one order: its leaf is the root.
-use Rattle.std.proofs.Common.{◌≡◌, ℕ, ◌+◌, ◌<◌, ◌≤◌, List, [], ◌∷◌, length, Option, Some, None, inl, inr, refl, sym, ap, subst, ◌∙◌, arith, lit≤}
+use Rattle.std.proofs.Common.{◌≡◌, ℕ, List, [], ◌∷◌, length, Option, Some, None, inl, inr, refl, sym, ap, subst, ◌∙◌, arith, lit≤}
 use Rattle.dex_fields.specs.declared.slab.TheConstants.{LEAF_COUNT, ROOT_NODE}
 use Rattle.dex_fields.specs.Bytes.{with_number}
 use Rattle.dex_types.specs.declared.orders.Order.{Order}
@@ -8,7 +8,7 @@ use Rattle.dex_types.specs.BookSide.{CanRest}
 use Rattle.dex_types.specs.Posting.{posted}
 use Rattle.dex_slab.specs.Changes.{ChangesNode}
 use Rattle.dex_slab.specs.Held.{IsLeaf}
-use Rattle.dex_slab.specs.Nodes.{count_of, node_bytes, nodes_within, root_of}
+use Rattle.dex_slab.specs.Nodes.{count_of, node_bytes, root_of}
 use Rattle.dex_slab.specs.Pool.{HasSpare}
 use Rattle.dex_slab.specs.Slab.{IsShared, IsSlab, IsSlabSize, free_of, nodes_in, orders_in, resting, tree_of}
 use Rattle.dex_slab.specs.Tree.{Tree, Leaf}

@@ -1,5 +1,5 @@
 -- The leaf that a search ends at is the order that rests.
-use Rattle.std.proofs.Common.{◌≡◌, ◌≢◌, ℕ, ◌+◌, ◌<◌, ◌≤◌, List, [], ◌∷◌, ◌++◌, length, Option, Some, None, IsSome, inl, inr, refl, sym, ap, subst, ◌∙◌, arith}
+use Rattle.std.proofs.Common.{◌≡◌, ◌≢◌, ℕ, ◌<◌, ◌≤◌, List, [], ◌∷◌, ◌++◌, length, Option, Some, None, IsSome, inl, inr, refl, sym, ap, subst, ◌∙◌, arith}
 use Rattle.std.proofs.lemmas.Bool.{eq-eqb, ne_eqb}
 use Rattle.dex_types.specs.declared.orders.Order.{Order}
 use Rattle.dex_types.specs.declared.terms.Side.{Side}
@@ -7,8 +7,8 @@ use Rattle.dex_types.specs.declared.terms.Side.TheVariants.{Bid, Ask}
 use Rattle.dex_types.specs.Cancel.{order_with, without_order}
 use Rattle.dex_slab.specs.Held.{Holds}
 use Rattle.dex_slab.specs.Nodes.{count_of, nodes_within, order_of, root_of}
-use Rattle.dex_slab.specs.Path.{Path, Root, InFirst, InSecond, plug, top_of}
-use Rattle.dex_slab.specs.Slab.{IsShared, IsSlab, IsTree, free_of, orders_in, resting, times, tree_of}
+use Rattle.dex_slab.specs.Path.{Path, Root, InFirst, InSecond, plug}
+use Rattle.dex_slab.specs.Slab.{IsSlab, IsTree, orders_in, resting, times, tree_of}
 use Rattle.dex_slab.specs.Tree.{Tree, Leaf, Inner, Other, IsKnown, leaves_of, nodes_of, orders_of}
 use Rattle.dex_slab.specs.Walks.{IsFound, RestsIn, RestsOn, nodes_given, parent_of, tree_at}
 use Rattle.dex_slab.proofs.BesideLaw.{leaves_rooted}
@@ -17,9 +17,9 @@ use Rattle.dex_slab.proofs.IdLists.{AllIds, AllIds-new, HasId, HasId-found}
 use Rattle.dex_slab.proofs.Leaving.{order-found}
 use Rattle.dex_slab.proofs.Plugs.{known-part, leaves-plug, times-plug}
 use Rattle.dex_slab.proofs.PoolLaw.{used-below}
-use Rattle.dex_slab.proofs.Standing.{IsHeld, leaves-some, length-orders_in, tree_of-cases}
+use Rattle.dex_slab.proofs.Standing.{leaves-some, length-orders_in, tree_of-cases}
 use Rattle.dex_slab.proofs.TreeOrders.{RestsIn-from}
-use Rattle.dex_slab.proofs.WalkLaw.{Rooted, rooted}
+use Rattle.dex_slab.proofs.WalkLaw.{Rooted}
 
 -- a side on which an order rests is not empty
 pub rests-some : (bytes : List ℕ) (id : ℕ) → RestsOn id (tree_of bytes) → 1 ≤ count_of bytes

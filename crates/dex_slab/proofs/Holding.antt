@@ -1,13 +1,11 @@
 -- Which tree the bytes of an account hold.
-use Rattle.std.proofs.Common.{◌≡◌, ◌≢◌, ℕ, zero, suc, ◌+◌, ◌-◌, ◌<◌, ◌≤◌, List, [], ◌∷◌, ◌++◌, refl, sym, ap, ◌∙◌, subst, arith, inl, inr}
+use Rattle.std.proofs.Common.{◌≡◌, ◌≢◌, ℕ, zero, suc, ◌+◌, ◌≤◌, List, [], ◌∷◌, ◌++◌, refl, sym, ap, ◌∙◌, subst, arith, inl, inr}
 use Rattle.std.proofs.lemmas.Bool.{cases_eq, eq-eqb, ne_eqb}
-use Rattle.dex_fields.specs.declared.inner_node.TheConstants as inner
-use Rattle.dex_fields.specs.Bytes.{number_in}
 use Rattle.dex_types.specs.declared.orders.Order.{Order}
 use Rattle.dex_slab.specs.Held.{Holds, IsInner, IsLeaf}
 use Rattle.dex_slab.specs.Nodes.{first_child_of, key_of, node_bytes, order_of, prefix_of, second_child_of, tag_of}
 use Rattle.dex_slab.specs.Path.{Path, Root, InFirst, InSecond, plug, top_of}
-use Rattle.dex_slab.specs.Slab.{same, times}
+use Rattle.dex_slab.specs.Slab.{times}
 use Rattle.dex_slab.specs.Tree.{Tree, Leaf, Inner, Other, HasPrefixes, IsKnown, nodes_of, tree_from}
 use Rattle.dex_slab.proofs.Plugs.{path_nodes}
 use Rattle.dex_slab.proofs.Times.{times-append}

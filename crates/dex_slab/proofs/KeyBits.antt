@@ -1,11 +1,10 @@
 -- The leading bits of keys: which keys share how many, and how that orders them.
-use Rattle.std.proofs.Common.{◌≡◌, ◌≢◌, ℕ, zero, suc, ◌+◌, ◌-◌, ◌*◌, ◌/◌, ◌%◌, ◌^◌, ◌<◌, ◌≤◌, ◌⊎◌, inl, inr, refl, sym, ap, ◌∙◌, subst, arith}
+use Rattle.std.proofs.Common.{◌≡◌, ◌≢◌, ℕ, zero, suc, ◌+◌, ◌-◌, ◌*◌, ◌/◌, ◌^◌, ◌<◌, ◌≤◌, inl, inr, sym, ap, ◌∙◌, subst, arith}
 use Rattle.std.proofs.Math.Nat.{div-div-eq-div-mul, div-eq_of_lt, div-mul-le_self, lt-div-mul-add, pow-le-pow_right, pow-suc}
-use Rattle.std.proofs.Math.Pow.{pow-lt}
 use Rattle.std.proofs.lemmas.Bool.{cases_lt}
 use Rattle.std.proofs.lemmas.Nat.{and_le_l, and_le_r, le-div, leading_length, pow_pos, xor_lt, xor_shr}
 use Rattle.std.specs.Int.{leading_zeros, w128}
-use Rattle.std.specs.Int.Bits.{bit_and, bit_xor, xor_add_and, xor_self}
+use Rattle.std.specs.Int.Bits.{bit_xor, xor_add_and, xor_self}
 use Rattle.dex_slab.specs.Path.{bit_behind, shared_bits}
 use Rattle.dex_slab.specs.Tree.{Begins, first_bits}
 

@@ -1,6 +1,5 @@
 -- A tree without one of its leaves: the leaf's sibling takes the place of the inner node above both.
-use Rattle.std.proofs.Common.{◌≡◌, ◌≢◌, ℕ, suc, ◌+◌, ◌-◌, ◌<◌, ◌≤◌, true, false, List, [], ◌∷◌, ◌++◌, length, append_assoc, Option, Some, None, refl, sym, ap, subst, ◌∙◌, arith}
-use Rattle.std.proofs.lemmas.Bool.{eq-eqb, ne_eqb}
+use Rattle.std.proofs.Common.{◌≡◌, ◌≢◌, ℕ, suc, ◌+◌, ◌≤◌, true, List, [], ◌∷◌, ◌++◌, length, append_assoc, Some, None, sym, ap, subst, ◌∙◌, arith}
 use borrow.Author.Tests.{ltb-true}
 use Rattle.std.proofs.lemmas.List.{length-append}
 use Rattle.dex_types.specs.declared.orders.Order.{Order}
@@ -8,16 +7,14 @@ use Rattle.dex_types.specs.declared.terms.Side.{Side}
 use Rattle.dex_types.specs.declared.terms.Side.TheVariants.{Bid, Ask}
 use Rattle.dex_types.specs.Cancel.{order_with, without_order}
 use Rattle.dex_types.specs.Side.{precedes}
-use Rattle.dex_slab.specs.Held.{Holds, IsInner}
-use Rattle.dex_slab.specs.Nodes.{first_child_of, node_bytes, second_child_of}
 use Rattle.dex_slab.specs.Path.{Path, Root, InFirst, InSecond, Leads, plug, top_of}
-use Rattle.dex_slab.specs.Slab.{IsTree, same, times}
-use Rattle.dex_slab.specs.Tree.{Tree, Leaf, Inner, Other, AllKeys, HasPrefixes, leaves_of, nodes_of, orders_of}
+use Rattle.dex_slab.specs.Slab.{IsTree, times}
+use Rattle.dex_slab.specs.Tree.{Tree, Leaf, Inner, Other, HasPrefixes, leaves_of, nodes_of, orders_of}
 use Rattle.dex_slab.specs.Walks.{parent_of}
-use Rattle.dex_slab.proofs.Holding.{AreSame, Holds-part, Holds-plug, top-plug}
+use Rattle.dex_slab.proofs.Holding.{top-plug}
 use Rattle.dex_slab.proofs.IdLists.{AllIds, AllIds-map, order_with-behind, without_order-behind}
-use Rattle.dex_slab.proofs.Plugs.{keys-part, keys-plug, known-part, known-plug, leaves-plug, least_at, nodes-plug, path_nodes, prefixes-part, prefixes-plug, rest-part, rest-plug, times-plug}
-use Rattle.dex_slab.proofs.Retop.{Holds-retop, agree-retop, keys-retop, known-retop, leaves-retop, nodes-retop, nodes-top, orders-retop, prefixes-retop, rest-retop, retop, rest_of, top-retop}
+use Rattle.dex_slab.proofs.Plugs.{keys-part, keys-plug, known-part, known-plug, leaves-plug, least_at, nodes-plug, prefixes-part, prefixes-plug, rest-part, rest-plug, times-plug}
+use Rattle.dex_slab.proofs.Retop.{agree-retop, keys-retop, known-retop, leaves-retop, nodes-retop, nodes-top, orders-retop, prefixes-retop, rest-retop, retop, top-retop}
 use Rattle.dex_slab.proofs.Times.{times-append}
 use Rattle.dex_slab.proofs.TreeOrders.{before, before-precedes, behind, orders-plug}
 

@@ -1,17 +1,14 @@
 -- An order with other lots, in its leaf and in the tree.
-use Rattle.std.proofs.Common.{◌≡◌, ◌≢◌, ℕ, ◌+◌, ◌*◌, ◌<◌, ◌≤◌, ◌^◌, true, List, [], ◌∷◌, ◌++◌, length, Option, Some, inl, inr, refl, sym, ap, subst, ◌∙◌, arith, lit≤}
+use Rattle.std.proofs.Common.{◌≡◌, ◌≢◌, ℕ, ◌+◌, ◌*◌, ◌<◌, ◌≤◌, ◌^◌, true, List, length, inl, inr, refl, sym, ap, ◌∙◌, arith, lit≤}
 use Rattle.std.proofs.lemmas.Bool.{cases_lt}
 use Rattle.dex_fields.specs.declared.field.Field.{Field}
 use Rattle.dex_fields.specs.declared.inner_node.TheConstants as inner
 use Rattle.dex_fields.specs.declared.leaf_node.TheConstants as leaf_node
-use Rattle.dex_fields.specs.declared.slab.TheConstants.{BUMP_INDEX, FREE_LIST_HEAD, FREE_LIST_LEN, LEAF_COUNT, ROOT_NODE}
-use Rattle.dex_fields.specs.Bytes.{AreApart, bytes_in, end_of, moved_by, number_in, with_number}
+use Rattle.dex_fields.specs.Bytes.{bytes_in, end_of, moved_by, number_in, with_number}
 use Rattle.dex_fields.proofs.Places.{AreApart-from_test, AreApart-moved_by, are_apart}
 use Rattle.dex_fields.proofs.Reading.{bytes_in-bytes_in, number_in-bytes_in}
-use Rattle.dex_fields.proofs.Writing.{bytes_in-with_number_apart, length-with_number, number_in-with_number, number_in-with_number_apart}
+use Rattle.dex_fields.proofs.Writing.{bytes_in-with_number_apart, number_in-with_number, number_in-with_number_apart}
 use Rattle.dex_types.specs.declared.orders.Order.{Order}
-use Rattle.dex_types.specs.declared.terms.Side.{Side}
-use Rattle.dex_types.specs.BookSide.{CanRest, with_lots}
 use Rattle.dex_slab.specs.Held.{IsLeaf}
 use Rattle.dex_slab.specs.Nodes.{in_node, node_bytes, node_field, order_in}
 

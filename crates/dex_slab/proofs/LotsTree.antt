@@ -1,16 +1,15 @@
 -- A slab after an order of it got other lots.
-use Rattle.std.proofs.Common.{◌≡◌, ◌≢◌, ℕ, ◌+◌, ◌<◌, ◌≤◌, ◌^◌, List, [], ◌∷◌, ◌++◌, length, Option, Some, refl, sym, ap, subst, ◌∙◌, arith, lit≤}
+use Rattle.std.proofs.Common.{◌≡◌, ◌≢◌, ℕ, ◌+◌, ◌<◌, ◌≤◌, ◌^◌, List, length, Option, Some, refl, sym, ap, subst, ◌∙◌, arith, lit≤}
 use Rattle.dex_fields.specs.declared.leaf_node.TheConstants.{QUANTITY}
 use Rattle.dex_fields.specs.declared.slab.TheConstants.{BUMP_INDEX, FREE_LIST_HEAD, FREE_LIST_LEN, LEAF_COUNT, ROOT_NODE}
 use Rattle.dex_fields.specs.Bytes.{end_of, with_number}
 use Rattle.dex_fields.proofs.Writing.{length-with_number}
-use Rattle.dex_types.specs.declared.orders.Order.{Order}
 use Rattle.dex_types.specs.declared.terms.Side.{Side}
 use Rattle.dex_types.specs.BookSide.{CanRest, with_lots}
-use Rattle.dex_slab.specs.Held.{Holds, IsLeaf}
-use Rattle.dex_slab.specs.Nodes.{count_of, in_node, key_of, node_bytes, node_field, nodes_within, root_of, tag_of}
-use Rattle.dex_slab.specs.Path.{plug, top_of}
-use Rattle.dex_slab.specs.Slab.{IsShared, IsSlab, IsSlabSize, IsTree, free_of, orders_in, resting, same, times, tree_of}
+use Rattle.dex_slab.specs.Held.{IsLeaf}
+use Rattle.dex_slab.specs.Nodes.{in_node, key_of, node_bytes, node_field, root_of, tag_of}
+use Rattle.dex_slab.specs.Path.{plug}
+use Rattle.dex_slab.specs.Slab.{IsShared, IsSlab, IsSlabSize, IsTree, free_of, orders_in, resting, same, times}
 use Rattle.dex_slab.specs.Tree.{Tree, Leaf, leaves_of, nodes_of, orders_of}
 use Rattle.dex_slab.specs.Walks.{IsFound, tree_at}
 use Rattle.dex_slab.proofs.BesideLaw.{leaves_rooted}
@@ -20,7 +19,7 @@ use Rattle.dex_slab.proofs.IdLists.{with_lots-behind}
 use Rattle.dex_slab.proofs.Leaving.{others_before}
 use Rattle.dex_slab.proofs.LotsLaw.{header_number, leaf_lotted, other_nodes}
 use Rattle.dex_slab.proofs.NodeWrites.{node_within}
-use Rattle.dex_slab.proofs.Plugs.{keys-part, keys-plug, known-plug, leaves-plug, least_at, nodes-plug, path_nodes, prefixes-plug, rest-part, rest-plug, times-plug}
+use Rattle.dex_slab.proofs.Plugs.{keys-plug, known-plug, leaves-plug, nodes-plug, path_nodes, prefixes-plug, rest-part, rest-plug, times-plug}
 use Rattle.dex_slab.proofs.PoolLaw.{IsShared-order, IsShared-same}
 use Rattle.dex_slab.proofs.Standing.{IsHeld, IsSlab-from, Stands, tree_of-stands}
 use Rattle.dex_slab.proofs.Times.{times-append}

@@ -1,11 +1,11 @@
 -- What a write of one node, or of the header, leaves of the others.
-use Rattle.std.proofs.Common.{◌≡◌, ◌≢◌, ℕ, ◌+◌, ◌*◌, ◌<◌, ◌≤◌, List, length, get_or, true, refl, sym, ap, subst, ◌∙◌, arith, inl, inr}
+use Rattle.std.proofs.Common.{◌≡◌, ◌≢◌, ℕ, ◌+◌, ◌*◌, ◌<◌, ◌≤◌, List, length, true, sym, ap, subst, ◌∙◌, arith, inl, inr}
 use Rattle.std.proofs.lemmas.Bool.{cases_lt}
 use borrow.Rule.Slice.PartMut.{put_mid}
 use Rattle.dex_fields.specs.declared.field.Field.{Field}
-use Rattle.dex_fields.specs.Bytes.{AreApart, bytes_in, end_of, bytes_of_number, number_in, with_bytes, with_number}
+use Rattle.dex_fields.specs.Bytes.{AreApart, end_of, bytes_of_number, number_in, with_bytes, with_number}
 use Rattle.dex_fields.proofs.Places.{are_apart, number_in-other}
-use Rattle.dex_fields.proofs.Writing.{bytes_in-with_bytes, bytes_in-with_bytes_apart, bytes_in-with_number_apart, get_or-with_bytes, number_in-with_bytes_apart, put_mid-is_with_bytes}
+use Rattle.dex_fields.proofs.Writing.{bytes_in-with_bytes, bytes_in-with_bytes_apart, get_or-with_bytes, number_in-with_bytes_apart, put_mid-is_with_bytes}
 use Rattle.dex_slab.specs.Changes.{ChangesHeader, ChangesNode, IsBeside, header}
 use Rattle.dex_slab.specs.Nodes.{node_bytes, node_field, nodes_within}
 

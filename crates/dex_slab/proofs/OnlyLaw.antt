@@ -1,12 +1,12 @@
 -- The only order of a side leaves it.
-use Rattle.std.proofs.Common.{◌≡◌, ℕ, ◌+◌, ◌<◌, ◌≤◌, List, [], ◌∷◌, ◌++◌, length, Option, Some, None, refl, sym, ap, subst, ◌∙◌, arith}
+use Rattle.std.proofs.Common.{◌≡◌, ℕ, List, [], ◌∷◌, length, None, refl, sym, ap, subst, ◌∙◌, arith}
 use Rattle.dex_fields.specs.declared.slab.TheConstants.{LEAF_COUNT, ROOT_NODE}
 use Rattle.dex_fields.specs.Bytes.{with_number}
 use Rattle.dex_types.specs.declared.terms.Side.{Side}
-use Rattle.dex_slab.specs.Nodes.{bump_of, count_of, free_len_of, root_of}
+use Rattle.dex_slab.specs.Nodes.{count_of, root_of}
 use Rattle.dex_slab.specs.Path.{top_of}
-use Rattle.dex_slab.specs.Slab.{IsShared, IsSlab, IsSlabSize, free_of, orders_in, resting, tree_of}
-use Rattle.dex_slab.specs.Tree.{Tree, leaves_of, nodes_of}
+use Rattle.dex_slab.specs.Slab.{IsShared, IsSlab, IsSlabSize, free_of, orders_in, resting}
+use Rattle.dex_slab.specs.Tree.{Tree, nodes_of}
 use Rattle.dex_slab.specs.Walks.{tree_at}
 use Rattle.dex_slab.proofs.BesideLaw.{leaves_rooted}
 use Rattle.dex_slab.proofs.Retop.{nodes-top, rest_of}

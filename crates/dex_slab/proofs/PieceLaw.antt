@@ -1,12 +1,10 @@
 -- The 72 bytes of each kind of node, as the fields that are written over zeros.
-use Rattle.std.proofs.Common.{◌≡◌, ℕ, ◌^◌, ◌<◌, List, [], ◌∷◌, length, replicate, refl, sym, ap, ◌∙◌, arith, lit≤}
-use Rattle.dex_fields.specs.declared.field.Field.{Field}
+use Rattle.std.proofs.Common.{◌≡◌, ℕ, ◌^◌, ◌<◌, List, [], ◌∷◌, length, replicate, refl, ◌∙◌, arith, lit≤}
 use Rattle.dex_fields.specs.declared.free_node.TheConstants as free
 use Rattle.dex_fields.specs.declared.inner_node.TheConstants as inner
 use Rattle.dex_fields.specs.declared.leaf_node.TheConstants as leaf
 use Rattle.dex_fields.specs.Bytes.{bytes_in, number_in}
 use Rattle.dex_fields.proofs.Places.{bytes_in-replicate}
-use Rattle.dex_types.specs.declared.addresses.Address.{Address}
 use Rattle.dex_types.specs.declared.orders.Order.{Order}
 use Rattle.dex_slab.specs.Held.{HasFreePadding, HasInnerPadding, HasLeafPadding, IsFree, IsInner, IsLeaf}
 use Rattle.dex_slab.specs.Nodes.{order_in}

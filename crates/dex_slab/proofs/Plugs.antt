@@ -1,8 +1,8 @@
 -- What holds of a tree with a part at the end of a way, of the part and of the way.
-use Rattle.std.proofs.Common.{◌≡◌, ℕ, suc, ◌+◌, ◌<◌, ◌≤◌, List, [], ◌∷◌, ◌++◌, length, refl, sym, ap, ◌∙◌, arith}
+use Rattle.std.proofs.Common.{◌≡◌, ℕ, suc, ◌+◌, List, [], ◌∷◌, ◌++◌, length, arith}
 use Rattle.std.proofs.lemmas.List.{length-append}
 use Rattle.dex_slab.specs.Path.{Path, Root, InFirst, InSecond, Leads, plug}
-use Rattle.dex_slab.specs.Slab.{same, times}
+use Rattle.dex_slab.specs.Slab.{times}
 use Rattle.dex_slab.specs.Tree.{Tree, Leaf, Inner, Other, AllKeys, Begins, CanAllRest, HasPrefixes, IsKnown, KeysAgree, leaves_of, nodes_of}
 use Rattle.dex_slab.proofs.Times.{times-append}
 

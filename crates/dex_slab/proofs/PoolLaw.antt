@@ -1,13 +1,12 @@
 -- The nodes in use and the free list: taking a node, and giving one back.
-use Rattle.std.proofs.Common.{◌≡◌, ◌≢◌, ℕ, zero, suc, ◌+◌, ◌-◌, ◌*◌, ◌/◌, ◌<◌, ◌≤◌, List, [], ◌∷◌, ◌++◌, length, refl, sym, ap, subst, ◌∙◌, arith, inl, inr}
+use Rattle.std.proofs.Common.{◌≡◌, ◌≢◌, ℕ, zero, suc, ◌+◌, ◌-◌, ◌<◌, ◌≤◌, List, [], ◌∷◌, ◌++◌, length, refl, sym, ap, subst, ◌∙◌, arith, inl, inr}
 use Rattle.std.proofs.lemmas.Bool.{cases_eq}
 use Rattle.std.proofs.lemmas.List.{length-append}
 use Rattle.dex_fields.specs.declared.free_node.TheConstants as free
-use Rattle.dex_fields.specs.Bytes.{end_of, number_in}
-use Rattle.dex_slab.specs.Changes.{ChangesHeader, ChangesNode}
+use Rattle.dex_fields.specs.Bytes.{number_in}
 use Rattle.dex_slab.specs.Held.{IsFree}
-use Rattle.dex_slab.specs.Nodes.{bump_of, free_head_of, free_len_of, next_of, node_bytes, node_field, nodes_within, tag_of}
-use Rattle.dex_slab.specs.Slab.{AreFree, IsShared, free_from, free_of, same, times}
+use Rattle.dex_slab.specs.Nodes.{bump_of, free_head_of, free_len_of, next_of, node_bytes, nodes_within, tag_of}
+use Rattle.dex_slab.specs.Slab.{AreFree, IsShared, free_from, free_of, times}
 use Rattle.dex_slab.proofs.Holding.{AreSame, AreSame-head, AreSame-tail}
 use Rattle.dex_slab.proofs.Times.{times-append}
 

@@ -1,29 +1,19 @@
 -- An order that leaves a side, from the bytes of each write.
-use Rattle.std.proofs.Common.{◌≡◌, ◌≢◌, ℕ, suc, ◌+◌, ◌-◌, ◌*◌, ◌<◌, ◌≤◌, true, false, ◌==◌, cond, List, [], ◌∷◌, ◌++◌, length, Option, Some, None, refl, sym, ap, subst, ◌∙◌, arith, lit≤}
+use Rattle.std.proofs.Common.{◌≡◌, ◌≢◌, ℕ, ◌+◌, ◌≤◌, List, [], ◌∷◌, Some, None, sym, ap, ◌∙◌, arith}
 use Rattle.std.proofs.lemmas.Bool.{eq-eqb, ne_eqb}
-use Rattle.dex_fields.specs.declared.slab.TheConstants.{LEAF_COUNT, ROOT_NODE}
-use Rattle.dex_fields.specs.Bytes.{with_number}
 use Rattle.dex_types.specs.declared.orders.Order.{Order}
-use Rattle.dex_types.specs.declared.terms.Side.{Side}
-use Rattle.dex_types.specs.Cancel.{order_with, without_order}
-use Rattle.dex_slab.specs.Changes.{ChangesNode}
 use Rattle.dex_slab.specs.Held.{Holds, IsInner}
-use Rattle.dex_slab.specs.Nodes.{count_of, first_child_of, node_bytes, nodes_within, root_of, second_child_of}
-use Rattle.dex_slab.specs.Path.{Path, Root, InFirst, InSecond, Leads, plug, top_of}
-use Rattle.dex_slab.specs.Slab.{IsShared, IsSlab, IsSlabSize, IsTree, free_of, leaves_in, nodes_in, orders_in, resting, same, times, tree_of}
-use Rattle.dex_slab.specs.Tree.{Tree, Leaf, Inner, Other, leaves_of, nodes_of, orders_of}
-use Rattle.dex_slab.specs.Walks.{IsFound, parent_of, sibling_of, tree_at}
-use Rattle.dex_slab.proofs.BesideLaw.{leaves_rooted}
+use Rattle.dex_slab.specs.Nodes.{first_child_of, node_bytes}
+use Rattle.dex_slab.specs.Path.{Path, Root, InFirst, InSecond, plug, top_of}
+use Rattle.dex_slab.specs.Slab.{same, times}
+use Rattle.dex_slab.specs.Tree.{Tree, Leaf, Inner, nodes_of}
+use Rattle.dex_slab.specs.Walks.{parent_of, sibling_of}
 use Rattle.dex_slab.proofs.Holding.{AreSame, Holds-part, Holds-plug}
-use Rattle.dex_slab.proofs.Leaving.{beside, good_left, leaves_left, left, length_left, order-found, orders-left, parent_left, times_left, top_left}
-use Rattle.dex_slab.proofs.NodeWrites.{ChangesHeader-by, number_kept}
+use Rattle.dex_slab.proofs.Leaving.{beside, left}
 use Rattle.dex_slab.proofs.Plugs.{path_nodes, times-plug}
-use Rattle.dex_slab.proofs.PoolLaw.{IsShared-order}
 use Rattle.dex_slab.proofs.Retop.{Holds-retop, nodes-top, rest_of, retop, top-retop}
-use Rattle.dex_slab.proofs.Standing.{IsHeld, IsSlab-from, Stands, tree_of-stands}
 use Rattle.dex_slab.proofs.Times.{times-append}
-use Rattle.dex_slab.proofs.WalkLaw.{Rooted, top-met}
-use Rattle.dex_slab.proofs.Written.{IsShared-written, written-count, written-node}
+use Rattle.dex_slab.proofs.WalkLaw.{top-met}
 
 none_is_some : (n : ℕ) → None ≡ Some n → ⊥
 none_is_some n e = cc

@@ -1,12 +1,10 @@
 -- A tree whose topmost node was moved to another place.
-use Rattle.std.proofs.Common.{◌≡◌, ℕ, ◌+◌, ◌≤◌, List, [], ◌∷◌, ◌++◌, length, refl, sym, ap, subst, ◌∙◌, arith}
-use Rattle.dex_types.specs.declared.orders.Order.{Order}
+use Rattle.std.proofs.Common.{◌≡◌, ℕ, List, [], ◌∷◌, ◌++◌, refl, sym, subst}
 use Rattle.dex_types.specs.declared.terms.Side.{Side}
 use Rattle.dex_types.specs.declared.terms.Side.TheVariants.{Bid, Ask}
 use Rattle.dex_slab.specs.Held.{Holds, IsInner, IsLeaf}
 use Rattle.dex_slab.specs.Nodes.{node_bytes}
-use Rattle.dex_slab.specs.Path.{top_key, top_of}
-use Rattle.dex_slab.specs.Slab.{same, times}
+use Rattle.dex_slab.specs.Path.{top_of}
 use Rattle.dex_slab.specs.Tree.{Tree, Leaf, Inner, Other, AllKeys, CanAllRest, HasPrefixes, IsKnown, KeysAgree, leaves_of, nodes_of, orders_of}
 use Rattle.dex_slab.proofs.Holding.{AreSame, AreSame-back, AreSame-front, Holds-same}
 

@@ -1,19 +1,17 @@
 -- A leaf and the inner node above it are given back: what the bytes are then.
-use Rattle.std.proofs.Common.{◌≡◌, ◌≢◌, ℕ, suc, ◌+◌, ◌-◌, ◌<◌, ◌≤◌, List, [], ◌∷◌, ◌++◌, length, Option, Some, None, refl, sym, ap, subst, ◌∙◌, arith, lit≤}
+use Rattle.std.proofs.Common.{◌≡◌, ◌≢◌, ℕ, ◌-◌, ◌≤◌, List, [], ◌∷◌, length, Option, Some, refl, sym, ap, subst, ◌∙◌, arith, lit≤}
 use Rattle.dex_fields.specs.declared.slab.TheConstants.{LEAF_COUNT, ROOT_NODE}
 use Rattle.dex_fields.specs.Bytes.{with_number}
-use Rattle.dex_types.specs.declared.orders.Order.{Order}
 use Rattle.dex_types.specs.declared.terms.Side.{Side}
-use Rattle.dex_types.specs.Cancel.{order_with, without_order}
+use Rattle.dex_types.specs.Cancel.{without_order}
 use Rattle.dex_slab.specs.Changes.{ChangesNode}
-use Rattle.dex_slab.specs.Held.{Holds}
-use Rattle.dex_slab.specs.Nodes.{count_of, node_bytes, nodes_within, root_of}
-use Rattle.dex_slab.specs.Path.{Leads, plug, top_of}
-use Rattle.dex_slab.specs.Slab.{IsShared, IsSlab, IsSlabSize, IsTree, free_of, orders_in, resting, same, times, tree_of}
+use Rattle.dex_slab.specs.Nodes.{count_of, node_bytes, root_of}
+use Rattle.dex_slab.specs.Path.{plug, top_of}
+use Rattle.dex_slab.specs.Slab.{IsShared, IsSlab, IsSlabSize, IsTree, free_of, orders_in, resting, times}
 use Rattle.dex_slab.specs.Tree.{Tree, Leaf, leaves_of, nodes_of, orders_of}
-use Rattle.dex_slab.specs.Walks.{IsFound, parent_of, sibling_of, tree_at}
+use Rattle.dex_slab.specs.Walks.{IsFound, sibling_of, tree_at}
 use Rattle.dex_slab.proofs.BesideLaw.{leaves_rooted}
-use Rattle.dex_slab.proofs.Leaving.{beside, good_left, leaves_left, left, length_left, order-found, orders-left, parent_left, times_left, top_left}
+use Rattle.dex_slab.proofs.Leaving.{beside, good_left, leaves_left, left, length_left, orders-left, parent_left, times_left, top_left}
 use Rattle.dex_slab.proofs.NodeWrites.{ChangesHeader-by, number_kept}
 use Rattle.dex_slab.proofs.PoolLaw.{IsShared-order}
 use Rattle.dex_slab.proofs.RemoveLaw.{holds_left, sibling_is}

@@ -1,7 +1,6 @@
 -- How often a node is met.
-use Rattle.std.proofs.Common.{◌≡◌, ◌≢◌, ℕ, ◌+◌, ◌≤◌, List, [], ◌∷◌, ◌++◌, length, refl, ap, ◌∙◌, arith}
-use Rattle.std.proofs.lemmas.List.{length-append}
-use Rattle.dex_slab.specs.Slab.{same, times}
+use Rattle.std.proofs.Common.{◌≡◌, ℕ, ◌+◌, ◌≤◌, List, [], ◌∷◌, ◌++◌, arith}
+use Rattle.dex_slab.specs.Slab.{times}
 
 pub times-append : (node : ℕ) (xs ys : List ℕ) → times node (xs ++ ys) ≡ times node xs + times node ys
 times-append node [] ys = omega arith

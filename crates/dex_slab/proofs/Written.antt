@@ -1,11 +1,10 @@
 -- Several writes of nodes and of the header's words on the tree, one after another: what stays.
-use Rattle.std.proofs.Common.{◌≡◌, ◌≢◌, ℕ, ◌+◌, ◌<◌, ◌≤◌, ◌⊎◌, inl, inr, List, [], ◌∷◌, ◌++◌, length, get_or, refl, sym, ap, subst, ◌∙◌, arith, lit≤}
-use Rattle.std.proofs.lemmas.Bool.{cases_eq}
+use Rattle.std.proofs.Common.{◌≡◌, ℕ, ◌≤◌, List, [], ◌∷◌, ◌++◌, length, refl, ◌∙◌, arith, lit≤}
 use Rattle.dex_fields.specs.declared.slab.TheConstants.{BUMP_INDEX, FREE_LIST_HEAD, FREE_LIST_LEN, LEAF_COUNT, ROOT_NODE}
-use Rattle.dex_fields.specs.Bytes.{number_in, with_number}
-use Rattle.dex_slab.specs.Changes.{ChangesHeader, ChangesNode}
-use Rattle.dex_slab.specs.Nodes.{bump_of, count_of, free_head_of, free_len_of, node_bytes, root_of}
-use Rattle.dex_slab.specs.Slab.{IsShared, free_of, same, times}
+use Rattle.dex_fields.specs.Bytes.{with_number}
+use Rattle.dex_slab.specs.Changes.{ChangesNode}
+use Rattle.dex_slab.specs.Nodes.{bump_of, free_head_of, free_len_of, node_bytes}
+use Rattle.dex_slab.specs.Slab.{IsShared, free_of, times}
 use Rattle.dex_slab.proofs.NodeWrites.{ChangesHeader-by, number_kept}
 use Rattle.dex_slab.proofs.PoolLaw.{IsShared-same}
 use Rattle.dex_slab.proofs.Times.{times-append}

@@ -2,7 +2,7 @@
 use Rattle.std.proofs.Common.{◌≡◌, ℕ, zero, suc, Bool, true, false, ◌&&◌, ◌<◌, ◌≤◌, ◌^◌, List, [], ◌∷◌, length, refl, sym, ap, subst, ◌∙◌, arith}
 use Rattle.std.proofs.lemmas.Bool.{and_parts}
 use Rattle.dex_fields.specs.declared.field.Field.{Field}
-use Rattle.dex_fields.specs.Bytes.{IsWithin, bytes_in, bytes_of_number, end_of, number_in, number_of_bytes, with_bytes, with_number}
+use Rattle.dex_fields.specs.Bytes.{IsWithin, bytes_in, bytes_of_number, end_of, number_in, number_of_bytes, with_bytes}
 use Rattle.dex_fields.proofs.Numbers.{length-bytes_of_number, number_of_bytes-bytes_of_number}
 use Rattle.dex_fields.proofs.Places.{AreApart-from_test, are_apart}
 use Rattle.dex_fields.proofs.Writing.{bytes_in-with_bytes, bytes_in-with_bytes_apart, length-with_bytes}

@@ -1,5 +1,5 @@
 -- A way down a tree: where a part of it stands, and what stands beside.
-use Rattle.std.specs.Prelude.{◌≡◌, ℕ, zero, suc, ◌%◌, List}
+use Rattle.std.specs.Prelude.{ℕ, suc, ◌%◌}
 use Rattle.std.specs.Int.{leading_zeros, w128}
 use Rattle.std.specs.Int.Bits.{bit_xor}
 use Rattle.dex_slab.specs.Tree.{Tree, Leaf, Inner, Other, Begins, first_bits}

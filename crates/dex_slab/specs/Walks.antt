@@ -2,7 +2,7 @@
 use Rattle.std.specs.Prelude.{◌≡◌, ℕ, ◌<◌, ◌⊎◌, List, Option, Some, None, nat_le, if◌then◌else◌, ◌==◌}
 use Rattle.dex_types.specs.declared.orders.Order.{Order}
 use Rattle.dex_slab.specs.declared.nodes.Branch.{Branch}
-use Rattle.dex_slab.specs.Nodes.{branch_of, first_child_of, root_of, second_child_of}
+use Rattle.dex_slab.specs.Nodes.{first_child_of, second_child_of}
 use Rattle.dex_slab.specs.Path.{Path, Root, InFirst, InSecond, Leads, bit_behind, plug, shared_bits, top_key, top_of}
 use Rattle.dex_slab.specs.Tree.{Tree, Leaf, Inner, Other, tree_from}
 

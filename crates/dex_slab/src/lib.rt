@@ -29,3 +29,6 @@ pub use check::{is_slab_size, is_well_formed};
 pub use slab_fault::SlabFault;
 pub use slab_ref::SlabRef;
 pub use slab_view::SlabView;
+
+#[cfg(test)]
+mod tests;

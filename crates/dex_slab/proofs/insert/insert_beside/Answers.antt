@@ -1,17 +1,16 @@
-use Rattle.std.proofs.Common.{rules, ◌≡◌, ◌∷◌, ◌+◌, ◌<◌, ◌^◌, ℕ, length, ap, subst, sym, ◌∙◌, arith, lit≤}
+use Rattle.std.proofs.Common.{rules, ◌≡◌, ◌∷◌, ◌+◌, ◌<◌, ◌^◌, ℕ, ap, subst, sym, ◌∙◌, arith, lit≤}
 use Rattle.dex_fields.specs.declared.slab.TheConstants.{LEAF_COUNT}
 use Rattle.dex_fields.specs.Bytes.{with_number}
 use Rattle.dex_slab.specs.declared.nodes.Branch.{Branch}
 use Rattle.dex_slab.specs.Held.{IsInner}
-use Rattle.dex_slab.specs.Nodes.{count_of, key_of, node_bytes, nodes_within, root_of}
-use Rattle.dex_slab.specs.Path.{top_key, top_of}
-use Rattle.dex_slab.specs.Slab.{IsShared, free_of}
-use Rattle.dex_slab.specs.Tree.{Tree, HasPrefixes, nodes_of}
-use Rattle.dex_slab.specs.Walks.{IsOnWay, RestsIn, Stops, branch_above, tree_at}
+use Rattle.dex_slab.specs.Nodes.{count_of, node_bytes, root_of}
+use Rattle.dex_slab.specs.Path.{top_key}
+use Rattle.dex_slab.specs.Tree.{Tree, nodes_of}
+use Rattle.dex_slab.specs.Walks.{RestsIn, branch_above, tree_at}
 use Rattle.dex_slab.proofs.BesideLaw.{IsEntered, IsInserted, bump_entered, free_entered, inserted, inserted-orders, inserted-slab, new_at, nodes_spare}
 use Rattle.dex_slab.proofs.NodeWrites.{ChangesHeader-by, node_within}
 use Rattle.dex_slab.proofs.Parting.{parts-low}
-use Rattle.dex_slab.proofs.Plugs.{least_at, prefixes-part}
+use Rattle.dex_slab.proofs.Plugs.{least_at}
 use Rattle.dex_slab.proofs.PoolLaw.{used-below}
 use Rattle.dex_slab.proofs.Times.{times-some}
 use Rattle.dex_slab.proofs.WalkLaw.{prefixed-part, rooted, way-below, way-key}

@@ -1,10 +1,9 @@
-use Rattle.std.proofs.Common.{rules, ◌≡◌, ◌∷◌, [], length, Some, ◌∙◌, arith}
-use Rattle.dex_slab.specs.Slab.{IsShared, free_of}
+use Rattle.std.proofs.Common.{rules, ◌∷◌, [], Some, ◌∙◌, arith}
 use Rattle.dex_slab.specs.Tree.{Leaf}
 use Rattle.dex_slab.proofs.FirstLaw.{made-first, orders-first, shared-none, spare-none, written-first}
 use Rattle.dex_slab.proofs.NodeWrites.{node_within}
 use Rattle.dex_slab.proofs.PoolLaw.{used-below}
-use Rattle.dex_slab.proofs.Standing.{IsSlab-from, Stands}
+use Rattle.dex_slab.proofs.Standing.{IsSlab-from}
 use Rattle.dex_slab.proofs.Times.{times-some}
 use Rattle.dex_slab.proofs.insert.insert_first.Goals as goal
 

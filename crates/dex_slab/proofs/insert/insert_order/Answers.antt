@@ -1,7 +1,7 @@
-use Rattle.std.proofs.Common.{◌≡◌, ◌≤◌, Option, Some, subst, arith}
-use Rattle.dex_slab.specs.Nodes.{count_of, root_of}
+use Rattle.std.proofs.Common.{◌≤◌, Option, subst, arith}
+use Rattle.dex_slab.specs.Nodes.{count_of}
 use Rattle.dex_slab.specs.Tree.{Tree}
-use Rattle.dex_slab.specs.Walks.{RestsIn, RestsOn, tree_at}
+use Rattle.dex_slab.specs.Walks.{RestsOn}
 use Rattle.dex_slab.proofs.WalkLaw.{rooted}
 use Rattle.dex_slab.proofs.insert.insert_order.Goals as goal
 

@@ -1,10 +1,7 @@
-use Rattle.std.proofs.Common.{rules, ◌≡◌, ◌∷◌, ℕ, suc, ◌+◌, ◌-◌, ◌<◌, ◌≤◌, List, ap, subst, sym, ◌∙◌, refl, arith, lit≤}
+use Rattle.std.proofs.Common.{rules, ◌≡◌, ◌∷◌, ℕ, suc, ◌≤◌, subst, sym, ◌∙◌, refl, arith, lit≤}
 use Rattle.dex_fields.specs.declared.slab.TheConstants.{BUMP_INDEX, FREE_LIST_HEAD, FREE_LIST_LEN, LEAF_COUNT, ROOT_NODE}
-use Rattle.dex_fields.specs.Bytes.{number_in}
-use Rattle.dex_slab.specs.Changes.{ChangesHeader}
 use Rattle.dex_slab.specs.Held.{IsFree}
-use Rattle.dex_slab.specs.Nodes.{bump_of, free_head_of, free_len_of, node_bytes, nodes_within}
-use Rattle.dex_slab.specs.Slab.{IsShared, free_of}
+use Rattle.dex_slab.specs.Nodes.{bump_of, free_head_of, free_len_of, node_bytes}
 use Rattle.dex_slab.proofs.NodeWrites.{ChangesHeader-by, ChangesHeader-then, node_within, number_kept}
 use Rattle.dex_slab.proofs.PoolLaw.{free_len-le, shared-freed, used-below}
 use Rattle.dex_slab.proofs.Times.{times-some}

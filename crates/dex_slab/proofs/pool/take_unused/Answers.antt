@@ -1,6 +1,6 @@
-use Rattle.std.proofs.Common.{rules, ◌≡◌, ◌∷◌, ℕ, ◌+◌, ◌<◌, ap, subst, sym, ◌∙◌, refl, arith, lit≤}
+use Rattle.std.proofs.Common.{rules, ◌≡◌, ◌∷◌, ℕ, ◌+◌, subst, sym, ◌∙◌, refl, arith, lit≤}
 use Rattle.dex_fields.specs.declared.slab.TheConstants.{BUMP_INDEX, FREE_LIST_LEN, LEAF_COUNT, ROOT_NODE}
-use Rattle.dex_slab.specs.Nodes.{bump_of, free_len_of, nodes_within}
+use Rattle.dex_slab.specs.Nodes.{bump_of, free_len_of}
 use Rattle.dex_slab.specs.Slab.{IsShared, free_of}
 use Rattle.dex_slab.proofs.NodeWrites.{ChangesHeader-by, number_kept}
 use Rattle.dex_slab.proofs.PoolLaw.{shared-bumped}

@@ -1,7 +1,7 @@
-use Rattle.std.proofs.Common.{rules, ◌≡◌, ◌∷◌, ◌+◌, ◌-◌, ◌<◌, ◌≤◌, ℕ, Some, length, ap, List, subst, sym, ◌∙◌, arith, lit≤}
+use Rattle.std.proofs.Common.{rules, ◌≡◌, ◌∷◌, ◌-◌, ℕ, Some, ap, List, subst, sym, ◌∙◌, arith, lit≤}
 use Rattle.dex_fields.specs.declared.slab.TheConstants.{BUMP_INDEX, FREE_LIST_LEN, LEAF_COUNT}
 use Rattle.dex_fields.specs.Bytes.{with_number}
-use Rattle.dex_slab.specs.Nodes.{count_of, node_bytes, nodes_within, root_of}
+use Rattle.dex_slab.specs.Nodes.{count_of, root_of}
 use Rattle.dex_slab.specs.Path.{top_of}
 use Rattle.dex_slab.specs.Slab.{IsShared, free_of}
 use Rattle.dex_slab.specs.Tree.{nodes_of}

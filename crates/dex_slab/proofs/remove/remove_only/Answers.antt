@@ -1,6 +1,5 @@
-use Rattle.std.proofs.Common.{rules, ◌≡◌, ◌∷◌, [], length, None, refl, subst, sym, ◌∙◌, arith, lit≤}
+use Rattle.std.proofs.Common.{rules, ◌∷◌, [], None, refl, subst, sym, ◌∙◌, lit≤}
 use Rattle.dex_fields.specs.declared.slab.TheConstants.{LEAF_COUNT, ROOT_NODE}
-use Rattle.dex_slab.specs.Nodes.{root_of}
 use Rattle.dex_slab.specs.Slab.{IsShared, free_of}
 use Rattle.dex_slab.proofs.NodeWrites.{ChangesHeader-by, number_kept}
 use Rattle.dex_slab.proofs.OnlyLaw.{orders-empty, shared-only, stands-empty, written-only}

@@ -1,4 +1,4 @@
-use Rattle.std.proofs.Common.{◌≡◌, ◌+◌, ◌<◌, ◌≤◌, ℕ, Option, Some, None, ap, subst, sym, ◌∙◌, arith}
+use Rattle.std.proofs.Common.{ℕ, Option, Some, ap, subst, sym, ◌∙◌, arith}
 use Rattle.dex_slab.specs.Nodes.{root_of}
 use Rattle.dex_slab.specs.Walks.{IsFound, tree_at}
 use Rattle.dex_slab.proofs.FoundLaw.{count-more, count-only, given-one, given-two, leaf-below, order-listed, order-read, rests-in, rests-some, without-only}

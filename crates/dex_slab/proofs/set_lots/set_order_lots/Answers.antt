@@ -1,11 +1,9 @@
-use Rattle.std.proofs.Common.{rules, ◌≡◌, ◌+◌, ◌*◌, ◌<◌, ◌≤◌, ◌^◌, ℕ, List, length, ap, subst, sym, ◌∙◌, arith}
+use Rattle.std.proofs.Common.{rules, ◌≡◌, ◌<◌, ◌≤◌, ◌^◌, ℕ, length, ap, subst, sym, ◌∙◌}
 use Rattle.dex_fields.specs.declared.field.Field.{Field}
 use Rattle.dex_fields.specs.declared.leaf_node.TheConstants.{QUANTITY}
 use Rattle.dex_fields.specs.Bytes.{ChangesOnly, end_of, moved_by, with_number}
-use Rattle.dex_types.specs.BookSide.{with_lots}
-use Rattle.dex_slab.specs.Nodes.{in_node, root_of}
+use Rattle.dex_slab.specs.Nodes.{in_node}
 use Rattle.dex_slab.specs.Slab.{IsSlab, resting}
-use Rattle.dex_slab.specs.Walks.{tree_at}
 use Rattle.dex_slab.proofs.FoundLaw.{rests-in, rests-some}
 use Rattle.dex_slab.proofs.LotsTree.{leaf_key, leaf_tag, leaf_within, orders_lotted, slab_lotted}
 use Rattle.dex_slab.proofs.WalkLaw.{rooted}

@@ -1,10 +1,10 @@
-use Rattle.std.proofs.Common.{◌≡◌, ℕ, ◌<◌, Option, Some, None, IfSome, refl, sym, subst, ◌∙◌}
+use Rattle.std.proofs.Common.{ℕ, ◌<◌, Option, IfSome, refl, sym, subst, ◌∙◌}
 use Rattle.dex_slab.specs.declared.nodes.Branch.{Branch}
-use Rattle.dex_slab.specs.Nodes.{branch_of, root_of}
+use Rattle.dex_slab.specs.Nodes.{root_of}
 use Rattle.dex_slab.specs.Path.{Root}
-use Rattle.dex_slab.specs.Walks.{IsOnWay, child_towards, tree_at}
+use Rattle.dex_slab.specs.Walks.{tree_at}
 use Rattle.dex_slab.proofs.NodeWrites.{node_within}
-use Rattle.dex_slab.proofs.WalkLaw.{IsSearchStep, IsSought, rooted, seek-end, seek-step, sought-way, way-below, way-prefix}
+use Rattle.dex_slab.proofs.WalkLaw.{IsSearchStep, rooted, seek-end, seek-step, sought-way, way-below, way-prefix}
 use Rattle.dex_slab.proofs.walks.find_leaf.Goals as goal
 
 pub loop-branch-init : goal.loop-branch-init

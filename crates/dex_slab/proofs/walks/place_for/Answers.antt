@@ -1,10 +1,10 @@
-use Rattle.std.proofs.Common.{rules, ◌≡◌, ℕ, ◌<◌, ◌^◌, Option, Some, None, get_or, refl, sym, ap, subst, ◌∙◌, arith}
+use Rattle.std.proofs.Common.{rules, ◌<◌, ◌^◌, refl, sym, ap, ◌∙◌, arith}
 use Rattle.dex_fields.specs.Bytes.{AreBytes}
-use Rattle.dex_slab.specs.Nodes.{branch_of, key_of, nodes_within, root_of}
+use Rattle.dex_slab.specs.Nodes.{root_of}
 use Rattle.dex_slab.specs.Path.{Root, shared_bits}
-use Rattle.dex_slab.specs.Walks.{IsOnWay, IsPlace, next_towards, tree_at}
+use Rattle.dex_slab.specs.Walks.{tree_at}
 use Rattle.dex_slab.proofs.NodeWrites.{node_within}
-use Rattle.dex_slab.proofs.WalkLaw.{Rooted, rooted, way-below, way-key, way-prefix, way-step, way-stops}
+use Rattle.dex_slab.proofs.WalkLaw.{rooted, way-below, way-key, way-prefix, way-step, way-stops}
 use Rattle.dex_slab.proofs.walks.place_for.Goals as goal
 
 pub loop-child-init : goal.loop-child-init

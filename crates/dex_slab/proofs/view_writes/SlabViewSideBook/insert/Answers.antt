@@ -1,4 +1,4 @@
-use Rattle.std.proofs.Common.{◌<◌, arith}
+use Rattle.std.proofs.Common.{arith}
 use Rattle.dex_slab.specs.Slab.{tree_of}
 use Rattle.dex_slab.proofs.FoundLaw.{count-listed, new-rests}
 use Rattle.dex_slab.proofs.view_writes.SlabViewSideBook.insert.Goals as goal
