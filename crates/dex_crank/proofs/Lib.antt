@@ -1,0 +1,4 @@
+pub mod CountLaws
+pub mod OwnerLaws
+pub mod PartLaws
+pub mod PaymentLaws

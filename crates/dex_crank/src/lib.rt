@@ -1,0 +1,14 @@
+//! Consuming events: each pays its owner's open-orders account, in place.
+#![tactic(auto)]
+
+mod accounts;
+mod crank;
+mod kinds;
+pub mod laws;
+mod payment;
+mod queue;
+
+pub use crank::consume;
+
+#[cfg(test)]
+mod tests;
