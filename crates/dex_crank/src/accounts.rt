@@ -3,13 +3,13 @@
 ghost use Rattle.std.specs.Prelude.{◌≡◌, ℕ, ◌<◌, List, IsSome, Some, None, length, map, slice_index_or, slice_set};
 ghost use Rattle.dex_types.specs.declared.account_bytes.OrdersAccount.{OrdersAccount};
 ghost use Rattle.dex_types.specs.Accounts.{orders_account_of};
-ghost use Rattle.dex_types.specs.Addresses as addresses;
 ghost use Rattle.dex_types.specs.QueuedEvent.{decoded_event};
 ghost use Rattle.dex_orders.specs.OrdersAccount.{IsOpen, account_of, funded, funds_of, removed, with_funds};
 ghost use Rattle.dex_crank.specs.Funds.{FitsFunds, paid_funds};
 ghost use Rattle.dex_crank.specs.PaidBytes.{CanTake, HasOwner, IsPaid, bytes_at, changed_at, paid_in};
 ghost use Rattle.dex_crank.specs.Places.{IsFirst};
 
+use crate::addresses::is_same;
 use crate::kinds::is_final;
 use crate::payment::paid_funds;
 use dex_orders::OrdersView;
@@ -57,12 +57,6 @@ fn pay_buffer(bytes: &mut Vec<u8>, event: &Event)
     ensures paid { IsPaid (decoded_event event.now) bytes.old.items }
 {
     pay(bytes, event);
-}
-
-fn is_same(a: Address, b: Address) -> bool
-    ensures { result ≡ addresses.is_same a b }
-{
-    a == b
 }
 
 /// The place of the account of an address that is among these.

@@ -5,7 +5,21 @@ ghost use Rattle.dex_types.specs.QueuedEvent.{decoded_event, kind_of};
 ghost use Rattle.dex_types.specs.Soundness.{is_final};
 ghost use Rattle.dex_crank.specs.Funds.{told_kind};
 
-use dex_types::{Event, Side};
+use dex_types::{Event, EventFlags, Side};
+
+const FILLED_ASK: u8 = EventFlags::MAKER_FILL_OF_ASK.0;
+
+const FILLED_BID: u8 = EventFlags::MAKER_FILL_OF_BID.0;
+
+const TAKEN_BY_ASK: u8 = EventFlags::TAKER_FILL_OF_ASK.0;
+
+const TAKEN_BY_BID: u8 = EventFlags::TAKER_FILL_OF_BID.0;
+
+const OUT_OF_ASK: u8 = EventFlags::OUT_OF_ASK.0;
+
+const OUT_OF_BID: u8 = EventFlags::OUT_OF_BID.0;
+
+const RELEASED_ASK: u8 = EventFlags::RELEASING_OUT_OF_ASK.0;
 
 /// What an event tells, by the side of its order.
 #[derive(Clone, Copy, Debug, PartialEq, Eq)]
@@ -25,13 +39,13 @@ pub fn kind_of(flags: u8) -> Kind
     ensures { told_kind result ≡ kind_of flags }
 {
     match flags {
-        9 => Kind::MakerFill(Side::Ask),
-        13 => Kind::MakerFill(Side::Bid),
-        1 => Kind::TakerFill(Side::Ask),
-        5 => Kind::TakerFill(Side::Bid),
-        2 => Kind::PlainOut(Side::Ask),
-        6 => Kind::PlainOut(Side::Bid),
-        18 => Kind::ReleasingOut(Side::Ask),
+        FILLED_ASK => Kind::MakerFill(Side::Ask),
+        FILLED_BID => Kind::MakerFill(Side::Bid),
+        TAKEN_BY_ASK => Kind::TakerFill(Side::Ask),
+        TAKEN_BY_BID => Kind::TakerFill(Side::Bid),
+        OUT_OF_ASK => Kind::PlainOut(Side::Ask),
+        OUT_OF_BID => Kind::PlainOut(Side::Bid),
+        RELEASED_ASK => Kind::ReleasingOut(Side::Ask),
         _ => Kind::ReleasingOut(Side::Bid),
     }
 }

@@ -2,6 +2,7 @@
 #![tactic(auto)]
 
 mod accounts;
+mod addresses;
 mod crank;
 mod kinds;
 pub mod laws;
@@ -9,6 +10,3 @@ mod payment;
 mod queue;
 
 pub use crank::consume;
-
-#[cfg(test)]
-mod tests;

@@ -1,32 +1,13 @@
 //! The front of the event queue.
 
 ghost use Rattle.std.specs.Prelude.{◌≡◌, ◌<◌, ◌∷◌, length, drop};
-ghost use Rattle.dex_types.specs.Addresses as addresses;
-ghost use Rattle.dex_types.specs.Payment.{is_named};
 ghost use Rattle.dex_types.specs.QueuedEvent.{decoded_event};
 ghost use Rattle.dex_ring.specs.Ring.{IsEventQueue, events_of, popped};
 ghost use Rattle.dex_crank.specs.PaidBytes.{goes_on};
 
+use crate::addresses::is_named;
 use dex_ring::{RingRef, RingView};
 use dex_types::{Address, Event};
-
-fn is_same(a: Address, b: Address) -> bool
-    ensures { result ≡ addresses.is_same a b }
-{
-    a == b
-}
-
-/// Whether the address is one of these.
-fn is_named(address: Address, named: &[Address]) -> bool
-    ensures { result ≡ is_named address named.now }
-{
-    for place in 0..named.len() {
-        if is_same(address, named[place]) {
-            return true;
-        }
-    }
-    false
-}
 
 /// Whether an event is pending and its owner is named.
 pub fn goes_on(bytes: &[u8], named: &[Address]) -> bool
