@@ -40,7 +40,7 @@ open-of bytes known is =
     open-by (eqb (number_in bytes ACCOUNT_FLAGS) 5) (eqb (number_in bytes ACCOUNT_FLAGS) 256) (account_of bytes) known is in
     (eqb-true _ _ both.0, both.1)
 
-trader_of-open : (bytes : List ℕ) → IsOpen bytes → trader_of bytes ≡ Open (account_of bytes)
+pub trader_of-open : (bytes : List ℕ) → IsOpen bytes → trader_of bytes ≡ Open (account_of bytes)
 trader_of-open bytes accepted = cond-true _ _ _ (eq-eqb _ _ accepted.flags)
 
 -- ---- the market after its first event

@@ -10,3 +10,6 @@ mod payment;
 mod queue;
 
 pub use crank::consume;
+
+#[cfg(test)]
+mod tests;
