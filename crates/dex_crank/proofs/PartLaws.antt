@@ -1,28 +1,27 @@
 -- The first event of a sound market can be paid to the account of its owner, and what is left is the queue and the accounts of the market behind it.
-use Rattle.std.proofs.Common.{◌≡◌, ℕ, ◌+◌, ◌<◌, ◌≤◌, Bool, true, false, cond, eqb, List, [], ◌∷◌, length, take, drop, get_or, Option, Some, None, IsSome, refl, sym, ap, ◌∙◌, subst, arith, rules, inl, inr}
+use Rattle.std.proofs.Common.{◌≡◌, ℕ, ◌≤◌, Bool, true, false, cond, eqb, List, ◌∷◌, take, drop, get_or, Option, Some, None, IsSome, refl, sym, ap, ◌∙◌, subst, rules, inl, inr}
 use Rattle.std.specs.List.{All}
 use Rattle.std.proofs.lemmas.Bool.{cond-true, eq-eqb, eqb-true}
 use Rattle.std.proofs.lemmas.List.Elements.{All-head}
 use Rattle.dex_fields.specs.declared.open_orders.TheConstants.{ACCOUNT_FLAGS}
 use Rattle.dex_fields.specs.Bytes.{number_in}
-use Rattle.dex_orders.specs.OrdersAccount.{IsOpen, IsOrders, account_of, funds_of}
+use Rattle.dex_orders.specs.OrdersAccount.{IsOpen, IsOrders, account_of}
 use Rattle.dex_orders.specs.StandsFor.{trader_of}
 use Rattle.dex_orders.proofs.Verdicts.{open_from_flags}
-use Rattle.dex_ring.specs.Ring.{IsEventQueue, event_at, events_of, popped}
+use Rattle.dex_ring.specs.Ring.{IsEventQueue, events_of}
 use Rattle.dex_sound.specs.Fields.{AccountFits, CanBePaid}
 use Rattle.dex_sound.proofs.CrankSound.{crank-sound}
 use Rattle.dex_sound.proofs.FieldLaws.{events-pay, fields-fit}
 use Rattle.dex_sound.proofs.PlaceParts.{from-place, to-place}
 use Rattle.dex_laws.proofs.TraderLaws.{trader_at-put_same}
-use Rattle.dex_types.specs.Accounts.{PlainAccount}
 use Rattle.dex_types.specs.Market.{Market}
 use Rattle.dex_types.specs.Owed.{leaving}
 use Rattle.dex_types.specs.Payment.{after_crank, paid_as, pay_all, put_paid}
-use Rattle.dex_types.specs.QueuedEvent.{QueuedEvent, decoded_event}
+use Rattle.dex_types.specs.QueuedEvent.{QueuedEvent}
 use Rattle.dex_types.specs.Side.{Coin, Pc}
 use Rattle.dex_types.specs.Soundness.{IsSound, event_holding, held_by}
-use Rattle.dex_types.specs.Trader.{Account, Holding, Trader, Blank, Closed, Open, Traders, trader_at, put_trader}
-use Rattle.dex_crank.specs.PaidBytes.{CanTake, CrankBytes, HasOwner, IsPaid, bytes_at, changed_at, paid_first, paid_in}
+use Rattle.dex_types.specs.Trader.{Account, Trader, Blank, Closed, Open, trader_at, put_trader}
+use Rattle.dex_crank.specs.PaidBytes.{CanTake, CrankBytes, HasOwner, IsPaid, bytes_at, changed_at, paid_in}
 use Rattle.dex_crank.specs.Parts.{AreAccepted, AreOf, traders_of}
 use Rattle.dex_crank.proofs.OwnerLaws.{All-bytes_at, All-changed_at, Stands, stands-of, traders_of-changed_at}
 use Rattle.dex_crank.proofs.PaymentLaws.{FitsFunds-from}

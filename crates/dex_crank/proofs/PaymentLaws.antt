@@ -1,5 +1,5 @@
 -- What a payment leaves of an account: by its funds and its slot, and in the bytes.
-use Rattle.std.proofs.Common.{◌≡◌, ℕ, ◌+◌, ◌-◌, ◌≤◌, ◌<◌, ◌^◌, Bool, true, false, cond, eqb, ◌&&◌, List, set, Option, Some, None, IsSome, get_or, refl, sym, ap, ◌∙◌, subst, arith, rules, add-zero}
+use Rattle.std.proofs.Common.{◌≡◌, ℕ, ◌+◌, ◌-◌, ◌≤◌, ◌<◌, ◌^◌, true, false, cond, eqb, ◌&&◌, List, set, Option, None, refl, sym, ap, ◌∙◌, subst, arith}
 use Rattle.std.proofs.lemmas.Bool.{cond_both, cond-true, cond-false}
 use Rattle.dex_orders.specs.declared.amounts.Funds.{Funds}
 use Rattle.dex_orders.specs.OrdersAccount.{IsOpen, account_of, funded, funds_of, removed, with_funds}
@@ -9,11 +9,11 @@ use Rattle.dex_types.specs.declared.terms.Side.TheVariants.{Bid, Ask}
 use Rattle.dex_types.specs.Owed.{leaving_as}
 use Rattle.dex_types.specs.Payment.{paid_as}
 use Rattle.dex_types.specs.QueuedEvent.{EventKind, MakerFill, TakerFill, PlainOut, ReleasingOut, QueuedEvent}
-use Rattle.dex_types.specs.Side.{Token, Coin, Pc}
+use Rattle.dex_types.specs.Side.{Coin, Pc}
 use Rattle.dex_types.specs.Soundness.{is_final, is_out_kind}
-use Rattle.dex_types.specs.Trader.{Account, Balance, Holding, balance}
+use Rattle.dex_types.specs.Trader.{Account, Holding}
 use Rattle.dex_crank.specs.Funds.{FitsFunds, paid_funds}
-use Rattle.dex_crank.specs.PaidBytes.{IsPaid, freed_in, paid_in}
+use Rattle.dex_crank.specs.PaidBytes.{IsPaid, paid_in}
 
 -- ---- an account of known parts
 

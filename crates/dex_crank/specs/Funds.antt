@@ -1,5 +1,5 @@
 -- What an event pays, in the funds of its owner's account.
-use Rattle.std.specs.Prelude.{ℕ, ◌+◌, ◌-◌, ◌<◌, ◌≤◌, ◌^◌}
+use Rattle.std.specs.Prelude.{◌+◌, ◌-◌, ◌<◌, ◌≤◌, ◌^◌}
 use Rattle.dex_orders.specs.declared.amounts.Funds.{Funds}
 use Rattle.dex_types.specs.declared.terms.Side.TheVariants.{Bid, Ask}
 use Rattle.dex_types.specs.Fees.{referrer_part}

@@ -1,4 +1,4 @@
-use Rattle.std.proofs.Common.{◌≡◌, ℕ, ◌<◌, true, false, None, IsSome, length, List, map, get_or, sym, ap, ◌∙◌, subst, arith, rules, below_more}
+use Rattle.std.proofs.Common.{◌≡◌, ◌<◌, true, false, None, IsSome, length, map, get_or, sym, ap, ◌∙◌, subst, arith, rules, below_more}
 use Rattle.std.proofs.lemmas.List.{get_or-map, length-map}
 use Rattle.dex_types.specs.Accounts.{PlainAccount, orders_account_of}
 use Rattle.dex_types.specs.Addresses.{is_same}

@@ -5,7 +5,7 @@ use Rattle.dex_types.specs.Market.{Market}
 use Rattle.dex_types.specs.Payment.{after_crank, consumable}
 use Rattle.dex_crank.specs.PaidBytes.{CrankBytes, crank_bytes, goes_on, paid_bytes, paid_first}
 use Rattle.dex_crank.specs.Parts.{AreOf}
-use Rattle.dex_crank.proofs.CountLaws.{consumable-more, consumable-none, consumable-stopped}
+use Rattle.dex_crank.proofs.CountLaws.{consumable-more, consumable-none}
 use Rattle.dex_crank.proofs.crank.consume_from.Goals as goal
 
 pub loop-count-preserved : goal.loop-count-preserved

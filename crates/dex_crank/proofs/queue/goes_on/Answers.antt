@@ -1,4 +1,4 @@
-use Rattle.std.proofs.Common.{◌≡◌, ◌<◌, length, sym, ap, ◌∙◌, arith, rules}
+use Rattle.std.proofs.Common.{◌<◌, length, sym, ap, ◌∙◌, rules}
 use Rattle.dex_ring.specs.Ring.{events_of}
 use Rattle.dex_types.specs.declared.orders.Event.{Event}
 use Rattle.dex_types.specs.Payment.{is_named}

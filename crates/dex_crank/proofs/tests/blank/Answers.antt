@@ -1,4 +1,4 @@
-use Rattle.std.proofs.Common.{◌<◌, ◌≤◌, ℕ, length, replicate, arith, ⊎_elim}
+use Rattle.std.proofs.Common.{◌<◌, ◌≤◌, ℕ, replicate, arith, ⊎_elim}
 use Rattle.std.proofs.lemmas.Bool.{cases_lt}
 use Rattle.std.proofs.lemmas.List.{get_or-replicate, get_or_past, length-replicate}
 use Rattle.dex_crank.proofs.tests.blank.Goals as goal

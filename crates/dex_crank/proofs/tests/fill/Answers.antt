@@ -1,7 +1,6 @@
-use Rattle.std.proofs.Common.{◌≡◌, ℕ, ◌<◌, ◌≤◌, false, List, Option, None, get_or, length, replicate, refl, sym, ap, ◌∙◌, arith, ⊎_elim}
+use Rattle.std.proofs.Common.{◌≡◌, ℕ, ◌<◌, ◌≤◌, List, Option, None, get_or, ap, ◌∙◌, arith, ⊎_elim}
 use Rattle.std.proofs.lemmas.Bool.{cases_lt}
 use Rattle.std.proofs.lemmas.List.{get_or-replicate, get_or_past, length-replicate}
-use Rattle.dex_types.specs.declared.terms.Side.{Side}
 use Rattle.dex_types.specs.Trader.{Holding, no_slots}
 use Rattle.dex_orders.specs.OrdersAccount.{holds_order}
 use Rattle.dex_crank.proofs.tests.fill.Goals as goal

@@ -1,4 +1,4 @@
-use Rattle.std.proofs.Common.{◌≡◌, [], ◌∷◌, List, rules}
+use Rattle.std.proofs.Common.{◌≡◌, [], ◌∷◌, rules}
 use Rattle.dex_types.specs.declared.account_bytes.OrdersAccount.{OrdersAccount}
 use Rattle.dex_crank.proofs.Example.{parts-pushed, parts-traded}
 use Rattle.dex_crank.proofs.tests.traded_accounts.Goals as goal
