@@ -1,0 +1,4 @@
+pub mod Funds
+pub mod PaidBytes
+pub mod Parts
+pub mod Places

@@ -1,0 +1,97 @@
+//! The owner's open-orders account, paid in place.
+
+ghost use Rattle.std.specs.Prelude.{◌≡◌, ℕ, ◌<◌, List, IsSome, Some, None, length, map, slice_index_or, slice_set};
+ghost use Rattle.dex_types.specs.declared.account_bytes.OrdersAccount.{OrdersAccount};
+ghost use Rattle.dex_types.specs.Accounts.{orders_account_of};
+ghost use Rattle.dex_types.specs.QueuedEvent.{decoded_event};
+ghost use Rattle.dex_orders.specs.OrdersAccount.{IsOpen, account_of, funded, funds_of, removed, with_funds};
+ghost use Rattle.dex_crank.specs.Funds.{FitsFunds, paid_funds};
+ghost use Rattle.dex_crank.specs.PaidBytes.{CanTake, HasOwner, IsPaid, bytes_at, changed_at, paid_in};
+ghost use Rattle.dex_crank.specs.Places.{IsFirst};
+
+use crate::addresses::is_same;
+use crate::kinds::is_final;
+use crate::payment::paid_funds;
+use dex_orders::OrdersView;
+use dex_types::{Address, Event, OrdersAccount};
+
+/// Pays the event into the funds; all other bytes stay.
+fn pay_funds(bytes: &mut [u8], event: &Event)
+    requires accepted { IsOpen bytes.old }
+    requires fits { FitsFunds (decoded_event event.now).kind (decoded_event event.now) (funds_of (account_of bytes.old)) }
+    ensures bytes { bytes.new ≡ funded bytes.old (paid_funds (decoded_event event.now).kind (decoded_event event.now) (funds_of (account_of bytes.old))) }
+    ensures words { account_of bytes.new ≡ with_funds (paid_funds (decoded_event event.now).kind (decoded_event event.now) (funds_of (account_of bytes.old))) (account_of bytes.old) }
+    ensures accepted { IsOpen bytes.new }
+{
+    let mut view = OrdersView { bytes };
+    let funds = paid_funds(event, view.funds());
+    view.set_funds(funds);
+}
+
+/// Frees the slot, with zeros as its id, client id and side bit; all other bytes stay.
+fn free_slot(bytes: &mut [u8], slot: u8)
+    requires accepted { IsOpen bytes.old }
+    requires taken { IsSome (slice_index_or (account_of bytes.old).slots slot None) }
+    ensures bytes { bytes.new ≡ removed bytes.old slot }
+    ensures words { account_of bytes.new ≡ record (account_of bytes.old) { slots = slice_set (account_of bytes.old).slots slot None } }
+    ensures accepted { IsOpen bytes.new }
+{
+    OrdersView { bytes }.remove(slot);
+}
+
+/// Pays the event to this account: its funds, and its slot where the event is the last of its order.
+fn pay(bytes: &mut [u8], event: &Event)
+    requires { CanTake (decoded_event event.now) bytes.old }
+    ensures bytes { bytes.new ≡ paid_in (decoded_event event.now) bytes.old }
+    ensures paid { IsPaid (decoded_event event.now) bytes.old }
+{
+    pay_funds(bytes, event);
+    if is_final(event) {
+        free_slot(bytes, event.slot);
+    }
+}
+
+fn pay_buffer(bytes: &mut Vec<u8>, event: &Event)
+    requires { CanTake (decoded_event event.now) bytes.old.items }
+    ensures bytes { bytes.new.items ≡ paid_in (decoded_event event.now) bytes.old.items }
+    ensures paid { IsPaid (decoded_event event.now) bytes.old.items }
+{
+    pay(bytes, event);
+}
+
+/// The place of the account of an address that is among these.
+fn place_of(accounts: &[OrdersAccount], address: Address) -> usize
+    requires { IsSome (bytes_at address (map orders_account_of accounts.now)) }
+    ensures { IsFirst address (map orders_account_of accounts.now) result }
+{
+    for place in 0..accounts.len() {
+        if is_same(address, accounts[place].address) {
+            return place;
+        }
+    }
+    unreachable!()
+}
+
+/// Pays the event to the account at this place.
+fn pay_at(accounts: &mut [OrdersAccount], place: usize, event: &Event)
+    requires within { place < length accounts.old }
+    requires can_take { (default : OrdersAccount) → CanTake (decoded_event event.now) (slice_index_or accounts.old place default).bytes.items }
+    ensures accounts { (default : OrdersAccount) →
+        let account = slice_index_or accounts.old place default in
+        map orders_account_of accounts.new
+        ≡ slice_set (map orders_account_of accounts.old) place (record { address = account.address; bytes = paid_in (decoded_event event.now) account.bytes.items }) }
+    ensures paid { (default : OrdersAccount) → IsPaid (decoded_event event.now) (slice_index_or accounts.old place default).bytes.items }
+{
+    pay_buffer(&mut accounts[place].bytes, event);
+}
+
+/// Pays the event to its owner's account; all other accounts stay.
+pub fn pay_owner(accounts: &mut [OrdersAccount], event: &Event)
+    requires { HasOwner (decoded_event event.now) (map orders_account_of accounts.old) }
+    ensures accounts { map orders_account_of accounts.new
+        ≡ changed_at event.now.owner (paid_in (decoded_event event.now)) (map orders_account_of accounts.old) }
+    ensures paid { (bytes : List ℕ) → bytes_at event.now.owner (map orders_account_of accounts.old) ≡ Some bytes → IsPaid (decoded_event event.now) bytes }
+{
+    let place = place_of(accounts, event.owner);
+    pay_at(accounts, place, event);
+}

@@ -1,0 +1,15 @@
+//! Consuming events: each pays its owner's open-orders account, in place.
+#![tactic(auto)]
+
+mod accounts;
+mod addresses;
+mod crank;
+mod kinds;
+pub mod laws;
+mod payment;
+mod queue;
+
+pub use crank::consume;
+
+#[cfg(test)]
+mod tests;
