@@ -16,5 +16,5 @@ pub use plan::SettlePlan;
 pub use settle::{apply_settle, decide_settle};
 pub use sweep::{apply_sweep, decide_sweep};
 
-//TESTS
-//TESTMOD
+#[cfg(test)]
+mod tests;

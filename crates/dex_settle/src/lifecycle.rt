@@ -1,8 +1,11 @@
 //! Whether an open-orders account may be opened or closed.
 
 ghost use Rattle.std.specs.Prelude.{◌≡◌, ◌+◌, ◌∷◌, [], IsOk, Some, None};
+ghost use Rattle.dex_types.specs.declared.addresses.Address.{Address};
 ghost use Rattle.dex_types.specs.Market.{Market};
 ghost use Rattle.dex_types.specs.Reasons as reasons;
+ghost use Rattle.dex_types.specs.Requests.{Request, open_party};
+ghost use Rattle.dex_types.specs.Why.{of_party, why_close};
 ghost use Rattle.dex_market.specs.MarketAccount.{IsMarket, market_words};
 ghost use Rattle.dex_market.specs.StandsFor.{StandsForMarket};
 ghost use Rattle.dex_orders.specs.OrdersAccount.{IsBlank, IsEmptyAccount, IsOpen, IsOrders, account_of};
@@ -74,6 +77,8 @@ pub fn decide_close(account: &[u8], signer: Address) -> Result<(), Refusal>
     ensures answer { result ≡ refusing.answered (refusing.close_reason signer (trader_of account.now)) tt }
     ensures opened { IsOk result → IsOpen account.now }
     ensures empty { IsOk result → IsEmptyAccount (account_of account.now) }
+    ensures model { (request : Request) (address : Address) → request.signer ≡ signer →
+        result ≡ refusing.answered (of_party (why_close request) (open_party address (Some (trader_of account.now)))) tt }
 {
     match close_reason(account, signer) {
         Some(why) => Err(why),

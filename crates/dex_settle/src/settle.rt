@@ -1,6 +1,6 @@
 //! Settling: all free funds of an account are paid out, with its referrer part.
 
-ghost use Rattle.std.specs.Prelude.{◌≡◌, ◌^◌, ◌<◌, IfOk, is_some};
+ghost use Rattle.std.specs.Prelude.{◌≡◌, ◌+◌, ◌^◌, ◌<◌, IfOk, is_some};
 ghost use Rattle.dex_types.specs.declared.addresses.Address.{Address};
 ghost use Rattle.dex_types.specs.Market.{Market};
 ghost use Rattle.dex_types.specs.Reasons.{first_of};
@@ -66,6 +66,32 @@ fn full_reason(seen: &Seen, plan: &SettlePlan) -> Option<Refusal>
         .or(too_full(seen, plan, seen.referrer))
 }
 
+/// The plan or the refusal, where what the account is paid of pc fits a balance's field.
+pub(crate) fn decide(
+    market: &MarketRef<'_>,
+    orders: &OrdersRef<'_>,
+    signer: Address,
+    seen: &Seen,
+) -> Result<SettlePlan, Refusal>
+    requires market { IsMarket market.now.bytes.now }
+    requires account { IsOpen orders.now.bytes.now }
+    requires fits { (account_of orders.now.bytes.now).pc.free + (account_of orders.now.bytes.now).referrer < 2 ^ 64 }
+    requires wallets { HasOneCoinMint seen.now }
+    ensures answer { result ≡ refusing.answered
+        (refusing.settle_reason (market_words market.now.bytes.now).terms signer seen.now (account_of orders.now.bytes.now))
+        (leaving.plan_of (settling.settlement (is_some seen.now.referrer) (account_of orders.now.bytes.now))) }
+    ensures out { IfOk result (λ plan. leaving.PaysOut plan (account_of orders.now.bytes.now)) }
+{
+    if let Some(why) = early_reason(market, orders, signer, seen) {
+        return Err(why);
+    }
+    let plan = plan_of(orders, seen.referrer.is_some());
+    match full_reason(seen, &plan) {
+        Some(why) => Err(why),
+        None => Ok(plan),
+    }
+}
+
 /// What settling the account pays, or why it is refused. It reads only.
 ///
 /// Refused are, in this order: a row that names no coin or no pc wallet; a signer who is not the account's owner; a
@@ -89,18 +115,11 @@ pub fn decide_settle(
         party.account ≡ account_of orders.now.bytes.now → result ≡ refusing.answered (why_settle request seen.now m party)
         (leaving.plan_of (settling.settlement (is_some seen.now.referrer) party.account)) }
 {
-    if let Some(why) = early_reason(market, orders, signer, seen) {
-        return Err(why);
-    }
-    let plan = plan_of(orders, seen.referrer.is_some());
-    match full_reason(seen, &plan) {
-        Some(why) => Err(why),
-        None => Ok(plan),
-    }
+    decide(market, orders, signer, seen)
 }
 
 /// Takes what is paid out from the deposits, and the referrer part from the rebates, to the fees where it stays.
-fn pay(plan: &SettlePlan, market: &mut MarketView<'_>)
+pub(crate) fn pay(plan: &SettlePlan, market: &mut MarketView<'_>)
     requires accepted { IsMarket market.old.bytes.now }
     requires can_pay { leaving.CanPay plan.now (market_words market.old.bytes.now) }
     ensures place { market.new.bytes.ghost_name ≡ market.old.bytes.ghost_name }
@@ -119,7 +138,7 @@ fn pay(plan: &SettlePlan, market: &mut MarketView<'_>)
 }
 
 /// Takes all free funds and the referrer part from the account.
-fn pay_out(orders: &mut OrdersView<'_>)
+pub(crate) fn pay_out(orders: &mut OrdersView<'_>)
     requires { IsOpen orders.old.bytes.now }
     ensures place { orders.new.bytes.ghost_name ≡ orders.old.bytes.ghost_name }
     ensures bytes { orders.new.bytes.now ≡ funded orders.old.bytes.now (leaving.funds_after (account_of orders.old.bytes.now)) }
