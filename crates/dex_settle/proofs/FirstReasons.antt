@@ -21,9 +21,3 @@ pub first_of-early : (early late : List (Option Refusal)) (why : Refusal) → fi
 first_of-early [] late why is = absurd cc
 first_of-early (None ∷ early) late why is = first_of-early early late why is
 first_of-early ((Some other) ∷ early) late why is = is
-
--- with none among the earlier ones it is that of the later ones
-pub first_of-late : (early late : List (Option Refusal)) → first_of early ≡ None → first_of (early ++ late) ≡ first_of late
-first_of-late [] late none = refl
-first_of-late (None ∷ early) late none = first_of-late early late none
-first_of-late ((Some other) ∷ early) late none = absurd cc

@@ -1,11 +1,12 @@
 //! Whether an open-orders account may be opened or closed.
 
-ghost use Rattle.std.specs.Prelude.{◌≡◌, ◌+◌, ◌∷◌, [], IsOk, Some, None};
+ghost use Rattle.std.specs.Prelude.{◌≡◌, ◌+◌, ◌∷◌, List, IsOk, Some, None};
 ghost use Rattle.dex_types.specs.declared.addresses.Address.{Address};
 ghost use Rattle.dex_types.specs.Market.{Market};
 ghost use Rattle.dex_types.specs.Reasons as reasons;
 ghost use Rattle.dex_types.specs.Requests.{Request, open_party};
-ghost use Rattle.dex_types.specs.Why.{of_party, why_close};
+ghost use Rattle.dex_types.specs.Trader.{trader_at};
+ghost use Rattle.dex_types.specs.Why.{of_party, why_close, why_init};
 ghost use Rattle.dex_market.specs.MarketAccount.{IsMarket, market_words};
 ghost use Rattle.dex_market.specs.StandsFor.{StandsForMarket};
 ghost use Rattle.dex_orders.specs.OrdersAccount.{IsBlank, IsEmptyAccount, IsOpen, IsOrders, account_of};
@@ -37,8 +38,8 @@ pub fn decide_init(market: &MarketRef<'_>, account: &[u8]) -> Result<(), Refusal
     requires account { IsOrders account.now }
     ensures answer { result ≡ refusing.answered (refusing.init_reason (market_words market.now.bytes.now).account_flags (trader_of account.now)) tt }
     ensures blank { IsOk result → IsBlank account.now }
-    ensures model { (m : Market) → StandsForMarket market.now.bytes.now m →
-        result ≡ refusing.answered (reasons.first_of (reasons.disabled m ∷ reasons.not_blank (Some (trader_of account.now)) ∷ [])) tt }
+    ensures model { (m : Market) (request : Request) (address : Address) (others : List Address) → StandsForMarket market.now.bytes.now m → request.named ≡ address ∷ others →
+        trader_at address m.traders ≡ Some (trader_of account.now) → result ≡ refusing.answered (why_init request m) tt }
 {
     match disabled(market.account_flags()).or(not_blank(account)) {
         Some(why) => Err(why),
