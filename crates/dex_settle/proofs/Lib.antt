@@ -1,0 +1,5 @@
+pub mod FirstReasons
+pub mod ModelLaws
+pub mod PayLaws
+pub mod TraderLaws
+pub mod WalletLaws

@@ -1,0 +1,182 @@
+//! Settling: all free funds of an account are paid out, with its referrer part.
+
+ghost use Rattle.std.specs.Prelude.{◌≡◌, ◌+◌, ◌^◌, ◌<◌, IfOk, is_some};
+ghost use Rattle.dex_types.specs.declared.addresses.Address.{Address};
+ghost use Rattle.dex_types.specs.Market.{Market};
+ghost use Rattle.dex_types.specs.Reasons.{first_of};
+ghost use Rattle.dex_types.specs.Requests.{Party, Request};
+ghost use Rattle.dex_types.specs.Settle as settling;
+ghost use Rattle.dex_types.specs.Trader.{Open};
+ghost use Rattle.dex_types.specs.Wallets.{brought_to};
+ghost use Rattle.dex_types.specs.Why.{why_settle};
+ghost use Rattle.dex_market.specs.MarketAccount.{IsMarket, market_words};
+ghost use Rattle.dex_market.specs.StandsFor.{StandsForMarket};
+ghost use Rattle.dex_orders.specs.OrdersAccount.{IsOpen, account_of, funded, market_of};
+ghost use Rattle.dex_orders.specs.StandsFor.{StandsForTrader};
+ghost use Rattle.dex_settle.specs.Leaving as leaving;
+ghost use Rattle.dex_settle.specs.Parts.{AreParts, HasOneCoinMint};
+ghost use Rattle.dex_settle.specs.Refusing as refusing;
+
+use crate::plan::SettlePlan;
+use crate::reasons::{missing, not_owner, other_mint, too_full};
+use dex_market::{MarketRef, MarketView};
+use dex_orders::{Funds, OrdersRef, OrdersView};
+use dex_types::{Address, Refusal, Seen};
+
+fn plan_of(orders: &OrdersRef<'_>, has_referrer: bool) -> SettlePlan
+    requires { IsOpen orders.now.bytes.now }
+    ensures plan { result ≡ leaving.plan_of (settling.settlement has_referrer (account_of orders.now.bytes.now)) }
+    ensures out { leaving.PaysOut result (account_of orders.now.bytes.now) }
+{
+    let funds = orders.funds();
+    SettlePlan {
+        coin: funds.coin_free,
+        pc: funds.pc_free,
+        referrer: if has_referrer { funds.referrer } else { 0 },
+        to_fees: if has_referrer { 0 } else { funds.referrer },
+    }
+}
+
+/// The first reason that asks for the wallets, the signer or the wallets' mints.
+fn early_reason(
+    market: &MarketRef<'_>,
+    orders: &OrdersRef<'_>,
+    signer: Address,
+    seen: &Seen,
+) -> Option<Refusal>
+    requires market { IsMarket market.now.bytes.now }
+    requires account { IsOpen orders.now.bytes.now }
+    ensures { result ≡ first_of (refusing.early_settle_reasons (market_words market.now.bytes.now).terms signer seen.now (account_of orders.now.bytes.now)) }
+{
+    missing(seen.coin)
+        .or(missing(seen.pc))
+        .or(not_owner(orders.owner(), signer))
+        .or(other_mint(market.coin_mint(), seen.coin))
+        .or(other_mint(market.pc_mint(), seen.pc))
+        .or(other_mint(market.pc_mint(), seen.referrer))
+}
+
+/// The first reason that asks for the wallets' balances.
+fn full_reason(seen: &Seen, plan: &SettlePlan) -> Option<Refusal>
+    requires { (address : Address) → brought_to seen.now (leaving.transfers_by plan.now) address < 2 ^ 64 }
+    ensures { result ≡ first_of (refusing.full_reasons seen.now (leaving.transfers_by plan.now)) }
+{
+    too_full(seen, plan, seen.coin)
+        .or(too_full(seen, plan, seen.pc))
+        .or(too_full(seen, plan, seen.referrer))
+}
+
+/// The plan or the refusal, where what the account is paid of pc fits a balance's field.
+pub(crate) fn decide(
+    market: &MarketRef<'_>,
+    orders: &OrdersRef<'_>,
+    signer: Address,
+    seen: &Seen,
+) -> Result<SettlePlan, Refusal>
+    requires market { IsMarket market.now.bytes.now }
+    requires account { IsOpen orders.now.bytes.now }
+    requires fits { (account_of orders.now.bytes.now).pc.free + (account_of orders.now.bytes.now).referrer < 2 ^ 64 }
+    requires wallets { HasOneCoinMint seen.now }
+    ensures answer { result ≡ refusing.answered
+        (refusing.settle_reason (market_words market.now.bytes.now).terms signer seen.now (account_of orders.now.bytes.now))
+        (leaving.plan_of (settling.settlement (is_some seen.now.referrer) (account_of orders.now.bytes.now))) }
+    ensures out { IfOk result (λ plan. leaving.PaysOut plan (account_of orders.now.bytes.now)) }
+{
+    if let Some(why) = early_reason(market, orders, signer, seen) {
+        return Err(why);
+    }
+    let plan = plan_of(orders, seen.referrer.is_some());
+    match full_reason(seen, &plan) {
+        Some(why) => Err(why),
+        None => Ok(plan),
+    }
+}
+
+/// What settling the account pays, or why it is refused. It reads only.
+///
+/// Refused are, in this order: a row that names no coin or no pc wallet; a signer who is not the account's owner; a
+/// coin, pc or referrer wallet of another mint; a coin, pc or referrer wallet whose balance would be 2^64 or more with
+/// all that it gets under its roles together.
+pub fn decide_settle(
+    market: &MarketRef<'_>,
+    orders: &OrdersRef<'_>,
+    signer: Address,
+    seen: &Seen,
+) -> Result<SettlePlan, Refusal>
+    requires market { IsMarket market.now.bytes.now }
+    requires account { IsOpen orders.now.bytes.now }
+    requires parts { (m : Market) × (owner : Address) × AreParts market.now.bytes.now orders.now.bytes.now owner m }
+    requires wallets { HasOneCoinMint seen.now }
+    ensures answer { result ≡ refusing.answered
+        (refusing.settle_reason (market_words market.now.bytes.now).terms signer seen.now (account_of orders.now.bytes.now))
+        (leaving.plan_of (settling.settlement (is_some seen.now.referrer) (account_of orders.now.bytes.now))) }
+    ensures out { IfOk result (λ plan. leaving.PaysOut plan (account_of orders.now.bytes.now)) }
+    ensures model { (m : Market) (request : Request) (party : Party) → StandsForMarket market.now.bytes.now m → request.signer ≡ signer →
+        party.account ≡ account_of orders.now.bytes.now → result ≡ refusing.answered (why_settle request seen.now m party)
+        (leaving.plan_of (settling.settlement (is_some seen.now.referrer) party.account)) }
+{
+    decide(market, orders, signer, seen)
+}
+
+/// Takes what is paid out from the deposits, and the referrer part from the rebates, to the fees where it stays.
+pub(crate) fn pay(plan: &SettlePlan, market: &mut MarketView<'_>)
+    requires accepted { IsMarket market.old.bytes.now }
+    requires can_pay { leaving.CanPay plan.now (market_words market.old.bytes.now) }
+    ensures place { market.new.bytes.ghost_name ≡ market.old.bytes.ghost_name }
+    ensures bytes { market.new.bytes.now ≡ leaving.bytes_after plan.now market.old.bytes.now }
+    ensures words { market_words market.new.bytes.now ≡ leaving.words_after plan.now (market_words market.old.bytes.now) }
+    ensures accepted { IsMarket market.new.bytes.now }
+{
+    let coin = market.coin_deposits_total() - plan.coin;
+    let pc = market.pc_deposits_total() - plan.pc;
+    let fees = market.pc_fees_accrued() + plan.to_fees;
+    let rebates = market.referrer_rebates_accrued() - (plan.referrer + plan.to_fees);
+    market.set_coin_deposits_total(coin);
+    market.set_pc_deposits_total(pc);
+    market.set_pc_fees_accrued(fees);
+    market.set_referrer_rebates_accrued(rebates);
+}
+
+/// Takes all free funds and the referrer part from the account.
+pub(crate) fn pay_out(orders: &mut OrdersView<'_>)
+    requires { IsOpen orders.old.bytes.now }
+    ensures place { orders.new.bytes.ghost_name ≡ orders.old.bytes.ghost_name }
+    ensures bytes { orders.new.bytes.now ≡ funded orders.old.bytes.now (leaving.funds_after (account_of orders.old.bytes.now)) }
+    ensures market { market_of orders.new.bytes.now ≡ market_of orders.old.bytes.now }
+    ensures words { account_of orders.new.bytes.now ≡ settling.settled_account (account_of orders.old.bytes.now) }
+    ensures accepted { IsOpen orders.new.bytes.now }
+{
+    let funds = orders.funds();
+    orders.set_funds(Funds {
+        coin_free: 0,
+        coin_total: funds.coin_total - funds.coin_free,
+        pc_free: 0,
+        pc_total: funds.pc_total - funds.pc_free,
+        referrer: 0,
+    });
+}
+
+/// Settles the account as it was decided: of the market account the deposits, the pc fees and the referrer rebates
+/// are written, of the open-orders account the funds and the referrer part; all other bytes stay.
+pub fn apply_settle(plan: &SettlePlan, market: &mut MarketView<'_>, orders: &mut OrdersView<'_>)
+    requires market { IsMarket market.old.bytes.now }
+    requires account { IsOpen orders.old.bytes.now }
+    requires parts { (m : Market) × (owner : Address) × AreParts market.old.bytes.now orders.old.bytes.now owner m }
+    requires decided { leaving.PaysOut plan.now (account_of orders.old.bytes.now) }
+    ensures market_place { market.new.bytes.ghost_name ≡ market.old.bytes.ghost_name }
+    ensures market_bytes { market.new.bytes.now ≡ leaving.bytes_after plan.now market.old.bytes.now }
+    ensures market_words { market_words market.new.bytes.now ≡ leaving.words_after plan.now (market_words market.old.bytes.now) }
+    ensures market_accepted { IsMarket market.new.bytes.now }
+    ensures orders_place { orders.new.bytes.ghost_name ≡ orders.old.bytes.ghost_name }
+    ensures orders_bytes { orders.new.bytes.now ≡ funded orders.old.bytes.now (leaving.funds_after (account_of orders.old.bytes.now)) }
+    ensures orders_market { market_of orders.new.bytes.now ≡ market_of orders.old.bytes.now }
+    ensures orders_words { account_of orders.new.bytes.now ≡ settling.settled_account (account_of orders.old.bytes.now) }
+    ensures orders_accepted { IsOpen orders.new.bytes.now }
+    ensures market_after { (m : Market) (owner : Address) → AreParts market.old.bytes.now orders.old.bytes.now owner m →
+        StandsForMarket market.new.bytes.now (settling.after_settle owner (account_of orders.old.bytes.now) (leaving.settlement_by plan.now) m) }
+    ensures trader_after { (m : Market) (owner : Address) → AreParts market.old.bytes.now orders.old.bytes.now owner m →
+        StandsForTrader orders.new.bytes.now m.listing.address (Open (settling.settled_account (account_of orders.old.bytes.now))) }
+{
+    pay(plan, market);
+    pay_out(orders);
+}

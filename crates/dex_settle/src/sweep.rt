@@ -1,0 +1,80 @@
+//! Sweeping: all pc fees are paid out.
+
+ghost use Rattle.std.specs.Prelude.{◌≡◌};
+ghost use Rattle.dex_types.specs.Market.{Market};
+ghost use Rattle.dex_types.specs.Requests.{Request};
+ghost use Rattle.dex_types.specs.Settle.{after_sweep};
+ghost use Rattle.dex_types.specs.Why.{why_sweep};
+ghost use Rattle.dex_fields.specs.Bytes.{with_number};
+ghost use Rattle.dex_fields.specs.declared.market.TheConstants.{PC_FEES_ACCRUED};
+ghost use Rattle.dex_market.specs.MarketAccount.{IsMarket, market_words};
+ghost use Rattle.dex_market.specs.StandsFor.{StandsForMarket};
+ghost use Rattle.dex_settle.specs.Refusing as refusing;
+
+use crate::plan::SettlePlan;
+use crate::reasons::{missing, not_authority, other_mint, too_full};
+use dex_market::{MarketRef, MarketView};
+use dex_types::{Address, Refusal, Seen};
+
+/// All pc fees to the pc wallet.
+fn plan_of(market: &MarketRef<'_>) -> SettlePlan
+    requires { IsMarket market.now.bytes.now }
+    ensures { result ≡ record { coin = 0; pc = (market_words market.now.bytes.now).pc_fees_accrued; referrer = 0; to_fees = 0 } }
+{
+    SettlePlan {
+        coin: 0,
+        pc: market.pc_fees_accrued(),
+        referrer: 0,
+        to_fees: 0,
+    }
+}
+
+fn refusal_of(
+    market: &MarketRef<'_>,
+    authority: Address,
+    signer: Address,
+    seen: &Seen,
+) -> Option<Refusal>
+    requires { IsMarket market.now.bytes.now }
+    ensures { result ≡ refusing.sweep_reason (market_words market.now.bytes.now) authority signer seen.now }
+{
+    let plan = plan_of(market);
+    missing(seen.pc)
+        .or(not_authority(authority, signer))
+        .or(other_mint(market.pc_mint(), seen.pc))
+        .or(too_full(seen, &plan, seen.pc))
+}
+
+/// The native pc that sweeping pays to the pc wallet, which is all pc fees, or why it is refused. It reads only.
+///
+/// Refused are, in this order: a row that names no pc wallet; a signer who is not the market's authority; a pc wallet
+/// of another mint; one whose balance would be 2^64 or more with the fees.
+pub fn decide_sweep(
+    market: &MarketRef<'_>,
+    authority: Address,
+    signer: Address,
+    seen: &Seen,
+) -> Result<u64, Refusal>
+    requires { IsMarket market.now.bytes.now }
+    ensures answer { result ≡ refusing.answered (refusing.sweep_reason (market_words market.now.bytes.now) authority signer seen.now)
+        (market_words market.now.bytes.now).pc_fees_accrued }
+    ensures model { (m : Market) (request : Request) → StandsForMarket market.now.bytes.now m → m.listing.authority ≡ authority → request.signer ≡ signer →
+        result ≡ refusing.answered (why_sweep request seen.now m) m.pc_fees }
+{
+    match refusal_of(market, authority, signer, seen) {
+        Some(why) => Err(why),
+        None => Ok(market.pc_fees_accrued()),
+    }
+}
+
+/// Sweeps the fees as it was decided: the pc fees are 0; all other bytes stay.
+pub fn apply_sweep(market: &mut MarketView<'_>)
+    requires { IsMarket market.old.bytes.now }
+    ensures place { market.new.bytes.ghost_name ≡ market.old.bytes.ghost_name }
+    ensures bytes { market.new.bytes.now ≡ with_number market.old.bytes.now PC_FEES_ACCRUED 0 }
+    ensures words { market_words market.new.bytes.now ≡ record (market_words market.old.bytes.now) { pc_fees_accrued = 0 } }
+    ensures accepted { IsMarket market.new.bytes.now }
+    ensures after { (m : Market) → StandsForMarket market.old.bytes.now m → StandsForMarket market.new.bytes.now (after_sweep m) }
+{
+    market.set_pc_fees_accrued(0);
+}
