@@ -5,7 +5,7 @@ use Rattle.dex_types.specs.declared.orders.Order.{Order}
 use Rattle.dex_types.specs.declared.terms.Side.{Side}
 use Rattle.dex_types.specs.BookSide.{with_lots}
 use Rattle.dex_types.specs.Cancel.{order_with, without_order}
-use Rattle.dex_types.specs.Posting.{InBookOrder, PrecedesAll, posted}
+use Rattle.dex_types.specs.Posting.{posted}
 use Rattle.dex_types.specs.Side.{precedes}
 
 -- a fact of each order's id
@@ -86,18 +86,3 @@ AllIds-front Holds (x ∷ xs) ys h = (h.0, AllIds-front Holds xs ys h.1)
 pub AllIds-back : (Holds : ℕ → Type 0) (xs ys : List Order) → AllIds Holds (xs ++ ys) → AllIds Holds ys
 AllIds-back Holds [] ys h = h
 AllIds-back Holds (x ∷ xs) ys h = AllIds-back Holds xs ys h.1
-
--- joined lists are in book order where both are and each of the first stands before each of the second
-pub PrecedesAll-from : (side : Side) (id : ℕ) (xs : List Order) → AllIds (λ other. precedes side id other ≡ true) xs → PrecedesAll side id xs
-PrecedesAll-from side id [] h = tt
-PrecedesAll-from side id (x ∷ xs) h = (h.0, PrecedesAll-from side id xs h.1)
-
-PrecedesAll-append : (side : Side) (id : ℕ) (xs ys : List Order) → PrecedesAll side id xs → PrecedesAll side id ys → PrecedesAll side id (xs ++ ys)
-PrecedesAll-append side id [] ys hx hy = hy
-PrecedesAll-append side id (x ∷ xs) ys hx hy = (hx.0, PrecedesAll-append side id xs ys hx.1 hy)
-
-pub InBookOrder-append : (side : Side) (xs ys : List Order) → InBookOrder side xs → InBookOrder side ys
-    → AllIds (λ id. PrecedesAll side id ys) xs → InBookOrder side (xs ++ ys)
-InBookOrder-append side [] ys hx hy h = hy
-InBookOrder-append side (x ∷ xs) ys hx hy h =
-    (PrecedesAll-append side x.id xs ys hx.0 h.0, InBookOrder-append side xs ys hx.1 hy h.1)

@@ -1,19 +1,15 @@
 -- A slab by the tree that its bytes hold, and as a side of the book.
-use Rattle.std.proofs.Common.{◌≡◌, ℕ, ◌+◌, ◌≤◌, ◌⊎◌, inl, inr, List, [], length, Option, Some, None, IfSome, refl, sym, ap, ◌∙◌, subst, arith}
-use Rattle.std.specs.List.{All}
+use Rattle.std.proofs.Common.{◌≡◌, ℕ, ◌+◌, ◌≤◌, ◌⊎◌, inl, inr, List, length, Option, Some, None, IfSome, refl, sym, ap, ◌∙◌, subst, arith}
 use Rattle.std.proofs.lemmas.Bool.{cases_eq, eq-eqb, ne_eqb}
 use Rattle.std.proofs.lemmas.List.{length-append}
-use Rattle.std.proofs.lemmas.List.Elements.{All-append, All-cons, All-nil}
 use Rattle.dex_types.specs.declared.terms.Side.{Side}
-use Rattle.dex_types.specs.declared.terms.Side.TheVariants.{Bid, Ask}
-use Rattle.dex_types.specs.BookSide.{CanRest, IsBookSide}
 use Rattle.dex_slab.specs.Held.{Holds}
 use Rattle.dex_slab.specs.Nodes.{count_of, root_of}
 use Rattle.dex_slab.specs.Path.{top_of}
-use Rattle.dex_slab.specs.Slab.{IsShared, IsSlab, IsSlabSize, IsTree, free_of, leaves_in, nodes_in, orders_in, resting, room_in, tree_of}
-use Rattle.dex_slab.specs.Tree.{Tree, Leaf, Inner, Other, CanAllRest, IsKnown, leaves_of, nodes_of, orders_of, tree_from}
+use Rattle.dex_slab.specs.Slab.{IsShared, IsSlab, IsSlabSize, IsTree, free_of, leaves_in, nodes_in, orders_in, room_in, tree_of}
+use Rattle.dex_slab.specs.Tree.{Tree, Leaf, Inner, Other, IsKnown, leaves_of, nodes_of, tree_from}
 use Rattle.dex_slab.proofs.Holding.{Holds-from, top-tree_from, tree_from-held}
-use Rattle.dex_slab.proofs.TreeOrders.{in_order, length-orders_of}
+use Rattle.dex_slab.proofs.TreeOrders.{length-orders_of}
 
 -- the tree is held from the root on
 pub record IsHeld (bytes : List ℕ) (t : Tree) : Type 0 where
@@ -90,15 +86,7 @@ held_of bytes good =
 pub stands_of : (bytes : List ℕ) → IsSlab bytes → Stands bytes (tree_of bytes)
 stands_of bytes h = record { size = h.size; shared = h.shared; count = h.count; good = h.tree; held = held_of bytes h.tree }
 
--- ---- a slab as a side of the book
-
-All-of : (side : Side) (t : Tree) → CanAllRest t → All CanRest (orders_of side t)
-All-of side (Leaf node order) h = All-cons CanRest order [] h (All-nil CanRest)
-All-of Bid (Inner node prefix key first second) h =
-    All-append CanRest (orders_of Bid second) (orders_of Bid first) (All-of Bid second h.1) (All-of Bid first h.0)
-All-of Ask (Inner node prefix key first second) h =
-    All-append CanRest (orders_of Ask first) (orders_of Ask second) (All-of Ask first h.0) (All-of Ask second h.1)
-All-of side (Other node) h = All-nil CanRest
+-- ---- how many orders there are
 
 -- how many orders a slab lists
 pub length-orders_in : (side : Side) (tree : Option Tree) → length (orders_in side tree) ≡ leaves_in tree
@@ -109,15 +97,3 @@ pub leaves-room : (bytes : List ℕ) (tree : Option Tree) → Stands bytes tree 
 leaves-room bytes None h = omega arith
 leaves-room bytes (Some t) h =
     omega (arith, nodes-leaves t h.good.known, length-append (nodes_of t) (free_of bytes), h.shared.whole, h.shared.bump)
-
-book_side_by : (side : Side) (bytes : List ℕ) (tree : Option Tree) → Stands bytes tree → IsBookSide side (room_in bytes) (orders_in side tree)
-book_side_by side bytes None h = record { in_order = tt; can_rest = All-nil CanRest; within = omega arith }
-book_side_by side bytes (Some t) h = record {
-  in_order = in_order side t h.good.keys;
-  can_rest = All-of side t h.good.can_rest;
-  within = omega (arith, length-orders_of side t, leaves-room bytes (Some t) h);
-}
-
--- a slab lists a side's orders
-pub book_side : (side : Side) (bytes : List ℕ) → IsSlab bytes → IsBookSide side (room_in bytes) (resting side bytes)
-book_side side bytes h = book_side_by side bytes (tree_of bytes) (stands_of bytes h)

@@ -5,12 +5,11 @@ use Rattle.std.proofs.lemmas.List.{length-append}
 use Rattle.dex_types.specs.declared.orders.Order.{Order}
 use Rattle.dex_types.specs.declared.terms.Side.{Side}
 use Rattle.dex_types.specs.declared.terms.Side.TheVariants.{Bid, Ask}
-use Rattle.dex_types.specs.Posting.{InBookOrder, PrecedesAll}
 use Rattle.dex_types.specs.Side.{precedes}
 use Rattle.dex_slab.specs.Path.{Path, Root, InFirst, InSecond, Leads, plug}
 use Rattle.dex_slab.specs.Tree.{Tree, Leaf, Inner, Other, AllKeys, Begins, KeysAgree, leaves_of, orders_of}
 use Rattle.dex_slab.specs.Walks.{RestsIn}
-use Rattle.dex_slab.proofs.IdLists.{AllIds, AllIds-append, AllIds-map, HasId, HasId-append, InBookOrder-append, PrecedesAll-from}
+use Rattle.dex_slab.proofs.IdLists.{AllIds, AllIds-append, AllIds-map, HasId, HasId-append}
 use Rattle.dex_slab.proofs.KeyBits.{Begins-lt}
 use Rattle.dex_slab.proofs.Plugs.{keys-part}
 
@@ -30,38 +29,6 @@ length-orders_of Bid (Inner node prefix key first second) =
 length-orders_of Ask (Inner node prefix key first second) =
     omega (arith, length-append (orders_of Ask first) (orders_of Ask second), length-orders_of Ask first, length-orders_of Ask second)
 length-orders_of side (Other node) = refl
-
--- ---- in book order
-
-lower_ask : (id : ℕ) (xs : List Order) → AllIds (λ other. id < other) xs → AllIds (λ other. precedes Ask id other ≡ true) xs
-lower_ask id xs h = AllIds-map (λ other. id < other) (λ other. precedes Ask id other ≡ true) (λ other lt. lt-ltb id other lt) xs h
-
-upper_bid : (id : ℕ) (xs : List Order) → AllIds (λ other. other < id) xs → AllIds (λ other. precedes Bid id other ≡ true) xs
-upper_bid id xs h = AllIds-map (λ other. other < id) (λ other. precedes Bid id other ≡ true) (λ other lt. lt-ltb other id lt) xs h
-
-module _ (prefix key : ℕ) (first second : Tree) (low : AllKeys (Begins prefix key 0) first) (high : AllKeys (Begins prefix key 1) second) where
-  asks_apart : AllIds (λ id. PrecedesAll Ask id (orders_of Ask second)) (orders_of Ask first)
-  asks_apart =
-      AllIds-map (Begins prefix key 0) (λ id. PrecedesAll Ask id (orders_of Ask second))
-      (λ id begins. PrecedesAll-from Ask id (orders_of Ask second) (lower_ask id (orders_of Ask second)
-      (AllIds-map (Begins prefix key 1) (λ other. id < other) (λ other after. Begins-lt prefix key id other begins after) (orders_of Ask second) (AllIds-of (Begins prefix key 1) Ask second high))))
-      (orders_of Ask first) (AllIds-of (Begins prefix key 0) Ask first low)
-
-  bids_apart : AllIds (λ id. PrecedesAll Bid id (orders_of Bid first)) (orders_of Bid second)
-  bids_apart =
-      AllIds-map (Begins prefix key 1) (λ id. PrecedesAll Bid id (orders_of Bid first))
-      (λ id begins. PrecedesAll-from Bid id (orders_of Bid first) (upper_bid id (orders_of Bid first)
-      (AllIds-map (Begins prefix key 0) (λ other. other < id) (λ other before. Begins-lt prefix key other id before begins) (orders_of Bid first) (AllIds-of (Begins prefix key 0) Bid first low))))
-      (orders_of Bid second) (AllIds-of (Begins prefix key 1) Bid second high)
-
--- the leaves of a tree whose keys agree are in book order
-pub in_order : (side : Side) (t : Tree) → KeysAgree t → InBookOrder side (orders_of side t)
-in_order side (Leaf node order) h = (tt, tt)
-in_order Bid (Inner node prefix key first second) h =
-    InBookOrder-append Bid (orders_of Bid second) (orders_of Bid first) (in_order Bid second h.3) (in_order Bid first h.2) (bids_apart prefix key first second h.0 h.1)
-in_order Ask (Inner node prefix key first second) h =
-    InBookOrder-append Ask (orders_of Ask first) (orders_of Ask second) (in_order Ask first h.2) (in_order Ask second h.3) (asks_apart prefix key first second h.0 h.1)
-in_order side (Other node) h = tt
 
 -- ---- the orders beside a part
 
