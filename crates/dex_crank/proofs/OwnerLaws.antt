@@ -9,8 +9,9 @@ use Rattle.dex_types.specs.declared.account_bytes.OrdersAccount.{OrdersAccount}
 use Rattle.dex_types.specs.Accounts.{PlainAccount, orders_account_of}
 use Rattle.dex_types.specs.Addresses.{is_same}
 use Rattle.dex_types.specs.Trader.{Trader, Traders, trader_at, put_trader}
+use Rattle.dex_orders.specs.OrdersAccount.{market_of}
 use Rattle.dex_orders.specs.StandsFor.{trader_of}
-use Rattle.dex_crank.specs.Parts.{entry_of, traders_of}
+use Rattle.dex_crank.specs.Parts.{entry_of, place_of, traders_of}
 use Rattle.dex_crank.specs.PaidBytes.{bytes_at, changed_at}
 use Rattle.dex_crank.specs.Places.{IsFirst}
 
@@ -159,4 +160,23 @@ traders_of-changed_at address change (first ∷ others) bytes found =
     ap traders_of now
     ∙ ap (λ (l : Traders). entry_of first ∷ l) (traders_of-changed_at address change others bytes (sym past ∙ found))
     ∙ sym put)
+    (cases_Bool (is_same address first.address))
+
+-- what the change leaves of each account, of that one too, stays
+pub places-changed_at : (address : Address) (change : List ℕ → List ℕ) (accounts : List PlainAccount)
+    → ((bytes : List ℕ) → bytes_at address accounts ≡ Some bytes → market_of (change bytes) ≡ market_of bytes)
+    → map place_of (changed_at address change accounts) ≡ map place_of accounts
+places-changed_at address change [] stays = refl
+places-changed_at address change (first ∷ others) stays =
+    ⊎_elim
+    (λ (same : is_same address first.address ≡ true).
+    let at : bytes_at address (first ∷ others) ≡ Some first.bytes = cond-true _ _ _ same in
+    let now : changed_at address change (first ∷ others) ≡ with_change change first ∷ others = cond-true _ _ _ same in
+    let entry : Address → List (Address × Address) = λ market. (first.address, market) ∷ map place_of others in
+    ap (map place_of) now ∙ ap entry (stays first.bytes at))
+    (λ (apart : is_same address first.address ≡ false).
+    let past : bytes_at address (first ∷ others) ≡ bytes_at address others = cond-false _ _ _ apart in
+    let now : changed_at address change (first ∷ others) ≡ first ∷ changed_at address change others = cond-false _ _ _ apart in
+    ap (map place_of) now
+    ∙ ap (λ (l : List (Address × Address)). place_of first ∷ l) (places-changed_at address change others (λ bytes found. stays bytes (past ∙ found))))
     (cases_Bool (is_same address first.address))

@@ -8,7 +8,7 @@ use Rattle.dex_fields.specs.Bytes.{number_in}
 use Rattle.dex_orders.specs.OrdersAccount.{IsOpen, IsOrders, account_of}
 use Rattle.dex_orders.specs.StandsFor.{trader_of}
 use Rattle.dex_orders.proofs.Verdicts.{open_from_flags}
-use Rattle.dex_ring.specs.Ring.{IsEventQueue, events_of}
+use Rattle.dex_ring.specs.Ring.{IsEventQueue, Ring, events_of, ring_of}
 use Rattle.dex_sound.specs.Fields.{AccountFits, CanBePaid}
 use Rattle.dex_sound.proofs.CrankSound.{crank-sound}
 use Rattle.dex_sound.proofs.FieldLaws.{events-pay, fields-fit}
@@ -22,8 +22,8 @@ use Rattle.dex_types.specs.Side.{Coin, Pc}
 use Rattle.dex_types.specs.Soundness.{IsSound, event_holding, held_by}
 use Rattle.dex_types.specs.Trader.{Account, Trader, Blank, Closed, Open, trader_at, put_trader}
 use Rattle.dex_crank.specs.PaidBytes.{CanTake, CrankBytes, HasOwner, IsPaid, bytes_at, changed_at, paid_in}
-use Rattle.dex_crank.specs.Parts.{AreAccepted, AreOf, traders_of}
-use Rattle.dex_crank.proofs.OwnerLaws.{All-bytes_at, All-changed_at, Stands, stands-of, traders_of-changed_at}
+use Rattle.dex_crank.specs.Parts.{AreAccepted, AreOf, Keeps, traders_of}
+use Rattle.dex_crank.proofs.OwnerLaws.{All-bytes_at, All-changed_at, Stands, places-changed_at, stands-of, traders_of-changed_at}
 use Rattle.dex_crank.proofs.PaymentLaws.{FitsFunds-from}
 
 -- ---- an account that stands for an open trader
@@ -125,3 +125,20 @@ module _ (bytes : CrankBytes) (accepted : AreAccepted bytes) (m : Market) (parts
       accounts =
           All-changed_at IsOrders event.owner (paid_in event) bytes.accounts accepted.accounts (λ owned found. inr (inl (paid owned found).accepted));
     }
+
+-- what a payment keeps, and a payment after others
+pub Keeps-paid : (event : QueuedEvent) (before : CrankBytes) (queue : List ℕ) (events : List QueuedEvent) → ring_of queue ≡ record (ring_of before.queue) { events = events }
+    → ((owned : List ℕ) → bytes_at event.owner before.accounts ≡ Some owned → IsPaid event owned)
+    → Keeps before (record { queue = queue; accounts = changed_at event.owner (paid_in event) before.accounts })
+Keeps-paid event before queue events ring paid = record {
+  capacity = ap (λ (r : Ring). r.capacity) ring;
+  appended = ap (λ (r : Ring). r.seq_num) ring;
+  places = places-changed_at event.owner (paid_in event) before.accounts (λ owned found. (paid owned found).market);
+}
+
+pub Keeps-more : (first between last : CrankBytes) → Keeps first between → Keeps between last → Keeps first last
+Keeps-more first between last kept more = record {
+  capacity = more.capacity ∙ kept.capacity;
+  appended = more.appended ∙ kept.appended;
+  places = more.places ∙ kept.places;
+}

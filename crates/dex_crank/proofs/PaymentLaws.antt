@@ -2,7 +2,7 @@
 use Rattle.std.proofs.Common.{◌≡◌, ℕ, ◌+◌, ◌-◌, ◌≤◌, ◌<◌, ◌^◌, true, false, cond, eqb, ◌&&◌, List, set, Option, None, refl, sym, ap, ◌∙◌, subst, arith}
 use Rattle.std.proofs.lemmas.Bool.{cond_both, cond-true, cond-false}
 use Rattle.dex_orders.specs.declared.amounts.Funds.{Funds}
-use Rattle.dex_orders.specs.OrdersAccount.{IsOpen, account_of, funded, funds_of, removed, with_funds}
+use Rattle.dex_orders.specs.OrdersAccount.{IsOpen, account_of, funded, funds_of, market_of, removed, with_funds}
 use Rattle.dex_sound.specs.Fields.{AccountFits}
 use Rattle.dex_types.specs.declared.addresses.Address.{Address}
 use Rattle.dex_types.specs.declared.terms.Side.TheVariants.{Bid, Ask}
@@ -90,20 +90,22 @@ words-paid event bytes =
     let a = account_of bytes in
     paid_as-parts a.person a.coin.free a.coin.total a.pc.free a.pc.total a.referrer a.slots event event.kind
 
-module _ (event : QueuedEvent) (old paid : List ℕ) (made : paid ≡ funded old (funds_after event old)) (words : account_of paid ≡ with_funds (funds_after event old) (account_of old)) where
+module _ (event : QueuedEvent) (old paid : List ℕ) (made : paid ≡ funded old (funds_after event old)) (words : account_of paid ≡ with_funds (funds_after event old) (account_of old))
+    (stays : market_of paid ≡ market_of old) where
   -- the event is the last of its order
   module _ (final : is_final event ≡ true) (new : List ℕ) (freed : new ≡ removed paid event.slot) where
     pub paid_in-final : new ≡ paid_in event old
     unfolding paid_in
     paid_in-final = freed ∙ ap (λ (b : List ℕ). removed b event.slot) made ∙ sym (cond-true (is_final event) _ _ final)
 
-    pub IsPaid-final : account_of new ≡ record (account_of paid) { slots = set (account_of paid).slots event.slot None } → IsOpen new → IsPaid event old
-    IsPaid-final now accepted = record {
+    pub IsPaid-final : account_of new ≡ record (account_of paid) { slots = set (account_of paid).slots event.slot None } → market_of new ≡ market_of paid → IsOpen new → IsPaid event old
+    IsPaid-final now on_market accepted = record {
       accepted = subst IsOpen paid_in-final accepted;
       words =
           ap account_of (sym paid_in-final) ∙ now
           ∙ ap (λ (a : Account). record a { slots = set a.slots event.slot None }) words
           ∙ sym (words-paid event old ∙ cond-true (is_final event) _ _ final);
+      market = ap market_of (sym paid_in-final) ∙ on_market ∙ stays;
     }
 
   -- more of its order is to come
@@ -116,4 +118,5 @@ module _ (event : QueuedEvent) (old paid : List ℕ) (made : paid ≡ funded old
     IsPaid-more accepted = record {
       accepted = subst IsOpen paid_in-more accepted;
       words = ap account_of (sym paid_in-more) ∙ words ∙ sym (words-paid event old ∙ cond-false (is_final event) _ _ more);
+      market = ap market_of (sym paid_in-more) ∙ stays;
     }

@@ -4,7 +4,7 @@ ghost use Rattle.std.specs.Prelude.{◌≡◌, ℕ, ◌<◌, List, IsSome, Some,
 ghost use Rattle.dex_types.specs.declared.account_bytes.OrdersAccount.{OrdersAccount};
 ghost use Rattle.dex_types.specs.Accounts.{orders_account_of};
 ghost use Rattle.dex_types.specs.QueuedEvent.{decoded_event};
-ghost use Rattle.dex_orders.specs.OrdersAccount.{IsOpen, account_of, funded, funds_of, removed, with_funds};
+ghost use Rattle.dex_orders.specs.OrdersAccount.{IsOpen, account_of, funded, funds_of, market_of, removed, with_funds};
 ghost use Rattle.dex_crank.specs.Funds.{FitsFunds, paid_funds};
 ghost use Rattle.dex_crank.specs.PaidBytes.{CanTake, HasOwner, IsPaid, bytes_at, changed_at, paid_in};
 ghost use Rattle.dex_crank.specs.Places.{IsFirst};
@@ -20,6 +20,7 @@ fn pay_funds(bytes: &mut [u8], event: &Event)
     requires accepted { IsOpen bytes.old }
     requires fits { FitsFunds (decoded_event event.now).kind (decoded_event event.now) (funds_of (account_of bytes.old)) }
     ensures bytes { bytes.new ≡ funded bytes.old (paid_funds (decoded_event event.now).kind (decoded_event event.now) (funds_of (account_of bytes.old))) }
+    ensures market { market_of bytes.new ≡ market_of bytes.old }
     ensures words { account_of bytes.new ≡ with_funds (paid_funds (decoded_event event.now).kind (decoded_event event.now) (funds_of (account_of bytes.old))) (account_of bytes.old) }
     ensures accepted { IsOpen bytes.new }
 {
@@ -33,6 +34,7 @@ fn free_slot(bytes: &mut [u8], slot: u8)
     requires accepted { IsOpen bytes.old }
     requires taken { IsSome (slice_index_or (account_of bytes.old).slots slot None) }
     ensures bytes { bytes.new ≡ removed bytes.old slot }
+    ensures market { market_of bytes.new ≡ market_of bytes.old }
     ensures words { account_of bytes.new ≡ record (account_of bytes.old) { slots = slice_set (account_of bytes.old).slots slot None } }
     ensures accepted { IsOpen bytes.new }
 {

@@ -6,7 +6,7 @@ ghost use Rattle.dex_types.specs.Market.{Market};
 ghost use Rattle.dex_types.specs.Payment.{after_crank, consumable};
 ghost use Rattle.dex_ring.specs.Ring.{events_of};
 ghost use Rattle.dex_crank.specs.PaidBytes.{crank_bytes, paid_bytes, paid_first};
-ghost use Rattle.dex_crank.specs.Parts.{AreAccepted, AreOf};
+ghost use Rattle.dex_crank.specs.Parts.{AreAccepted, AreOf, Keeps};
 
 use crate::accounts::pay_owner;
 use crate::queue::{goes_on, take_first};
@@ -20,6 +20,7 @@ fn pay_first(queue: &mut [u8], accounts: &mut [OrdersAccount])
     requires pending { 0 < length (events_of queue.old) }
     ensures bytes { crank_bytes queue.new accounts.new ≡ paid_first (crank_bytes queue.old accounts.old) }
     ensures events { events_of queue.new ≡ drop 1 (events_of queue.old) }
+    ensures kept { Keeps (crank_bytes queue.old accounts.old) (crank_bytes queue.new accounts.new) }
     ensures accepted { AreAccepted (crank_bytes queue.new accounts.new) }
     ensures market { (m : Market) → AreOf (crank_bytes queue.old accounts.old) m → AreOf (crank_bytes queue.new accounts.new) (after_crank 1 m) }
 {
@@ -37,6 +38,7 @@ fn consume_from(
     requires market { (m : Market) × AreOf (crank_bytes queue.old accounts.old) m }
     ensures count { result ≡ consumable limit named.now (events_of queue.old) }
     ensures bytes { crank_bytes queue.new accounts.new ≡ paid_bytes result (crank_bytes queue.old accounts.old) }
+    ensures kept { Keeps (crank_bytes queue.old accounts.old) (crank_bytes queue.new accounts.new) }
     ensures accepted { AreAccepted (crank_bytes queue.new accounts.new) }
     ensures market { (m : Market) → AreOf (crank_bytes queue.old accounts.old) m → AreOf (crank_bytes queue.new accounts.new) (after_crank result m) }
 {
@@ -67,6 +69,7 @@ pub fn consume(
     ensures count { result ≡ consumable limit named.now (events_of ring.old.bytes.now) }
     ensures place { ring.new.bytes.ghost_name ≡ ring.old.bytes.ghost_name }
     ensures bytes { crank_bytes ring.new.bytes.now accounts.new ≡ paid_bytes result (crank_bytes ring.old.bytes.now accounts.old) }
+    ensures kept { Keeps (crank_bytes ring.old.bytes.now accounts.old) (crank_bytes ring.new.bytes.now accounts.new) }
     ensures accepted { AreAccepted (crank_bytes ring.new.bytes.now accounts.new) }
     ensures market { (m : Market) → AreOf (crank_bytes ring.old.bytes.now accounts.old) m
         → AreOf (crank_bytes ring.new.bytes.now accounts.new) (after_crank result m) }

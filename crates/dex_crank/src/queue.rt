@@ -2,7 +2,7 @@
 
 ghost use Rattle.std.specs.Prelude.{◌≡◌, ◌<◌, ◌∷◌, length, drop};
 ghost use Rattle.dex_types.specs.QueuedEvent.{decoded_event};
-ghost use Rattle.dex_ring.specs.Ring.{IsEventQueue, events_of, popped};
+ghost use Rattle.dex_ring.specs.Ring.{IsEventQueue, events_of, popped, ring_of};
 ghost use Rattle.dex_crank.specs.PaidBytes.{goes_on};
 
 use crate::addresses::is_named;
@@ -27,6 +27,7 @@ pub fn take_first(bytes: &mut [u8]) -> Event
     requires pending { 0 < length (events_of bytes.old) }
     ensures bytes { bytes.new ≡ popped bytes.old }
     ensures event { events_of bytes.old ≡ decoded_event result ∷ events_of bytes.new }
+    ensures ring { ring_of bytes.new ≡ record (ring_of bytes.old) { events = drop 1 (ring_of bytes.old).events } }
     ensures accepted { IsEventQueue bytes.new }
 {
     RingView { bytes }.pop_front()

@@ -6,6 +6,7 @@ use Rattle.dex_types.specs.Payment.{after_crank, consumable}
 use Rattle.dex_crank.specs.PaidBytes.{CrankBytes, crank_bytes, goes_on, paid_bytes, paid_first}
 use Rattle.dex_crank.specs.Parts.{AreOf}
 use Rattle.dex_crank.proofs.CountLaws.{consumable-more, consumable-none}
+use Rattle.dex_crank.proofs.PartLaws.{Keeps-more}
 use Rattle.dex_crank.proofs.crank.consume_from.Goals as goal
 
 pub loop-count-preserved : goal.loop-count-preserved
@@ -17,6 +18,7 @@ loop-count-preserved c =
     let some : 0 < left = omega arith in
     record {
       bytes = c.pay_first.ensures.bytes ∙ ap paid_first c.loop-count.invariant.bytes ∙ ap (λ (n : ℕ). paid_bytes n before) next;
+      kept = Keeps-more before (crank_bytes c.loop-count.queue c.loop-count.accounts) (crank_bytes c.pay_first.new.queue c.pay_first.new.accounts) c.loop-count.invariant.kept c.pay_first.ensures.kept;
       accepted = c.pay_first.ensures.accepted;
       market = λ m parts.
           subst (λ (behind : Market). AreOf (crank_bytes c.pay_first.new.queue c.pay_first.new.accounts) behind) (after_crank-add count 1 m)

@@ -8,8 +8,8 @@ use Rattle.dex_types.specs.Accounts.{PlainAccount, orders_account_of}
 use Rattle.dex_types.specs.Payment.{after_crank}
 use Rattle.dex_types.specs.QueuedEvent.{QueuedEvent, decoded_event}
 use Rattle.dex_crank.specs.PaidBytes.{CrankBytes, changed_at, crank_bytes, paid_first, paid_in}
-use Rattle.dex_crank.specs.Parts.{AreAccepted, AreOf}
-use Rattle.dex_crank.proofs.PartLaws.{AreAccepted-after, AreOf-after, has_owner}
+use Rattle.dex_crank.specs.Parts.{AreAccepted, AreOf, Keeps}
+use Rattle.dex_crank.proofs.PartLaws.{AreAccepted-after, AreOf-after, Keeps-paid, has_owner}
 use Rattle.dex_crank.proofs.crank.pay_first.Goals as goal
 
 same_first : (x y : QueuedEvent) (xs ys : List QueuedEvent) → x ∷ xs ≡ y ∷ ys → x ≡ y
@@ -33,6 +33,13 @@ returns-clause-bytes c =
     let made : List ℕ → List PlainAccount → CrankBytes = λ q a. record { queue = q; accounts = a } in
     ap (λ (q : List ℕ). made q (map orders_account_of c.pay_owner.new.accounts)) c.take_first-event.ensures.bytes
     ∙ ap (made (popped queue)) (c.pay_owner.ensures.accounts ∙ ap (λ (e : QueuedEvent). changed_at e.owner (paid_in e) accounts) same)
+
+pub returns-clause-kept : goal.returns-clause-kept
+returns-clause-kept c =
+    let before : CrankBytes = crank_bytes c.args.queue.now c.args.accounts.now in
+    let whole : List PlainAccount → CrankBytes = λ a. record { queue = c.take_first-event.new.bytes; accounts = a } in
+    subst (λ (a : List PlainAccount). Keeps before (whole a)) (sym c.pay_owner.ensures.accounts)
+    (Keeps-paid (decoded_event c.take_first-event.result) before c.take_first-event.new.bytes _ c.take_first-event.ensures.ring c.pay_owner.ensures.paid)
 
 pub returns-clause-accepted : goal.returns-clause-accepted
 returns-clause-accepted c =
