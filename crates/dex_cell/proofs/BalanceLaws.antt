@@ -43,7 +43,7 @@ pub record ArePaid (t : Transfers) (m : Market) : Type 0 where
   pub coin : t.coin_out ≤ m.coin_vault
   pub pc : t.pc_out + t.referrer_out ≤ m.pc_vault
 
-settle-paid : (m : Market) (owner : Address) (account : Account) (has_referrer : Bool) → IsSound m → trader_at owner m.traders ≡ Some (Open account)
+pub settle-paid : (m : Market) (owner : Address) (account : Account) (has_referrer : Bool) → IsSound m → trader_at owner m.traders ≡ Some (Open account)
     → ArePaid (settle_transfers (settlement has_referrer account)) m
 settle-paid m owner account has_referrer sound found = record {
   coin = (pays-out m sound).coin owner account found;
@@ -54,10 +54,10 @@ settle-paid m owner account has_referrer sound found = record {
   );
 }
 
-sweep-paid : (m : Market) → IsSound m → ArePaid (sweep_transfers m) m
+pub sweep-paid : (m : Market) → IsSound m → ArePaid (sweep_transfers m) m
 sweep-paid m sound = record { coin = omega arith; pc = omega (arith, sound.funds.solvent.vaults Pc) }
 
-take-paid : (side : Side) (t : Take) (m : Market) → IsSound m → ArePaid (take_transfers side m.listing.sizes t (take_meeting side m.listing.sizes t (orders (opposite side) m))) m
+pub take-paid : (side : Side) (t : Take) (m : Market) → IsSound m → ArePaid (take_transfers side m.listing.sizes t (take_meeting side m.listing.sizes t (orders (opposite side) m))) m
 take-paid Bid t m sound = record {
   coin = omega (arith, sound.funds.solvent.vaults Coin, meet-moved_le Bid (take_terms m.listing.sizes t) (take_demand Bid m.listing.sizes t) m.asks);
   pc = omega arith;
@@ -104,7 +104,7 @@ apart-amount mint other wallet (Some found) amount apart here right one =
     let both : mint ≡ other = is_same-true mint wallet.mint here ∙ ap (λ (w : WalletSeen). w.mint) is ∙ sym there in
     false≢true (sym apart ∙ ap (is_same mint) (sym both) ∙ is_same-refl mint)))
 
-apart-back : (m : Market) → is_same m.listing.coin_mint m.listing.pc_mint ≡ false → is_same m.listing.pc_mint m.listing.coin_mint ≡ false
+pub apart-back : (m : Market) → is_same m.listing.coin_mint m.listing.pc_mint ≡ false → is_same m.listing.pc_mint m.listing.coin_mint ≡ false
 apart-back m apart = is_same-sym m.listing.pc_mint m.listing.coin_mint ∙ apart
 
 -- what a wallet in the coin role gets, and one in a role of quote

@@ -5,3 +5,7 @@ pub mod PriceLaws
 pub mod BalanceLaws
 pub mod MoveLaws
 pub mod StepMoves
+pub mod AddressOrder
+pub mod MintLaws
+pub mod StepMints
+pub mod StepConserves

@@ -15,12 +15,12 @@ use Rattle.dex_cell.specs.Moves.{left_by, Moves}
 use Rattle.dex_cell.proofs.BalanceLaws.{IsOneWith, agree-one, agree-one_back, amount-le}
 
 -- a wallet is one with each of these roles
-abbrev AreOneWith : WalletSeen → List (Option WalletSeen) → Type 0
+abbrev pub AreOneWith : WalletSeen → List (Option WalletSeen) → Type 0
 AreOneWith wallet [] = Unit {0}
 AreOneWith wallet (role ∷ roles) = IsOneWith wallet role × AreOneWith wallet roles
 
 -- and in one of them
-abbrev IsIn : WalletSeen → List (Option WalletSeen) → Type 0
+abbrev pub IsIn : WalletSeen → List (Option WalletSeen) → Type 0
 IsIn wallet [] = ⊥
 IsIn wallet (role ∷ roles) = (role ≡ Some wallet) ⊎ IsIn wallet roles
 
@@ -45,48 +45,55 @@ balance-in wallet ((Some first) ∷ roles) one here =
         absurd (let same : is_same wallet.address first.address ≡ true = subst (λ (w : WalletSeen). is_same wallet.address w.address ≡ true) (sym one) (is_same-refl wallet.address) in cc)
     later wallet first roles apart (inr there) = there
 
-abbrev roles_of : Seen → List (Option WalletSeen)
+-- the wallets that a row sees, by their roles
+abbrev pub roles_of : Seen → List (Option WalletSeen)
 roles_of seen = seen.coin ∷ seen.pc ∷ seen.discount ∷ seen.referrer ∷ []
 
 -- a role is one with its own wallet
 one-itself : (wallet : WalletSeen) (role : Option WalletSeen) → role ≡ Some wallet → IsOneWith wallet role
 one-itself wallet role is other there same = let both : Some wallet ≡ Some other = sym is ∙ there in cc
 
+pub coin-one : (row : PlainRow) (seen : Seen) (wallet : WalletSeen) → Sees row seen → seen.coin ≡ Some wallet → AreOneWith wallet (roles_of seen)
+coin-one row seen wallet sees is = (
+  one-itself wallet seen.coin is,
+  (
+    agree-one wallet seen.pc (subst (λ role. Agree role seen.pc) is sees.coin_pc),
+    (
+      agree-one wallet seen.discount (subst (λ role. Agree role seen.discount) is sees.coin_discount),
+      (agree-one wallet seen.referrer (subst (λ role. Agree role seen.referrer) is sees.coin_referrer), tt),
+    ),
+  ),
+)
+
 coin-balance : (row : PlainRow) (seen : Seen) (wallet : WalletSeen) → Sees row seen → seen.coin ≡ Some wallet → balance_seen seen wallet.address ≡ wallet.balance
-coin-balance row seen wallet sees is =
-    balance-in wallet (roles_of seen) (
-      one-itself wallet seen.coin is,
-      (
-        agree-one wallet seen.pc (subst (λ role. Agree role seen.pc) is sees.coin_pc),
-        (
-          agree-one wallet seen.discount (subst (λ role. Agree role seen.discount) is sees.coin_discount),
-          (agree-one wallet seen.referrer (subst (λ role. Agree role seen.referrer) is sees.coin_referrer), tt),
-        ),
-      ),
-    ) (inl is)
+coin-balance row seen wallet sees is = balance-in wallet (roles_of seen) (coin-one row seen wallet sees is) (inl is)
+
+pub pc-one : (row : PlainRow) (seen : Seen) (wallet : WalletSeen) → Sees row seen → seen.pc ≡ Some wallet → AreOneWith wallet (roles_of seen)
+pc-one row seen wallet sees is = (
+  agree-one_back wallet seen.coin (subst (λ role. Agree seen.coin role) is sees.coin_pc),
+  (
+    one-itself wallet seen.pc is,
+    (
+      agree-one wallet seen.discount (subst (λ role. Agree role seen.discount) is sees.pc_discount),
+      (agree-one wallet seen.referrer (subst (λ role. Agree role seen.referrer) is sees.pc_referrer), tt),
+    ),
+  ),
+)
 
 pc-balance : (row : PlainRow) (seen : Seen) (wallet : WalletSeen) → Sees row seen → seen.pc ≡ Some wallet → balance_seen seen wallet.address ≡ wallet.balance
-pc-balance row seen wallet sees is =
-    balance-in wallet (roles_of seen) (
-      agree-one_back wallet seen.coin (subst (λ role. Agree seen.coin role) is sees.coin_pc),
-      (
-        one-itself wallet seen.pc is,
-        (
-          agree-one wallet seen.discount (subst (λ role. Agree role seen.discount) is sees.pc_discount),
-          (agree-one wallet seen.referrer (subst (λ role. Agree role seen.referrer) is sees.pc_referrer), tt),
-        ),
-      ),
-    ) (inr (inl is))
+pc-balance row seen wallet sees is = balance-in wallet (roles_of seen) (pc-one row seen wallet sees is) (inr (inl is))
+
+pub referrer-one : (row : PlainRow) (seen : Seen) (wallet : WalletSeen) → Sees row seen → seen.referrer ≡ Some wallet → AreOneWith wallet (roles_of seen)
+referrer-one row seen wallet sees is = (
+  agree-one_back wallet seen.coin (subst (λ role. Agree seen.coin role) is sees.coin_referrer),
+  (
+    agree-one_back wallet seen.pc (subst (λ role. Agree seen.pc role) is sees.pc_referrer),
+    (agree-one_back wallet seen.discount (subst (λ role. Agree seen.discount role) is sees.discount_referrer), (one-itself wallet seen.referrer is, tt)),
+  ),
+)
 
 referrer-balance : (row : PlainRow) (seen : Seen) (wallet : WalletSeen) → Sees row seen → seen.referrer ≡ Some wallet → balance_seen seen wallet.address ≡ wallet.balance
-referrer-balance row seen wallet sees is =
-    balance-in wallet (roles_of seen) (
-      agree-one_back wallet seen.coin (subst (λ role. Agree seen.coin role) is sees.coin_referrer),
-      (
-        agree-one_back wallet seen.pc (subst (λ role. Agree seen.pc role) is sees.pc_referrer),
-        (agree-one_back wallet seen.discount (subst (λ role. Agree seen.discount role) is sees.discount_referrer), (one-itself wallet seen.referrer is, tt)),
-      ),
-    ) (inr (inr (inr (inl is))))
+referrer-balance row seen wallet sees is = balance-in wallet (roles_of seen) (referrer-one row seen wallet sees is) (inr (inr (inr (inl is))))
 
 -- a payment of the role is covered by its wallet's balance
 abbrev pub Covers : Option WalletSeen → ℕ → Type 0

@@ -294,7 +294,7 @@ unless-can : (reason : Option Refusal) (seen : Seen) (m : Market) (acted : Step)
 unless-can None seen m acted can = can refl
 unless-can (Some refusal) seen m acted can = still seen
 
-row-can : (row : PlainRow) (seen : Seen) (m : Market) → IsSound m → Sees row seen → CanTransfer seen (row_step row seen m).transfers
+pub row-can : (row : PlainRow) (seen : Seen) (m : Market) → IsSound m → Sees row seen → CanTransfer seen (row_step row seen m).transfers
 row-can row seen m sound sees =
     unless-can (why (request_of row) seen m) seen m (act_decoded (request_of row).instruction (request_of row) seen m)
     (decoded-can row (request_of row).instruction (request_of row) seen m sound sees)

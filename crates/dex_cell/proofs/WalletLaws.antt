@@ -10,7 +10,7 @@ use Rattle.dex_types.specs.Wallets.{address_seen, with_role, row_wallets, seen_w
 use Rattle.dex_cell.specs.Journal.{Sees}
 
 -- a movement is of its wallet
-wallet-movement_by : (address : Address) (before taken brought : ℕ) → (movement_by address before taken brought).wallet ≡ address
+pub wallet-movement_by : (address : Address) (before taken brought : ℕ) → (movement_by address before taken brought).wallet ≡ address
 wallet-movement_by address before taken brought =
     cond_both (ltb 0 taken) _ _ (λ (move : Movement). move.wallet ≡ address) (λ some. refl)
     (λ none. cond_both (ltb 0 brought) _ _ (λ (move : Movement). move.wallet ≡ address) (λ some. refl) (λ probe. refl))

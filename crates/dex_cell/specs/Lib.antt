@@ -1,3 +1,4 @@
 pub mod Balances
 pub mod Journal
+pub mod Mints
 pub mod Moves

@@ -1,6 +1,6 @@
 //! Laws of the wallets' balances.
 
-ghost use Rattle.std.specs.Prelude.{◌≡◌, ◌≢◌, ℕ, Some};
+ghost use Rattle.std.specs.Prelude.{◌≡◌, ◌≢◌, ◌+◌, ℕ, Some};
 ghost use Rattle.std.specs.List.{All};
 ghost use Rattle.dex_types.specs.declared.addresses.Address.{Address};
 ghost use Rattle.dex_types.specs.declared.movements.Movement.{Movement};
@@ -8,12 +8,15 @@ ghost use Rattle.dex_types.specs.declared.refusals.Refusal.TheVariants.{BalanceT
 ghost use Rattle.dex_types.specs.declared.rows.Seen.{Seen};
 ghost use Rattle.dex_types.specs.Market.{Market};
 ghost use Rattle.dex_types.specs.Rows.{PlainRow};
+ghost use Rattle.dex_types.specs.Side.{Token};
+ghost use Rattle.dex_types.specs.Solvency.{vault};
 ghost use Rattle.dex_types.specs.Soundness.{IsSound};
 ghost use Rattle.dex_types.specs.Wallets.{movements};
 ghost use Rattle.dex_types.specs.WalletJournal.{CanMove};
 ghost use Rattle.dex_types.specs.Why.{why};
-ghost use Rattle.dex_cell.specs.Balances.{FitVaults};
+ghost use Rattle.dex_cell.specs.Balances.{FitVaults, mint_of};
 ghost use Rattle.dex_cell.specs.Journal.{Sees, request_of, row_step};
+ghost use Rattle.dex_cell.specs.Mints.{MeetVaults, all_debited, all_credited};
 ghost use Rattle.dex_cell.specs.Moves.{Moves};
 
 /// No row is refused for a balance that would be too large, where each wallet that it sees has a balance that is below 2^64
@@ -31,4 +34,16 @@ pub fn a_row_moves_wallets_as_its_transfers_say()
         Moves seen (row_step row seen m).transfers address }
     ensures possible { (row : PlainRow) (seen : Seen) (m : Market) → IsSound m → Sees row seen →
         All (λ (move : Movement). CanMove move.kind move.amount move.before) (movements seen (row_step row seen m).transfers) }
+{}
+
+/// A row makes and loses no amount. Of each token of a sound market, what the row's movements take from wallets of its mint
+/// enters its vault, and what they bring to them leaves it; so wallets and vault of the mint hold together what they held. It
+/// moves no wallet of another mint.
+pub fn a_row_keeps_what_wallets_and_vaults_hold()
+    ensures meets { (row : PlainRow) (seen : Seen) (m : Market) → IsSound m → Sees row seen →
+        let t = (row_step row seen m).transfers in MeetVaults seen m t (movements seen t) }
+    ensures keeps { (row : PlainRow) (seen : Seen) (m : Market) (token : Token) → IsSound m → Sees row seen →
+        let s = row_step row seen m in
+        let moves = movements seen s.transfers in
+        vault token s.market + all_credited seen (mint_of token m) moves ≡ vault token m + all_debited seen (mint_of token m) moves }
 {}

@@ -21,8 +21,7 @@ use Rattle.dex_types.specs.Requests.{Party}
 use Rattle.dex_types.specs.Side.{Token, Coin, Pc, by_side, opposite}
 use Rattle.dex_types.specs.Soundness.{IsSound}
 use Rattle.dex_types.specs.Steps.{Step, cancelled_all, act_cancel}
-use Rattle.dex_types.specs.Totals.{total, weighed_where}
-use Rattle.dex_types.specs.Trader.{Trader}
+use Rattle.dex_types.specs.Totals.{weighed_where}
 use Rattle.dex_types.specs.Why.{why_not_named, why_cancelled}
 use Rattle.dex_laws.proofs.TotalLaws.{total-append}
 use Rattle.dex_sound.proofs.CancelledLaws.{cancelled-rests, cancelled-apart, rests-after}
@@ -30,10 +29,10 @@ use Rattle.dex_sound.proofs.OrderSoundReasons.{first_of-none}
 use Rattle.dex_sound.proofs.WithoutLaws.{total-without}
 use Rattle.dex_sound.specs.Cancels.{Rests, AreApart}
 use Rattle.dex_sound.specs.Kept.{addresses}
-use Rattle.dex_eager.specs.Eager.{Eager, EagerStep, eager_at, orders_on, with_orders, without_all, why_none, cancel_by, eager_cancel}
-use Rattle.dex_eager.specs.Histories.{IsPaidAs, appended}
+use Rattle.dex_eager.specs.Eager.{Eager, eager_at, orders_on, with_orders, without_all, why_none, cancel_by, eager_cancel}
+use Rattle.dex_eager.specs.Histories.{IsPaidAs}
 use Rattle.dex_eager.specs.Slots.{without_slots, maker_fills}
-use Rattle.dex_eager.specs.Worth.{Worth, Ledger, with_step, for_account, deposit_in, settled_in, swept_in, referred_in, held_for, worth_of, own_owed}
+use Rattle.dex_eager.specs.Worth.{Worth, Ledger, with_step, for_account, deposit_in, settled_in, swept_in, referred_in, held_for, worth_of}
 use Rattle.dex_eager.proofs.CancelSlots.{gone_without_slot, order_without_slot, order_with-slots, without_order-slots, cancelled-slots}
 use Rattle.dex_eager.proofs.StepMoves.{eager-same, appended-is, for_account-none}
 use Rattle.dex_eager.proofs.TakeSteps.{orders_on-slots}

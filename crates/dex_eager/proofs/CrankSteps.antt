@@ -1,21 +1,20 @@
 -- a crank moves no worth: what it pays an account was owed to it
-use Rattle.std.proofs.Common.{ℕ, ◌+◌, ◌≡◌, ◌≤◌, Bool, true, false, cond, eqb, List, [], ◌∷◌, Option, Some, None, length, take, drop, refl, sym, ap, ◌∙◌, subst, arith, ⊎_elim, length-drop}
+use Rattle.std.proofs.Common.{ℕ, ◌+◌, ◌≡◌, Bool, true, false, cond, eqb, List, [], ◌∷◌, Option, Some, None, take, drop, refl, sym, ap, ◌∙◌, subst, arith, ⊎_elim, length-drop}
 use Rattle.std.specs.List.{All}
 use Rattle.std.proofs.Math.ListN.{drop_of_length-le}
 use Rattle.std.proofs.lemmas.Bool.{cases_Bool, cond_both}
 use Rattle.std.proofs.lemmas.List.Elements.{All-nil, All-cons, All-head, All-tail, All-weaker, All-take}
 use Rattle.dex_types.specs.declared.addresses.Address.{Address}
-use Rattle.dex_types.specs.declared.terms.Side.{Side}
 use Rattle.dex_types.specs.declared.terms.Side.TheVariants.{Bid, Ask}
 use Rattle.dex_types.specs.Addresses.{is_same}
 use Rattle.dex_types.specs.Market.{Market}
 use Rattle.dex_types.specs.Owed.{owed, owed_as, is_event_of}
-use Rattle.dex_types.specs.Payment.{freed, paid_as, pay, put_paid, pay_owner, pay_all}
+use Rattle.dex_types.specs.Payment.{freed, paid_as, put_paid, pay_owner, pay_all}
 use Rattle.dex_types.specs.QueuedEvent.{EventKind, MakerFill, TakerFill, PlainOut, ReleasingOut, QueuedEvent}
 use Rattle.dex_types.specs.Side.{Token, Coin, Pc}
-use Rattle.dex_types.specs.Soundness.{IsSound, AreHeld, held_at, held_by, event_holding}
+use Rattle.dex_types.specs.Soundness.{IsSound, AreHeld, held_by, event_holding}
 use Rattle.dex_types.specs.Steps.{consumed}
-use Rattle.dex_types.specs.Totals.{total, weighed_where}
+use Rattle.dex_types.specs.Totals.{weighed_where}
 use Rattle.dex_types.specs.Trader.{Account, Holding, Trader, Open, Blank, Closed, Traders, balance, trader_at, put_trader}
 use Rattle.dex_laws.proofs.TotalLaws.{total-take_drop}
 use Rattle.dex_laws.proofs.TraderLaws.{is_same-true, trader_at-put_same, trader_at-put_other}

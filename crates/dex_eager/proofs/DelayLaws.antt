@@ -1,12 +1,11 @@
 -- histories: the eager market's end is the market's, and cranks change neither
-use Rattle.std.proofs.Common.{ℕ, zero, suc, ℤ, pos, ◌+◌, ◌-ℤ◌, ◌+ℤ◌, ◌≡◌, Bool, true, false, not, ◌&&◌, cond, List, [], ◌∷◌, ◌++◌, map, take, Option, Some, None, Result, Ok, Err, refl, sym, ap, ◌∙◌, subst, arith, ⊎_elim}
+use Rattle.std.proofs.Common.{ℕ, zero, suc, pos, ◌+◌, ◌-ℤ◌, ◌≡◌, true, false, not, ◌&&◌, List, [], ◌∷◌, ◌++◌, map, take, Option, Some, None, Result, Ok, Err, refl, sym, ap, ◌∙◌, arith, ⊎_elim}
 use Rattle.std.proofs.lemmas.Bool.{cases_Bool, cond-true, cond-false}
 use Rattle.std.proofs.lemmas.Int.{ints}
 use Rattle.dex_types.specs.declared.addresses.Address.{Address}
 use Rattle.dex_types.specs.declared.instructions.BadData.{BadData}
 use Rattle.dex_types.specs.declared.instructions.Ix.{Ix}
 use Rattle.dex_types.specs.declared.instructions.Ix.TheVariants.{NewOrderV3, SendTake}
-use Rattle.dex_types.specs.declared.replies.Reply.{Reply}
 use Rattle.dex_types.specs.declared.rows.Seen.{Seen}
 use Rattle.dex_types.specs.declared.terms.Program.{Program}
 use Rattle.dex_types.specs.declared.terms.Tier.{Tier}
@@ -14,7 +13,6 @@ use Rattle.dex_types.specs.Market.{Market}
 use Rattle.dex_types.specs.NewOrder.{NewOrder}
 use Rattle.dex_types.specs.QueuedEvent.{QueuedEvent}
 use Rattle.dex_types.specs.Requests.{Request}
-use Rattle.dex_types.specs.Rows.{PlainRow}
 use Rattle.dex_types.specs.Side.{Token}
 use Rattle.dex_types.specs.Solvency.{own_locked}
 use Rattle.dex_types.specs.Soundness.{IsSound}
@@ -26,11 +24,11 @@ use Rattle.dex_laws.proofs.TraderLaws.{is_same-true, traders-induction, trader_a
 use Rattle.dex_sound.proofs.KeepLaws.{step-keeps}
 use Rattle.dex_sound.specs.Kept.{addresses}
 use Rattle.dex_cell.proofs.PriceLaws.{row-sound}
-use Rattle.dex_cell.specs.Journal.{Call, IsLegal, Sees, request_of, step_of, entry_on, market_after}
-use Rattle.dex_eager.specs.Eager.{Eager, EagerStep, Worths, eager_at, worth_at, unchanged, by_account, eager_order, eager_take, eager_act, eager_decoded, eager_step}
+use Rattle.dex_cell.specs.Journal.{Call, IsLegal, request_of, step_of, entry_on, market_after}
+use Rattle.dex_eager.specs.Eager.{Eager, EagerStep, eager_at, worth_at, unchanged, by_account, eager_order, eager_take, eager_act, eager_decoded, eager_step}
 use Rattle.dex_eager.specs.Histories.{IsPaidAs, Fill, Trade, is_refusal, is_crank, counts, counted, trade_of, trades, eager_call, eager_after, eager_start, eager_end, eager_fills, fills_by, fills_of, appended, moves_after, moves_of}
 use Rattle.dex_eager.specs.Slots.{maker_fills}
-use Rattle.dex_eager.specs.Worth.{Worth, Ledger, no_moves, with_step, free_in, own_owed, held_for, worth_in, worth_of}
+use Rattle.dex_eager.specs.Worth.{Worth, Ledger, no_moves, with_step, free_in, own_owed, worth_in, worth_of}
 use Rattle.dex_eager.proofs.HistorySteps.{Goes, step-goes}
 use Rattle.dex_eager.proofs.WorthLists.{worths_by, worths-by}
 

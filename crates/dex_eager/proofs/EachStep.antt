@@ -1,6 +1,6 @@
 -- each step that is not refused does what it does on the eager market
-use Rattle.std.proofs.Common.{ℕ, ◌≡◌, ◌<◌, ◌≤◌, ◌||◌, Bool, true, false, cond, ltb, List, [], ◌∷◌, map, Option, Some, None, Result, Ok, Err, is_some, take, length, refl, sym, ap, ◌∙◌, subst, arith, ⊎_elim}
-use Rattle.std.proofs.lemmas.Bool.{cases_Bool, cond-true, cond-false, ltb-false}
+use Rattle.std.proofs.Common.{ℕ, ◌≡◌, ◌||◌, Bool, true, false, ltb, List, [], ◌∷◌, map, Option, Some, None, Result, Ok, Err, is_some, take, refl, sym, ap, ◌∙◌, subst, arith}
+use Rattle.std.proofs.lemmas.Bool.{cond-true, ltb-false}
 use Rattle.dex_types.specs.declared.addresses.Address.{Address}
 use Rattle.dex_types.specs.declared.instructions.BadData.{BadData}
 use Rattle.dex_types.specs.declared.instructions.Ix.{Ix}
@@ -8,25 +8,23 @@ use Rattle.dex_types.specs.declared.instructions.Ix.TheVariants.{InitializeMarke
 use Rattle.dex_types.specs.declared.refusals.Refusal.{Refusal}
 use Rattle.dex_types.specs.declared.rows.Seen.{Seen}
 use Rattle.dex_types.specs.declared.terms.Side.{Side}
-use Rattle.dex_types.specs.Addresses.{is_same}
 use Rattle.dex_types.specs.Cancel.{CancelBy, ById, ByClient, ByClients, First}
-use Rattle.dex_types.specs.Market.{Market, orders}
+use Rattle.dex_types.specs.Market.{Market}
 use Rattle.dex_types.specs.NewOrder.{NewOrder}
 use Rattle.dex_types.specs.Payment.{consumable}
 use Rattle.dex_types.specs.Reasons.{first_of, disabled, not_owner, not_authority, not_blank, not_empty}
 use Rattle.dex_types.specs.Requests.{Request, Party, open_party, party_of}
 use Rattle.dex_types.specs.Soundness.{IsSound}
-use Rattle.dex_types.specs.Steps.{Step, step, by_party, act_order, act_take, act_cancel, act_settle, act_init, act_close, act, act_decoded, unless_refused}
-use Rattle.dex_types.specs.Take.{Take}
+use Rattle.dex_types.specs.Steps.{Step, step, by_party, act_order, act_cancel, act_settle, act_init, act_close, act, act_decoded, unless_refused}
 use Rattle.dex_types.specs.Terms.{terms_order, terms_take}
-use Rattle.dex_types.specs.Trader.{Account, Trader, Open, Blank, Closed, Traders, trader_at}
+use Rattle.dex_types.specs.Trader.{Trader, Open, Blank, Closed, Traders, trader_at}
 use Rattle.dex_types.specs.Upkeep.{taken_slots, all_funds}
-use Rattle.dex_types.specs.Why.{of_party, why_blank, why_init, why_close, why_order, why_cancelled, why_cancel, why_prune, why_settle, why_decoded, why_instruction, why}
-use Rattle.dex_laws.proofs.TraderLaws.{traders-induction, trader_at-here, trader_at-there}
+use Rattle.dex_types.specs.Why.{of_party, why_blank, why_close, why_order, why_cancelled, why_cancel, why_prune, why_settle, why_decoded, why_instruction, why}
+use Rattle.dex_laws.proofs.TraderLaws.{traders-induction, trader_at-there}
 use Rattle.dex_sound.proofs.KeepLaws.{step-keeps}
 use Rattle.dex_sound.proofs.OrderSoundReasons.{first_of-none, refused_where-none}
 use Rattle.dex_sound.specs.Kept.{KeepsMarket}
-use Rattle.dex_eager.specs.Eager.{Eager, EagerStep, Worths, eager_at, has_account, unchanged, by_account, eager_order, eager_cancel, eager_act, eager_decoded, eager_step}
+use Rattle.dex_eager.specs.Eager.{EagerStep, eager_at, has_account, unchanged, by_account, eager_order, eager_cancel, eager_act, eager_decoded, eager_step}
 use Rattle.dex_eager.specs.Histories.{IsPaidAs}
 use Rattle.dex_eager.specs.Worth.{Worth, Ledger, worth_of}
 use Rattle.dex_eager.proofs.CancelSteps.{cancelled-paid}

@@ -1,5 +1,5 @@
 -- settling, sweeping, and opening and closing accounts move no worth
-use Rattle.std.proofs.Common.{ℕ, ◌+◌, ◌-◌, ◌≡◌, ◌≤◌, Bool, true, false, cond, List, [], ◌∷◌, Option, Some, None, refl, sym, ap, ◌∙◌, subst, arith}
+use Rattle.std.proofs.Common.{ℕ, ◌+◌, ◌≡◌, ◌≤◌, Bool, true, false, cond, List, [], ◌∷◌, Option, Some, None, refl, sym, ap, ◌∙◌, subst, arith}
 use Rattle.std.proofs.Math.Seq.{drop-length}
 use Rattle.dex_types.specs.declared.addresses.Address.{Address}
 use Rattle.dex_types.specs.Addresses.{is_same}
@@ -9,16 +9,16 @@ use Rattle.dex_types.specs.Settle.{Settlement, settlement, settled_account}
 use Rattle.dex_types.specs.Side.{Token, Coin, Pc, by_token}
 use Rattle.dex_types.specs.Solvency.{free_of, referrer_of, all_referrers}
 use Rattle.dex_types.specs.Soundness.{IsSound}
-use Rattle.dex_types.specs.Steps.{Step, done, settled, act_sweep, act_init, act_close}
+use Rattle.dex_types.specs.Steps.{done, settled, act_sweep, act_close}
 use Rattle.dex_types.specs.Totals.{total}
-use Rattle.dex_types.specs.Trader.{Account, Trader, Open, Blank, Closed, Traders, balance, trader_at, put_trader}
-use Rattle.dex_types.specs.Upkeep.{all_funds, fresh_account, after_init, after_close, after_disable}
+use Rattle.dex_types.specs.Trader.{Account, Trader, Open, Blank, Closed, Traders, trader_at, put_trader}
+use Rattle.dex_types.specs.Upkeep.{all_funds, fresh_account, after_init, after_disable}
 use Rattle.dex_laws.proofs.TraderLaws.{traders-induction, trader_at-here, trader_at-there}
 use Rattle.dex_sound.specs.Kept.{KeepsMarket}
 use Rattle.dex_eager.specs.Eager.{eager_at, unchanged}
 use Rattle.dex_eager.specs.Histories.{IsPaidAs}
 use Rattle.dex_eager.specs.Slots.{maker_fills}
-use Rattle.dex_eager.specs.Worth.{Ledger, is_first, for_account, settled_in}
+use Rattle.dex_eager.specs.Worth.{Ledger, is_first, for_account}
 use Rattle.dex_eager.proofs.StepMoves.{Moves, no_gains, paid-still, moves-inside, free_in-put, for_account-none}
 
 -- the party of a row is open at the address that the row names first

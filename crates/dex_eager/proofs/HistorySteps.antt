@@ -1,28 +1,21 @@
 -- histories, call by call: the eager market goes along with the market
-use Rattle.std.proofs.Common.{ℕ, ◌≡◌, Bool, true, false, not, ◌&&◌, cond, List, [], ◌∷◌, ◌++◌, map, Option, Some, None, Result, Ok, Err, length, drop, refl, sym, ap, ◌∙◌, subst, ⊎_elim}
+use Rattle.std.proofs.Common.{◌≡◌, Bool, true, false, not, ◌&&◌, List, [], ◌∷◌, Option, Some, None, Result, Ok, Err, refl, sym, ap, subst}
 use Rattle.std.proofs.Math.Seq.{drop-length}
-use Rattle.std.proofs.lemmas.Bool.{cases_Bool, cond-true, cond-false, false≢true}
 use Rattle.dex_types.specs.declared.addresses.Address.{Address}
 use Rattle.dex_types.specs.declared.instructions.BadData.{BadData}
 use Rattle.dex_types.specs.declared.instructions.Ix.{Ix}
 use Rattle.dex_types.specs.declared.instructions.Ix.TheVariants.{InitializeMarket, MatchOrders, ConsumeEvents, SettleFunds, DisableMarket, SweepFees, NewOrderV3, CancelOrderV2, CancelOrderByClientIdV2, SendTake, CloseOpenOrders, InitOpenOrders, Prune, CancelOrdersByClientIds}
-use Rattle.dex_types.specs.declared.movements.Entry.{Entry}
 use Rattle.dex_types.specs.declared.refusals.Refusal.{Refusal}
-use Rattle.dex_types.specs.declared.replies.Reply.{Reply}
 use Rattle.dex_types.specs.declared.rows.Seen.{Seen}
 use Rattle.dex_types.specs.Market.{Market}
-use Rattle.dex_types.specs.QueuedEvent.{QueuedEvent}
 use Rattle.dex_types.specs.Requests.{Request, Party, party_of}
-use Rattle.dex_types.specs.Rows.{PlainRow}
 use Rattle.dex_types.specs.Soundness.{IsSound}
 use Rattle.dex_types.specs.Steps.{Step, step, refused, by_party, act_init, act, act_decoded, unless_refused}
 use Rattle.dex_types.specs.Why.{why, why_decoded}
-use Rattle.dex_instruction.specs.Reading.{decoded}
-use Rattle.dex_cell.specs.Journal.{Call, IsLegal, request_of, row_step, step_of, entry_on, market_after}
-use Rattle.dex_eager.specs.Eager.{Eager, EagerStep, eager_at, unchanged, eager_decoded, eager_step}
-use Rattle.dex_eager.specs.Histories.{IsPaidAs, Fill, is_refusal, is_crank, counts, counted, eager_call, eager_after, eager_fills, fills_by, fills_of, appended, moves_after}
+use Rattle.dex_eager.specs.Eager.{Eager, eager_at, unchanged, eager_decoded, eager_step}
+use Rattle.dex_eager.specs.Histories.{IsPaidAs, is_refusal, is_crank}
 use Rattle.dex_eager.specs.Slots.{maker_fills}
-use Rattle.dex_eager.specs.Worth.{Ledger, with_step}
+use Rattle.dex_eager.specs.Worth.{Ledger}
 use Rattle.dex_eager.proofs.CancelSteps.{ledger-still}
 use Rattle.dex_eager.proofs.EachStep.{step-paid}
 

@@ -1,4 +1,6 @@
+mod CaseExamples
 mod EagerExamples
+mod HistoryExamples
 pub mod CancelSlots
 pub mod CancelSteps
 pub mod CrankSteps

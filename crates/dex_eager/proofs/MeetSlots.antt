@@ -1,23 +1,20 @@
 -- meeting, resting and posting do not look at slots
-use Rattle.std.proofs.Common.{ℕ, ◌+◌, ◌-◌, ◌*◌, ◌/◌, ◌≤◌, ◌<◌, ◌≡◌, ⊎_elim, Bool, true, false, ◌&&◌, cond, eqb, min, List, [], ◌∷◌, ◌++◌, Option, Some, None, length, map, take, refl, sym, ap, ◌∙◌, subst, arith}
-use Rattle.std.proofs.lemmas.Bool.{cases_Bool, cases_lt}
+use Rattle.std.proofs.Common.{ℕ, ◌+◌, ◌-◌, ◌*◌, ◌≡◌, Bool, true, false, ◌&&◌, cond, eqb, List, [], ◌∷◌, ◌++◌, Option, Some, None, length, map, take, refl, sym, ap, ◌∙◌, arith}
 use Rattle.std.proofs.lemmas.List.{map-append, length-map, take-map}
 use Rattle.dex_types.specs.declared.addresses.Address.{Address}
 use Rattle.dex_types.specs.declared.orders.Order.{Order}
 use Rattle.dex_types.specs.declared.terms.Lots.{Lots}
-use Rattle.dex_types.specs.declared.terms.OrderType.{OrderType}
 use Rattle.dex_types.specs.declared.terms.SelfTrade.{SelfTrade}
 use Rattle.dex_types.specs.declared.terms.SelfTrade.TheVariants.{Decrement, CancelProvide, Abort}
 use Rattle.dex_types.specs.declared.terms.Side.{Side}
 use Rattle.dex_types.specs.declared.terms.Side.TheVariants.{Bid, Ask}
-use Rattle.dex_types.specs.Meeting.{TakerTerms, Demand, Meeting, is_own, is_abort, reaches, own_taken, filled, taken, demand_after, demand_after_own, less, met_events, met_lots, met_pc, met_rebate, aborts_at, met_none, met_first, maker_fill, plain_out, releasing_out, fill_pc, fill_rebate, meet}
+use Rattle.dex_types.specs.Meeting.{TakerTerms, Demand, Meeting, is_own, is_abort, reaches, own_taken, filled, taken, demand_after, demand_after_own, less, met_events, aborts_at, met_none, met_first, maker_fill, plain_out, releasing_out, fill_pc, fill_rebate, meet}
 use Rattle.dex_types.specs.NewOrder.{NewOrder, full_lock, spent, rested}
-use Rattle.dex_types.specs.Posting.{Posting, posted, post, still_crosses, affordable, rested_lots, can_rest}
+use Rattle.dex_types.specs.Posting.{Posting, posted, post, still_crosses, affordable, can_rest}
 use Rattle.dex_types.specs.QueuedEvent.{QueuedEvent}
 use Rattle.dex_types.specs.Side.{price_of, opposite}
 use Rattle.dex_laws.proofs.MeetLaws.{TakesNone, meet-ended, meet-part, meet-whole, meet-induction}
 use Rattle.dex_laws.proofs.PostLaws.{posted-behind, posted-here, posted-induction, post-none, post-room, post-full, post-induction}
-use Rattle.dex_laws.proofs.Taken.{Takes}
 use Rattle.dex_eager.specs.Slots.{without_slot, without_slots}
 
 -- an event with slot 0

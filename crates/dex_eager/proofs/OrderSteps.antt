@@ -1,5 +1,5 @@
 -- a new order moves worth as its fills do
-use Rattle.std.proofs.Common.{ℕ, ◌+◌, ◌-◌, ◌*◌, ◌^◌, ◌≡◌, ◌≢◌, ◌≤◌, ◌<◌, ◌||◌, Bool, true, false, cond, eqb, min, List, [], ◌∷◌, ◌++◌, Option, Some, None, is_some, length, drop, map, refl, sym, ap, ◌∙◌, subst, arith, append-nil}
+use Rattle.std.proofs.Common.{ℕ, ◌+◌, ◌-◌, ◌^◌, ◌≡◌, ◌≤◌, ◌<◌, ◌||◌, Bool, true, false, cond, eqb, List, [], ◌∷◌, ◌++◌, Option, Some, None, is_some, length, map, refl, sym, ap, ◌∙◌, subst, arith, append-nil}
 use Rattle.std.proofs.lemmas.Bool.{cond-false, cond_both}
 use Rattle.dex_types.specs.declared.addresses.Address.{Address}
 use Rattle.dex_types.specs.declared.orders.Order.{Order}
@@ -9,8 +9,8 @@ use Rattle.dex_types.specs.declared.terms.Side.{Side}
 use Rattle.dex_types.specs.declared.terms.Side.TheVariants.{Bid, Ask}
 use Rattle.dex_types.specs.Addresses.{is_same}
 use Rattle.dex_types.specs.Market.{Market, orders, capacity}
-use Rattle.dex_types.specs.Meeting.{Meeting, meet, releasing_out, plain_out}
-use Rattle.dex_types.specs.NewOrder.{NewOrder, Ordering, full_lock, terms_of, demand_of, fee_of, spent, got, rested, resting, taker_events, last_events, deposit_of, order_on, account_after, fees_kept, after_order}
+use Rattle.dex_types.specs.Meeting.{Meeting, meet}
+use Rattle.dex_types.specs.NewOrder.{NewOrder, Ordering, terms_of, demand_of, fee_of, resting, taker_events, last_events, order_on, account_after, after_order}
 use Rattle.dex_types.specs.Owed.{order_lock, owed, kept, is_order_of, is_event_of}
 use Rattle.dex_types.specs.Posting.{post}
 use Rattle.dex_types.specs.QueuedEvent.{QueuedEvent}
@@ -20,8 +20,8 @@ use Rattle.dex_types.specs.Side.{Token, Coin, Pc, by_side, by_token, opposite, l
 use Rattle.dex_types.specs.Solvency.{free_of, own_locked, own_kept}
 use Rattle.dex_types.specs.Soundness.{IsSound}
 use Rattle.dex_types.specs.Steps.{Step, ordered}
-use Rattle.dex_types.specs.Totals.{total, weighed_where}
-use Rattle.dex_types.specs.Trader.{Account, Open, balance, trader_at}
+use Rattle.dex_types.specs.Totals.{weighed_where}
+use Rattle.dex_types.specs.Trader.{Account, Open, trader_at}
 use Rattle.dex_types.specs.Why.{payer, payer_mint, why_order_early, why_ordering, why_order_of}
 use Rattle.dex_laws.proofs.MovedLaws.{IsTestOfOrder-owner}
 use Rattle.dex_laws.proofs.SpendLaws.{rested-paid}
@@ -32,9 +32,9 @@ use Rattle.dex_sound.proofs.OrderSoundFunds.{rested-lock}
 use Rattle.dex_sound.proofs.OrderSoundReasons.{first_of-none, refused_where-none}
 use Rattle.dex_sound.specs.Exchange.{taker_gets, taker_pays}
 use Rattle.dex_sound.specs.Kept.{addresses, KeepsMarket}
-use Rattle.dex_eager.specs.Eager.{Eager, EagerStep, Worths, eager_at, orders_on, room_on, with_change, with_fills, is_too_large, order_posting, order_meeting, after_new_order, does_nothing, order_by, eager_order}
-use Rattle.dex_eager.specs.Histories.{IsPaidAs, appended}
-use Rattle.dex_eager.specs.Slots.{without_slot, without_slots, maker_fills}
+use Rattle.dex_eager.specs.Eager.{Eager, eager_at, orders_on, with_change, with_fills, order_posting, after_new_order, order_by, eager_order}
+use Rattle.dex_eager.specs.Histories.{IsPaidAs}
+use Rattle.dex_eager.specs.Slots.{without_slots, maker_fills}
 use Rattle.dex_eager.specs.Worth.{Worth, Ledger, plus, net, with_step, is_first, for_account, deposit_in, held_for, worth_of, own_owed}
 use Rattle.dex_eager.proofs.FillSums.{maker_fills-slots, maker_fills-append, own_gained-fills, own_leaving-fills, own-amounts}
 use Rattle.dex_eager.proofs.FundSteps.{IsParty}

@@ -1,5 +1,5 @@
 -- what a step moves, and what the eager market makes of it
-use Rattle.std.proofs.Common.{ℕ, ℤ, ◌+◌, ◌≡◌, List, [], ◌∷◌, ◌++◌, map, length, drop, refl, sym, ap, ◌∙◌, arith, ⊎_elim, true, false, cond, Some}
+use Rattle.std.proofs.Common.{ℕ, ℤ, ◌+◌, ◌≡◌, List, [], ◌++◌, length, drop, refl, sym, ap, ◌∙◌, arith, ⊎_elim, true, false, cond, Some}
 use Rattle.std.proofs.Math.Seq.{drop-append_seam}
 use Rattle.std.proofs.lemmas.Bool.{cases_Bool, cond_both}
 use Rattle.dex_types.specs.declared.addresses.Address.{Address}
@@ -14,7 +14,7 @@ use Rattle.dex_types.specs.Solvency.{free_of}
 use Rattle.dex_types.specs.Trader.{Trader, Traders, trader_at, put_trader}
 use Rattle.dex_laws.proofs.TraderLaws.{is_same-true, trader_at-put_same, trader_at-put_other}
 use Rattle.dex_sound.specs.Kept.{addresses, KeepsMarket}
-use Rattle.dex_eager.specs.Eager.{Eager, EagerStep, Worths, eager_at, unchanged}
+use Rattle.dex_eager.specs.Eager.{Eager, Worths, eager_at, unchanged}
 use Rattle.dex_eager.specs.Histories.{appended, IsPaidAs}
 use Rattle.dex_eager.specs.Slots.{without_slots, maker_fills}
 use Rattle.dex_eager.specs.Worth.{Worth, Ledger, plus, net, with_step, is_first, free_in, for_account, deposit_in, settled_in, swept_in, referred_in, held_for, worth_in, worth_of, takings_of}

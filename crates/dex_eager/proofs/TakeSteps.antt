@@ -1,10 +1,9 @@
 -- a take moves worth as its fills do
-use Rattle.std.proofs.Common.{ℕ, ◌+◌, ◌-◌, ◌*◌, ◌^◌, ◌≡◌, ◌≤◌, ◌<◌, ◌||◌, Bool, true, false, cond, leb, List, [], ◌∷◌, ◌++◌, Option, Some, None, length, drop, map, refl, sym, ap, ◌∙◌, subst, arith}
+use Rattle.std.proofs.Common.{ℕ, ◌+◌, ◌-◌, ◌^◌, ◌≡◌, ◌<◌, ◌||◌, Bool, false, List, [], ◌∷◌, None, map, refl, sym, ap, ◌∙◌, subst, arith}
 use Rattle.std.proofs.lemmas.Bool.{cond-false, lt-leb}
 use Rattle.dex_types.specs.declared.addresses.Address.{Address}
 use Rattle.dex_types.specs.declared.orders.Order.{Order}
 use Rattle.dex_types.specs.declared.rows.Seen.{Seen}
-use Rattle.dex_types.specs.declared.terms.Lots.{Lots}
 use Rattle.dex_types.specs.declared.terms.Side.{Side}
 use Rattle.dex_types.specs.declared.terms.Side.TheVariants.{Bid, Ask}
 use Rattle.dex_types.specs.Market.{Market, orders}
@@ -14,22 +13,21 @@ use Rattle.dex_types.specs.QueuedEvent.{QueuedEvent}
 use Rattle.dex_types.specs.Reasons.{disabled, missing, other_mint, other_discount_mint, not_signed, ask_too_large}
 use Rattle.dex_types.specs.Requests.{Request}
 use Rattle.dex_types.specs.Side.{Token, Coin, Pc, by_side, opposite}
-use Rattle.dex_types.specs.Solvency.{all_locked, own_locked}
+use Rattle.dex_types.specs.Solvency.{all_locked}
 use Rattle.dex_types.specs.Soundness.{IsSound}
 use Rattle.dex_types.specs.Steps.{Step, took}
 use Rattle.dex_types.specs.Take.{Take, take_terms, take_demand, take_meeting, take_fee, take_transfers, after_take}
 use Rattle.dex_types.specs.Totals.{total, weighed_where}
-use Rattle.dex_types.specs.Trader.{Traders}
 use Rattle.dex_types.specs.Why.{payer, why_take_early, why_taking, why_take}
 use Rattle.dex_laws.proofs.MovedLaws.{IsTestOfOrder-owner, meet-moved_le}
 use Rattle.dex_laws.proofs.TotalLaws.{total-append}
 use Rattle.dex_sound.proofs.MeetSums.{met-locked, met-own}
-use Rattle.dex_sound.proofs.OrderSoundReasons.{NoneOf, first_of-none, refused_where-none}
+use Rattle.dex_sound.proofs.OrderSoundReasons.{first_of-none, refused_where-none}
 use Rattle.dex_sound.specs.Kept.{addresses, KeepsMarket}
-use Rattle.dex_eager.specs.Eager.{Eager, EagerStep, Worths, eager_at, orders_on, with_fills, after_meeting, is_too_large, take_by, eager_take}
-use Rattle.dex_eager.specs.Histories.{IsPaidAs, appended}
+use Rattle.dex_eager.specs.Eager.{Eager, eager_at, orders_on, with_fills, after_meeting, is_too_large, take_by, eager_take}
+use Rattle.dex_eager.specs.Histories.{IsPaidAs}
 use Rattle.dex_eager.specs.Slots.{without_slots, maker_fills}
-use Rattle.dex_eager.specs.Worth.{Worth, Ledger, plus, net, with_step, held_for, worth_of, own_owed}
+use Rattle.dex_eager.specs.Worth.{Worth, Ledger, plus, net, with_step, held_for, worth_of}
 use Rattle.dex_eager.proofs.CancelSlots.{by_side-slots}
 use Rattle.dex_eager.proofs.FillSums.{maker_fills-slots, own_gained-fills, own_leaving-fills, own-amounts}
 use Rattle.dex_eager.proofs.MeetSlots.{event_without_slot, meeting_without_slots, meet-slots}

@@ -1,9 +1,7 @@
 -- the worth of each account, as a list over the accounts' addresses
 use Rattle.std.proofs.Common.{ℕ, ℤ, pos, ◌+◌, ◌≡◌, ◌+ℤ◌, ◌-ℤ◌, Bool, true, false, cond, List, [], ◌∷◌, map, refl, sym, ap, ◌∙◌, arith}
-use Rattle.std.proofs.lemmas.Bool.{cases_Bool, cond_both}
 use Rattle.dex_types.specs.declared.addresses.Address.{Address}
 use Rattle.dex_types.specs.Addresses.{is_same}
-use Rattle.dex_types.specs.Market.{Market}
 use Rattle.dex_types.specs.Owed.{leaving, is_event_of}
 use Rattle.dex_types.specs.QueuedEvent.{QueuedEvent}
 use Rattle.dex_types.specs.Side.{Token, Coin, Pc}
@@ -12,7 +10,7 @@ use Rattle.dex_types.specs.Trader.{Trader, Traders}
 use Rattle.dex_sound.specs.Exchange.{gained}
 use Rattle.dex_sound.specs.Kept.{addresses}
 use Rattle.dex_eager.specs.Eager.{Worths, with_change, with_fills}
-use Rattle.dex_eager.specs.Worth.{Worth, Ledger, plus, net, worth_of}
+use Rattle.dex_eager.specs.Worth.{Worth, plus, net}
 use Rattle.dex_eager.proofs.Sums.{nothing-more, more-and-more}
 
 -- what a function says of each of these addresses

@@ -38,8 +38,15 @@ pub fn a_history_trades_as_one_that_pays_at_once()
 
 /// Two histories of one sound market, in which the same rows but cranks are accepted in the same order, with the same
 /// tiers and under the same program, leave the same sides but for slots, the same fills, the same takings, and each
-/// account the same worth. Refused rows and cranks may stand anywhere.
+/// account the same worth. Refused rows and cranks may stand anywhere. So it is at each two places up to which the same
+/// rows were accepted.
 pub fn delay_changes_no_trade()
+    ensures places { (m : Market) (first second : List Call) (early late : ℕ) → IsSound m → IsLegal m first → IsLegal m second →
+        let front = take early first in let other = take late second in
+        trades front ≡ trades other → eager_at (market_after m front) (moves_of m front) ≡ eager_at (market_after m other) (moves_of m other) }
+    ensures place_fills { (m : Market) (first second : List Call) (early late : ℕ) → IsSound m → IsLegal m first → IsLegal m second →
+        let front = take early first in let other = take late second in
+        trades front ≡ trades other → fills_of m front ≡ fills_of m other }
     ensures bids { (m : Market) (first second : List Call) → IsSound m → IsLegal m first → IsLegal m second → trades first ≡ trades second →
         without_slots (market_after m first).bids ≡ without_slots (market_after m second).bids }
     ensures asks { (m : Market) (first second : List Call) → IsSound m → IsLegal m first → IsLegal m second → trades first ≡ trades second →

@@ -1,3 +1,4 @@
+pub mod FirstFault
 pub mod FrameLaw
 pub mod Numbers
 pub mod Places

@@ -5,14 +5,14 @@ use Rattle.dex_types.specs.declared.instructions.Ix.{Ix}
 use Rattle.dex_types.specs.declared.refusals.Refusal.{Refusal}
 use Rattle.dex_types.specs.declared.terms.Side.{Side}
 use Rattle.dex_types.specs.NewOrder.{NewOrder, order_on, after_order, order_reply}
-use Rattle.dex_types.specs.Trader.{Account, Open, Trader, trader_at}
+use Rattle.dex_types.specs.Trader.{Account, Trader, trader_at}
 use Rattle.dex_match.specs.declared.accounts.Funds.{Funds}
 use Rattle.dex_match.specs.declared.accounts.OpenAccount.{OpenAccount}
 use Rattle.dex_match.specs.declared.states.State.{State}
 use Rattle.dex_match.specs.AccountList.{IsPlace, entries}
 use Rattle.dex_match.specs.Accounts.{account_of, paying}
 use Rattle.dex_match.specs.Deciding.{lacking, refusal_by}
-use Rattle.dex_match.specs.FirstMarket.{FirstStep, decided, first_order, first_step, ordered, step_of}
+use Rattle.dex_match.specs.FirstMarket.{decided, first_order, first_step, ordered, step_of}
 use Rattle.dex_match.specs.State.{market_of}
 use Rattle.dex_match.proofs.Acting.{deposit-is}
 

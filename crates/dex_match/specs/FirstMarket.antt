@@ -1,4 +1,4 @@
-use Rattle.std.specs.Prelude.{ℕ, pos, ◌+◌, ◌-◌, ◌^◌, ◌<◌, ◌≤◌, ◌≡◌, List, [], ◌∷◌, ◌++◌, Option, Some, None, IsSome, Result, Ok, Err, Bool, false, nat_lt, nat_le, map, length, replicate, codes, if◌then◌else◌}
+use Rattle.std.specs.Prelude.{ℕ, pos, ◌+◌, ◌^◌, ◌<◌, ◌≤◌, ◌≡◌, List, [], ◌∷◌, Option, Some, None, IsSome, Result, Ok, Err, Bool, false, nat_lt, nat_le, map, length, codes, if◌then◌else◌}
 use Rattle.dex_types.specs.declared.addresses.Address.{Address}
 use Rattle.dex_types.specs.declared.instructions.Ix.{Ix}
 use Rattle.dex_types.specs.declared.instructions.Ix.TheVariants.{NewOrderV3}
@@ -13,21 +13,18 @@ use Rattle.dex_types.specs.declared.terms.Side.TheVariants.{Bid, Ask}
 use Rattle.dex_types.specs.declared.terms.Tier.TheVariants.{Base}
 use Rattle.dex_types.specs.Market.{Listing, Market}
 use Rattle.dex_types.specs.NewOrder.{NewOrder, Ordering, full_lock, order_on, after_order, order_reply}
+use Rattle.dex_types.specs.Text.{label_address}
 use Rattle.dex_types.specs.Trader.{Account, Trader, Open, no_slots, trader_at}
 use Rattle.dex_match.specs.declared.grants.Grant.{Grant}
 
--- an address that is a short text and zeros behind it
-abbrev pub label : List ℕ → Address
-label name = record { 0 = name ++ replicate (32 - length name) 0 }
-
 -- no address: the first market has no mints, vaults or queues of its own
 abbrev pub nowhere : Address
-nowhere = label []
+nowhere = label_address []
 
 -- the first market, `m`: base lots of 100, quote lots of 10, and room for 1,024 orders on a side and 1,024 events
 abbrev pub first_listing : Listing
 first_listing = record {
-  address = label (codes "m");
+  address = label_address (codes "m");
   authority = nowhere;
   coin_mint = nowhere;
   pc_mint = nowhere;

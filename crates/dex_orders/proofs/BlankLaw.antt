@@ -1,5 +1,5 @@
 -- An account of zeros.
-use Rattle.std.proofs.Common.{◌≡◌, ℕ, eqb, true, List, length, get_or, replicate, sym, ap, ◌∙◌, inl, inr}
+use Rattle.std.proofs.Common.{◌≡◌, ℕ, eqb, true, List, length, get_or, replicate, sym, ap, ◌∙◌, arith, inl, inr}
 use Rattle.std.proofs.lemmas.Bool.{cases_lt, eq-eqb, eqb-true}
 use Rattle.std.proofs.lemmas.Grind.{same_number_lists}
 use Rattle.std.proofs.lemmas.List.{get_or-replicate, get_or_default, get_or_past, length-replicate}
@@ -8,6 +8,7 @@ use Rattle.dex_fields.specs.declared.field.Field.{Field}
 use Rattle.dex_fields.specs.Bytes.{IsWithin, bytes_in, number_in, number_of_bytes}
 use Rattle.dex_fields.proofs.Places.{bytes_in-replicate, number_of_bytes-zeros}
 use Rattle.dex_orders.specs.Faults.{are_zeros}
+use Rattle.dex_orders.specs.OrdersAccount.{IsBlank}
 
 module _ (bytes : List ℕ) where
   zeros_are : ((place : ℕ) → get_or bytes place 0 ≡ 0) → bytes ≡ replicate {A = ℕ} (length bytes) 0
@@ -33,3 +34,14 @@ module _ (bytes : List ℕ) where
       list_all-from_AllPass (λ (byte : ℕ). eqb byte 0) bytes (λ place d lt.
       let here : get_or bytes place d ≡ get_or bytes place 0 = get_or_default bytes place d 0 lt in
       eq-eqb (get_or bytes place d) 0 (here ∙ zeros place))
+
+-- zeros of an account's length are a blank one
+pub IsBlank-zeros : (count : ℕ) → count ≡ 3228 → IsBlank (replicate {A = ℕ} count 0)
+IsBlank-zeros count size = record {
+  size = length-replicate {A = ℕ} count 0 ∙ size;
+  zeros = λ place.
+      elim (cases_lt place count) [
+        | inl lt ↦ get_or-replicate {A = ℕ} count place 0 0 lt
+        | inr past ↦ get_or_past (replicate {A = ℕ} count 0) place 0 (omega (arith, length-replicate {A = ℕ} count 0))
+      ];
+}

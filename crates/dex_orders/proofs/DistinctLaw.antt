@@ -36,7 +36,7 @@ hold_one-sym (Some a) (Some b) =
 
 module _ (slots : List (Option Holding)) (slot : ℕ) (v : Option Holding) where
   -- what a place holds afterwards
-  held_after : (k : ℕ) → (get_or (set slots slot v) k None ≡ get_or slots k None) ⊎ ((k ≡ slot) × (get_or (set slots slot v) k None ≡ v))
+  pub held_after : (k : ℕ) → (get_or (set slots slot v) k None ≡ get_or slots k None) ⊎ ((k ≡ slot) × (get_or (set slots slot v) k None ≡ v))
   held_after k =
       elim (cases_eq k slot) [
         | inl same ↦ elim (cases_lt slot (length slots)) [

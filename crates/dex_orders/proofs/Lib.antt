@@ -2,7 +2,7 @@ pub mod BesideLaw
 pub mod BitLaw
 pub mod BlankLaw
 pub mod DistinctLaw
-pub mod FirstFault
+pub mod FreshLaw
 pub mod FundsLaw
 pub mod InitLaw
 pub mod SlotLaw

@@ -13,7 +13,7 @@ use Rattle.dex_types.specs.Trader.{Holding}
 use Rattle.dex_orders.specs.OrdersAccount.{AreDistinct, IsBlank, IsClosed, IsOpen, IsOpened, IsOrders, hold_one, id_field, slot_in, slots_of}
 use Rattle.dex_orders.specs.Faults.{amount_rule, are_zeros, flags_rule, frame_rule, funds_rule, opened_fault, orders_fault, pair_rule, place_rule, repeat_rule, slots_fault, slots_rule, told}
 use Rattle.dex_orders.proofs.BlankLaw.{number_in-zeros, test_from_zeros, zeros_from_test}
-use Rattle.dex_orders.proofs.FirstFault.{each_front_none, front_none}
+use Rattle.dex_fields.proofs.FirstFault.{each_front_none, front_none}
 use Rattle.dex_orders.proofs.SlotLaw.{get_or-slots_of, get_or-slots_of_past}
 
 -- ---- what the flags say of an accepted account

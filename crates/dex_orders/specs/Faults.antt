@@ -1,5 +1,5 @@
 -- The first rule that an open-orders account breaks by itself, with the place and the values found and wanted there. The rules stand in the order of their kinds, those of one kind in the order of their places.
-use Rattle.std.specs.Prelude.{ℕ, Bool, ◌||◌, List, [], ◌∷◌, length, map, Option, Some, None, if◌then◌else◌, ◌==◌, nat_le}
+use Rattle.std.specs.Prelude.{ℕ, Bool, ◌||◌, List, length, map, Option, Some, None, if◌then◌else◌, ◌==◌, nat_le}
 use Rattle.std.specs.Option.{option_map, option_or}
 use Rattle.std.specs.List.{list_all, range_with_len}
 use Rattle.dex_fields.specs.declared.field.Field.{Field}
@@ -7,6 +7,7 @@ use Rattle.dex_fields.specs.declared.frame.Difference.{Difference}
 use Rattle.dex_fields.specs.declared.open_orders.TheConstants.{ACCOUNT_FLAGS, NATIVE_COIN_FREE, NATIVE_COIN_TOTAL, NATIVE_PC_FREE, NATIVE_PC_TOTAL}
 use Rattle.dex_fields.specs.Bytes.{number_in}
 use Rattle.dex_fields.specs.Frame.{frame_difference}
+use Rattle.dex_fields.specs.Rules.{first_fault}
 use Rattle.dex_types.specs.declared.faults.AccountFault.{AccountFault}
 use Rattle.dex_types.specs.AccountFaults.{flags_fault, size_fault, text_fault}
 use Rattle.dex_orders.specs.OrdersAccount.{hold_one, id_field, slot_in}
@@ -54,11 +55,6 @@ pair_rule bytes slot lower =
     if hold_one (slot_in bytes slot) (slot_in bytes lower)
     then Some (slots_fault slot (number_in bytes (id_field slot)) lower)
     else None
-
--- the first of some faults that is there
-abbrev pub first_fault : List (Option AccountFault) → Option AccountFault
-first_fault [] = None
-first_fault (fault ∷ faults) = option_or fault (first_fault faults)
 
 -- a slot holds an order that a lower one holds too; the lowest such is told
 unfoldable pub repeat_rule : List ℕ → ℕ → Option AccountFault

@@ -10,11 +10,11 @@ use Rattle.dex_types.specs.declared.terms.Side.TheVariants.{Ask, Bid}
 use Rattle.dex_types.specs.Fees.{maker_rate, taker_rate}
 use Rattle.dex_types.specs.Meeting.{taken, demand_after}
 use Rattle.dex_types.specs.Side.{id_of, price_of, sequence_of}
+use Rattle.dex_types.specs.Text.{label_address}
 use Rattle.dex_instruction.specs.Built.{is_built_data}
 use Rattle.dex_instruction.specs.Numbers.{number_at}
 use Rattle.dex_instruction.specs.Reading.{decoded, instruction}
 use Rattle.dex_instruction.specs.Rules.{broken}
-use Rattle.dex_match.specs.FirstMarket.{label}
 use Rattle.dex_rows.proofs.OnLiterals.{rows_on_literals}
 use Rattle.dex_program.specs.declared.script.FaultKind.TheVariants.{Duplicate, FieldCount, NotBuilt}
 use Rattle.dex_program.specs.Report.{refused_text, report_text}
@@ -31,7 +31,7 @@ unfolding digits
 report_text-empty = refl
 
 -- a grant
-script_of-grant : script_of (codes "grant,amy,400,0\n") ≡ Ok (record { grants = record { address = label (codes "amy"); coin = 400; pc = 0 } ∷ []; orders = [] })
+script_of-grant : script_of (codes "grant,amy,400,0\n") ≡ Ok (record { grants = record { address = label_address (codes "amy"); coin = 400; pc = 0 } ∷ []; orders = [] })
 unfolding rows_on_literals script_of with_row statement_of grant_of with_grant
 script_of-grant = refl
 
@@ -62,12 +62,12 @@ bid = NewOrderV3 Bid 60 3 2000 Decrement Limit 8 10 None
 abbrev two_traders : Script
 two_traders =
     record {
-      grants = record { address = label (codes "amy"); coin = 400; pc = 0 } ∷ record { address = label (codes "ben"); coin = 0; pc = 2000 } ∷ [];
+      grants = record { address = label_address (codes "amy"); coin = 400; pc = 0 } ∷ record { address = label_address (codes "ben"); coin = 0; pc = 2000 } ∷ [];
       orders =
-          record { row = 3; owner = label (codes "amy"); instruction = Ok (NewOrderV3 Ask 50 4 1 Decrement Limit 7 10 None) }
-          ∷ record { row = 4; owner = label (codes "ben"); instruction = Ok bid }
-          ∷ record { row = 5; owner = label (codes "ben"); instruction = Ok bid }
-          ∷ record { row = 6; owner = label (codes "ben"); instruction = Err Short }
+          record { row = 3; owner = label_address (codes "amy"); instruction = Ok (NewOrderV3 Ask 50 4 1 Decrement Limit 7 10 None) }
+          ∷ record { row = 4; owner = label_address (codes "ben"); instruction = Ok bid }
+          ∷ record { row = 5; owner = label_address (codes "ben"); instruction = Ok bid }
+          ∷ record { row = 6; owner = label_address (codes "ben"); instruction = Err Short }
           ∷ [];
     }
 

@@ -10,12 +10,13 @@ use Rattle.dex_types.specs.declared.instructions.Ix.TheVariants as ix
 use Rattle.dex_types.specs.declared.terms.OrderType.TheVariants as kind
 use Rattle.dex_types.specs.declared.terms.SelfTrade.TheVariants as rule
 use Rattle.dex_types.specs.Addresses.{is_same}
+use Rattle.dex_types.specs.Text.{label_address}
 use Rattle.dex_types.specs.Trader.{trader_at}
 use Rattle.dex_laws.proofs.TraderLaws.{is_same-sym}
 use Rattle.dex_instruction.specs.Built.{is_built_data, is_plain_order, is_served}
 use Rattle.dex_instruction.specs.Reading.{decoded}
 use Rattle.dex_match.specs.declared.grants.Grant.{Grant}
-use Rattle.dex_match.specs.FirstMarket.{CanStart, HasTrader, IsFirstOrder, IsGrantedOnce, granted_coin, granted_pc, granted_trader, label, start_market}
+use Rattle.dex_match.specs.FirstMarket.{CanStart, HasTrader, IsFirstOrder, IsGrantedOnce, granted_coin, granted_pc, granted_trader, start_market}
 use Rattle.dex_program.specs.declared.script.OrderRow.{OrderRow}
 use Rattle.dex_program.specs.OrderWords.{OrderWords}
 use Rattle.dex_program.specs.Script.{exceeds_grants, is_granted, is_unserved}
@@ -142,7 +143,7 @@ pub served-order : (grants : List Grant) (orders after : List OrderRow) (row : O
     → IsServed (record { grants = grants; orders = orders }) → IsServed (record { grants = grants; orders = after })
 unfolding is_built_data
 served-order grants orders after row words is decodes granted few unserved served =
-    let apart = not (words.lane == 0) || not (is_same words.market (label (codes "m"))) || words.has_role in
+    let apart = not (words.lane == 0) || not (is_same words.market (label_address (codes "m"))) || words.has_role in
     let built = held (is_built_data words.instruction) (neither apart (not (is_built_data words.instruction)) unserved).1 in
     rw is (record {
       can_start = served.can_start;

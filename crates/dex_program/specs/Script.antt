@@ -4,10 +4,11 @@ use Rattle.std.specs.List.{list_any}
 use Rattle.std.specs.Str.{bytes_eq}
 use Rattle.dex_types.specs.declared.addresses.Address.{Address}
 use Rattle.dex_types.specs.Addresses.{is_same}
+use Rattle.dex_types.specs.Text.{label_address}
 use Rattle.dex_instruction.specs.Reading.{decoded}
 use Rattle.dex_instruction.specs.Built.{is_built_data}
 use Rattle.dex_match.specs.declared.grants.Grant.{Grant}
-use Rattle.dex_match.specs.FirstMarket.{granted_coin, granted_pc, label}
+use Rattle.dex_match.specs.FirstMarket.{granted_coin, granted_pc}
 use Rattle.dex_rows.specs.Records.{rows_of}
 use Rattle.dex_rows.specs.Numbers.{number_of}
 use Rattle.dex_rows.specs.Addresses.{address_of}
@@ -115,7 +116,7 @@ exceeds_orders script words = nat_le 128 (length script.orders) || nat_lt 256 (l
 -- what is not served yet: another lane or market than the first, wallets, and other instructions than plain limit orders
 abbrev pub is_unserved : OrderWords → Bool
 is_unserved words =
-    not (words.lane == 0) || not (is_same words.market (label (codes "m"))) || words.has_role || not (is_built_data words.instruction)
+    not (words.lane == 0) || not (is_same words.market (label_address (codes "m"))) || words.has_role || not (is_built_data words.instruction)
 
 -- an order of a granted trader, within the limits, that is served
 unfoldable pub with_order : Script → ℕ → OrderWords → Result Script FaultKind

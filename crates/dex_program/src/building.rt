@@ -2,8 +2,9 @@
 
 ghost use Rattle.std.specs.Prelude.{◌≡◌, ◌<◌, ◌+◌, ◌^◌, codes, length, nat_le, nat_lt};
 ghost use Rattle.csv.specs.Records.{fields_of};
-ghost use Rattle.dex_match.specs.FirstMarket.{granted_coin, granted_pc, label};
+ghost use Rattle.dex_match.specs.FirstMarket.{granted_coin, granted_pc};
 ghost use Rattle.dex_types.specs.Addresses.{is_same};
+ghost use Rattle.dex_types.specs.Text.{label_address};
 ghost use Rattle.dex_program.specs.Script.{exceeds_grants, exceeds_orders, is_granted, is_unserved, with_grant, with_order, with_row};
 ghost use Rattle.dex_program.specs.Telling.{Tells};
 
@@ -150,7 +151,7 @@ fn is_unserved(words: &OrderWords) -> bool
 
 // Whether an address is the first market's, `m`.
 fn is_first_market(address: Address) -> bool
-    ensures { result ≡ is_same address (label (codes "m")) }
+    ensures { result ≡ is_same address (label_address (codes "m")) }
 {
     let mut bytes = [0; 32];
     bytes[0] = b'm';

@@ -1,5 +1,4 @@
 pub mod EventLaw
-pub mod FirstFault
 pub mod Parts
 pub mod PopLaw
 pub mod PushLaw

@@ -12,7 +12,7 @@ use Rattle.dex_types.specs.AccountFaults.{flags_fault, size_fault}
 use Rattle.dex_ring.specs.EventBytes.{IsQueued, are_event_flags}
 use Rattle.dex_ring.specs.Faults.{count_rule, event_fault, event_rule, events_rule, flags_rule, frame_rule, head_rule, header_rule, queue_fault, ring_fault, size_rule, told}
 use Rattle.dex_ring.specs.Ring.{IsEventQueue, capacity_of, event_at}
-use Rattle.dex_ring.proofs.FirstFault.{each_front_none, front_none}
+use Rattle.dex_fields.proofs.FirstFault.{each_front_none, front_none}
 
 -- ---- one event
 

@@ -1,11 +1,12 @@
 -- The first rule that an event queue breaks by itself, with the place and the values found and wanted there. The rules stand in the order of their kinds, those of one kind in the order of their places.
-use Rattle.std.specs.Prelude.{ℕ, List, [], ◌∷◌, length, map, Option, Some, None, if◌then◌else◌, ◌==◌, nat_lt, nat_le}
+use Rattle.std.specs.Prelude.{ℕ, List, length, map, Option, Some, None, if◌then◌else◌, ◌==◌, nat_lt, nat_le}
 use Rattle.std.specs.Option.{option_map, option_or}
 use Rattle.std.specs.List.{range_with_len}
 use Rattle.dex_fields.specs.declared.frame.Difference.{Difference}
 use Rattle.dex_fields.specs.declared.event_queue.TheConstants.{ACCOUNT_FLAGS, HEAD, COUNT}
 use Rattle.dex_fields.specs.Bytes.{number_in}
 use Rattle.dex_fields.specs.Frame.{frame_difference}
+use Rattle.dex_fields.specs.Rules.{first_fault}
 use Rattle.dex_types.specs.declared.faults.AccountFault.{AccountFault}
 use Rattle.dex_types.specs.declared.orders.Event.{Event}
 use Rattle.dex_types.specs.AccountFaults.{flags_fault, size_fault, text_fault}
@@ -62,11 +63,6 @@ event_rule number event =
     then (if nat_lt event.tier 7 then None else Some (event_fault number event.tier))
     else Some (event_fault number event.slot))
     else Some (event_fault number event.flags)
-
--- the first of some faults that is there
-abbrev pub first_fault : List (Option AccountFault) → Option AccountFault
-first_fault [] = None
-first_fault (fault ∷ faults) = option_or fault (first_fault faults)
 
 -- an event in use is none that a queue may hold
 unfoldable pub events_rule : List ℕ → Option AccountFault

@@ -5,9 +5,10 @@ use Rattle.std.proofs.lemmas.Bool.{and_parts}
 use Rattle.std.proofs.lemmas.Bool.Decides.{nat_tests}
 use Rattle.std.proofs.lemmas.List.Sums.{AllPass-from_list_all, take_while-cons}
 use Rattle.dex_types.specs.declared.addresses.Address.{Address}
+use Rattle.dex_types.specs.Text.{is_label, is_label_character, label_address}
 use Rattle.hex.specs.Hex.{IsBytes, encode_lower, encode_with, lower_digits}
 use Rattle.hex.proofs.HexLemmas.{decode_sized-encode_lower, length-encode_with}
-use Rattle.dex_rows.specs.Addresses.{address_of, digits_address, is_label, is_label_character, is_lower_hexdigit, label_address}
+use Rattle.dex_rows.specs.Addresses.{address_of, digits_address, is_lower_hexdigit}
 
 -- a label is read as its address
 pub address_of-label : (label : List ℕ) → is_label label ≡ true → address_of label ≡ Some (label_address label)
@@ -34,7 +35,6 @@ take_while-characters (c ∷ word) n h =
 
 -- a label is what stands in its address before the zeros
 pub take_while-label : (label : List ℕ) → is_label label ≡ true → take_while is_nonzero (label_address label).0 ≡ label
-unfolding is_label label_address
 take_while-label label is = take_while-characters label (32 - length label) (and_parts _ _ is).1
 
 -- so two labels have two addresses
@@ -56,7 +56,6 @@ digits_lower (byte ∷ rest) h =
 
 -- a longer word is no label
 is_label-long : (word : List ℕ) → 24 < length word → is_label word ≡ false
-unfolding is_label
 is_label-long word long = grind (arith, nat_tests)
 
 -- the digits of an address are read as it

@@ -1,6 +1,7 @@
 -- Worked examples of rows and words, by computation.
 use Rattle.std.proofs.Common.{◌≡◌, ◌^◌, ◌++◌, ◌∷◌, [], Some, None, false, codes, replicate, refl}
-use Rattle.dex_rows.specs.Addresses.{address_of, is_label, role_of}
+use Rattle.dex_types.specs.Text.{is_label}
+use Rattle.dex_rows.specs.Addresses.{address_of, role_of}
 use Rattle.dex_rows.specs.Base64.{base64_of}
 use Rattle.dex_rows.specs.Numbers.{number_of}
 use Rattle.dex_rows.specs.Printable.{is_printable}

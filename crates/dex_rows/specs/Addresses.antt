@@ -1,23 +1,12 @@
 -- Words that name accounts.
-use Rattle.std.specs.Prelude.{ℕ, ◌-◌, Bool, ◌&&◌, ◌||◌, ◌==◌, nat_le, if◌then◌else◌, List, ◌∷◌, ◌++◌, length, replicate, bytes_eq, codes, Option, Some, None, option_map}
-use Rattle.std.specs.Char.{is_ascii_digit, is_ascii_lowercase}
+use Rattle.std.specs.Prelude.{ℕ, Bool, ◌&&◌, ◌||◌, ◌==◌, if◌then◌else◌, List, ◌∷◌, bytes_eq, codes, Option, Some, None, option_map}
+use Rattle.std.specs.Char.{is_ascii_digit}
 use Rattle.std.specs.Int.{is_in_range}
 use Rattle.std.specs.List.{list_all}
 use Rattle.std.specs.Result.{result_ok}
 use Rattle.dex_types.specs.declared.addresses.Address.{Address}
+use Rattle.dex_types.specs.Text.{is_label, label_address}
 use Rattle.hex.specs.Hex.{decode_sized}
-
--- the characters of a label: `a` to `z`, `0` to `9` and `_`
-abbrev pub is_label_character : ℕ → Bool
-is_label_character c = is_ascii_lowercase c || is_ascii_digit c || (c == 95)
-
--- a label: from 1 to 24 of those characters
-unfoldable pub is_label : List ℕ → Bool
-is_label word = nat_le 1 (length word) && nat_le (length word) 24 && list_all is_label_character word
-
--- the address of a label: its bytes, followed by zeros
-unfoldable pub label_address : List ℕ → Address
-label_address label = record { 0 = label ++ replicate (32 - length label) 0 }
 
 -- the hexadecimal digits in lower case
 abbrev pub is_lower_hexdigit : ℕ → Bool

@@ -1,6 +1,7 @@
 ghost use Rattle.std.specs.Prelude.{◌≡◌, ◌≤◌, length};
 ghost use Rattle.std.specs.List.{list_all};
-ghost use Rattle.dex_rows.specs.Addresses.{address_of, digits_address, is_label, is_label_character, is_lower_hexdigit, label_address, prefixed_address, role_of};
+ghost use Rattle.dex_types.specs.Text.{is_label, is_label_character, label_address};
+ghost use Rattle.dex_rows.specs.Addresses.{address_of, digits_address, is_lower_hexdigit, prefixed_address, role_of};
 
 use dex_types::Address;
 use hex::FromHex;
@@ -30,7 +31,6 @@ pub fn role_word(text: &[u8]) -> Option<Option<Address>>
 }
 
 /// Whether a word is a label: from 1 to 24 characters of `a` to `z`, `0` to `9` and `_`.
-#[tactic(auto, unfolding(crate::specs::Addresses::is_label))]
 pub fn is_label_word(text: &[u8]) -> bool
     ensures { result ≡ is_label text.now }
 {

@@ -1,9 +1,9 @@
 -- Which bytes of a side's account a call may change.
-use Rattle.std.specs.Prelude.{◌≡◌, ◌≢◌, ℕ, ◌<◌, ◌≤◌, ◌⊎◌, List, slice_index}
+use Rattle.std.specs.Prelude.{◌≡◌, ◌≢◌, ℕ, ◌<◌, ◌≤◌, ◌⊎◌, List, length, slice_index}
 use Rattle.dex_fields.specs.declared.field.Field.{Field}
 use Rattle.dex_fields.specs.declared.leaf_node.TheConstants.{QUANTITY}
 use Rattle.dex_fields.specs.Bytes.{ChangesOnly, end_of, number_in}
-use Rattle.dex_slab.specs.Nodes.{in_node, key_of, node_bytes, node_field, tag_of}
+use Rattle.dex_slab.specs.Nodes.{in_node, key_of, node_bytes, node_field, nodes_within, tag_of}
 
 -- the place is in no byte of the field
 abbrev pub IsBeside : Field → ℕ → Type 0
@@ -19,9 +19,15 @@ ChangesNodes a b c old new =
     (place : ℕ) → IsBeside header place → IsBeside (node_field a) place → IsBeside (node_field b) place → IsBeside (node_field c) place
     → slice_index new place ≡ slice_index old place
 
--- at most three nodes differ, beside the slab's header
-abbrev pub ChangesThreeNodes : List ℕ → List ℕ → Type 0
-ChangesThreeNodes old new = (a : ℕ) × (b : ℕ) × (c : ℕ) × ChangesNodes a b c old new
+-- at most three nodes of the account differ, beside the slab's header
+pub record ChangesThreeNodes (old new : List ℕ) : Type 0 where
+  pub first : ℕ
+  pub second : ℕ
+  pub third : ℕ
+  pub first_within : first < nodes_within (length old)
+  pub second_within : second < nodes_within (length old)
+  pub third_within : third < nodes_within (length old)
+  pub changes : ChangesNodes first second third old new
 
 -- only the eight bytes of a leaf's lots differ
 abbrev pub ChangesLots : ℕ → List ℕ → List ℕ → Type 0

@@ -1,5 +1,5 @@
 -- a sum is too large where the bound would break
-use Rattle.std.proofs.Common.{ℕ, ◌+◌, ◌≤◌, ◌≡◌, ◌≢◌, ◌^◌, true, [], ◌∷◌, Option, Some, None, Result, Ok, Err, is_some, length, take, refl, subst, arith}
+use Rattle.std.proofs.Common.{ℕ, ◌+◌, ◌≤◌, ◌≡◌, ◌≢◌, ◌^◌, true, [], ◌∷◌, Option, Some, None, Result, Ok, Err, is_some, length, take, refl, subst, arith, ◌↔◌, sym, ◌∙◌}
 use Rattle.std.proofs.lemmas.Bool.{leb-true, false≢true}
 use Rattle.dex_types.specs.declared.addresses.Address.{Address}
 use Rattle.dex_types.specs.declared.instructions.BadData.{BadData}
@@ -25,7 +25,7 @@ use Rattle.dex_types.specs.Take.{Take, take_meeting, take_transfers, take_paid, 
 use Rattle.dex_types.specs.Terms.{terms_order, terms_take}
 use Rattle.dex_types.specs.Transfers.{Transfers}
 use Rattle.dex_types.specs.Why.{payer, of_party, why_order_early, why_ordering, why_order, why_take_early, why_taking, why_take, why_cancel, why_prune, why_close, why_settle, why_sweep, why_instruction, why_decoded, why}
-use Rattle.dex_sound.specs.Bounds.{IsBeyond, would_leave}
+use Rattle.dex_sound.specs.Bounds.{IsBeyond, BreaksBound, IsRefusedForSum, HasNoOtherReason, is_for_sum, would_leave}
 use Rattle.dex_sound.proofs.GivenLaws.{is_plain, Gives, IsPlain, first_of-gives, plain-gives, none-gives, some-gives, where-gives, disabled-plain, missing-plain, not_owner-plain, not_authority-plain, other_mint-plain, would_self_trade-plain, below_minimum-plain, queue_full-plain, short_of-plain, why_init-plain, why_close-plain, why_disable-plain, why_order_early-plain, why_take_early-plain, why_cancel-plain, why_prune-plain}
 use Rattle.dex_sound.proofs.StepSound.{step-sound}
 
@@ -223,3 +223,27 @@ beyond-refused request seen m token sound priced beyond none =
     let left : IsSound (would_leave request seen m) =
     subst (λ reason. IsSound (unless_refused reason m (act_decoded request.instruction request seen m)).market) none after in
     omega (arith, left.funds.bounded token)
+
+-- so a row is refused for a sum exactly where it would leave a market beyond the bound and no other reason holds
+sum-breaks : (request : Request) (seen : Seen) (m : Market) (refusal : Refusal) → why request seen m ≡ Some refusal → is_for_sum refusal ≡ true → BreaksBound (would_leave request seen m)
+sum-breaks request seen m (SumTooLarge held pending) given sum =
+    let tells : IsBeyond (would_leave request seen m) held pending = sum-beyond request seen m held pending given in
+    record { token = tells.token; beyond = omega (arith, tells.in_vault, tells.in_events, tells.beyond) }
+sum-breaks request seen m refusal given sum = absurd (false≢true sum)
+
+refused-by : (request : Request) (seen : Seen) (m : Market) (reason : Option Refusal) → why request seen m ≡ reason → reason ≢ None → HasNoOtherReason request seen m → IsRefusedForSum request seen m
+refused-by request seen m None is some no_other = absurd (some refl)
+refused-by request seen m (Some refusal) is some no_other = record { refusal = refusal; given = is; sum = no_other refusal is }
+
+pub sum-exactly : (request : Request) (seen : Seen) (m : Market) → IsSound m → HasPrice request.instruction
+    → IsRefusedForSum request seen m ↔ (BreaksBound (would_leave request seen m) × HasNoOtherReason request seen m)
+sum-exactly request seen m sound priced = (
+  λ refused. (
+    sum-breaks request seen m refused.refusal refused.given refused.sum,
+    λ other given.
+        let both : Some refused.refusal ≡ Some other = sym refused.given ∙ given in
+        let same : refused.refusal ≡ other = cc in
+        subst (λ r. is_for_sum r ≡ true) same refused.sum,
+  ),
+  λ breaks. refused-by request seen m (why request seen m) refl (beyond-refused request seen m breaks.0.token sound priced breaks.0.beyond) breaks.1,
+)

@@ -17,6 +17,7 @@ use Rattle.dex_types.specs.Totals.{total, weighed_where}
 use Rattle.dex_types.specs.Trader.{Account, Open, Closed, Traders, balance, trader_at}
 use Rattle.dex_laws.proofs.TotalLaws.{total-each}
 use Rattle.dex_laws.proofs.TraderLaws.{is_same-refl}
+use Rattle.dex_sound.specs.Exchange.{gained, gained_as}
 use Rattle.dex_sound.specs.Fields.{AccountFits, FieldsFit, CanBePaid, CanPayOut}
 use Rattle.dex_sound.specs.Places.{IsSoundByPlace}
 use Rattle.dex_sound.proofs.CrankSound.{Holder, holder-of}
@@ -55,6 +56,21 @@ kept-le Pc (ReleasingOut Ask) event = omega arith
 all_kept-le : (token : Token) (events : List QueuedEvent) → total (kept token) events ≤ all_owed token events + all_leaving token events
 all_kept-le token [] = omega arith
 all_kept-le token (event ∷ events) = omega (arith, kept-le token event.kind event, all_kept-le token events)
+
+-- and so it does with what it brings its owner
+gained-le : (token : Token) (kind : EventKind) (event : QueuedEvent) → kept_as token kind event + gained_as token kind event ≤ owed_as token kind event + leaving_as token kind event
+gained-le Coin (MakerFill Bid) event = omega arith
+gained-le Coin (MakerFill Ask) event = omega arith
+gained-le Coin (TakerFill side) event = omega arith
+gained-le Coin (PlainOut side) event = omega arith
+gained-le Coin (ReleasingOut Bid) event = omega arith
+gained-le Coin (ReleasingOut Ask) event = omega arith
+gained-le Pc (MakerFill Bid) event = omega arith
+gained-le Pc (MakerFill Ask) event = omega arith
+gained-le Pc (TakerFill side) event = omega arith
+gained-le Pc (PlainOut side) event = omega arith
+gained-le Pc (ReleasingOut Bid) event = omega arith
+gained-le Pc (ReleasingOut Ask) event = omega arith
 
 -- what leaves an owner's total is kept in it
 leaving-le : (token : Token) (kind : EventKind) (event : QueuedEvent) → leaving_as token kind event ≤ kept_as token kind event
@@ -113,11 +129,27 @@ own-each token (first ∷ others) =
     (All-weaker (λ (event : QueuedEvent). kept token event ≤ own_kept token event.owner others) (λ (event : QueuedEvent). kept token event ≤ own_kept token event.owner (first ∷ others))
     (λ event rest. omega (arith, rest)) others (own-each token others))
 
+-- and with what one of them brings
+own-gained : (token : Token) (events : List QueuedEvent)
+    → All (λ (event : QueuedEvent). own_kept token event.owner events + gained token event ≤ all_owed token events + all_leaving token events) events
+own-gained token [] = All-nil _
+own-gained token (first ∷ others) =
+    All-cons (λ (event : QueuedEvent). own_kept token event.owner (first ∷ others) + gained token event ≤ all_owed token (first ∷ others) + all_leaving token (first ∷ others)) first others
+    (let own : is_same first.owner first.owner ≡ true = is_same-refl first.owner in
+    rw own (omega (arith, gained-le token first.kind first, part-le (kept token) (is_event_of first.owner) others, all_kept-le token others)))
+    (All-weaker (λ (event : QueuedEvent). own_kept token event.owner others + gained token event ≤ all_owed token others + all_leaving token others)
+    (λ (event : QueuedEvent). own_kept token event.owner (first ∷ others) + gained token event ≤ all_owed token (first ∷ others) + all_leaving token (first ∷ others))
+    (λ event rest.
+    let head : weighed_where (is_event_of event.owner) (kept token) first ≤ kept token first =
+    cond_both (is_event_of event.owner first) (kept token first) 0 (λ part. part ≤ kept token first) (λ is. omega arith) (λ is. omega arith) in
+    omega (arith, rest, head, kept-le token first.kind first)) others (own-gained token others))
+
 -- an event of an open account can be paid
 pays : (m : Market) → IsSoundByPlace m → (event : QueuedEvent) → held_at event.owner event.slot m.traders ≡ Some (event_holding event)
     → ((token : Token) → kept token event ≤ own_kept token event.owner m.events) → ((token : Token) → owed token event ≤ all_owed token m.events)
+    → ((token : Token) → own_kept token event.owner m.events + gained token event ≤ all_owed token m.events + all_leaving token m.events)
     → referred event ≤ total referred m.events → CanBePaid m event
-pays m sound event held own pending refers =
+pays m sound event held own pending gains refers =
     let funds : FundsAgree m = sound.funds in
     let holder : Holder event.owner event.slot m.traders = holder-of event.owner event.slot m.traders (event_holding event) held in
     record {
@@ -126,6 +158,16 @@ pays m sound event held own pending refers =
       held = held;
       leaving = λ token. omega (arith, leaving-le token event.kind event, own token, funds.adds_up event.owner holder.account holder.found token);
       free = λ token. omega (arith, funds.bounded token, funds.solvent.vaults token, pending token, free-le token event.owner holder.account m.traders holder.found);
+      total = λ token.
+          omega (
+            arith,
+            gains token,
+            funds.bounded token,
+            funds.solvent.vaults token,
+            funds.adds_up event.owner holder.account holder.found token,
+            free-le token event.owner holder.account m.traders holder.found,
+            part-le (order_lock (locking_side token) m.listing.sizes) (is_order_of event.owner) (orders (locking_side token) m),
+          );
       referrer = omega (arith, funds.bounded Pc, funds.solvent.vaults Pc, funds.solvent.referrers, refers, referrer-le event.owner holder.account m.traders holder.found);
     }
 
@@ -134,7 +176,7 @@ events-pay m sound k default within =
     let by_place : IsSoundByPlace m = to-place m sound in
     let event : QueuedEvent = slice_index_or m.events k default in
     pays m by_place event (by_place.places.pending k default within) (λ token. own-each token m.events k default within)
-    (λ token. total-each (owed token) m.events k default within) (total-each referred m.events k default within)
+    (λ token. total-each (owed token) m.events k default within) (λ token. own-gained token m.events k default within) (total-each referred m.events k default within)
 
 -- payouts
 pub pays-out : (m : Market) → IsSound m → CanPayOut m

@@ -8,6 +8,7 @@ use Rattle.dex_types.specs.Side.{Token}
 use Rattle.dex_types.specs.Solvency.{vault}
 use Rattle.dex_types.specs.Soundness.{event_holding, held_at}
 use Rattle.dex_types.specs.Trader.{Account, Open, balance, trader_at}
+use Rattle.dex_sound.specs.Exchange.{gained}
 
 -- an account's native amounts are below 2^64, and its free ones are part of their totals
 pub record AccountFits (account : Account) : Type 0 where
@@ -24,13 +25,14 @@ pub record FieldsFit (m : Market) : Type 0 where
   pub accounts : (owner : Address) (account : Account) → trader_at owner m.traders ≡ Some (Open account) → AccountFits account
 
 -- a pending event can be paid: its owner is open and holds its order in the event's slot, what it takes off a total is in that,
--- and what it adds to an amount leaves that below 2^64
+-- and what it adds to a free amount, to a total or to the referrer part leaves that below 2^64
 pub record CanBePaid (m : Market) (event : QueuedEvent) : Type 0 where
   pub account : Account
   pub found : trader_at event.owner m.traders ≡ Some (Open account)
   pub held : held_at event.owner event.slot m.traders ≡ Some (event_holding event)
   pub leaving : (token : Token) → leaving token event ≤ (balance token account).total
   pub free : (token : Token) → (balance token account).free + owed token event < 2 ^ 64
+  pub total : (token : Token) → (balance token account).total + gained token event < 2 ^ 64
   pub referrer : account.referrer + referred event < 2 ^ 64
 
 -- what a market can be asked to pay out is there: an account's free funds and referrer part, and the fees

@@ -1,5 +1,5 @@
 -- What replies, refusals and addresses print.
-use Rattle.std.specs.Prelude.{ℕ, Bool, ◌&&◌, ◌||◌, ◌==◌, nat_le, if◌then◌else◌, List, ◌++◌, length, take, drop, unwrap_or, codes}
+use Rattle.std.specs.Prelude.{ℕ, ◌-◌, Bool, ◌&&◌, ◌||◌, ◌==◌, nat_le, if◌then◌else◌, List, ◌++◌, length, replicate, take, drop, unwrap_or, codes}
 use Rattle.std.specs.Char.{is_ascii_digit, is_ascii_lowercase}
 use Rattle.std.specs.Fmt.{decimal, signed_decimal}
 use Rattle.std.specs.List.{list_all, position}
@@ -19,6 +19,10 @@ is_label_character c = is_ascii_lowercase c || is_ascii_digit c || (c == 95)
 -- a label: from 1 to 24 of those characters
 abbrev pub is_label : List ℕ → Bool
 is_label word = nat_le 1 (length word) && nat_le (length word) 24 && list_all is_label_character word
+
+-- the address of a label: its bytes, followed by zeros
+abbrev pub label_address : List ℕ → Address
+label_address label = record { 0 = label ++ replicate (32 - length label) 0 }
 
 -- the place of the first zero, or the length
 abbrev pub first_zero : List ℕ → ℕ

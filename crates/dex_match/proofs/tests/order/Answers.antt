@@ -1,5 +1,4 @@
-use Rattle.std.proofs.Common.{[], ◌∷◌, List, refl}
-use Rattle.dex_types.specs.declared.addresses.Address.{Address}
+use Rattle.std.proofs.Common.{[], ◌∷◌, refl}
 use Rattle.dex_types.specs.Trader.{Traders, Blank}
 use Rattle.dex_match.specs.declared.tests.TheConstants.{AMY, BEN}
 use Rattle.dex_match.proofs.Starting.{has-named}

@@ -1,7 +1,7 @@
 use Rattle.std.proofs.Common.{◌≡◌, None, sym, subst, arith, inl, inr}
 use Rattle.std.proofs.lemmas.Bool.{cases_lt}
 use Rattle.dex_orders.specs.Faults.{place_rule, slots_rule}
-use Rattle.dex_orders.proofs.FirstFault.{front_none, front_some}
+use Rattle.dex_fields.proofs.FirstFault.{front_none, front_some}
 use Rattle.dex_orders.proofs.orders_check.slots_rule.Goals as goal
 
 pub returns-in-Some : goal.returns-in-Some

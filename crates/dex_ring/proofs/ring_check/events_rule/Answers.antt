@@ -5,7 +5,7 @@ use Rattle.dex_fields.specs.Bytes.{number_in}
 use Rattle.dex_types.specs.declared.faults.AccountFault.{AccountFault}
 use Rattle.dex_ring.specs.Faults.{event_rule, events_rule}
 use Rattle.dex_ring.specs.Ring.{event_at}
-use Rattle.dex_ring.proofs.FirstFault.{front_none, front_some}
+use Rattle.dex_fields.proofs.FirstFault.{front_none, front_some}
 use Rattle.dex_ring.proofs.ring_check.events_rule.Goals as goal
 
 pub returns-in-Some : goal.returns-in-Some

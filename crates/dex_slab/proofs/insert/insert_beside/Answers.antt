@@ -1,4 +1,4 @@
-use Rattle.std.proofs.Common.{rules, ◌≡◌, ◌∷◌, ◌+◌, ◌<◌, ◌^◌, ℕ, ap, subst, sym, ◌∙◌, arith, lit≤}
+use Rattle.std.proofs.Common.{rules, ◌≡◌, ◌∷◌, ◌+◌, ◌<◌, ◌^◌, ℕ, ap, length, subst, sym, ◌∙◌, arith, lit≤}
 use Rattle.dex_fields.specs.declared.slab.TheConstants.{LEAF_COUNT}
 use Rattle.dex_fields.specs.Bytes.{with_number}
 use Rattle.dex_slab.specs.declared.nodes.Branch.{Branch}
@@ -125,6 +125,7 @@ returns c =
       long = search rules;
       length_old = search rules;
     } in
+    let two_taken : length b2 ≡ length old = search rules in
     let found = c.place_for-place.ensures.place in
     let way = found.way in
     let fits : order.id < 2 ^ 128 = search rules in
@@ -150,13 +151,16 @@ returns c =
         c.take_node-leaf.ensures.freed,
         c.take_node-moved.ensures.freed,
       );
-      three = (
-        moved,
-        leaf,
-        place,
-        λ at in_header at_moved at_leaf at_place.
+      three = record {
+        first = moved;
+        second = leaf;
+        third = place;
+        first_within = omega (arith, used-below b2 (leaf ∷ moved ∷ used) moved entered.shared (omega (arith, times-some moved used)), two_taken);
+        second_within = omega (arith, used-below b2 (leaf ∷ moved ∷ used) leaf entered.shared (times-some leaf (moved ∷ used)), two_taken);
+        third_within = way-below old order.id place r way;
+        changes = λ at in_header at_moved at_leaf at_place.
             (ChangesHeader-by b5 new LEAF_COUNT _ c.put_u64.ensures.bytes (lit≤ tt) (lit≤ tt)).places at in_header
             ∙ c.write_inner.ensures.changes.places at at_place ∙ c.write_leaf.ensures.changes.places at at_leaf ∙ c.copy_node.ensures.changes.places at at_moved
-            ∙ c.take_node-leaf.ensures.changes.places at in_header ∙ c.take_node-moved.ensures.changes.places at in_header,
-      );
+            ∙ c.take_node-leaf.ensures.changes.places at in_header ∙ c.take_node-moved.ensures.changes.places at in_header;
+      };
     }

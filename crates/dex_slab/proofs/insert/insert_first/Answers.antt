@@ -1,7 +1,8 @@
-use Rattle.std.proofs.Common.{rules, ◌∷◌, [], Some, ◌∙◌, arith}
+use Rattle.std.proofs.Common.{rules, ◌≡◌, ◌∷◌, [], Some, ◌∙◌, arith, length, lit≤}
+use Rattle.dex_fields.specs.declared.slab.TheConstants.{LEAF_COUNT, ROOT_NODE}
 use Rattle.dex_slab.specs.Tree.{Leaf}
 use Rattle.dex_slab.proofs.FirstLaw.{made-first, orders-first, shared-none, spare-none, written-first}
-use Rattle.dex_slab.proofs.NodeWrites.{node_within}
+use Rattle.dex_slab.proofs.NodeWrites.{ChangesHeader-by, node_within}
 use Rattle.dex_slab.proofs.PoolLaw.{used-below}
 use Rattle.dex_slab.proofs.Standing.{IsSlab-from}
 use Rattle.dex_slab.proofs.Times.{times-some}
@@ -46,3 +47,24 @@ pub returns-clause-freed : goal.returns-clause-freed
 returns-clause-freed c =
     (written-first c.take_node-leaf.new.bytes c.write_leaf.new.bytes c.put_u32.new.bytes c.put_u64.new.bytes c.take_node-leaf.result
     c.write_leaf.ensures.changes c.put_u32.ensures.bytes c.put_u64.ensures.bytes).len ∙ c.take_node-leaf.ensures.freed
+
+pub returns-clause-three : goal.returns-clause-three
+returns-clause-three c =
+    let old = c.args.bytes.now in
+    let leaf = c.take_node-leaf.result in
+    let taken = c.take_node-leaf.new.bytes in
+    let root = c.put_u32.new.bytes in
+    let shared = c.take_node-leaf.ensures.shared [] (shared-none old c.requires.slab c.requires.empty) (omega (arith, c.requires.slab.size.some)) in
+    let same : length taken ≡ length old = search rules in
+    record {
+      first = leaf;
+      second = 0;
+      third = 0;
+      first_within = omega (arith, used-below taken (leaf ∷ []) leaf shared (times-some leaf []), same);
+      second_within = c.requires.slab.size.some;
+      third_within = c.requires.slab.size.some;
+      changes = λ at in_header at_leaf at_0 at_1.
+          (ChangesHeader-by root c.put_u64.new.bytes LEAF_COUNT _ c.put_u64.ensures.bytes (lit≤ tt) (lit≤ tt)).places at in_header
+          ∙ (ChangesHeader-by c.write_leaf.new.bytes root ROOT_NODE _ c.put_u32.ensures.bytes (lit≤ tt) (lit≤ tt)).places at in_header
+          ∙ c.write_leaf.ensures.changes.places at at_leaf ∙ c.take_node-leaf.ensures.changes.places at in_header;
+    }

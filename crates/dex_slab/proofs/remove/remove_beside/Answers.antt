@@ -119,17 +119,24 @@ returns c =
     (subst (λ (n : ℕ). IsTaken old b1 b2 b3 new parent leaf n (count_of old - 1))
     (c.sibling_of-sibling.ensures ∙ sibling_found old r id leaf parent f) taken) in
     let written = written-count b3 new (c.get_u64-count.result - 1) c.put_u64.ensures.bytes in
+    let f = c.requires.found.1 in
+    let used : List ℕ = top_of (beside f.path) ∷ leaf ∷ nodes_of (left f.path) in
+    let shared = shared_found old r c.requires.found.0 leaf parent f in
+    let sibling_is : sibling ≡ top_of (beside f.path) = c.sibling_of-sibling.ensures ∙ sibling_found old r c.requires.found.0 leaf parent f in
     record {
       slab = removed-slab old new c.requires.found.0 (removed c.requires.found.0 c.requires.found.1);
       orders = λ id f. removed-orders old new id (removed id f);
       bump = written.bump ∙ c.free_node-2.ensures.bump ∙ c.free_node.ensures.bump ∙ c.copy_node.ensures.changes.header_numbers BUMP_INDEX (lit≤ tt);
       freed = omega (arith, written.len, c.free_node-2.ensures.freed, c.free_node.ensures.freed, c.copy_node.ensures.changes.header_numbers FREE_LIST_LEN (lit≤ tt));
-      three = (
-        parent,
-        sibling,
-        leaf,
-        λ at in_header at_parent at_sibling at_leaf.
+      three = record {
+        first = parent;
+        second = sibling;
+        third = leaf;
+        first_within = used-below old used parent shared (omega (arith, parent_used old r c.requires.found.0 leaf parent f));
+        second_within = omega (arith, sibling_is, used-below old used (top_of (beside f.path)) shared (times-some (top_of (beside f.path)) (leaf ∷ nodes_of (left f.path))));
+        third_within = used-below old used leaf shared (omega (arith, times-some leaf (nodes_of (left f.path))));
+        changes = λ at in_header at_parent at_sibling at_leaf.
             (ChangesHeader-by b3 new LEAF_COUNT _ c.put_u64.ensures.bytes (lit≤ tt) (lit≤ tt)).places at in_header
-            ∙ c.free_node-2.ensures.places at in_header at_leaf ∙ c.free_node.ensures.places at in_header at_sibling ∙ c.copy_node.ensures.changes.places at at_parent,
-      );
+            ∙ c.free_node-2.ensures.places at in_header at_leaf ∙ c.free_node.ensures.places at in_header at_sibling ∙ c.copy_node.ensures.changes.places at at_parent;
+      };
     }

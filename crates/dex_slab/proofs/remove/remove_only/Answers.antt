@@ -3,7 +3,9 @@ use Rattle.dex_fields.specs.declared.slab.TheConstants.{LEAF_COUNT, ROOT_NODE}
 use Rattle.dex_slab.specs.Slab.{IsShared, free_of}
 use Rattle.dex_slab.proofs.NodeWrites.{ChangesHeader-by, number_kept}
 use Rattle.dex_slab.proofs.OnlyLaw.{orders-empty, shared-only, stands-empty, written-only}
+use Rattle.dex_slab.proofs.PoolLaw.{used-below}
 use Rattle.dex_slab.proofs.Standing.{IsSlab-from, Stands}
+use Rattle.dex_slab.proofs.Times.{times-some}
 use Rattle.dex_slab.proofs.remove.remove_only.Goals as goal
 
 pub free_node-requires : goal.free_node-requires
@@ -31,13 +33,16 @@ returns c =
       root = number_kept b2 new LEAF_COUNT _ ROOT_NODE c.put_u64.ensures.bytes refl ∙ c.put_u32.ensures.given;
       bump = written.bump ∙ c.free_node.ensures.bump;
       freed = written.len ∙ c.free_node.ensures.freed;
-      three = (
-        c.get_u32-leaf.result,
-        0,
-        0,
-        λ at in_header at_leaf at_0 at_1.
+      three = record {
+        first = c.get_u32-leaf.result;
+        second = 0;
+        third = 0;
+        first_within = used-below old (c.get_u32-leaf.result ∷ []) c.get_u32-leaf.result used (times-some c.get_u32-leaf.result []);
+        second_within = c.requires.slab.size.some;
+        third_within = c.requires.slab.size.some;
+        changes = λ at in_header at_leaf at_0 at_1.
             (ChangesHeader-by b2 new LEAF_COUNT _ c.put_u64.ensures.bytes (lit≤ tt) (lit≤ tt)).places at in_header
             ∙ (ChangesHeader-by b1 b2 ROOT_NODE _ c.put_u32.ensures.bytes (lit≤ tt) (lit≤ tt)).places at in_header
-            ∙ c.free_node.ensures.places at in_header at_leaf,
-      );
+            ∙ c.free_node.ensures.places at in_header at_leaf;
+      };
     }

@@ -1,7 +1,7 @@
 use Rattle.std.proofs.Common.{◌∙◌, Ok, ap, sym}
 use Rattle.dex_match.specs.FirstMarket.{FirstStep}
 use Rattle.dex_match.specs.Incoming.{new_order}
-use Rattle.dex_match.proofs.Stepping.{IsHandedIn, refused-step, accepted-step}
+use Rattle.dex_match.proofs.Stepping.{refused-step, accepted-step}
 use Rattle.dex_match.proofs.states.State.order.Goals as goal
 
 pub returns-in-Err-clause-reply : goal.returns-in-Err-clause-reply

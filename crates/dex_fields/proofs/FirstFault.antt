@@ -3,10 +3,9 @@ use Rattle.std.proofs.Common.{◌≡◌, ℕ, zero, suc, ◌+◌, ◌<◌, map, 
 use Rattle.std.specs.List.{range_with_len}
 use Rattle.std.specs.Option.{option_or}
 use Rattle.dex_fields.proofs.Rules.{or_none}
-use Rattle.dex_types.specs.declared.faults.AccountFault.{AccountFault}
-use Rattle.dex_ring.specs.Faults.{first_fault}
+use Rattle.dex_fields.specs.Rules.{first_fault}
 
-module _ (rule : ℕ → Option AccountFault) where
+module _ {X : Type 0} (rule : ℕ → Option X) where
   -- the rule of the first number of a range
   first_rule : (a : ℕ) → rule a ≡ rule (a + 0)
   first_rule a =
@@ -23,17 +22,17 @@ module _ (rule : ℕ → Option AccountFault) where
   first_fault-none : (a count : ℕ) → ((k : ℕ) → k < count → rule (a + k) ≡ None) → first_fault (map rule (range_with_len a count)) ≡ None
   first_fault-none a zero none = refl
   first_fault-none a (suc count) none =
-      ap (λ (o : Option AccountFault). option_or o (first_fault (map rule (range_with_len (a + 1) count)))) (first_rule a ∙ none 0 (omega arith))
+      ap (λ (o : Option X). option_or o (first_fault (map rule (range_with_len (a + 1) count)))) (first_rule a ∙ none 0 (omega arith))
       ∙ first_fault-none (a + 1) count (λ k lt. later_rule a k ∙ none (suc k) (omega arith))
 
   -- the first rule that is broken
-  first_fault-some : (a count k : ℕ) (fault : AccountFault) → k < count → ((i : ℕ) → i < k → rule (a + i) ≡ None) → rule (a + k) ≡ Some fault
+  first_fault-some : (a count k : ℕ) (fault : X) → k < count → ((i : ℕ) → i < k → rule (a + i) ≡ None) → rule (a + k) ≡ Some fault
       → first_fault (map rule (range_with_len a count)) ≡ Some fault
   first_fault-some a zero k fault lt none here = absurd (omega arith)
   first_fault-some a (suc count) zero fault lt none here =
-      ap (λ (o : Option AccountFault). option_or o (first_fault (map rule (range_with_len (a + 1) count)))) (first_rule a ∙ here)
+      ap (λ (o : Option X). option_or o (first_fault (map rule (range_with_len (a + 1) count)))) (first_rule a ∙ here)
   first_fault-some a (suc count) (suc k) fault lt none here =
-      ap (λ (o : Option AccountFault). option_or o (first_fault (map rule (range_with_len (a + 1) count)))) (first_rule a ∙ none 0 (omega arith))
+      ap (λ (o : Option X). option_or o (first_fault (map rule (range_with_len (a + 1) count)))) (first_rule a ∙ none 0 (omega arith))
       ∙ first_fault-some (a + 1) count k fault (omega arith) (λ i below. later_rule a i ∙ none (suc i) (omega arith)) (later_rule a k ∙ here)
 
   -- where there is no fault, each rule holds
@@ -53,7 +52,7 @@ module _ (rule : ℕ → Option AccountFault) where
   pub front_none : (count : ℕ) → ((k : ℕ) → k < count → rule k ≡ None) → first_fault (map rule (range_with_len 0 count)) ≡ None
   front_none count none = first_fault-none 0 count (λ k lt. sym (from_zero k) ∙ none k lt)
 
-  pub front_some : (count k : ℕ) (fault : AccountFault) → k < count → ((i : ℕ) → i < k → rule i ≡ None) → rule k ≡ Some fault
+  pub front_some : (count k : ℕ) (fault : X) → k < count → ((i : ℕ) → i < k → rule i ≡ None) → rule k ≡ Some fault
       → first_fault (map rule (range_with_len 0 count)) ≡ Some fault
   front_some count k fault lt none here =
       first_fault-some 0 count k fault lt (λ i below. sym (from_zero i) ∙ none i below) (sym (from_zero k) ∙ here)
