@@ -17,6 +17,7 @@ use Rattle.dex_slab.proofs.IdLists.{AllIds, AllIds-new, HasId, HasId-found}
 use Rattle.dex_slab.proofs.Leaving.{order-found}
 use Rattle.dex_slab.proofs.Plugs.{known-part, leaves-plug, times-plug}
 use Rattle.dex_slab.proofs.PoolLaw.{used-below}
+use Rattle.dex_slab.proofs.Somes.{none_some, same_some}
 use Rattle.dex_slab.proofs.Standing.{leaves-some, length-orders_in, tree_of-cases}
 use Rattle.dex_slab.proofs.TreeOrders.{RestsIn-from}
 use Rattle.dex_slab.proofs.WalkLaw.{Rooted}
@@ -61,14 +62,11 @@ module _ (bytes : List ℕ) (r : Rooted bytes) (id leaf : ℕ) (parent : Option 
       used-below bytes (nodes_of (tree_at bytes (root_of bytes))) leaf r.shared
       (subst (λ (t : Tree). 1 ≤ times leaf (nodes_of t)) f.whole (omega (arith, times-plug leaf f.path (Leaf leaf f.order))))
 
-none_is_some : (n : ℕ) → Some n ≡ None → ⊥
-none_is_some n e = cc
-
 -- with no inner node above it, it is the only one
 whole_leaf : (path : Path) (leaf : ℕ) (order : Order) → parent_of path ≡ None → plug path (Leaf leaf order) ≡ Leaf leaf order
 whole_leaf Root leaf order above = refl
-whole_leaf (InFirst node prefix key second up) leaf order above = absurd (none_is_some node above)
-whole_leaf (InSecond node prefix key first up) leaf order above = absurd (none_is_some node above)
+whole_leaf (InFirst node prefix key second up) leaf order above = absurd (none_some node (sym above))
+whole_leaf (InSecond node prefix key first up) leaf order above = absurd (none_some node (sym above))
 
 module _ (bytes : List ℕ) (slab : IsSlab bytes) (r : Rooted bytes) (id leaf : ℕ) (f : IsFound (tree_at bytes (root_of bytes)) id None leaf) where
   only_leaf : tree_at bytes (root_of bytes) ≡ Leaf leaf f.order
@@ -86,12 +84,9 @@ module _ (bytes : List ℕ) (slab : IsSlab bytes) (r : Rooted bytes) (id leaf : 
         alone = rw (eq-eqb f.order.id id f.same) refl
 
 -- with one above it, it is not
-some_is_none : (n : ℕ) → None ≡ Some n → ⊥
-some_is_none n e = cc
-
 leaves_above : (path : Path) (leaf parent : ℕ) (order : Order) → parent_of path ≡ Some parent → IsKnown (plug path (Leaf leaf order))
     → 2 ≤ leaves_of (plug path (Leaf leaf order))
-leaves_above Root leaf parent order above known = absurd (some_is_none parent above)
+leaves_above Root leaf parent order above known = absurd (none_some parent above)
 leaves_above (InFirst node prefix key second up) leaf parent order above known =
     omega (arith, leaves-plug up (Inner node prefix key (Leaf leaf order) second), leaves-some second (known-part up (Inner node prefix key (Leaf leaf order) second) known).1)
 leaves_above (InSecond node prefix key first up) leaf parent order above known =

@@ -15,6 +15,7 @@ use Rattle.dex_slab.proofs.Holding.{top-plug}
 use Rattle.dex_slab.proofs.IdLists.{AllIds, AllIds-map, order_with-behind, without_order-behind}
 use Rattle.dex_slab.proofs.Plugs.{keys-part, keys-plug, known-part, known-plug, leaves-plug, least_at, nodes-plug, prefixes-part, prefixes-plug, rest-part, rest-plug, times-plug}
 use Rattle.dex_slab.proofs.Retop.{agree-retop, keys-retop, known-retop, leaves-retop, nodes-retop, nodes-top, orders-retop, prefixes-retop, rest-retop, retop, top-retop}
+use Rattle.dex_slab.proofs.Somes.{none_some, same_some}
 use Rattle.dex_slab.proofs.Times.{times-append}
 use Rattle.dex_slab.proofs.TreeOrders.{before, before-precedes, behind, orders-plug}
 
@@ -35,16 +36,10 @@ HasPrefixes-fewer least more (Leaf node order) le h = tt
 HasPrefixes-fewer least more (Inner node prefix key first second) le h = (omega arith, h.1, h.2, h.3)
 HasPrefixes-fewer least more (Other node) le h = tt
 
-none_is_some : (n : ℕ) → None ≡ Some n → ⊥
-none_is_some n e = cc
-
-same_some : (a b : ℕ) → Some a ≡ Some b → a ≡ b
-same_some a b e = cc
-
 module _ (id leaf parent : ℕ) (order : Order) where
   -- the rules of a tree hold of what is left
   pub good_left : (path : Path) → parent_of path ≡ Some parent → IsTree (plug path (Leaf leaf order)) → Leads id path → IsTree (left path)
-  good_left Root above good leads = absurd (none_is_some parent above)
+  good_left Root above good leads = absurd (none_some parent above)
   good_left (InFirst node prefix key second up) above good leads =
       let part : Tree = Inner node prefix key (Leaf leaf order) second in
       let prefixed = prefixes-part up part good.prefixes in
@@ -70,7 +65,7 @@ module _ (id leaf parent : ℕ) (order : Order) where
 
   -- one leaf less
   pub leaves_left : (path : Path) → parent_of path ≡ Some parent → leaves_of (plug path (Leaf leaf order)) ≡ leaves_of (left path) + 1
-  leaves_left Root above = absurd (none_is_some parent above)
+  leaves_left Root above = absurd (none_some parent above)
   leaves_left (InFirst node prefix key second up) above =
       omega (arith, leaves-plug up (Inner node prefix key (Leaf leaf order) second), leaves-plug up (retop node second), leaves-retop node second)
   leaves_left (InSecond node prefix key first up) above =
@@ -79,7 +74,7 @@ module _ (id leaf parent : ℕ) (order : Order) where
   -- the leaf's node and the sibling's old one are not in use any more
   pub times_left : (path : Path) → parent_of path ≡ Some parent
       → (n : ℕ) → times n (top_of (beside path) ∷ leaf ∷ nodes_of (left path)) ≡ times n (nodes_of (plug path (Leaf leaf order)))
-  times_left Root above n = absurd (none_is_some parent above)
+  times_left Root above n = absurd (none_some parent above)
   times_left (InFirst node prefix key second up) above n =
       omega (
         arith,
@@ -100,7 +95,7 @@ module _ (id leaf parent : ℕ) (order : Order) where
 
   pub length_left : (path : Path) → parent_of path ≡ Some parent
       → length (top_of (beside path) ∷ leaf ∷ nodes_of (left path)) ≡ length (nodes_of (plug path (Leaf leaf order)))
-  length_left Root above = absurd (none_is_some parent above)
+  length_left Root above = absurd (none_some parent above)
   length_left (InFirst node prefix key second up) above =
       omega (
         arith,
@@ -121,7 +116,7 @@ module _ (id leaf parent : ℕ) (order : Order) where
 
   -- the inner node above is in use still
   pub parent_left : (path : Path) → parent_of path ≡ Some parent → 1 ≤ times parent (nodes_of (left path))
-  parent_left Root above = absurd (none_is_some parent above)
+  parent_left Root above = absurd (none_some parent above)
   parent_left (InFirst node prefix key second up) above =
       subst (λ (n : ℕ). 1 ≤ times n (nodes_of (plug up (retop node second)))) (same_some node parent above)
       (omega (arith, times-plug node up (retop node second), ap (times node) (nodes-retop node second)))
@@ -130,7 +125,7 @@ module _ (id leaf parent : ℕ) (order : Order) where
       (omega (arith, times-plug node up (retop node first), ap (times node) (nodes-retop node first)))
 
   pub top_left : (path : Path) → parent_of path ≡ Some parent → top_of (left path) ≡ top_of (plug path (Leaf leaf order))
-  top_left Root above = absurd (none_is_some parent above)
+  top_left Root above = absurd (none_some parent above)
   top_left (InFirst node prefix key second up) above =
       top-plug up (retop node second) (Inner node prefix key (Leaf leaf order) second) (top-retop node second)
   top_left (InSecond node prefix key first up) above =
@@ -140,7 +135,7 @@ module _ (id leaf parent : ℕ) (order : Order) where
 
 -- the orders that are left are those before the leaf and those behind it
 orders_left : (side : Side) (path : Path) (parent : ℕ) → parent_of path ≡ Some parent → orders_of side (left path) ≡ before side path ++ behind side path
-orders_left side Root parent above = absurd (none_is_some parent above)
+orders_left side Root parent above = absurd (none_some parent above)
 orders_left Ask (InFirst node prefix key second up) parent above =
     orders-plug Ask up (retop node second) ∙ ap (λ (l : List Order). before Ask up ++ (l ++ behind Ask up)) (orders-retop node Ask second)
 orders_left Ask (InSecond node prefix key first up) parent above =

@@ -21,6 +21,8 @@ pub mod OnceLaws
 pub mod PrefixLaws
 pub mod RootLaws
 pub mod SoundLaws
+pub mod SeekLaw
+pub mod Somes
 pub mod Standing
 pub mod TakenOff
 pub mod Times

@@ -9,7 +9,7 @@ use Rattle.dex_types.specs.BookSide.{CanRest, with_lots}
 use Rattle.dex_slab.specs.Held.{IsLeaf}
 use Rattle.dex_slab.specs.Nodes.{in_node, key_of, node_bytes, node_field, root_of, tag_of}
 use Rattle.dex_slab.specs.Path.{plug}
-use Rattle.dex_slab.specs.Slab.{IsShared, IsSlab, IsSlabSize, IsTree, free_of, orders_in, resting, same, times}
+use Rattle.dex_slab.specs.Slab.{IsShared, IsSlab, IsSlabSize, IsTree, free_of, nodes_in, orders_in, resting, same, times, tree_of}
 use Rattle.dex_slab.specs.Tree.{Tree, Leaf, leaves_of, nodes_of, orders_of}
 use Rattle.dex_slab.specs.Walks.{IsFound, tree_at}
 use Rattle.dex_slab.proofs.BesideLaw.{leaves_rooted}
@@ -131,3 +131,8 @@ module _ (bytes : List ℕ) (slab : IsSlab bytes) (r : Rooted bytes) (id leaf lo
 
   pub leaf_within : end_of (in_node leaf QUANTITY) ≤ length bytes
   leaf_within = omega (arith, within)
+
+  pub leaf_reached : 1 ≤ times leaf (nodes_in (tree_of bytes))
+  leaf_reached =
+      subst (λ (o : Option Tree). 1 ≤ times leaf (nodes_in o)) (sym r.is)
+      (subst (λ (t : Tree). 1 ≤ times leaf (nodes_of t)) f.whole (omega (arith, times-plug leaf f.path (Leaf leaf f.order))))

@@ -12,14 +12,9 @@ use Rattle.dex_slab.proofs.Holding.{AreSame, Holds-part, Holds-plug}
 use Rattle.dex_slab.proofs.Leaving.{beside, left}
 use Rattle.dex_slab.proofs.Plugs.{path_nodes, times-plug}
 use Rattle.dex_slab.proofs.Retop.{Holds-retop, nodes-top, rest_of, retop, top-retop}
+use Rattle.dex_slab.proofs.Somes.{none_some, same_some}
 use Rattle.dex_slab.proofs.Times.{times-append}
 use Rattle.dex_slab.proofs.WalkLaw.{top-met}
-
-none_is_some : (n : ℕ) → None ≡ Some n → ⊥
-none_is_some n e = cc
-
-same_some : (a b : ℕ) → Some a ≡ Some b → a ≡ b
-same_some a b e = cc
 
 -- the bytes hold what is left where the sibling was copied and all that stays is as before
 pub holds_left : (old new : List ℕ) (leaf parent : ℕ) (order : Order) (path : Path) → parent_of path ≡ Some parent → Holds old (plug path (Leaf leaf order))
@@ -27,7 +22,7 @@ pub holds_left : (old new : List ℕ) (leaf parent : ℕ) (order : Order) (path 
     → ((n : ℕ) → n ≢ parent → n ≢ leaf → n ≢ top_of (beside path) → node_bytes new n ≡ node_bytes old n)
     → ((n : ℕ) → times n (nodes_of (plug path (Leaf leaf order))) ≤ 1)
     → Holds new (left path)
-holds_left old new leaf parent order Root above held copied kept once = absurd (none_is_some parent above)
+holds_left old new leaf parent order Root above held copied kept once = absurd (none_some parent above)
 holds_left old new leaf parent order (InFirst node prefix key second up) above held copied kept once =
     let part : Tree = Inner node prefix key (Leaf leaf order) second in
     let here : node ≡ parent = same_some node parent above in
@@ -56,7 +51,7 @@ holds_left old new leaf parent order (InSecond node prefix key first up) above h
 -- the sibling, as it is read
 pub sibling_is : (bytes : List ℕ) (leaf parent : ℕ) (order : Order) (path : Path) → parent_of path ≡ Some parent → Holds bytes (plug path (Leaf leaf order))
     → ((n : ℕ) → times n (nodes_of (plug path (Leaf leaf order))) ≤ 1) → sibling_of bytes parent leaf ≡ top_of (beside path)
-sibling_is bytes leaf parent order Root above held once = absurd (none_is_some parent above)
+sibling_is bytes leaf parent order Root above held once = absurd (none_some parent above)
 sibling_is bytes leaf parent order (InFirst node prefix key second up) above held once =
     let here : node ≡ parent = same_some node parent above in
     let inner : IsInner (node_bytes bytes node) prefix key leaf (top_of second) = (Holds-part bytes up (Inner node prefix key (Leaf leaf order) second) held).0 in

@@ -19,6 +19,7 @@ use Rattle.dex_slab.proofs.Holding.{Holds-part, tree_from-held}
 use Rattle.dex_slab.proofs.KeyBits.{Begins-from, Begins-bit, bit_behind-lt, shared_bits-same}
 use Rattle.dex_slab.proofs.Plugs.{keys-part, least_at, prefixes-part, times-plug}
 use Rattle.dex_slab.proofs.PoolLaw.{used-below}
+use Rattle.dex_slab.proofs.Somes.{none_some, same_some}
 use Rattle.dex_slab.proofs.Standing.{IsHeld, stands_of, tree_of-cases}
 use Rattle.dex_slab.proofs.TreeOrders.{RestsIn-key}
 
@@ -121,11 +122,11 @@ step-second bytes r id node prefix key first second path whole leads begins =
     }
 
 -- the child towards an id
-towards-first : (id prefix key first second : ℕ) → bit_behind prefix id ≡ 0
+pub towards-first : (id prefix key first second : ℕ) → bit_behind prefix id ≡ 0
     → child_towards id (record { prefix = prefix; key = key; first = first; second = second }) ≡ first
 towards-first id prefix key first second bit = rw (ne_eqb (bit_behind prefix id) 1 (omega arith)) refl
 
-towards-second : (id prefix key first second : ℕ) → bit_behind prefix id ≡ 1
+pub towards-second : (id prefix key first second : ℕ) → bit_behind prefix id ≡ 1
     → child_towards id (record { prefix = prefix; key = key; first = first; second = second }) ≡ second
 towards-second id prefix key first second bit = rw (eq-eqb (bit_behind prefix id) 1 bit) refl
 
@@ -162,12 +163,6 @@ goes_on id branch le = rw (le-leb branch.prefix (shared_bits branch.key id) le) 
 
 goes_nowhere : (id : ℕ) (branch : Branch) → shared_bits branch.key id < branch.prefix → next_towards id (Some branch) ≡ None
 goes_nowhere id branch lt = rw (lt-leb branch.prefix (shared_bits branch.key id) lt) refl
-
-same_some : (a b : ℕ) → Some a ≡ Some b → a ≡ b
-same_some a b e = cc
-
-none_some : (a : ℕ) → None ≡ Some a → ⊥
-none_some a e = cc
 
 pub next-step : (bytes : List ℕ) → Rooted bytes → (id child : ℕ) (part : Tree) (path : Path) → AreBytes bytes → id < 2 ^ 128
     → plug path part ≡ tree_at bytes (root_of bytes) → Leads id path → next_towards id (branch_of bytes (top_of part)) ≡ Some child
@@ -221,91 +216,6 @@ branch-prefix bytes r (Inner node prefix key first second) path whole =
     subst (λ (o : Option Branch). IfSome o (λ (b : Branch). b.prefix < 128))
     (sym (branch-inner bytes node prefix key first second (held-part bytes r path part whole))) (prefixed-part bytes r path part whole).1
 branch-prefix bytes r (Other node) path whole = absurd (held-part bytes r path (Other node) whole)
-
--- ---- the walk to the leaf of an id that rests
-
--- the id rests at or below this node, whose parent this is
-pub record IsSought (tree : Tree) (id : ℕ) (parent : Option ℕ) (node : ℕ) : Type 0 where
-  pub path : Path
-  pub part : Tree
-  pub whole : plug path part ≡ tree
-  pub top : top_of part ≡ node
-  pub leads : Leads id path
-  pub above : parent_of path ≡ parent
-  pub rests : RestsIn id part
-
-pub sought-way : (tree : Tree) (id : ℕ) (parent : Option ℕ) (node : ℕ) → IsSought tree id parent node → IsOnWay tree id node
-sought-way tree id parent node s = record { path = s.path; part = s.part; whole = s.whole; top = s.top; leads = s.leads }
-
-pub record IsSearchStep (bytes : List ℕ) (id node child : ℕ) : Type 0 where
-  pub sought : IsSought (tree_at bytes (root_of bytes)) id (Some node) child
-  pub smaller : length (nodes_of (tree_at bytes child)) < length (nodes_of (tree_at bytes node))
-
-seek_inner : (bytes : List ℕ) → Rooted bytes → (id node prefix key : ℕ) (first second : Tree) (path : Path)
-    → plug path (Inner node prefix key first second) ≡ tree_at bytes (root_of bytes) → Leads id path
-    → RestsIn id first ⊎ RestsIn id second
-    → IsSearchStep bytes id node (child_towards id (record { prefix = prefix; key = key; first = top_of first; second = top_of second }))
-seek_inner bytes r id node prefix key first second path whole leads (inl here) =
-    let keys = agreed-part bytes r path (Inner node prefix key first second) whole in
-    let begins : Begins prefix key 0 id = RestsIn-key (Begins prefix key 0) id first keys.0 here in
-    let below = step-first bytes r id node prefix key first second path whole leads begins in
-    subst (λ (n : ℕ). IsSearchStep bytes id node n)
-    (sym (towards-first id prefix key (top_of first) (top_of second) (Begins-bit prefix key 0 id (omega arith) begins)))
-    (record {
-      sought = record { path = InFirst node prefix key second path; part = first; whole = whole; top = refl; leads = (begins, leads); above = refl; rests = here };
-      smaller = below.smaller;
-    })
-seek_inner bytes r id node prefix key first second path whole leads (inr there) =
-    let keys = agreed-part bytes r path (Inner node prefix key first second) whole in
-    let begins : Begins prefix key 1 id = RestsIn-key (Begins prefix key 1) id second keys.1 there in
-    let below = step-second bytes r id node prefix key first second path whole leads begins in
-    subst (λ (n : ℕ). IsSearchStep bytes id node n)
-    (sym (towards-second id prefix key (top_of first) (top_of second) (Begins-bit prefix key 1 id (omega arith) begins)))
-    (record {
-      sought = record { path = InSecond node prefix key first path; part = second; whole = whole; top = refl; leads = (begins, leads); above = refl; rests = there };
-      smaller = below.smaller;
-    })
-
-same_branch : (a b : Branch) → Some a ≡ Some b → a ≡ b
-same_branch a b e = cc
-
-no_branch : (a : Branch) → None ≡ Some a → ⊥
-no_branch a e = cc
-
-seek_part : (bytes : List ℕ) → Rooted bytes → (id : ℕ) (branch : Branch) (part : Tree) (path : Path)
-    → plug path part ≡ tree_at bytes (root_of bytes) → Leads id path → RestsIn id part → branch_of bytes (top_of part) ≡ Some branch
-    → IsSearchStep bytes id (top_of part) (child_towards id branch)
-seek_part bytes r id branch (Leaf node order) path whole leads rests is =
-    absurd (no_branch branch (sym (branch-leaf bytes node order (held-part bytes r path (Leaf node order) whole)) ∙ is))
-seek_part bytes r id branch (Inner node prefix key first second) path whole leads rests is =
-    let part : Tree = Inner node prefix key first second in
-    let made : Branch = record { prefix = prefix; key = key; first = top_of first; second = top_of second } in
-    let same : made ≡ branch = same_branch made branch (sym (branch-inner bytes node prefix key first second (held-part bytes r path part whole)) ∙ is) in
-    subst (λ (b : Branch). IsSearchStep bytes id node (child_towards id b)) same (seek_inner bytes r id node prefix key first second path whole leads rests)
-seek_part bytes r id branch (Other node) path whole leads rests is = absurd rests
-
-pub seek-step : (bytes : List ℕ) → Rooted bytes → (id : ℕ) (parent : Option ℕ) (node : ℕ) (branch : Branch)
-    → IsSought (tree_at bytes (root_of bytes)) id parent node → branch_of bytes node ≡ Some branch → IsSearchStep bytes id node (child_towards id branch)
-seek-step bytes r id parent node branch s is =
-    subst (λ (n : ℕ). IsSearchStep bytes id n (child_towards id branch)) s.top
-    (seek_part bytes r id branch s.part s.path s.whole s.leads s.rests (ap (branch_of bytes) s.top ∙ is))
-
-seek_end_part : (bytes : List ℕ) → Rooted bytes → (id : ℕ) (part : Tree) (path : Path) (parent : Option ℕ)
-    → plug path part ≡ tree_at bytes (root_of bytes) → Leads id path → parent_of path ≡ parent → RestsIn id part → branch_of bytes (top_of part) ≡ None
-    → IsFound (tree_at bytes (root_of bytes)) id parent (top_of part)
-seek_end_part bytes r id (Leaf node order) path parent whole leads above rests none =
-    record { path = path; order = order; whole = whole; same = rests; leads = leads; above = above }
-seek_end_part bytes r id (Inner node prefix key first second) path parent whole leads above rests none =
-    let made : Branch = record { prefix = prefix; key = key; first = top_of first; second = top_of second } in
-    absurd (no_branch made (sym none ∙ branch-inner bytes node prefix key first second (held-part bytes r path (Inner node prefix key first second) whole)))
-seek_end_part bytes r id (Other node) path parent whole leads above rests none = absurd rests
-
--- at a node that is no inner node the search ends
-pub seek-end : (bytes : List ℕ) → Rooted bytes → (id : ℕ) (parent : Option ℕ) (node : ℕ)
-    → IsSought (tree_at bytes (root_of bytes)) id parent node → branch_of bytes node ≡ None → IsFound (tree_at bytes (root_of bytes)) id parent node
-seek-end bytes r id parent node s none =
-    subst (λ (n : ℕ). IsFound (tree_at bytes (root_of bytes)) id parent n) s.top
-    (seek_end_part bytes r id s.part s.path parent s.whole s.leads s.above s.rests (ap (branch_of bytes) s.top ∙ none))
 
 -- the walk of a new id, from its record
 pub way-step : (bytes : List ℕ) → Rooted bytes → (id node child : ℕ) → AreBytes bytes → id < 2 ^ 128 → IsOnWay (tree_at bytes (root_of bytes)) id node

@@ -4,6 +4,7 @@ use Rattle.dex_fields.specs.declared.field.Field.{Field}
 use Rattle.dex_fields.specs.declared.leaf_node.TheConstants.{QUANTITY}
 use Rattle.dex_fields.specs.Bytes.{ChangesOnly, end_of, number_in}
 use Rattle.dex_slab.specs.Nodes.{in_node, key_of, node_bytes, node_field, nodes_within, tag_of}
+use Rattle.dex_slab.specs.Slab.{nodes_in, times, tree_of}
 
 -- the place is in no byte of the field
 abbrev pub IsBeside : Field → ℕ → Type 0
@@ -44,9 +45,10 @@ pub record ChangesHeader (old new : List ℕ) : Type 0 where
   pub nodes : (node : ℕ) → node_bytes new node ≡ node_bytes old node
   pub places : (place : ℕ) → IsBeside header place → slice_index new place ≡ slice_index old place
 
--- only the eight bytes of the lots differ, of the leaf whose order has this id
+-- only the eight bytes of the lots differ, of the leaf that is reached from the root and whose order has this id
 pub record ChangesLotsOf (id : ℕ) (old new : List ℕ) : Type 0 where
   pub leaf : ℕ
+  pub reached : 1 ≤ times leaf (nodes_in (tree_of old))
   pub tag : tag_of old leaf ≡ 2
   pub key : key_of old leaf ≡ id
   pub changes : ChangesLots leaf old new

@@ -5,7 +5,7 @@ use Rattle.dex_fields.specs.Bytes.{ChangesOnly, end_of, moved_by, with_number}
 use Rattle.dex_slab.specs.Nodes.{in_node}
 use Rattle.dex_slab.specs.Slab.{IsSlab, resting}
 use Rattle.dex_slab.proofs.FoundLaw.{rests-in, rests-some}
-use Rattle.dex_slab.proofs.LotsTree.{leaf_key, leaf_tag, leaf_within, orders_lotted, slab_lotted}
+use Rattle.dex_slab.proofs.LotsTree.{leaf_key, leaf_reached, leaf_tag, leaf_within, orders_lotted, slab_lotted}
 use Rattle.dex_slab.proofs.WalkLaw.{rooted}
 use Rattle.dex_slab.proofs.set_lots.set_order_lots.Goals as goal
 
@@ -43,6 +43,7 @@ returns c =
       orders = λ side. ap (resting side) made ∙ orders_lotted old c.requires.slab r c.args.id found.leaf lots found.parent f c.requires.lots fits side;
       eight = record {
         leaf = found.leaf;
+        reached = leaf_reached old c.requires.slab r c.args.id found.leaf lots found.parent f c.requires.lots fits;
         tag = leaf_tag old c.requires.slab r c.args.id found.leaf lots found.parent f c.requires.lots fits;
         key = leaf_key old c.requires.slab r c.args.id found.leaf lots found.parent f c.requires.lots fits;
         changes = subst (λ (f : Field). ChangesOnly f old new) place c.put_u64.ensures.others;

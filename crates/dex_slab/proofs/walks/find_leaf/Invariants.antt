@@ -2,7 +2,7 @@ use Rattle.std.proofs.Common.{length}
 use Rattle.dex_slab.specs.Nodes.{root_of}
 use Rattle.dex_slab.specs.Tree.{nodes_of}
 use Rattle.dex_slab.specs.Walks.{tree_at}
-use Rattle.dex_slab.proofs.WalkLaw.{IsSought}
+use Rattle.dex_slab.proofs.SeekLaw.{IsSought}
 use Rattle.dex_slab.proofs.walks.find_leaf.Given as goal
 
 abbrev pub invariant-loop-branch : goal.invariant-loop-branch
