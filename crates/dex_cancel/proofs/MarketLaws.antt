@@ -1,9 +1,12 @@
 -- the parts of a sound market, before orders leave and after
-use Rattle.std.proofs.Common.{◌<◌, ◌^◌, ◌≡◌, List, sym, ap, ◌∙◌, subst}
+use Rattle.std.proofs.Common.{ℕ, ◌≤◌, ◌<◌, ◌^◌, ◌≡◌, ltb, List, [], ◌∷◌, length, Option, Some, None, IsOk, refl, sym, ap, ◌∙◌, subst}
 use Rattle.std.specs.List.{All}
+use Rattle.std.proofs.lemmas.Bool.{ltb-false}
 use Rattle.std.proofs.lemmas.List.Elements.{All-weaker}
 use Rattle.dex_types.specs.declared.addresses.Address.{Address}
 use Rattle.dex_types.specs.declared.orders.Order.{Order}
+use Rattle.dex_types.specs.declared.refusals.Refusal.{Refusal}
+use Rattle.dex_types.specs.declared.refusals.Refusal.TheVariants as refusal
 use Rattle.dex_types.specs.declared.terms.Lots.{Lots}
 use Rattle.dex_types.specs.declared.terms.Side.TheVariants.{Bid, Ask}
 use Rattle.dex_types.specs.Cancel.{RestingOrder, CancelBy, cancelled, after_cancels}
@@ -12,6 +15,8 @@ use Rattle.dex_types.specs.Owed.{order_lock}
 use Rattle.dex_types.specs.Soundness.{IsProper}
 use Rattle.dex_ring.specs.Ring.{Ring}
 use Rattle.dex_ring.specs.StandsFor.{ring_of_market}
+use Rattle.dex_sound.proofs.OrderSoundReasons.{first_of-none, refused_where-none}
+use Rattle.dex_cancel.specs.Cancelling.{decided, too_many, unless, why_refused, why_unnamed}
 use Rattle.dex_cancel.specs.Leaving.{DoLocksFit, with_outs, without_all}
 use Rattle.dex_cancel.specs.Parts.{ArePartsOf, AreSoundParts}
 use Rattle.dex_cancel.proofs.LeavingLaws.{capacity-with_outs, market-left}
@@ -54,3 +59,15 @@ cancel-parts by owner lots bids asks ring gone bids_then asks_then ring_then is 
     subst (λ gone. ArePartsOf lots bids_then asks_then ring_then (after_cancels gone m))
     (sym (ap (λ os. cancelled by owner os m.asks) are.bids_are ∙ ap (cancelled by owner bids) are.asks_are ∙ is))
     (parts-left lots bids asks ring m gone bids_then asks_then ring_then are bids_is asks_is ring_is)
+
+-- the event queue has room for the outs of a cancel that is not refused
+pub decided-within : (by : CancelBy) (owner : Address) (bids asks : List Order) (room : ℕ) → IsOk (decided by owner bids asks room) → length (cancelled by owner bids asks) ≤ room
+decided-within by owner bids asks room ok =
+    let gone = cancelled by owner bids asks in
+    let none : why_refused by owner bids asks room ≡ None = accepted (why_refused by owner bids asks room) (length gone) ok in
+    let parts = first_of-none (why_unnamed by owner bids asks gone ∷ too_many (length gone) room ∷ []) none in
+    ltb-false room (length gone) (refused_where-none (ltb room (length gone)) (refusal.EventQueueFull (length gone) room) parts.1.0)
+  where
+    accepted : (why : Option Refusal) (count : ℕ) → IsOk (unless why count) → why ≡ None
+    accepted None count ok = refl
+    accepted (Some why) count ok = absurd (cc)

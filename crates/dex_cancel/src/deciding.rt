@@ -101,7 +101,7 @@ pub fn decide_cancel<B: SideRead>(
     match what {
         CancelWhat::ById { side, id } => decide_by_id(bids, asks, room, account, *side, *id),
         CancelWhat::ByClient(client) => decide_by_client(bids, asks, room, account, *client),
-        CancelWhat::ByClients(ids) => { with_room(count_listed(bids, asks, account, ids), room) }
+        CancelWhat::ByClients(ids) => with_room(count_listed(bids, asks, account, ids), room),
         CancelWhat::Prune(limit) => decide_prune(bids, asks, room, account, *limit),
     }
 }

@@ -272,6 +272,43 @@ fn prune<B: SideBook, A: SideBook>(
     u32::from(limit)
 }
 
+/// Takes the orders that a cancel names, and appends their outs. It answers how many they were.
+pub(crate) fn cancel_all<B: SideBook, A: SideBook>(
+    what: &CancelWhat,
+    account: Address,
+    lots: Lots,
+    bids: &mut B,
+    asks: &mut A,
+    ring: &mut RingView<'_>,
+) -> u32
+    requires bids { B.holds bids.old }
+    requires asks { A.holds asks.old }
+    requires accepted { IsEventQueue ring.old.bytes.now }
+    requires locks { DoLocksFit lots (B.orders bids.old) (A.orders asks.old) }
+    requires room { HasRoom (cancelled (named_by what.now) account (B.orders bids.old) (A.orders asks.old)) (ring_of ring.old.bytes.now) }
+    ensures count { result ≡ length (cancelled (named_by what.now) account (B.orders bids.old) (A.orders asks.old)) }
+    ensures bids { B.orders bids.new ≡ without_all sides.Bid (cancelled (named_by what.now) account (B.orders bids.old) (A.orders asks.old)) (B.orders bids.old) }
+    ensures asks { A.orders asks.new ≡ without_all sides.Ask (cancelled (named_by what.now) account (B.orders bids.old) (A.orders asks.old)) (A.orders asks.old) }
+    ensures ring { ring_of ring.new.bytes.now ≡ with_outs lots (cancelled (named_by what.now) account (B.orders bids.old) (A.orders asks.old)) (ring_of ring.old.bytes.now) }
+    ensures bids_hold { B.holds bids.new }
+    ensures asks_hold { A.holds asks.new }
+    ensures accepted { IsEventQueue ring.new.bytes.now }
+    ensures bid_side { B.side bids.new ≡ B.side bids.old }
+    ensures ask_side { A.side asks.new ≡ A.side asks.old }
+    ensures bid_room { B.room bids.new ≡ B.room bids.old }
+    ensures ask_room { A.room asks.new ≡ A.room asks.old }
+    ensures bid_place { B.same_place bids.old bids.new }
+    ensures ask_place { A.same_place asks.old asks.new }
+    ensures ring_place { ring.new.bytes.ghost_name ≡ ring.old.bytes.ghost_name }
+{
+    match what {
+        CancelWhat::ById { side, id } => cancel_by_id(*side, *id, lots, bids, asks, ring),
+        CancelWhat::ByClient(client) => cancel_oldest(*client, account, lots, bids, asks, ring),
+        CancelWhat::ByClients(ids) => cancel_listed(ids, account, lots, bids, asks, ring),
+        CancelWhat::Prune(limit) => prune(*limit, account, lots, bids, asks, ring),
+    }
+}
+
 /// Takes the orders that a cancel names off the two sides, one after the other, appends for each an out that releases all
 /// that it locked, and answers how many they were. `lots` are the market's lot sizes.
 pub fn apply_cancel<B: SideBook, A: SideBook>(
@@ -305,10 +342,5 @@ pub fn apply_cancel<B: SideBook, A: SideBook>(
         ArePartsOf lots (B.orders bids.new) (A.orders asks.new) (ring_of ring.new.bytes.now)
         (after_cancels (cancelled (named_by what.now) account m.bids m.asks) m) }
 {
-    match what {
-        CancelWhat::ById { side, id } => cancel_by_id(*side, *id, lots, bids, asks, ring),
-        CancelWhat::ByClient(client) => cancel_oldest(*client, account, lots, bids, asks, ring),
-        CancelWhat::ByClients(ids) => cancel_listed(ids, account, lots, bids, asks, ring),
-        CancelWhat::Prune(limit) => prune(*limit, account, lots, bids, asks, ring),
-    }
+    cancel_all(what, account, lots, bids, asks, ring)
 }

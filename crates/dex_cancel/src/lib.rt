@@ -14,3 +14,6 @@ pub use deciding::decide_cancel;
 pub use laws::a_market_is_left_by_its_parts;
 pub use leaving::apply_cancel;
 pub use what::CancelWhat;
+
+#[cfg(test)]
+mod tests;
