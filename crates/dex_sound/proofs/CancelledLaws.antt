@@ -71,7 +71,7 @@ orders_of-apart owner side (first ∷ others) sorted =
     cond_both (is_same owner first.owner) (mine ∷ orders_of owner side others) (orders_of owner side others) AreApart
     (λ own. (away, orders_of-apart owner side others sorted.1)) (λ other. orders_of-apart owner side others sorted.1)
 
-AreApart-append : (first later : List RestingOrder) → AreApart first → AreApart later
+pub AreApart-append : (first later : List RestingOrder) → AreApart first → AreApart later
     → All (λ (one : RestingOrder). All (λ (other : RestingOrder). is_same_order one other ≡ false) later) first → AreApart (first ++ later)
 AreApart-append [] later apart then away = then
 AreApart-append (one ∷ first) later apart then away =
@@ -116,7 +116,7 @@ older-All P first None here there = here
 older-All P first (Some other) here there =
     cond_both (leb (age_of first) (age_of other)) first other P (λ is. here) (λ is. there other refl)
 
-oldest-All : (P : RestingOrder → Type 0) (client : ℕ) (resting : List RestingOrder) → All P resting → (found : RestingOrder) → oldest client resting ≡ Some found → P found
+pub oldest-All : (P : RestingOrder → Type 0) (client : ℕ) (resting : List RestingOrder) → All P resting → (found : RestingOrder) → oldest client resting ≡ Some found → P found
 oldest-All P client [] all found is = absurd (cc)
 oldest-All P client (first ∷ others) all found is =
     ⊎_elim
@@ -129,7 +129,7 @@ oldest-All P client (first ∷ others) all found is =
     (sym (cond-false (eqb first.order.client client) (Some (older first (oldest client others))) (oldest client others) apart) ∙ is))
     (cases_Bool (eqb first.order.client client))
 
-at_most_one-All : (P : RestingOrder → Type 0) (found : Option RestingOrder) → ((o : RestingOrder) → found ≡ Some o → P o) → All P (at_most_one found)
+pub at_most_one-All : (P : RestingOrder → Type 0) (found : Option RestingOrder) → ((o : RestingOrder) → found ≡ Some o → P o) → All P (at_most_one found)
 at_most_one-All P None each = All-nil P
 at_most_one-All P (Some o) each = All-cons P o [] (each o refl) (All-nil P)
 
@@ -145,14 +145,14 @@ take-apart (suc count) (first ∷ others) apart =
     (All-take (λ (other : RestingOrder). is_same_order first other ≡ false) count others apart.0, take-apart count others apart.1)
 
 -- what a list of client ids takes
-taken_by-All : (P : RestingOrder → Type 0) (client : ℕ) (resting : List RestingOrder) → All P resting → (found : RestingOrder) → taken_by client resting ≡ Some found → P found
+pub taken_by-All : (P : RestingOrder → Type 0) (client : ℕ) (resting : List RestingOrder) → All P resting → (found : RestingOrder) → taken_by client resting ≡ Some found → P found
 taken_by-All P client resting all found is =
     ⊎_elim
     (λ (zero_id : eqb client 0 ≡ true). let none : None ≡ Some found = sym (cond-true (eqb client 0) None (oldest client resting) zero_id) ∙ is in absurd (cc))
     (λ (some : eqb client 0 ≡ false). oldest-All P client resting all found (sym (cond-false (eqb client 0) None (oldest client resting) some) ∙ is))
     (cases_Bool (eqb client 0))
 
-without_taken-All : (P : RestingOrder → Type 0) (gone : Option RestingOrder) (resting : List RestingOrder) → All P resting → All P (without_taken gone resting)
+pub without_taken-All : (P : RestingOrder → Type 0) (gone : Option RestingOrder) (resting : List RestingOrder) → All P resting → All P (without_taken gone resting)
 without_taken-All P None resting all = all
 without_taken-All P (Some gone) [] all = all
 without_taken-All P (Some gone) (first ∷ others) all =
@@ -160,7 +160,7 @@ without_taken-All P (Some gone) (first ∷ others) all =
     (λ same. All-tail P first others all)
     (λ apart. All-cons P first (without_taken (Some gone) others) (All-head P first others all) (without_taken-All P (Some gone) others (All-tail P first others all)))
 
-without_taken-apart : (gone : Option RestingOrder) (resting : List RestingOrder) → AreApart resting → AreApart (without_taken gone resting)
+pub without_taken-apart : (gone : Option RestingOrder) (resting : List RestingOrder) → AreApart resting → AreApart (without_taken gone resting)
 without_taken-apart None resting apart = apart
 without_taken-apart (Some gone) [] apart = tt
 without_taken-apart (Some gone) (first ∷ others) apart =

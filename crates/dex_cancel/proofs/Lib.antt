@@ -1,0 +1,5 @@
+pub mod WalkSteps
+pub mod OwnLaws
+pub mod LeavingLaws
+pub mod ListedLaws
+pub mod MarketLaws

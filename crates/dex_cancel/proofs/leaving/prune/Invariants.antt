@@ -1,0 +1,25 @@
+use Rattle.std.proofs.Common.{◌≡◌, ◌≤◌, length, take, drop}
+use Rattle.dex_types.specs.Cancel.{all_orders_of}
+use Rattle.dex_ring.specs.Ring.{IsEventQueue, ring_of}
+use Rattle.dex_cancel.proofs.LeavingLaws.{IsLeft}
+use Rattle.dex_cancel.proofs.leaving.prune.Given as goal
+
+abbrev pub invariant-loop-count : goal.invariant-loop-count
+invariant-loop-count g l =
+    let bids = g.B.SideRead.orders l.fn.bids in
+    let asks = g.A.SideRead.orders l.fn.asks in
+    let all = all_orders_of l.fn.account bids asks in record {
+      left : IsLeft l.fn.lots l.fn.account (take l.count all) (drop l.count all) bids asks (ring_of l.fn.ring.bytes.now)
+          (g.B.SideRead.orders l.bids) (g.A.SideRead.orders l.asks) (ring_of l.ring.bytes.now);
+      within : l.count ≤ length all;
+      bids_hold : g.B.SideRead.holds l.bids;
+      asks_hold : g.A.SideRead.holds l.asks;
+      accepted : IsEventQueue l.ring.bytes.now;
+      bid_side : g.B.SideRead.side l.bids ≡ g.B.SideRead.side l.fn.bids;
+      ask_side : g.A.SideRead.side l.asks ≡ g.A.SideRead.side l.fn.asks;
+      bid_room : g.B.SideRead.room l.bids ≡ g.B.SideRead.room l.fn.bids;
+      ask_room : g.A.SideRead.room l.asks ≡ g.A.SideRead.room l.fn.asks;
+      bid_place : g.B.SideBook.same_place l.fn.bids l.bids;
+      ask_place : g.A.SideBook.same_place l.fn.asks l.asks;
+      ring_place : l.ring.bytes.ghost_name ≡ l.fn.ring.bytes.ghost_name;
+    }

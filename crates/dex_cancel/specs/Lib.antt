@@ -1,0 +1,5 @@
+pub mod Cancelling
+pub mod Leaving
+pub mod Finding
+pub mod Counting
+pub mod Parts

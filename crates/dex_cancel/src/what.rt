@@ -1,0 +1,16 @@
+//! What a cancel asks for.
+
+use dex_types::{ClientIds, Side};
+
+/// Which resting orders of an account a cancel takes.
+#[derive(Clone, Copy, Debug, PartialEq, Eq)]
+pub enum CancelWhat {
+    /// The order of this id on the named side.
+    ById { side: Side, id: u128 },
+    /// Of the account's orders with this client id the one with the least sequence number.
+    ByClient(u64),
+    /// The same for each of these client ids in order; zeros, and client ids without a resting order, are passed over.
+    ByClients(ClientIds),
+    /// The account's first so many orders: its bids in book order, and then its asks in book order.
+    Prune(u16),
+}
