@@ -22,7 +22,6 @@ use Rattle.dex_slab.proofs.PoolLaw.{used-below}
 use Rattle.dex_slab.proofs.Somes.{none_some, same_some}
 use Rattle.dex_slab.proofs.Standing.{IsHeld, stands_of, tree_of-cases}
 use Rattle.dex_slab.proofs.TreeOrders.{RestsIn-key}
-
 use Rattle.dex_slab.proofs.WalkLaw.{Rooted, agreed-part, branch-inner, branch-leaf, held-part, step-first, step-second, towards-first, towards-second}
 
 -- the id rests at or below this node, whose parent this is
