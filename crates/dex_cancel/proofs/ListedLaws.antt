@@ -1,9 +1,9 @@
 -- what a list of client ids takes, one id after the other
-use Rattle.std.proofs.Common.{append-nil, append_assoc, ℕ, ◌+◌, ◌-◌, ◌≤◌, ◌<◌, ◌≡◌, ◌≢◌, ◌⊎◌, inl, inr, zero, suc, Bool, true, false, not, ◌&&◌, eqb, ltb, leb, List, [], ◌∷◌, ◌++◌, Option, Some, None, length, take, drop, get_or, refl, sym, ap, ◌∙◌, subst, arith, ⊎_elim, length-append}
+use Rattle.std.proofs.Common.{append-nil, append_assoc, ℕ, ◌+◌, ◌-◌, ◌≤◌, ◌<◌, ◌≡◌, ◌⊎◌, inl, inr, zero, suc, Bool, true, false, not, ◌&&◌, eqb, ltb, leb, List, [], ◌∷◌, ◌++◌, Option, Some, None, length, take, drop, get_or, refl, sym, ap, ◌∙◌, subst, arith, ⊎_elim, length-append}
 use Rattle.std.specs.List.{All}
-use Rattle.std.proofs.lemmas.Bool.{cases_Bool, cond_both, cond-true, cond-false, eqb-true, eqb-false, eq-eqb, ne_eqb, ltb-true, ltb-false}
+use Rattle.std.proofs.lemmas.Bool.{cases_Bool, cond_both, cond-true, cond-false, eqb-true, eqb-false, ne_eqb, ltb-true, ltb-false}
 use Rattle.std.proofs.lemmas.List.{take_more, get_or-take, length-take-le, take-append-drop}
-use Rattle.std.proofs.lemmas.List.Elements.{All-nil, All-cons, All-head, All-tail}
+use Rattle.std.proofs.lemmas.List.Elements.{All-head, All-tail}
 use Rattle.dex_types.specs.declared.addresses.Address.{Address}
 use Rattle.dex_types.specs.declared.orders.Order.{Order}
 use Rattle.dex_types.specs.declared.terms.Lots.{Lots}
@@ -18,7 +18,7 @@ use Rattle.dex_cancel.specs.Counting.{count_of_client, count_among}
 use Rattle.dex_cancel.specs.Leaving.{with_outs, without_all}
 use Rattle.dex_cancel.proofs.LeavingLaws.{IsLeft, left-more}
 use Rattle.dex_cancel.proofs.OwnLaws.{IsMine, same-self}
-use Rattle.dex_cancel.proofs.WalkSteps.{on, count_of_client-append}
+use Rattle.dex_cancel.proofs.WalkSteps.{count_of_client-append}
 
 -- what is left of these orders when the client ids of a list took theirs
 abbrev pub left_after : List ℕ → List RestingOrder → List RestingOrder

@@ -1,6 +1,5 @@
 -- the parts of a sound market, before orders leave and after
 use Rattle.std.proofs.Common.{ℕ, ◌≤◌, ◌<◌, ◌^◌, ◌≡◌, ltb, List, [], ◌∷◌, length, Option, Some, None, IsOk, refl, sym, ap, ◌∙◌, subst}
-use Rattle.std.specs.List.{All}
 use Rattle.std.proofs.lemmas.Bool.{ltb-false}
 use Rattle.std.proofs.lemmas.List.Elements.{All-weaker}
 use Rattle.dex_types.specs.declared.addresses.Address.{Address}
@@ -16,7 +15,8 @@ use Rattle.dex_types.specs.Soundness.{IsProper}
 use Rattle.dex_ring.specs.Ring.{Ring}
 use Rattle.dex_ring.specs.StandsFor.{ring_of_market}
 use Rattle.dex_sound.proofs.OrderSoundReasons.{first_of-none, refused_where-none}
-use Rattle.dex_cancel.specs.Cancelling.{decided, too_many, unless, why_refused, why_unnamed}
+use Rattle.dex_cancel.specs.Cancelling.{decided, too_many, why_refused, why_unnamed}
+use Rattle.dex_types.specs.Reasons.{answered}
 use Rattle.dex_cancel.specs.Leaving.{DoLocksFit, with_outs, without_all}
 use Rattle.dex_cancel.specs.Parts.{ArePartsOf, AreSoundParts}
 use Rattle.dex_cancel.proofs.LeavingLaws.{capacity-with_outs, market-left}
@@ -68,6 +68,6 @@ decided-within by owner bids asks room ok =
     let parts = first_of-none (why_unnamed by owner bids asks gone ∷ too_many (length gone) room ∷ []) none in
     ltb-false room (length gone) (refused_where-none (ltb room (length gone)) (refusal.EventQueueFull (length gone) room) parts.1.0)
   where
-    accepted : (why : Option Refusal) (count : ℕ) → IsOk (unless why count) → why ≡ None
+    accepted : (why : Option Refusal) (count : ℕ) → IsOk (answered why count) → why ≡ None
     accepted None count ok = refl
     accepted (Some why) count ok = absurd (cc)

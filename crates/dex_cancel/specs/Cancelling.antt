@@ -6,7 +6,7 @@ use Rattle.dex_types.specs.declared.refusals.Refusal.{Refusal}
 use Rattle.dex_types.specs.declared.refusals.Refusal.TheVariants as refusal
 use Rattle.dex_types.specs.Cancel as cancel
 use Rattle.dex_types.specs.Cancel.{CancelBy, RestingOrder, cancelled, order_with}
-use Rattle.dex_types.specs.Reasons.{first_of, refused_where, not_resting, not_yours, zero_client, no_order}
+use Rattle.dex_types.specs.Reasons.{answered, first_of, refused_where, not_resting, not_yours, zero_client, no_order}
 use Rattle.dex_types.specs.Side.{by_side, opposite}
 use Rattle.dex_ring.specs.Ring.{Ring}
 use Rattle.dex_cancel.specs.declared.what.CancelWhat.{CancelWhat}
@@ -40,14 +40,9 @@ why_refused by owner bids asks room =
     let gone = cancelled by owner bids asks in
     first_of (why_unnamed by owner bids asks gone ∷ too_many (length gone) room ∷ [])
 
--- the refusal, if there is one, else the number
-abbrev pub unless : Option Refusal → ℕ → Result ℕ Refusal
-unless None count = Ok count
-unless (Some why) count = Err why
-
 -- what a cancel is answered: why it is refused, else how many orders it takes
 abbrev pub decided : CancelBy → Address → List Order → List Order → ℕ → Result ℕ Refusal
-decided by owner bids asks room = unless (why_refused by owner bids asks room) (length (cancelled by owner bids asks))
+decided by owner bids asks room = answered (why_refused by owner bids asks room) (length (cancelled by owner bids asks))
 
 -- the free places of an event queue
 abbrev pub room_of : Ring → ℕ

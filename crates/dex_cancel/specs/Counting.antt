@@ -1,5 +1,5 @@
 -- How many orders client ids name.
-use Rattle.std.specs.Prelude.{ℕ, ◌+◌, List, [], ◌∷◌, Bool, ◌&&◌, not, nat_lt, ◌==◌, if◌then◌else◌}
+use Rattle.std.specs.Prelude.{ℕ, ◌+◌, List, [], ◌∷◌, ◌==◌, if◌then◌else◌}
 use Rattle.dex_types.specs.Cancel.{RestingOrder}
 
 -- how many of these orders have a client id

@@ -5,8 +5,7 @@ ghost use Rattle.dex_types.specs.Cancel.{all_orders_of, orders_of, taken_by_all}
 ghost use Rattle.dex_cancel.specs.Counting.{count_among, count_of_client};
 
 use crate::finding::has_client;
-use crate::found::is_same;
-use dex_types::{Address, ClientIds, Side, SideRead};
+use dex_types::{Address, ClientIds, Side, SideRead, is_same};
 
 /// How many orders of the account rest on a side.
 fn count_on<B: SideRead>(book: &B, side: Side, account: Address) -> u32

@@ -2,17 +2,17 @@
 
 ghost use Rattle.std.specs.Prelude.{◌≡◌};
 ghost use Rattle.dex_types.specs.Cancel as cancel;
-ghost use Rattle.dex_cancel.specs.Cancelling.{decided, named_by, too_many, unless};
+ghost use Rattle.dex_types.specs.Reasons.{answered};
+ghost use Rattle.dex_cancel.specs.Cancelling.{decided, named_by, too_many};
 
 use crate::counting::{count_listed, count_own};
 use crate::finding::{find_oldest, find_on};
-use crate::found::{is_same, opposite};
 use crate::what::CancelWhat;
-use dex_types::{Address, Refusal, Side, SideRead};
+use dex_types::{Address, Refusal, Side, SideRead, is_same};
 
 /// So many orders, where the event queue has room for an out of each.
 fn with_room(needed: u32, room: u32) -> Result<u32, Refusal>
-    ensures { result ≡ unless (too_many needed room) needed }
+    ensures { result ≡ answered (too_many needed room) needed }
 {
     if room < needed {
         Err(Refusal::EventQueueFull { needed, room })
@@ -35,7 +35,7 @@ fn decide_by_id<B: SideRead, A: SideRead>(
     ensures { result ≡ decided (cancel.ById side id) account (B.orders bids.now) (A.orders asks.now) room }
 {
     let Some(order) = find_on(bids, asks, side, id) else {
-        return match find_on(bids, asks, opposite(side), id) {
+        return match find_on(bids, asks, side.opposite(), id) {
             Some(_) => Err(Refusal::SideMismatch),
             None => Err(Refusal::OrderNotFound),
         };

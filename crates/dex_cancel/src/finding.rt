@@ -7,8 +7,8 @@ ghost use Rattle.dex_types.specs.Side.{by_side};
 ghost use Rattle.dex_cancel.specs.Finding as finding;
 ghost use Rattle.dex_cancel.specs.Finding.{first_found, maybe_resting};
 
-use crate::found::{Found, is_same, older_of};
-use dex_types::{Address, Order, Side, SideRead};
+use crate::found::{Found, older_of};
+use dex_types::{Address, Order, Side, SideRead, is_same};
 
 /// The order is the account's, and has the client id.
 pub fn has_client(order: &Order, account: Address, client: u64) -> bool

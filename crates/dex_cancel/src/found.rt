@@ -1,7 +1,6 @@
 //! A resting order with its side.
 
 ghost use Rattle.std.specs.Prelude.{◌≡◌};
-ghost use Rattle.dex_types.specs.Addresses as addresses;
 ghost use Rattle.dex_types.specs.Cancel as cancel;
 ghost use Rattle.dex_types.specs.Side as book;
 ghost use Rattle.dex_cancel.specs.Finding as finding;
@@ -14,23 +13,6 @@ use dex_types::{Address, Order, Side};
 pub struct Found {
     pub side: Side,
     pub order: Order,
-}
-
-/// The two addresses are one.
-pub fn is_same(a: Address, b: Address) -> bool
-    ensures { result ≡ addresses.is_same a b }
-{
-    a == b
-}
-
-/// The other side.
-pub fn opposite(side: Side) -> Side
-    ensures { result ≡ book.opposite side }
-{
-    match side {
-        Side::Bid => Side::Ask,
-        Side::Ask => Side::Bid,
-    }
 }
 
 /// The sequence number of an order: the lower half of an ask's id, and of a bid's id its distance from the greatest.

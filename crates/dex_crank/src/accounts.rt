@@ -9,11 +9,10 @@ ghost use Rattle.dex_crank.specs.Funds.{FitsFunds, paid_funds};
 ghost use Rattle.dex_crank.specs.PaidBytes.{CanTake, HasOwner, IsPaid, bytes_at, changed_at, paid_in};
 ghost use Rattle.dex_crank.specs.Places.{IsFirst};
 
-use crate::addresses::is_same;
 use crate::kinds::is_final;
 use crate::payment::paid_funds;
 use dex_orders::OrdersView;
-use dex_types::{Address, Event, OrdersAccount};
+use dex_types::{Address, Event, OrdersAccount, is_same};
 
 /// Pays the event into the funds; all other bytes stay.
 fn pay_funds(bytes: &mut [u8], event: &Event)

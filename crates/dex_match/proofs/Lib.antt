@@ -1,10 +1,2 @@
-pub mod Acting
-pub mod Finding
-pub mod Keeping
-pub mod Meetings
-pub mod Places
-pub mod Slots
-pub mod Soundness
-pub mod Starting
-pub mod Stepping
-pub mod Trades
+pub mod EarlyReasons
+pub mod FittingLaws

@@ -1,15 +1,1 @@
-pub mod AccountList
-pub mod Accounts
-pub mod Deciding
-pub mod EventLog
-pub mod FirstMarket
-pub mod Incoming
-pub mod Meetings
-pub mod Opening
-pub mod Settling
-pub mod SideList
-pub mod SlotList
-pub mod State
-pub mod Taker
-pub mod Totals
-pub mod Trading
+pub mod OrderTerms

@@ -1,28 +1,12 @@
-//! The matching core: what a new order meets, what rests of it, and what is paid.
+//! New orders over any side of the book and the bytes of accounts: why one is refused, and what it does.
 #![tactic(auto)]
 
-mod account_list;
-mod accounts;
-mod counts;
-mod event_log;
-mod fills;
-mod grants;
-mod incoming;
-pub mod laws;
-mod list_market;
-mod meeting;
-mod opening;
-mod posting;
-mod prices;
-mod settling;
-mod side_list;
-mod slot_list;
-mod states;
-mod taking;
-#[cfg(test)]
-mod tests;
-mod trading;
-mod wants;
+mod order_outlook;
+mod order_refusals;
+mod order_terms;
+pub mod side_laws;
 
-pub use grants::Grant;
-pub use list_market::ListMarket;
+pub use dex_meet::post_or_boot;
+pub use order_outlook::{OrderOutlook, outlook};
+pub use order_refusals::refused_early;
+pub use order_terms::{Taker, full_lock};

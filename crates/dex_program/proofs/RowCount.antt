@@ -2,7 +2,7 @@
 use Rattle.std.proofs.Common.{◌≡◌, ◌+◌, [], ◌∷◌, ◌++◌, ℕ, Bool, true, false, not, List, length, Result, Ok, Err, arith}
 use Rattle.std.proofs.lemmas.List.{length-append}
 use Rattle.dex_instruction.specs.Reading.{decoded}
-use Rattle.dex_match.specs.declared.grants.Grant.{Grant}
+use Rattle.dex_list_market.specs.declared.grants.Grant.{Grant}
 use Rattle.dex_program.specs.declared.script.FaultKind.{FaultKind}
 use Rattle.dex_program.specs.declared.script.FaultKind.TheVariants.{Duplicate, NotBuilt, OverLimit, UnknownLabel}
 use Rattle.dex_program.specs.declared.script.OrderRow.{OrderRow}

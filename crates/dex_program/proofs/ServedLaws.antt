@@ -15,8 +15,8 @@ use Rattle.dex_types.specs.Trader.{trader_at}
 use Rattle.dex_laws.proofs.TraderLaws.{is_same-sym}
 use Rattle.dex_instruction.specs.Built.{is_built_data, is_plain_order, is_served}
 use Rattle.dex_instruction.specs.Reading.{decoded}
-use Rattle.dex_match.specs.declared.grants.Grant.{Grant}
-use Rattle.dex_match.specs.FirstMarket.{CanStart, HasTrader, IsFirstOrder, IsGrantedOnce, granted_coin, granted_pc, granted_trader, start_market}
+use Rattle.dex_list_market.specs.declared.grants.Grant.{Grant}
+use Rattle.dex_list_market.specs.FirstMarket.{CanStart, HasTrader, IsFirstOrder, IsGrantedOnce, granted_coin, granted_pc, granted_trader, start_market}
 use Rattle.dex_program.specs.declared.script.OrderRow.{OrderRow}
 use Rattle.dex_program.specs.OrderWords.{OrderWords}
 use Rattle.dex_program.specs.Script.{exceeds_grants, is_granted, is_unserved}

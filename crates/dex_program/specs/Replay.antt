@@ -8,7 +8,7 @@ use Rattle.dex_types.specs.declared.instructions.BadData as rules
 use Rattle.dex_types.specs.declared.instructions.Ix.{Ix}
 use Rattle.dex_types.specs.Market.{Market}
 use Rattle.dex_types.specs.declared.addresses.Address.{Address}
-use Rattle.dex_match.specs.FirstMarket.{first_step, start_market}
+use Rattle.dex_list_market.specs.FirstMarket.{first_step, start_market}
 use Rattle.dex_program.specs.declared.journal.JournalEntry.{JournalEntry}
 use Rattle.dex_program.specs.declared.script.OrderRow.{OrderRow}
 use Rattle.dex_program.specs.Script.{Script}

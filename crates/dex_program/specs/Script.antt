@@ -7,8 +7,8 @@ use Rattle.dex_types.specs.Addresses.{is_same}
 use Rattle.dex_types.specs.Text.{label_address}
 use Rattle.dex_instruction.specs.Reading.{decoded}
 use Rattle.dex_instruction.specs.Built.{is_built_data}
-use Rattle.dex_match.specs.declared.grants.Grant.{Grant}
-use Rattle.dex_match.specs.FirstMarket.{granted_coin, granted_pc}
+use Rattle.dex_list_market.specs.declared.grants.Grant.{Grant}
+use Rattle.dex_list_market.specs.FirstMarket.{granted_coin, granted_pc}
 use Rattle.dex_rows.specs.Records.{rows_of}
 use Rattle.dex_rows.specs.Numbers.{number_of}
 use Rattle.dex_rows.specs.Addresses.{address_of}

@@ -1,6 +1,6 @@
 -- Scripts that are served: what a first market can start with, and orders that it can take.
 use Rattle.std.specs.Prelude.{◌≤◌, All, IfOk, length}
-use Rattle.dex_match.specs.FirstMarket.{CanStart, HasTrader, IsFirstOrder, start_market}
+use Rattle.dex_list_market.specs.FirstMarket.{CanStart, HasTrader, IsFirstOrder, start_market}
 use Rattle.dex_program.specs.declared.script.OrderRow.{OrderRow}
 use Rattle.dex_program.specs.Script.{Script}
 

@@ -2,7 +2,7 @@
 
 ghost use Rattle.std.specs.Prelude.{◌≡◌, ◌<◌, ◌+◌, ◌^◌, codes, length, nat_le, nat_lt};
 ghost use Rattle.csv.specs.Records.{fields_of};
-ghost use Rattle.dex_match.specs.FirstMarket.{granted_coin, granted_pc};
+ghost use Rattle.dex_list_market.specs.FirstMarket.{granted_coin, granted_pc};
 ghost use Rattle.dex_types.specs.Addresses.{is_same};
 ghost use Rattle.dex_types.specs.Text.{label_address};
 ghost use Rattle.dex_program.specs.Script.{exceeds_grants, exceeds_orders, is_granted, is_unserved, with_grant, with_order, with_row};
@@ -12,7 +12,7 @@ use crate::script::{FaultKind, FirstScript, OrderRow};
 use crate::statement::{OrderWords, RowError, Statement, statement_of};
 use csv::ByteRecord;
 use dex_instruction::{decode, is_built};
-use dex_match::Grant;
+use dex_list_market::Grant;
 use dex_types::Address;
 use std::alloc::Global;
 

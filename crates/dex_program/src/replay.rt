@@ -1,12 +1,12 @@
 //! The orders of a script, one after the other.
 
 ghost use Rattle.std.specs.Prelude.{◌≡◌, ◌≤◌, ◌<◌, ◌+◌, IfOk, map};
-ghost use Rattle.dex_match.specs.FirstMarket.{HasTrader, IsFirstOrder, addresses};
+ghost use Rattle.dex_list_market.specs.FirstMarket.{HasTrader, IsFirstOrder, addresses};
 ghost use Rattle.dex_program.specs.Replay.{entry_row, journal_of, market_after, order_number, row_reply};
 
 use crate::journal::JournalEntry;
 use crate::script::{FirstScript, OrderRow};
-use dex_match::ListMarket;
+use dex_list_market::ListMarket;
 use dex_types::{NoMemory, Refusal, Reply};
 use std::alloc::Global;
 

@@ -1,10 +1,10 @@
 //! What a first script states, and what can be wrong with a row of it.
 
 ghost use Rattle.std.specs.Prelude.{◌≡◌, ◌≤◌, ◌+◌, [], Some, IfOk, All, length};
-ghost use Rattle.dex_match.specs.FirstMarket.{CanStart, HasTrader, IsFirstOrder, start_market};
+ghost use Rattle.dex_list_market.specs.FirstMarket.{CanStart, HasTrader, IsFirstOrder, start_market};
 ghost use Rattle.dex_program.specs.Report.{fault_text, refused_text};
 
-use dex_match::Grant;
+use dex_list_market::Grant;
 use dex_types::{Address, BadData, Ix};
 use std::alloc::Global;
 use std::fmt;

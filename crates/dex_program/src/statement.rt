@@ -8,7 +8,7 @@ ghost use Rattle.dex_program.specs.declared.statement.RowError.TheVariants.{Faul
 
 use crate::script::FaultKind;
 use csv::ByteRecord;
-use dex_match::Grant;
+use dex_list_market::Grant;
 use dex_rows::addresses::address_word;
 use dex_rows::base64_words::base64_word;
 use dex_rows::numbers::{u32_word, u64_word};

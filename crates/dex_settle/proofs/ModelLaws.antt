@@ -10,7 +10,8 @@ use Rattle.dex_types.specs.Why.{why_settle, why_sweep}
 use Rattle.dex_market.specs.MarketAccount.{MarketWords}
 use Rattle.dex_market.specs.StandsFor.{words_of}
 use Rattle.dex_settle.specs.Leaving.{plan_of}
-use Rattle.dex_settle.specs.Refusing.{answered, settle_reason, sweep_reason}
+use Rattle.dex_types.specs.Reasons.{answered}
+use Rattle.dex_settle.specs.Refusing.{settle_reason, sweep_reason}
 
 pub sweep-model : (words : MarketWords) (authority signer : Address) (seen : Seen) (m : Market) (request : Request) → words ≡ words_of m → m.listing.authority ≡ authority
     → request.signer ≡ signer → answered (sweep_reason words authority signer seen) words.pc_fees_accrued ≡ answered (why_sweep request seen m) m.pc_fees

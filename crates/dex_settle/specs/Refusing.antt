@@ -11,11 +11,6 @@ use Rattle.dex_types.specs.Trader.{Account, Trader, Open, Closed, Blank}
 use Rattle.dex_types.specs.Transfers.{Transfers, payout}
 use Rattle.dex_market.specs.MarketAccount.{MarketTerms, MarketWords}
 
--- what a call answers: the reason to refuse, if there is one, or else this
-abbrev pub answered : {X : Type 0} → Option Refusal → X → Result X Refusal
-answered None x = Ok x
-answered (Some why) x = Err why
-
 -- the flags are those of a disabled market
 abbrev pub flagged_disabled : ℕ → Option Refusal
 flagged_disabled flags = refused_where (flags == 131) refusal.MarketDisabled

@@ -2,6 +2,7 @@
 
 ghost use Rattle.std.specs.Prelude.{◌≡◌};
 ghost use Rattle.dex_types.specs.Market.{Market};
+ghost use Rattle.dex_types.specs.Reasons.{answered};
 ghost use Rattle.dex_types.specs.Requests.{Request};
 ghost use Rattle.dex_types.specs.Upkeep.{after_disable};
 ghost use Rattle.dex_types.specs.Why.{why_disable};
@@ -24,9 +25,9 @@ pub fn decide_disable(
     signer: Address,
 ) -> Result<(), Refusal>
     requires { IsMarket market.now.bytes.now }
-    ensures answer { result ≡ refusing.answered (refusing.disable_reason (market_words market.now.bytes.now).account_flags authority signer) tt }
+    ensures answer { result ≡ answered (refusing.disable_reason (market_words market.now.bytes.now).account_flags authority signer) tt }
     ensures model { (m : Market) (request : Request) → StandsForMarket market.now.bytes.now m → m.listing.authority ≡ authority → request.signer ≡ signer →
-        result ≡ refusing.answered (why_disable request m) tt }
+        result ≡ answered (why_disable request m) tt }
 {
     match disabled(market.account_flags()).or(not_authority(authority, signer)) {
         Some(why) => Err(why),

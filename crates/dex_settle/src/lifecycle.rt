@@ -2,6 +2,7 @@
 
 ghost use Rattle.std.specs.Prelude.{◌≡◌, ◌+◌, ◌∷◌, List, IsOk, Some, None};
 ghost use Rattle.dex_types.specs.declared.addresses.Address.{Address};
+ghost use Rattle.dex_types.specs.Reasons.{answered};
 ghost use Rattle.dex_types.specs.Market.{Market};
 ghost use Rattle.dex_types.specs.Reasons as reasons;
 ghost use Rattle.dex_types.specs.Requests.{Request, open_party};
@@ -36,10 +37,10 @@ fn not_blank(account: &[u8]) -> Option<Refusal>
 pub fn decide_init(market: &MarketRef<'_>, account: &[u8]) -> Result<(), Refusal>
     requires market { IsMarket market.now.bytes.now }
     requires account { IsOrders account.now }
-    ensures answer { result ≡ refusing.answered (refusing.init_reason (market_words market.now.bytes.now).account_flags (trader_of account.now)) tt }
+    ensures answer { result ≡ answered (refusing.init_reason (market_words market.now.bytes.now).account_flags (trader_of account.now)) tt }
     ensures blank { IsOk result → IsBlank account.now }
     ensures model { (m : Market) (request : Request) (address : Address) (others : List Address) → StandsForMarket market.now.bytes.now m → request.named ≡ address ∷ others →
-        trader_at address m.traders ≡ Some (trader_of account.now) → result ≡ refusing.answered (why_init request m) tt }
+        trader_at address m.traders ≡ Some (trader_of account.now) → result ≡ answered (why_init request m) tt }
 {
     match disabled(market.account_flags()).or(not_blank(account)) {
         Some(why) => Err(why),
@@ -75,11 +76,11 @@ fn not_empty(orders: &OrdersRef<'_>) -> Option<Refusal>
 /// native funds, which are both totals and the referrer part.
 pub fn decide_close(account: &[u8], signer: Address) -> Result<(), Refusal>
     requires { IsOrders account.now }
-    ensures answer { result ≡ refusing.answered (refusing.close_reason signer (trader_of account.now)) tt }
+    ensures answer { result ≡ answered (refusing.close_reason signer (trader_of account.now)) tt }
     ensures opened { IsOk result → IsOpen account.now }
     ensures empty { IsOk result → IsEmptyAccount (account_of account.now) }
     ensures model { (request : Request) (address : Address) → request.signer ≡ signer →
-        result ≡ refusing.answered (of_party (why_close request) (open_party address (Some (trader_of account.now)))) tt }
+        result ≡ answered (of_party (why_close request) (open_party address (Some (trader_of account.now)))) tt }
 {
     match close_reason(account, signer) {
         Some(why) => Err(why),

@@ -2,23 +2,16 @@
 
 ghost use Rattle.std.specs.Prelude.{◌≡◌, ◌^◌, ◌<◌};
 ghost use Rattle.dex_types.specs.declared.addresses.Address.{Address};
-ghost use Rattle.dex_types.specs.Addresses as addresses;
 ghost use Rattle.dex_types.specs.Reasons as reasons;
 ghost use Rattle.dex_types.specs.Wallets as wallets;
 ghost use Rattle.dex_settle.specs.Leaving.{transfers_by};
 ghost use Rattle.dex_settle.specs.Refusing as refusing;
 
 use crate::plan::SettlePlan;
-use dex_types::{Address, Refusal, Seen, WalletSeen};
+use dex_types::{Address, Refusal, Seen, WalletSeen, is_same};
 
 /// The flags of a disabled market.
 pub const DISABLED_FLAGS: u64 = 131;
-
-pub fn is_same(address: Address, other: Address) -> bool
-    ensures { result ≡ addresses.is_same address other }
-{
-    address == other
-}
 
 /// The market is disabled.
 pub fn disabled(flags: u64) -> Option<Refusal>

@@ -3,7 +3,7 @@
 ghost use Rattle.std.specs.Prelude.{◌≡◌, ◌+◌, ◌^◌, ◌<◌, IfOk, is_some};
 ghost use Rattle.dex_types.specs.declared.addresses.Address.{Address};
 ghost use Rattle.dex_types.specs.Market.{Market};
-ghost use Rattle.dex_types.specs.Reasons.{first_of};
+ghost use Rattle.dex_types.specs.Reasons.{answered, first_of};
 ghost use Rattle.dex_types.specs.Requests.{Party, Request};
 ghost use Rattle.dex_types.specs.Settle as settling;
 ghost use Rattle.dex_types.specs.Trader.{Open};
@@ -77,7 +77,7 @@ pub(crate) fn decide(
     requires account { IsOpen orders.now.bytes.now }
     requires fits { (account_of orders.now.bytes.now).pc.free + (account_of orders.now.bytes.now).referrer < 2 ^ 64 }
     requires wallets { HasOneCoinMint seen.now }
-    ensures answer { result ≡ refusing.answered
+    ensures answer { result ≡ answered
         (refusing.settle_reason (market_words market.now.bytes.now).terms signer seen.now (account_of orders.now.bytes.now))
         (leaving.plan_of (settling.settlement (is_some seen.now.referrer) (account_of orders.now.bytes.now))) }
     ensures out { IfOk result (λ plan. leaving.PaysOut plan (account_of orders.now.bytes.now)) }
@@ -107,12 +107,12 @@ pub fn decide_settle(
     requires account { IsOpen orders.now.bytes.now }
     requires parts { (m : Market) × (owner : Address) × AreParts market.now.bytes.now orders.now.bytes.now owner m }
     requires wallets { HasOneCoinMint seen.now }
-    ensures answer { result ≡ refusing.answered
+    ensures answer { result ≡ answered
         (refusing.settle_reason (market_words market.now.bytes.now).terms signer seen.now (account_of orders.now.bytes.now))
         (leaving.plan_of (settling.settlement (is_some seen.now.referrer) (account_of orders.now.bytes.now))) }
     ensures out { IfOk result (λ plan. leaving.PaysOut plan (account_of orders.now.bytes.now)) }
     ensures model { (m : Market) (request : Request) (party : Party) → StandsForMarket market.now.bytes.now m → request.signer ≡ signer →
-        party.account ≡ account_of orders.now.bytes.now → result ≡ refusing.answered (why_settle request seen.now m party)
+        party.account ≡ account_of orders.now.bytes.now → result ≡ answered (why_settle request seen.now m party)
         (leaving.plan_of (settling.settlement (is_some seen.now.referrer) party.account)) }
 {
     decide(market, orders, signer, seen)

@@ -2,6 +2,7 @@
 
 ghost use Rattle.std.specs.Prelude.{◌≡◌};
 ghost use Rattle.dex_types.specs.Market.{Market};
+ghost use Rattle.dex_types.specs.Reasons.{answered};
 ghost use Rattle.dex_types.specs.Requests.{Request};
 ghost use Rattle.dex_types.specs.Settle.{after_sweep};
 ghost use Rattle.dex_types.specs.Why.{why_sweep};
@@ -56,10 +57,10 @@ pub fn decide_sweep(
     seen: &Seen,
 ) -> Result<u64, Refusal>
     requires { IsMarket market.now.bytes.now }
-    ensures answer { result ≡ refusing.answered (refusing.sweep_reason (market_words market.now.bytes.now) authority signer seen.now)
+    ensures answer { result ≡ answered (refusing.sweep_reason (market_words market.now.bytes.now) authority signer seen.now)
         (market_words market.now.bytes.now).pc_fees_accrued }
     ensures model { (m : Market) (request : Request) → StandsForMarket market.now.bytes.now m → m.listing.authority ≡ authority → request.signer ≡ signer →
-        result ≡ refusing.answered (why_sweep request seen.now m) m.pc_fees }
+        result ≡ answered (why_sweep request seen.now m) m.pc_fees }
 {
     match refusal_of(market, authority, signer, seen) {
         Some(why) => Err(why),

@@ -17,7 +17,7 @@ use Rattle.dex_slab.proofs.IdLists.{AllIds, AllIds-new, HasId, HasId-found}
 use Rattle.dex_slab.proofs.Leaving.{order-found}
 use Rattle.dex_slab.proofs.Plugs.{known-part, leaves-plug, times-plug}
 use Rattle.dex_slab.proofs.PoolLaw.{used-below}
-use Rattle.dex_slab.proofs.Somes.{none_some, same_some}
+use Rattle.dex_slab.proofs.Somes.{none_some}
 use Rattle.dex_slab.proofs.Standing.{leaves-some, length-orders_in, tree_of-cases}
 use Rattle.dex_slab.proofs.TreeOrders.{RestsIn-from}
 use Rattle.dex_slab.proofs.WalkLaw.{Rooted}

@@ -1,5 +1,5 @@
 -- A tree without one of its leaves: the leaf's sibling takes the place of the inner node above both.
-use Rattle.std.proofs.Common.{◌≡◌, ◌≢◌, ℕ, suc, ◌+◌, ◌≤◌, true, List, [], ◌∷◌, ◌++◌, length, append_assoc, Some, None, sym, ap, subst, ◌∙◌, arith}
+use Rattle.std.proofs.Common.{◌≡◌, ◌≢◌, ℕ, suc, ◌+◌, ◌≤◌, true, List, [], ◌∷◌, ◌++◌, length, append_assoc, Some, sym, ap, subst, ◌∙◌, arith}
 use borrow.Author.Tests.{ltb-true}
 use Rattle.std.proofs.lemmas.List.{length-append}
 use Rattle.dex_types.specs.declared.orders.Order.{Order}

@@ -1,5 +1,5 @@
 -- Values that may be there.
-use Rattle.std.proofs.Common.{◌≡◌, Option, Some, None}
+use Rattle.std.proofs.Common.{◌≡◌, Some, None}
 
 pub same_some : {A : Type 0} → (a b : A) → Some a ≡ Some b → a ≡ b
 same_some a b e = cc

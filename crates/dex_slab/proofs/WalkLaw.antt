@@ -1,5 +1,5 @@
 -- One step of a walk down the tree of a slab.
-use Rattle.std.proofs.Common.{◌≡◌, ℕ, ◌<◌, ◌≤◌, ◌^◌, ◌⊎◌, inl, inr, List, length, drop, Option, Some, None, IfSome, refl, sym, ap, subst, ◌∙◌, arith}
+use Rattle.std.proofs.Common.{◌≡◌, ℕ, ◌<◌, ◌≤◌, ◌^◌, inl, inr, List, length, drop, Option, Some, None, IfSome, refl, sym, ap, subst, ◌∙◌, arith}
 use Rattle.std.proofs.Math.Nat.{pow-le-pow_right}
 use Rattle.std.proofs.lemmas.Bool.{cases_eq, cases_lt, eq-eqb, le-leb, lt-leb, ne_eqb}
 use Rattle.std.proofs.lemmas.List.{length-append, length-take}
@@ -14,14 +14,13 @@ use Rattle.dex_slab.specs.Nodes.{branch_of, count_of, key_of, node_bytes, node_f
 use Rattle.dex_slab.specs.Path.{Path, InFirst, InSecond, Leads, bit_behind, plug, shared_bits, top_key, top_of}
 use Rattle.dex_slab.specs.Slab.{IsShared, IsSlab, IsTree, free_of, nodes_in, times, tree_of}
 use Rattle.dex_slab.specs.Tree.{Tree, Leaf, Inner, Other, Begins, HasPrefixes, KeysAgree, first_bits, nodes_of}
-use Rattle.dex_slab.specs.Walks.{IsFound, IsOnWay, RestsIn, Stops, child_towards, next_towards, parent_of, tree_at}
+use Rattle.dex_slab.specs.Walks.{IsOnWay, Stops, child_towards, next_towards, tree_at}
 use Rattle.dex_slab.proofs.Holding.{Holds-part, tree_from-held}
-use Rattle.dex_slab.proofs.KeyBits.{Begins-from, Begins-bit, bit_behind-lt, shared_bits-same}
+use Rattle.dex_slab.proofs.KeyBits.{Begins-from, bit_behind-lt, shared_bits-same}
 use Rattle.dex_slab.proofs.Plugs.{keys-part, least_at, prefixes-part, times-plug}
 use Rattle.dex_slab.proofs.PoolLaw.{used-below}
 use Rattle.dex_slab.proofs.Somes.{none_some, same_some}
 use Rattle.dex_slab.proofs.Standing.{IsHeld, stands_of, tree_of-cases}
-use Rattle.dex_slab.proofs.TreeOrders.{RestsIn-key}
 
 -- ---- the tree of a slab that is not empty
 

@@ -1,5 +1,5 @@
 -- What an instruction can be refused for, each reason by itself.
-use Rattle.std.specs.Prelude.{ℕ, ℤ, ◌+◌, ◌-◌, ◌*◌, ◌^◌, List, [], ◌∷◌, Option, Some, None, Bool, false, not, ◌||◌, nat_lt, nat_le, int_lt, ◌==◌, length, if◌then◌else◌}
+use Rattle.std.specs.Prelude.{ℕ, ℤ, ◌+◌, ◌-◌, ◌*◌, ◌^◌, List, [], ◌∷◌, Option, Some, None, Result, Ok, Err, Bool, false, not, ◌||◌, nat_lt, nat_le, int_lt, ◌==◌, length, if◌then◌else◌}
 use Rattle.dex_types.specs.declared.addresses.Address.{Address}
 use Rattle.dex_types.specs.declared.orders.Order.{Order}
 use Rattle.dex_types.specs.declared.refusals.Refusal.{Refusal}
@@ -24,6 +24,11 @@ abbrev pub first_of : List (Option Refusal) → Option Refusal
 first_of [] = None
 first_of (None ∷ later) = first_of later
 first_of ((Some why) ∷ later) = Some why
+
+-- what a call answers: the reason to refuse, if there is one, or else this
+abbrev pub answered : {X : Type 0} → Option Refusal → X → Result X Refusal
+answered None x = Ok x
+answered (Some why) x = Err why
 
 -- this reason, where the test holds
 abbrev pub refused_where : Bool → Refusal → Option Refusal

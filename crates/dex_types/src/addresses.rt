@@ -2,6 +2,7 @@ ghost use Rattle.std.specs.Prelude.{◌≡◌, ◌≤◌, ◌==◌, length, Some
 ghost use Rattle.std.specs.List.{list_all, position};
 ghost use Rattle.hex.specs.Hex.{encode_lower};
 ghost use Rattle.std.specs.Str.{IsAscii};
+ghost use Rattle.dex_types.specs.Addresses as addresses;
 ghost use Rattle.dex_types.specs.Text.{address_text, is_label, is_label_character, is_labelled, first_zero, front_of, behind_front};
 
 use std::fmt;
@@ -12,6 +13,13 @@ use std::fmt;
 /// them, and else as `0x` and 64 hexadecimal digits in lower case.
 #[derive(Clone, Copy, Debug, PartialEq, Eq, PartialOrd, Ord, Hash)]
 pub struct Address(pub [u8; 32]);
+
+/// Whether two addresses have the same bytes.
+pub fn is_same(a: Address, b: Address) -> bool
+    ensures { result ≡ addresses.is_same a b }
+{
+    a == b
+}
 
 impl fmt::Display for Address {
     ghost output = { λ a. Some (address_text a) };

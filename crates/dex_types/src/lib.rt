@@ -19,7 +19,7 @@ mod sides;
 mod terms;
 
 pub use account_bytes::{Accounts, MarketAccounts, Named, OrdersAccount};
-pub use addresses::Address;
+pub use addresses::{Address, is_same};
 pub use client_ids::ClientIds;
 pub use faults::AccountFault;
 pub use flags::{AccountFlags, EventFlags};

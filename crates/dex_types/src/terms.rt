@@ -1,3 +1,6 @@
+ghost use Rattle.std.specs.Prelude.{◌≡◌};
+ghost use Rattle.dex_types.specs.Side as book;
+
 use thiserror::Error;
 
 /// A side of the book: bids buy base lots, asks sell them.
@@ -5,6 +8,18 @@ use thiserror::Error;
 pub enum Side {
     Bid,
     Ask,
+}
+
+impl Side {
+    /// The other side, which an order of this side meets.
+    pub fn opposite(self) -> Side
+        ensures { result ≡ book.opposite self }
+    {
+        match self {
+            Side::Bid => Side::Ask,
+            Side::Ask => Side::Bid,
+        }
+    }
 }
 
 /// What becomes of the part of an order that does not fill at once (Serum DEX v3, `OrderType`).

@@ -1,4 +1,4 @@
-use Rattle.std.proofs.Common.{◌≡◌, ◌<◌, ◌+◌, take, get_or, length, ap, sym, ◌∙◌, arith, not, ◌&&◌, eqb, ltb}
+use Rattle.std.proofs.Common.{◌<◌, take, get_or, ap, arith, not, ◌&&◌, eqb, ltb}
 use Rattle.std.proofs.lemmas.List.{take-take}
 use Rattle.dex_types.specs.Cancel.{all_orders_of}
 use Rattle.dex_cancel.specs.Counting.{count_among, count_of_client}

@@ -1,5 +1,5 @@
-use Rattle.std.proofs.Common.{ap, sym, ◌∙◌, arith, Some}
-use Rattle.dex_types.specs.Cancel.{older, oldest, orders_of}
+use Rattle.std.proofs.Common.{ap, sym, ◌∙◌, arith}
+use Rattle.dex_types.specs.Cancel.{oldest, orders_of}
 use Rattle.dex_laws.specs.Walks.{orders_from}
 use Rattle.dex_cancel.specs.Finding.{maybe_resting, older_of}
 use Rattle.dex_cancel.proofs.WalkSteps.{stepped, on, oldest-named, oldest-unnamed, older_of-older}

@@ -1,7 +1,7 @@
-use Rattle.std.proofs.Common.{arith, refl}
+use Rattle.std.proofs.Common.{refl}
 use Rattle.dex_ring.specs.Ring.{ring_of}
-use Rattle.dex_cancel.specs.Cancelling.{named_by, room_of}
-use Rattle.dex_cancel.proofs.MarketLaws.{sound-locks, cancel-parts, decided-within}
+use Rattle.dex_cancel.specs.Cancelling.{named_by}
+use Rattle.dex_cancel.proofs.MarketLaws.{sound-locks, cancel-parts}
 use Rattle.dex_cancel.proofs.leaving.apply_cancel.Goals as goal
 
 pub cancel_all-requires-clause-locks : goal.cancel_all-requires-clause-locks

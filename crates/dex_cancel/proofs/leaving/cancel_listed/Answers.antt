@@ -1,5 +1,5 @@
-use Rattle.std.proofs.Common.{◌≡◌, ◌+◌, ◌<◌, ◌≤◌, List, [], ◌∷◌, ◌++◌, length, take, get_or, sym, ap, ◌∙◌, subst, arith}
-use Rattle.dex_types.specs.Cancel.{RestingOrder, all_orders_of, at_most_one, taken_by, taken_by_all}
+use Rattle.std.proofs.Common.{◌+◌, ◌<◌, length, take, get_or, sym, ap, ◌∙◌, subst, arith}
+use Rattle.dex_types.specs.Cancel.{all_orders_of, at_most_one, taken_by, taken_by_all}
 use Rattle.dex_ring.specs.Ring.{ring_of}
 use Rattle.dex_cancel.proofs.LeavingLaws.{IsLeft, locks-now, room-now}
 use Rattle.dex_cancel.proofs.ListedLaws.{left_after, next-id, length-next, length-at_most_one, listed-more, listed-within}

@@ -1,6 +1,6 @@
 use Rattle.std.proofs.Common.{◌≡◌, ◌∙◌, get_or, map, sym, ap, subst, arith}
-use Rattle.dex_match.proofs.Starting.{has-named}
-use Rattle.dex_match.specs.FirstMarket.{HasTrader, start_market}
+use Rattle.dex_list_market.proofs.Starting.{has-named}
+use Rattle.dex_list_market.specs.FirstMarket.{HasTrader, start_market}
 use Rattle.dex_program.specs.declared.script.OrderRow.{OrderRow}
 use Rattle.dex_program.specs.Replay.{entry_row, journal_of}
 use Rattle.dex_program.proofs.Journals.{journal-whole, journal_from-rows}

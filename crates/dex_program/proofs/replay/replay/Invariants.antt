@@ -1,5 +1,5 @@
 use Rattle.std.proofs.Common.{◌≡◌, ◌≤◌, ◌++◌, drop}
-use Rattle.dex_match.specs.FirstMarket.{addresses, start_market}
+use Rattle.dex_list_market.specs.FirstMarket.{addresses, start_market}
 use Rattle.dex_program.specs.Replay.{journal_from, journal_of}
 use Rattle.dex_program.proofs.replay.replay.Given as goal
 

@@ -1,6 +1,6 @@
 use Rattle.std.proofs.Common.{◌∙◌, sym, ap}
 use Rattle.dex_market.specs.MarketAccount.{market_words}
-use Rattle.dex_settle.specs.Refusing.{answered}
+use Rattle.dex_types.specs.Reasons.{answered}
 use Rattle.dex_settle.proofs.ModelLaws.{sweep-model}
 use Rattle.dex_settle.proofs.sweep.decide_sweep.Goals as goal
 

@@ -4,7 +4,7 @@ use Rattle.dex_slab.specs.Nodes.{root_of}
 use Rattle.dex_slab.specs.Path.{Root}
 use Rattle.dex_slab.specs.Walks.{tree_at}
 use Rattle.dex_slab.proofs.NodeWrites.{node_within}
-use Rattle.dex_slab.proofs.SeekLaw.{IsSearchStep, IsSought, seek-end, seek-step, sought-way}
+use Rattle.dex_slab.proofs.SeekLaw.{IsSearchStep, seek-end, seek-step, sought-way}
 use Rattle.dex_slab.proofs.WalkLaw.{rooted, way-below, way-prefix}
 use Rattle.dex_slab.proofs.walks.find_leaf.Goals as goal
 

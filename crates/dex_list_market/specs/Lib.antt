@@ -1,0 +1,13 @@
+pub mod AccountList
+pub mod Accounts
+pub mod Deciding
+pub mod FirstMarket
+pub mod Incoming
+pub mod Meetings
+pub mod Opening
+pub mod Settling
+pub mod SideList
+pub mod SlotList
+pub mod State
+pub mod Totals
+pub mod Trading

@@ -1,0 +1,3 @@
+pub mod MeetingSteps
+pub mod RingLaws
+pub mod SideMeetings

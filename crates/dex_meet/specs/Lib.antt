@@ -1,0 +1,4 @@
+pub mod EventKinds
+pub mod Prospects
+pub mod RingEvents
+pub mod Taker

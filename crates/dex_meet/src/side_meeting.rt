@@ -1,0 +1,60 @@
+//! A taker meets a side of the book in place.
+
+ghost use Rattle.std.specs.Prelude.{◌≡◌, ◌<◌, ◌^◌, length};
+ghost use Rattle.dex_laws.specs.Locks.{locked};
+ghost use Rattle.dex_meet.specs.Prospects.{FitsSums, IsMet};
+ghost use Rattle.dex_meet.specs.RingEvents.{appended, HasRoom};
+ghost use Rattle.dex_meet.specs.Taker.{taking, demand};
+ghost use Rattle.dex_ring.specs.Ring.{IsEventQueue, ring_of};
+ghost use Rattle.dex_types.specs.Meeting as meeting;
+ghost use Rattle.dex_types.specs.Side.{opposite};
+
+use crate::met::{Met, met_after};
+use crate::ring_events::push_met;
+use crate::side_walk::unmet;
+use crate::taking::taken;
+use crate::wants::{Terms, Want};
+use dex_ring::RingView;
+use dex_types::{Side, SideBook};
+
+/// A taker of the side meets the opposite side from the best order on. What it meets leaves the book or loses lots there,
+/// and the events are appended to the queue.
+pub fn meet_side<B: SideBook>(
+    side: Side,
+    taker: Terms,
+    want: Want,
+    opposing: &mut B,
+    ring: &mut RingView<'_>,
+) -> Met
+    requires holds { B.holds opposing.old }
+    requires accepted { IsEventQueue ring.old.bytes.now }
+    requires counted { (ring_of ring.old.bytes.now).seq_num < 2 ^ 64 }
+    requires fits { FitsSums side taker.sizes (meeting.meet side (taking taker) (demand want) (B.orders opposing.old)) }
+    requires room { HasRoom (length (meeting.meet side (taking taker) (demand want) (B.orders opposing.old)).events) (ring_of ring.old.bytes.now) }
+    requires locks { locked (opposite side) taker.sizes (B.orders opposing.old) < 2 ^ 64 }
+    ensures met { IsMet (meeting.meet side (taking taker) (demand want) (B.orders opposing.old)) result }
+    ensures left { B.orders opposing.new ≡ (meeting.meet side (taking taker) (demand want) (B.orders opposing.old)).left }
+    ensures holds { B.holds opposing.new }
+    ensures same_side { B.side opposing.new ≡ B.side opposing.old }
+    ensures same_room { B.room opposing.new ≡ B.room opposing.old }
+    ensures same_place { B.same_place opposing.old opposing.new }
+    ensures list { ring_of ring.new.bytes.now ≡ appended (meeting.meet side (taking taker) (demand want) (B.orders opposing.old)).events (ring_of ring.old.bytes.now) }
+    ensures accepted { IsEventQueue ring.new.bytes.now }
+    ensures place { ring.new.bytes.ghost_name ≡ ring.old.bytes.ghost_name }
+{
+    let mut met = unmet(want);
+    'orders: while let Some(order) = opposing.best() {
+        let lots = taken(side, taker, met.want, order);
+        if lots == 0 {
+            return met;
+        }
+        push_met(ring, side, taker, order, lots);
+        met = met_after(side, taker, met, order, lots);
+        if lots < order.lots {
+            opposing.set_lots(order.id, order.lots - lots);
+            return met;
+        }
+        opposing.remove(order.id);
+    }
+    met
+}
