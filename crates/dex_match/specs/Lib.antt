@@ -1,1 +1,3 @@
+pub mod OrderParts
 pub mod OrderTerms
+pub mod Ordering

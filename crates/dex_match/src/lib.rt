@@ -2,11 +2,13 @@
 #![tactic(auto)]
 
 mod order_outlook;
+mod order_plan;
 mod order_refusals;
 mod order_terms;
 pub mod side_laws;
 
 pub use dex_meet::post_or_boot;
 pub use order_outlook::{OrderOutlook, outlook};
+pub use order_plan::OrderPlan;
 pub use order_refusals::refused_early;
 pub use order_terms::{Taker, full_lock};

@@ -1,0 +1,83 @@
+-- Why a new order is refused, and what it does else, by what it is given alone.
+use Rattle.std.specs.Prelude.{◌≡◌, ℕ, ◌+◌, ◌-◌, List, [], ◌∷◌, ◌++◌, Option, None, Result, length}
+use Rattle.dex_types.specs.declared.refusals.Refusal.{Refusal}
+use Rattle.dex_types.specs.declared.terms.Side.{Side}
+use Rattle.dex_types.specs.NewOrder.{NewOrder, Ordering, fee_of, meeting_of, ordering_of}
+use Rattle.dex_types.specs.Reasons.{answered, ask_too_large, first_of, no_slot, time_past, would_self_trade}
+use Rattle.dex_types.specs.Side.{Token, Coin, Pc, by_side, by_token}
+use Rattle.dex_types.specs.Solvency.{all_leaving}
+use Rattle.dex_market.specs.MarketAccount.{MarketWords}
+use Rattle.dex_reasons.specs.Reading.{beyond, no_room, short_by, used_up}
+use Rattle.dex_ring.specs.Ring.{Ring}
+use Rattle.dex_match.specs.declared.order_plan.OrderPlan.{OrderPlan}
+use Rattle.dex_match.specs.OrderParts.{OrderParts, sizes_of, standing_in}
+
+-- what a new order decides
+abbrev pub ordering_in : Side → NewOrder → OrderParts → Ordering
+ordering_in side n parts = ordering_of side (standing_in parts) parts.account n (meeting_of side (standing_in parts) n)
+
+-- the plan that says so
+abbrev pub plan_by : NewOrder → Ordering → OrderPlan
+plan_by n o = record {
+  deposit = o.deposit;
+  needed = length o.events;
+  lots = o.met.lots;
+  pc = o.met.pc;
+  fee = fee_of n o.met;
+  rested = o.order.lots;
+  slot = o.order.slot;
+  id = o.order.id;
+}
+
+-- the native amount of a token in its vault, by the market's words
+abbrev pub vault_of : Token → MarketWords → ℕ
+vault_of token words =
+    by_token token
+    (words.coin_deposits_total + words.coin_fees_accrued)
+    (words.pc_deposits_total + (words.pc_fees_accrued + words.referrer_rebates_accrued))
+
+-- the same after the deposit of an order: a bid's is quote, an ask's base
+abbrev pub vault_after : Token → Side → OrderParts → Ordering → ℕ
+vault_after token side parts o = vault_of token parts.words + by_token token (by_side side 0 o.deposit) (by_side side o.deposit 0)
+
+-- what pending makers' fills are to take off totals of a token after the order
+abbrev pub leaving_after : Token → OrderParts → Ordering → ℕ
+leaving_after token parts o = all_leaving token (parts.ring.events ++ o.events)
+
+-- the free places of an event queue
+abbrev pub room_of : Ring → ℕ
+room_of ring = ring.capacity - length ring.events
+
+-- the reasons that ask for nothing of the book
+abbrev pub early_reasons : Side → NewOrder → OrderParts → List (Option Refusal)
+early_reasons side n parts =
+    no_slot parts.account
+    ∷ ask_too_large side (sizes_of parts.words) n.lots
+    ∷ used_up parts.next_sequence
+    ∷ time_past n.now n.latest
+    ∷ []
+
+-- the reasons that ask for what the order would do; the payer's balance is a native amount
+abbrev pub late_reasons : Side → OrderParts → Ordering → ℕ → List (Option Refusal)
+late_reasons side parts o balance =
+    would_self_trade o.met.aborts
+    ∷ no_room (length o.events) (room_of parts.ring)
+    ∷ short_by o.deposit balance
+    ∷ beyond (vault_after Coin side parts o) (leaving_after Coin parts o)
+    ∷ beyond (vault_after Pc side parts o) (leaving_after Pc parts o)
+    ∷ []
+
+-- why the order is refused
+abbrev pub order_reason : Side → NewOrder → OrderParts → ℕ → Option Refusal
+order_reason side n parts balance =
+    first_of (first_of (early_reasons side n parts) ∷ first_of (late_reasons side parts (ordering_in side n parts) balance) ∷ [])
+
+-- what deciding answers
+abbrev pub order_answer : Side → NewOrder → OrderParts → ℕ → Result OrderPlan Refusal
+order_answer side n parts balance = answered (order_reason side n parts balance) (plan_by n (ordering_in side n parts))
+
+-- the plan was decided on these parts, with some balance
+pub record IsDecided (plan : OrderPlan) (side : Side) (n : NewOrder) (parts : OrderParts) : Type 0 where
+  pub balance : ℕ
+  pub accepted : order_reason side n parts balance ≡ None
+  pub planned : plan ≡ plan_by n (ordering_in side n parts)

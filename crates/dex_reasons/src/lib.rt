@@ -1,0 +1,10 @@
+//! Why a row is refused, each reason by itself, over what a call reads.
+#![tactic(auto)]
+
+mod amounts;
+mod parties;
+mod wallets;
+
+pub use amounts::{ask_too_large, beyond, no_room, short_by, time_past, used_up};
+pub use parties::{DISABLED_FLAGS, disabled, not_authority, not_owner};
+pub use wallets::{Payout, missing, not_signed, other_discount_mint, other_mint, too_full};
