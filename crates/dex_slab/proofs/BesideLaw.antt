@@ -15,6 +15,7 @@ use Rattle.dex_slab.specs.Path.{Path, Root, InFirst, InSecond, Leads, bit_behind
 use Rattle.dex_slab.specs.Slab.{IsShared, IsSlab, IsSlabSize, IsTree, free_of, leaves_in, orders_in, resting, room_in, times}
 use Rattle.dex_slab.specs.Tree.{Tree, Leaf, Inner, Other, leaves_of, nodes_of, orders_of}
 use Rattle.dex_slab.specs.Walks.{RestsIn, Stops, branch_above, tree_at}
+use Rattle.dex_slab.proofs.Holding.{top-met}
 use Rattle.dex_slab.proofs.Entering.{IsGrown, bit_number, first_of, grown, orders_grown, second_of, stands_grown}
 use Rattle.dex_slab.proofs.KeyBits.{bit_behind-lt}
 use Rattle.dex_slab.proofs.NodeWrites.{ChangesHeader-by, ChangesHeader-then, number_kept}
@@ -22,7 +23,7 @@ use Rattle.dex_slab.proofs.Parting.{IsNewAt}
 use Rattle.dex_slab.proofs.Plugs.{times-plug}
 use Rattle.dex_slab.proofs.Standing.{IsHeld, IsSlab-from, Stands, nodes-leaves, tree_of-stands}
 use Rattle.dex_slab.proofs.Times.{times-append}
-use Rattle.dex_slab.proofs.WalkLaw.{Rooted, top-met}
+use Rattle.dex_slab.proofs.WalkLaw.{Rooted}
 use Rattle.dex_slab.proofs.Written.{IsShared-written, IsWritten, written-count, written-node, written-then}
 
 -- ---- what the bytes before are

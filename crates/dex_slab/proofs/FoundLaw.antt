@@ -1,6 +1,6 @@
 -- The leaf that a search ends at is the order that rests.
 use Rattle.std.proofs.Common.{◌≡◌, ◌≢◌, ℕ, ◌<◌, ◌≤◌, List, [], ◌∷◌, ◌++◌, length, Option, Some, None, IsSome, inl, inr, refl, sym, ap, subst, ◌∙◌, arith}
-use Rattle.std.proofs.lemmas.Bool.{eq-eqb, ne_eqb}
+use Rattle.std.proofs.lemmas.Bool.{cases_eq, eq-eqb, ne_eqb}
 use Rattle.dex_types.specs.declared.orders.Order.{Order}
 use Rattle.dex_types.specs.declared.terms.Side.{Side}
 use Rattle.dex_types.specs.declared.terms.Side.TheVariants.{Bid, Ask}
@@ -18,7 +18,7 @@ use Rattle.dex_slab.proofs.Leaving.{order-found}
 use Rattle.dex_slab.proofs.Plugs.{known-part, leaves-plug, times-plug}
 use Rattle.dex_slab.proofs.PoolLaw.{used-below}
 use Rattle.dex_slab.proofs.Somes.{none_some}
-use Rattle.dex_slab.proofs.Standing.{leaves-some, length-orders_in, tree_of-cases}
+use Rattle.dex_slab.proofs.Standing.{leaves-some, tree_of-cases}
 use Rattle.dex_slab.proofs.TreeOrders.{RestsIn-from}
 use Rattle.dex_slab.proofs.WalkLaw.{Rooted}
 
@@ -105,6 +105,13 @@ given-one count one = rw (eq-eqb count 1 one) refl
 pub given-two : (count : ℕ) → 2 ≤ count → nodes_given count ≡ 2
 given-two count more = rw (ne_eqb count 1 (omega arith)) refl
 
+pub given-some : (count : ℕ) → 1 ≤ nodes_given count
+given-some count =
+    elim (cases_eq count 1) [
+      | inl one ↦ omega (arith, given-one count one)
+      | inr other ↦ rw (ne_eqb count 1 other) (omega arith)
+    ]
+
 -- ---- an order of the tree is one of the list
 
 HasId-front : (id : ℕ) (xs ys : List Order) → HasId id xs → HasId id (xs ++ ys)
@@ -133,7 +140,3 @@ HasId-none id (x ∷ xs) h (inr others) = HasId-none id xs h.1 others
 pub new-rests : (side : Side) (id : ℕ) (tree : Option Tree) → order_with id (orders_in side tree) ≡ None → RestsOn id tree → ⊥
 new-rests side id None new rests = rests
 new-rests side id (Some t) new rests = HasId-none id (orders_of side t) (AllIds-new id (orders_of side t) new) (HasId-of side id t rests)
-
--- the count is the length of the list
-pub count-listed : (side : Side) (bytes : List ℕ) → IsSlab bytes → length (resting side bytes) ≡ count_of bytes
-count-listed side bytes h = length-orders_in side (tree_of bytes) ∙ sym h.count

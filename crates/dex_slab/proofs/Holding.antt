@@ -70,6 +70,12 @@ Holds-plug old new (InSecond node prefix key first up) t u h held top kept =
     )
     refl (AreSame-back (nodes_of first) (path_nodes up) old new below)
 
+-- the node at the top of a tree is one of its nodes
+pub top-met : (t : Tree) → 1 ≤ times (top_of t) (nodes_of t)
+top-met (Leaf node order) = omega arith
+top-met (Inner node prefix key first second) = omega arith
+top-met (Other node) = omega arith
+
 -- the node at the top of a part is the same whatever the way
 pub top-plug : (path : Path) (t u : Tree) → top_of t ≡ top_of u → top_of (plug path t) ≡ top_of (plug path u)
 top-plug Root t u top = top
@@ -80,16 +86,16 @@ top-plug (InSecond node prefix key first up) t u top = top-plug up (Inner node p
 
 module _ (steps : ℕ) (bytes : List ℕ) (node : ℕ) where
   -- a leaf, an inner node, any other node
-  tree_from-leaf : tag_of bytes node ≡ 2 → tree_from (suc steps) bytes node ≡ Leaf node (order_of bytes node)
+  pub tree_from-leaf : tag_of bytes node ≡ 2 → tree_from (suc steps) bytes node ≡ Leaf node (order_of bytes node)
   unfolding tree_from
   tree_from-leaf tag = rw (eq-eqb (tag_of bytes node) 2 tag) refl
 
-  tree_from-inner : tag_of bytes node ≡ 1 → tree_from (suc steps) bytes node
+  pub tree_from-inner : tag_of bytes node ≡ 1 → tree_from (suc steps) bytes node
       ≡ Inner node (prefix_of bytes node) (key_of bytes node) (tree_from steps bytes (first_child_of bytes node)) (tree_from steps bytes (second_child_of bytes node))
   unfolding tree_from
   tree_from-inner tag = rw (ne_eqb (tag_of bytes node) 2 (omega arith), eq-eqb (tag_of bytes node) 1 tag) refl
 
-  tree_from-other : tag_of bytes node ≢ 2 → tag_of bytes node ≢ 1 → tree_from (suc steps) bytes node ≡ Other node
+  pub tree_from-other : tag_of bytes node ≢ 2 → tag_of bytes node ≢ 1 → tree_from (suc steps) bytes node ≡ Other node
   unfolding tree_from
   tree_from-other no_leaf no_inner = rw (ne_eqb (tag_of bytes node) 2 no_leaf, ne_eqb (tag_of bytes node) 1 no_inner) refl
 

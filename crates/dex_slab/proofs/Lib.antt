@@ -36,3 +36,5 @@ pub mod Descents
 pub mod Ends
 pub mod Parts
 pub mod Rooted
+pub mod BestLaw
+pub mod HeaderLaw

@@ -8,13 +8,12 @@ use Rattle.dex_slab.specs.Path.{Path, Root, InFirst, InSecond, plug, top_of}
 use Rattle.dex_slab.specs.Slab.{same, times}
 use Rattle.dex_slab.specs.Tree.{Tree, Leaf, Inner, nodes_of}
 use Rattle.dex_slab.specs.Walks.{parent_of, sibling_of}
-use Rattle.dex_slab.proofs.Holding.{AreSame, Holds-part, Holds-plug}
+use Rattle.dex_slab.proofs.Holding.{AreSame, Holds-part, Holds-plug, top-met}
 use Rattle.dex_slab.proofs.Leaving.{beside, left}
 use Rattle.dex_slab.proofs.Plugs.{path_nodes, times-plug}
 use Rattle.dex_slab.proofs.Retop.{Holds-retop, nodes-top, rest_of, retop, top-retop}
 use Rattle.dex_slab.proofs.Somes.{none_some, same_some}
 use Rattle.dex_slab.proofs.Times.{times-append}
-use Rattle.dex_slab.proofs.WalkLaw.{top-met}
 
 -- the bytes hold what is left where the sibling was copied and all that stays is as before
 pub holds_left : (old new : List ℕ) (leaf parent : ℕ) (order : Order) (path : Path) → parent_of path ≡ Some parent → Holds old (plug path (Leaf leaf order))

@@ -1,6 +1,5 @@
 -- The tree of a side: none where no order rests, else the one at the root.
-use Rattle.std.proofs.Common.{◌≡◌, ℕ, List, Some, None, inl, refl, sym, subst}
-use Rattle.std.proofs.lemmas.Bool.{eq-eqb, ne_eqb}
+use Rattle.std.proofs.Common.{◌≡◌, ℕ, List, inl, refl, sym, subst}
 use Rattle.dex_slab.specs.declared.slab_fault.SlabFault.{SlabFault}
 use Rattle.dex_slab.specs.Checked.{IsSizedRoot, IsSizedTree}
 use Rattle.dex_slab.specs.Faults.{BreaksAmong, BreaksNode}
@@ -8,18 +7,11 @@ use Rattle.dex_slab.specs.Nodes.{count_of, root_of}
 use Rattle.dex_slab.specs.Slab.{nodes_in, tree_of}
 use Rattle.dex_slab.specs.Tree.{nodes_of, tree_from}
 use Rattle.dex_slab.proofs.SoundLaws.{among_here}
-
-pub tree_of-none : (bytes : List ℕ) → count_of bytes ≡ 0 → tree_of bytes ≡ None
-unfolding tree_of
-tree_of-none bytes empty = rw (eq-eqb (count_of bytes) 0 empty) refl
-
-pub tree_of-some : (bytes : List ℕ) → (count_of bytes ≡ 0 → ⊥) → tree_of bytes ≡ Some (tree_from 129 bytes (root_of bytes))
-unfolding tree_of
-tree_of-some bytes some = rw (ne_eqb (count_of bytes) 0 some) refl
+use Rattle.dex_slab.proofs.Standing.{tree_of-empty, tree_of-some}
 
 pub sized_none : (bytes : List ℕ) → count_of bytes ≡ 0 → IsSizedRoot bytes (tree_of bytes) 0 0
 sized_none bytes empty =
-    subst (λ tree. IsSizedRoot bytes tree 0 0) (sym (tree_of-none bytes empty)) record { sound = tt; is_size = refl; is_leaves = refl }
+    subst (λ tree. IsSizedRoot bytes tree 0 0) (sym (tree_of-empty bytes empty)) record { sound = tt; is_size = refl; is_leaves = refl }
 
 pub sized_some : (bytes : List ℕ) (size leaves : ℕ) → (count_of bytes ≡ 0 → ⊥)
     → IsSizedTree bytes (root_of bytes) (tree_from 129 bytes (root_of bytes)) size leaves

@@ -9,10 +9,12 @@ use Rattle.dex_slab.specs.Faults.{BreaksAmong, BreaksAt, BreaksChild, BreaksNode
 use Rattle.dex_slab.specs.Nodes.{bump_of, first_child_of, key_of, order_of, prefix_of, second_child_of, tag_of}
 use Rattle.dex_slab.specs.Slab.{times}
 use Rattle.dex_slab.specs.Tree.{AllKeys, Begins, HasPrefixes, Inner, IsKnown, KeysAgree, Leaf, Other, Tree, nodes_of, tree_from}
+use Rattle.dex_slab.specs.Path.{top_of}
+use Rattle.dex_slab.proofs.Holding.{top-met, top-tree_from, tree_from-inner, tree_from-leaf}
 use Rattle.dex_slab.proofs.OnceLaws.{length-once, met_cases}
 use Rattle.dex_slab.proofs.PrefixLaws.{Begins-above, one_bit}
 use Rattle.dex_slab.proofs.Times.{times-append}
-use Rattle.dex_slab.proofs.TreeLaws.{IsOf, is_of, key_at, number_here, number_of, number_of-tree_from, only, order_key, prefix_at, tree_from-inner, tree_from-leaf}
+use Rattle.dex_slab.proofs.TreeLaws.{IsOf, is_of, key_at, only, order_key, prefix_at}
 
 -- what holds of each of some keys holds of all of them
 AllKeys-weaker : (P Q : ℕ → Type 0) → ((key : ℕ) → P key → Q key) → (t : Tree) → AllKeys P t → AllKeys Q t
@@ -23,7 +25,7 @@ AllKeys-weaker P Q weaker (Other node) all = tt
 
 -- the keys of a tree begin as its first node's key does, up to that node's prefix
 all_keys : (bytes : List ℕ) (prefix other bit : ℕ) (t : Tree) → IsOf bytes t → IsKnown t → HasPrefixes (suc prefix) t → KeysAgree t
-    → Begins prefix other bit (key_of bytes (number_of t)) → AllKeys (Begins prefix other bit) t
+    → Begins prefix other bit (key_of bytes (top_of t)) → AllKeys (Begins prefix other bit) t
 all_keys bytes prefix other bit (Leaf node order) of known prefixes keys begins =
     subst (λ (o : Order). Begins prefix other bit o.id) (sym of.1) (subst (Begins prefix other bit) (sym (order_key bytes node)) begins)
 all_keys bytes prefix other bit (Inner node longer key first second) of known prefixes keys begins =
@@ -67,8 +69,8 @@ record AreParts (bytes : List ℕ) (node : ℕ) (first second : Tree) : Type 0 w
   inner : tag_of bytes node ≡ 1
   first_of : IsOf bytes first
   second_of : IsOf bytes second
-  first_at : number_of first ≡ first_child_of bytes node
-  second_at : number_of second ≡ second_child_of bytes node
+  first_at : top_of first ≡ first_child_of bytes node
+  second_at : top_of second ≡ second_child_of bytes node
   first_child : IsSoundChild bytes node 0 (first_child_of bytes node)
   second_child : IsSoundChild bytes node 1 (second_child_of bytes node)
   first_sound : IsSoundTree bytes (first_child_of bytes node) first
@@ -189,8 +191,8 @@ sized_inner (suc s) bytes node left_size left_leaves right_size right_leaves som
       inner = inner;
       first_of = is_of s bytes (first_child_of bytes node);
       second_of = is_of s bytes (second_child_of bytes node);
-      first_at = number_of-tree_from s bytes (first_child_of bytes node);
-      second_at = number_of-tree_from s bytes (second_child_of bytes node);
+      first_at = top-tree_from s bytes (first_child_of bytes node);
+      second_at = top-tree_from s bytes (second_child_of bytes node);
       first_child = first;
       second_child = second;
       first_sound = left'.sound;
@@ -208,7 +210,7 @@ among_more bytes xs ys fault more (node, at, breaks) = (node, more node at, brea
 -- a node is the first of its tree
 root_at : (steps : ℕ) (bytes : List ℕ) (node : ℕ) → 1 ≤ times node (nodes_of (tree_from steps bytes node))
 root_at steps bytes node =
-    subst (λ n. 1 ≤ times n (nodes_of (tree_from steps bytes node))) (number_of-tree_from steps bytes node) (number_here (tree_from steps bytes node))
+    subst (λ n. 1 ≤ times n (nodes_of (tree_from steps bytes node))) (top-tree_from steps bytes node) (top-met (tree_from steps bytes node))
 
 pub among_here : (steps : ℕ) (bytes : List ℕ) (node : ℕ) (fault : SlabFault) → BreaksAt bytes node fault
     → BreaksAmong bytes (nodes_of (tree_from steps bytes node)) fault

@@ -1,12 +1,12 @@
 -- A slab by the tree that its bytes hold, and as a side of the book.
-use Rattle.std.proofs.Common.{◌≡◌, ℕ, ◌+◌, ◌≤◌, ◌⊎◌, inl, inr, List, length, Option, Some, None, IfSome, refl, sym, ap, ◌∙◌, subst, arith}
+use Rattle.std.proofs.Common.{◌≡◌, ◌≢◌, ℕ, ◌+◌, ◌≤◌, ◌⊎◌, inl, inr, List, length, Option, Some, None, IfSome, refl, sym, ap, ◌∙◌, subst, arith}
 use Rattle.std.proofs.lemmas.Bool.{cases_eq, eq-eqb, ne_eqb}
 use Rattle.std.proofs.lemmas.List.{length-append}
 use Rattle.dex_types.specs.declared.terms.Side.{Side}
 use Rattle.dex_slab.specs.Held.{Holds}
 use Rattle.dex_slab.specs.Nodes.{count_of, root_of}
 use Rattle.dex_slab.specs.Path.{top_of}
-use Rattle.dex_slab.specs.Slab.{IsShared, IsSlab, IsSlabSize, IsTree, free_of, leaves_in, nodes_in, orders_in, room_in, tree_of}
+use Rattle.dex_slab.specs.Slab.{IsShared, IsSlab, IsSlabSize, IsTree, free_of, leaves_in, nodes_in, orders_in, resting, room_in, tree_of}
 use Rattle.dex_slab.specs.Tree.{Tree, Leaf, Inner, Other, IsKnown, leaves_of, nodes_of, tree_from}
 use Rattle.dex_slab.proofs.Holding.{Holds-from, top-tree_from, tree_from-held}
 use Rattle.dex_slab.proofs.TreeOrders.{length-orders_of}
@@ -38,20 +38,24 @@ nodes-leaves (Other node) known = absurd known
 
 -- ---- the tree that is read is the one that is held
 
-tree_of-empty : (bytes : List ℕ) → count_of bytes ≡ 0 → tree_of bytes ≡ None
+pub tree_of-empty : (bytes : List ℕ) → count_of bytes ≡ 0 → tree_of bytes ≡ None
 unfolding tree_of
 tree_of-empty bytes none = rw (eq-eqb (count_of bytes) 0 none) refl
 
-tree_of-some : (bytes : List ℕ) → 1 ≤ count_of bytes → tree_of bytes ≡ Some (tree_from 129 bytes (root_of bytes))
+pub tree_of-some : (bytes : List ℕ) → count_of bytes ≢ 0 → tree_of bytes ≡ Some (tree_from 129 bytes (root_of bytes))
 unfolding tree_of
-tree_of-some bytes some = rw (ne_eqb (count_of bytes) 0 (omega arith)) refl
+tree_of-some bytes some = rw (ne_eqb (count_of bytes) 0 some) refl
+
+-- the tree that is held is the one that is read
+pub tree_of-held : (bytes : List ℕ) (t : Tree) → 1 ≤ count_of bytes → IsTree t → IsHeld bytes t → tree_of bytes ≡ Some t
+tree_of-held bytes t some good held =
+    tree_of-some bytes (omega arith)
+    ∙ ap (λ (n : ℕ). Some (tree_from 129 bytes n)) (sym held.root)
+    ∙ ap (λ (u : Tree). Some u) (tree_from-held 129 bytes t 0 held.nodes good.prefixes (omega arith) (omega arith))
 
 pub tree_of-stands : (bytes : List ℕ) (tree : Option Tree) → Stands bytes tree → tree_of bytes ≡ tree
 tree_of-stands bytes None h = tree_of-empty bytes h.count
-tree_of-stands bytes (Some t) h =
-    tree_of-some bytes (omega (arith, h.count, leaves-some t h.good.known))
-    ∙ ap (λ (n : ℕ). Some (tree_from 129 bytes n)) (sym h.held.root)
-    ∙ ap (λ (u : Tree). Some u) (tree_from-held 129 bytes t 0 h.held.nodes h.good.prefixes (omega arith) (omega arith))
+tree_of-stands bytes (Some t) h = tree_of-held bytes t (omega (arith, h.count, leaves-some t h.good.known)) h.good h.held
 
 pub IsSlab-from : (bytes : List ℕ) (tree : Option Tree) → Stands bytes tree → IsSlab bytes
 IsSlab-from bytes tree h =
@@ -69,7 +73,7 @@ pub tree_of-cases : (bytes : List ℕ) → ((count_of bytes ≡ 0) × (tree_of b
 tree_of-cases bytes =
     elim (cases_eq (count_of bytes) 0) [
       | inl none ↦ inl (none, tree_of-empty bytes none)
-      | inr some ↦ let more : 1 ≤ count_of bytes = omega arith in inr (more, tree_of-some bytes more)
+      | inr some ↦ inr (omega arith, tree_of-some bytes some)
     ]
 
 held_of : (bytes : List ℕ) → IfSome (tree_of bytes) IsTree → IfSome (tree_of bytes) (IsHeld bytes)
@@ -97,3 +101,11 @@ pub leaves-room : (bytes : List ℕ) (tree : Option Tree) → Stands bytes tree 
 leaves-room bytes None h = omega arith
 leaves-room bytes (Some t) h =
     omega (arith, nodes-leaves t h.good.known, length-append (nodes_of t) (free_of bytes), h.shared.whole, h.shared.bump)
+
+-- the header counts the orders that rest
+pub count-listed : (side : Side) (bytes : List ℕ) → IsSlab bytes → length (resting side bytes) ≡ count_of bytes
+count-listed side bytes h = length-orders_in side (tree_of bytes) ∙ sym h.count
+
+-- which are no more than there is room for
+pub count-room : (bytes : List ℕ) → IsSlab bytes → count_of bytes ≤ room_in bytes
+count-room bytes slab = omega (arith, slab.count, leaves-room bytes (tree_of bytes) (stands_of bytes slab))

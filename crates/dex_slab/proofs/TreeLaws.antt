@@ -1,49 +1,28 @@
 -- The tree that stands at a node, and what its rules say of each of its nodes.
-use Rattle.std.proofs.Common.{◌≡◌, ℕ, zero, suc, ◌<◌, ◌≤◌, inl, inr, List, [], ◌∷◌, refl, sym, ap, subst, arith}
-use Rattle.std.proofs.lemmas.Bool.{eq-eqb, ne_eqb}
+use Rattle.std.proofs.Common.{◌≡◌, ℕ, zero, suc, ◌<◌, ◌≤◌, inl, inr, List, [], ◌∷◌, refl, sym, subst, arith}
 use Rattle.std.proofs.lemmas.Bool.Decides.{eqb_tells}
 use Rattle.dex_types.specs.declared.orders.Order.{Order}
 use Rattle.dex_types.specs.BookSide.{CanRest}
 use Rattle.dex_slab.specs.Faults.{IsTreeNode}
 use Rattle.dex_slab.specs.Nodes.{first_child_of, key_of, order_in, order_of, prefix_of, second_child_of, tag_of}
+use Rattle.dex_slab.specs.Path.{top_of}
 use Rattle.dex_slab.specs.Slab.{times}
 use Rattle.dex_slab.specs.Tree.{AllKeys, Begins, CanAllRest, HasPrefixes, Inner, IsKnown, KeysAgree, Leaf, Other, Tree, nodes_of, tree_from}
+use Rattle.dex_slab.proofs.Holding.{top-met, top-tree_from, tree_from-inner, tree_from-leaf, tree_from-other}
 use Rattle.dex_slab.proofs.OnceLaws.{met_cases}
 
 -- ---- the tree that stands at a node
-
-pub tree_from-leaf : (s : ℕ) (bytes : List ℕ) (node : ℕ) → tag_of bytes node ≡ 2 → tree_from (suc s) bytes node ≡ Leaf node (order_of bytes node)
-unfolding tree_from
-tree_from-leaf s bytes node leaf = rw (eq-eqb (tag_of bytes node) 2 leaf) refl
-
-pub tree_from-inner : (s : ℕ) (bytes : List ℕ) (node : ℕ) → tag_of bytes node ≡ 1
-    → tree_from (suc s) bytes node
-    ≡ Inner node (prefix_of bytes node) (key_of bytes node) (tree_from s bytes (first_child_of bytes node)) (tree_from s bytes (second_child_of bytes node))
-unfolding tree_from
-tree_from-inner s bytes node inner =
-    rw (ne_eqb (tag_of bytes node) 2 (λ leaf. omega arith), eq-eqb (tag_of bytes node) 1 inner) refl
-
-tree_from-other : (s : ℕ) (bytes : List ℕ) (node : ℕ) → (tag_of bytes node ≡ 1 → ⊥) → (tag_of bytes node ≡ 2 → ⊥)
-    → tree_from (suc s) bytes node ≡ Other node
-unfolding tree_from
-tree_from-other s bytes node inner leaf = rw (ne_eqb (tag_of bytes node) 2 leaf, ne_eqb (tag_of bytes node) 1 inner) refl
 
 tree_from-end : (bytes : List ℕ) (node : ℕ) → tree_from zero bytes node ≡ Other node
 unfolding tree_from
 tree_from-end bytes node = refl
 
--- the number of the node at which a tree begins
-abbrev pub number_of : Tree → ℕ
-number_of (Leaf node order) = node
-number_of (Inner node prefix key first second) = node
-number_of (Other node) = node
-
 -- each node of the tree is as the bytes have it
 abbrev pub IsOf : List ℕ → Tree → Type 0
 IsOf bytes (Leaf node order) = (tag_of bytes node ≡ 2) × (order ≡ order_of bytes node)
 IsOf bytes (Inner node prefix key first second) =
-    (tag_of bytes node ≡ 1) × (prefix ≡ prefix_of bytes node) × (key ≡ key_of bytes node) × (number_of first ≡ first_child_of bytes node)
-    × (number_of second ≡ second_child_of bytes node) × IsOf bytes first × IsOf bytes second
+    (tag_of bytes node ≡ 1) × (prefix ≡ prefix_of bytes node) × (key ≡ key_of bytes node) × (top_of first ≡ first_child_of bytes node)
+    × (top_of second ≡ second_child_of bytes node) × IsOf bytes first × IsOf bytes second
 IsOf bytes (Other node) = Unit {0}
 
 -- a fact of a tree that begins at a node, by its tag
@@ -56,13 +35,9 @@ tree_cases P s bytes node leaf inner other =
       | inl is ↦ subst P (sym (tree_from-leaf s bytes node is.1)) (leaf is.1)
       | inr not ↦ elim (eqb_tells (tag_of bytes node) 1) [
         | inl is ↦ subst P (sym (tree_from-inner s bytes node is.1)) (inner is.1)
-        | inr neither ↦ subst P (sym (tree_from-other s bytes node neither.1 not.1)) other
+        | inr neither ↦ subst P (sym (tree_from-other s bytes node not.1 neither.1)) other
       ]
     ]
-
-pub number_of-tree_from : (s : ℕ) (bytes : List ℕ) (node : ℕ) → number_of (tree_from s bytes node) ≡ node
-number_of-tree_from zero bytes node = ap number_of (tree_from-end bytes node)
-number_of-tree_from (suc s) bytes node = tree_cases (λ t. number_of t ≡ node) s bytes node (λ _. refl) (λ _. refl) refl
 
 pub is_of : (s : ℕ) (bytes : List ℕ) (node : ℕ) → IsOf bytes (tree_from s bytes node)
 is_of zero bytes node = subst (IsOf bytes) (sym (tree_from-end bytes node)) tt
@@ -72,17 +47,12 @@ is_of (suc s) bytes node =
       inner,
       refl,
       refl,
-      number_of-tree_from s bytes (first_child_of bytes node),
-      number_of-tree_from s bytes (second_child_of bytes node),
+      top-tree_from s bytes (first_child_of bytes node),
+      top-tree_from s bytes (second_child_of bytes node),
       is_of s bytes (first_child_of bytes node),
       is_of s bytes (second_child_of bytes node),
     ))
     tt
-
-pub number_here : (t : Tree) → 1 ≤ times (number_of t) (nodes_of t)
-number_here (Leaf node order) = omega arith
-number_here (Inner node prefix key first second) = omega arith
-number_here (Other node) = omega arith
 
 -- the key of a leaf is its order's id
 pub order_key : (bytes : List ℕ) (node : ℕ) → (order_of bytes node).id ≡ key_of bytes node
@@ -153,13 +123,13 @@ fine_leaf bytes node leaf can_rest = record {
 }
 
 -- the tree below an inner node, with that node's prefix and key
-fine_child : (bytes : List ℕ) (node bit child : ℕ) (t : Tree) → number_of t ≡ child → IsOf bytes t → IsKnown t
+fine_child : (bytes : List ℕ) (node bit child : ℕ) (t : Tree) → top_of t ≡ child → IsOf bytes t → IsKnown t
     → HasPrefixes (suc (prefix_of bytes node)) t
     → AllKeys (Begins (prefix_of bytes node) (key_of bytes node) bit) t → IsFineChild bytes node bit child
 fine_child bytes node bit child t is of known prefixes keys =
     subst (IsFineChild bytes node bit) is record {
-      grows = λ inner. let least = prefix_at bytes (suc (prefix_of bytes node)) t (number_of t) of known prefixes (number_here t) inner in omega arith;
-      key = key_at (Begins (prefix_of bytes node) (key_of bytes node) bit) bytes t (number_of t) of known keys (number_here t);
+      grows = λ inner. let least = prefix_at bytes (suc (prefix_of bytes node)) t (top_of t) of known prefixes (top-met t) inner in omega arith;
+      key = key_at (Begins (prefix_of bytes node) (key_of bytes node) bit) bytes t (top_of t) of known keys (top-met t);
     }
 
 fine_inner : (bytes : List ℕ) (node prefix key least : ℕ) (first second : Tree) → IsOf bytes (Inner node prefix key first second)

@@ -15,7 +15,7 @@ use Rattle.dex_slab.specs.Path.{Path, InFirst, InSecond, Leads, bit_behind, plug
 use Rattle.dex_slab.specs.Slab.{IsShared, IsSlab, IsTree, free_of, nodes_in, times, tree_of}
 use Rattle.dex_slab.specs.Tree.{Tree, Leaf, Inner, Other, Begins, HasPrefixes, KeysAgree, first_bits, nodes_of}
 use Rattle.dex_slab.specs.Walks.{IsOnWay, Stops, child_towards, next_towards, tree_at}
-use Rattle.dex_slab.proofs.Holding.{Holds-part, tree_from-held}
+use Rattle.dex_slab.proofs.Holding.{Holds-part, top-met, tree_from-held}
 use Rattle.dex_slab.proofs.KeyBits.{Begins-from, bit_behind-lt, shared_bits-same}
 use Rattle.dex_slab.proofs.Plugs.{keys-part, least_at, prefixes-part, times-plug}
 use Rattle.dex_slab.proofs.PoolLaw.{used-below}
@@ -43,11 +43,6 @@ rooted bytes h some =
             shared = subst (λ (o : Option Tree). IsShared bytes (nodes_in o) (free_of bytes)) more.1 stands.shared;
           }
     ]
-
-pub top-met : (t : Tree) → 1 ≤ times (top_of t) (nodes_of t)
-top-met (Leaf node order) = omega arith
-top-met (Inner node prefix key first second) = omega arith
-top-met (Other node) = omega arith
 
 -- a node on a way down the tree lies in the account
 pub way-below : (bytes : List ℕ) (id node : ℕ) → Rooted bytes → IsOnWay (tree_at bytes (root_of bytes)) id node → node < nodes_within (length bytes)

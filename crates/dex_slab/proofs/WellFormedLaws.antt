@@ -11,9 +11,9 @@ use Rattle.dex_slab.specs.Nodes.{bump_of, count_of, first_child_of, free_head_of
 use Rattle.dex_slab.specs.Slab.{IsSlab, IsSlabSize, IsTree, free_of, leaves_in, nodes_in, times, tree_of}
 use Rattle.dex_slab.specs.Tree.{Tree}
 use Rattle.dex_slab.proofs.FreeLaws.{free_once, free_tag, free_unbroken, length-free_from}
-use Rattle.dex_slab.proofs.RootLaws.{tree_of-none, tree_of-some}
 use Rattle.dex_slab.proofs.Times.{times-append}
 use Rattle.dex_slab.proofs.TreeLaws.{IsFine, IsFineChild, IsOf, fine_at, is_of}
+use Rattle.dex_slab.proofs.Standing.{tree_of-empty, tree_of-some}
 
 -- how many nodes are met
 pub length-met_in : (bytes : List ℕ) → length (met_in bytes) ≡ length (nodes_in (tree_of bytes)) + free_len_of bytes
@@ -29,7 +29,7 @@ IsOfRoot bytes tree = IfSome tree (IsOf bytes)
 is_of_root : (bytes : List ℕ) → IsOfRoot bytes (tree_of bytes)
 is_of_root bytes =
     elim (eqb_tells (count_of bytes) 0) [
-      | inl empty ↦ subst (IsOfRoot bytes) (sym (tree_of-none bytes empty.1)) tt
+      | inl empty ↦ subst (IsOfRoot bytes) (sym (tree_of-empty bytes empty.1)) tt
       | inr some ↦ subst (IsOfRoot bytes) (sym (tree_of-some bytes some.1)) (is_of 129 bytes (root_of bytes))
     ]
 

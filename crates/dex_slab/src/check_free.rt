@@ -7,7 +7,7 @@ ghost use Rattle.dex_slab.specs.Nodes.{bump_of, free_len_of, nodes_within, tag_o
 ghost use Rattle.dex_slab.specs.Slab.{IsSlabSize, free_of};
 
 use crate::check_nodes::below_rule;
-use crate::node_reads::{free_head, free_len, next};
+use crate::node_reads::{free_head, free_len, next_of};
 use crate::nodes::{FREE, LAST_FREE, tag_of};
 use crate::slab_fault::SlabFault;
 
@@ -26,7 +26,7 @@ pub(crate) fn check_free(bytes: &[u8]) -> Result<(), SlabFault>
         left -= 1;
         below_rule(bytes, node)?;
         tag_rule(bytes, node, left)?;
-        node = next(bytes, node);
+        node = next_of(bytes, node);
     }
     Ok(())
 }

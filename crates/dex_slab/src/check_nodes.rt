@@ -8,7 +8,7 @@ ghost use Rattle.dex_slab.specs.Nodes.{bump_of, key_of, nodes_within, order_of, 
 ghost use Rattle.dex_slab.specs.Slab.{IsSlabSize};
 ghost use Rattle.dex_slab.specs.Tree.{Begins};
 
-use crate::node_reads::{bump, key, prefix_len};
+use crate::node_reads::{bump, key_of, prefix_len};
 use crate::nodes::{INNER, LEAF, order_of, tag_of};
 use crate::slab_fault::SlabFault;
 use dex_types::Order;
@@ -117,8 +117,8 @@ fn key_rule(bytes: &[u8], node: u32, bit: u8, child: u32) -> Result<(), SlabFaul
         (λ _. Begins (prefix_of bytes.now node) (key_of bytes.now node) bit (key_of bytes.now child))
         (λ fault. BreaksKey bytes.now node bit child fault) }
 {
-    let above = key(bytes, node);
-    let below = key(bytes, child);
+    let above = key_of(bytes, node);
+    let below = key_of(bytes, child);
     if begins(prefix_len(bytes, node) as u8, above, bit, below) {
         Ok(())
     } else {

@@ -15,6 +15,8 @@ mod nodes;
 mod pieces;
 mod pool;
 mod reading;
+#[cfg(test)]
+mod refused;
 mod remove;
 mod search;
 mod set_lots;

@@ -57,7 +57,7 @@ pub(crate) fn prefix_len(bytes: &[u8], node: u32) -> u32
 }
 
 /// The key of an inner node or a leaf.
-pub(crate) fn key(bytes: &[u8], node: u32) -> u128
+pub(crate) fn key_of(bytes: &[u8], node: u32) -> u128
     requires { node < nodes_within (length bytes.now) }
     ensures { result ≡ key_of bytes.now node }
 {
@@ -81,7 +81,7 @@ pub(crate) fn second_child(bytes: &[u8], node: u32) -> u32
 }
 
 /// The free node behind a free node.
-pub(crate) fn next(bytes: &[u8], node: u32) -> u32
+pub(crate) fn next_of(bytes: &[u8], node: u32) -> u32
     requires { node < nodes_within (length bytes.now) }
     ensures { result ≡ next_of bytes.now node }
 {

@@ -7,20 +7,12 @@ ghost use Rattle.dex_slab.specs.Nodes.{bump_of, count_of, free_head_of, free_len
 ghost use Rattle.dex_slab.specs.Pool.{HasSpare, IsUsed};
 ghost use Rattle.dex_slab.specs.Slab.{IsShared, free_of};
 
+use crate::node_reads::next_of;
 use crate::node_writes::put_node;
-use crate::nodes::{FREE, LAST_FREE, node_bytes};
+use crate::nodes::{FREE, LAST_FREE};
 use crate::pieces::free_piece;
-use dex_fields::free_node::NEXT;
 use dex_fields::slab::{BUMP_INDEX, FREE_LIST_HEAD, FREE_LIST_LEN};
 use dex_fields::{get_u32, get_u64, put_u32, put_u64};
-
-/// The free node behind a free node.
-fn next_of(bytes: &[u8], node: u32) -> u32
-    requires { end_of (node_field node) ≤ length bytes.now }
-    ensures { result ≡ next_of bytes.now node }
-{
-    get_u32(node_bytes(bytes, node), NEXT)
-}
 
 /// Takes the node that was never used before and has the lowest number.
 fn take_unused(bytes: &mut [u8]) -> u32

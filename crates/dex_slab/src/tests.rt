@@ -4,6 +4,7 @@ ghost use Rattle.dex_slab.specs.Slab.{IsSlab, IsSlabSize};
 ghost use Rattle.std.specs.Prelude.{length};
 
 use super::*;
+use crate::refused::write_whole_tree;
 use dex_fields::get_u64;
 use dex_fields::slab::{BUMP_INDEX, FREE_LIST_LEN, LEAF_COUNT};
 use dex_types::{Address, Order, Side, SideBook, SideRead};
@@ -143,14 +144,22 @@ fn listed(view: &SlabView<'_>) -> [(u64, u64); 4]
     rows
 }
 
+/// Puts three orders on a side.
+fn put_three(view: &mut SlabView<'_>)
+    requires { IsSlab view.old.bytes.now }
+    ensures { IsSlab view.new.bytes.now }
+{
+    put(view, ask(6, 0, 6));
+    put(view, ask(1, 0, 1));
+    put(view, ask(7, 0, 7));
+}
+
 /// What rests on a side after four orders, after one of them got other lots, and after another one left.
 fn orders_change(bytes: &mut [u8], side: Side) -> [[(u64, u64); 4]; 3]
     requires { IsSlab bytes.old }
 {
     let mut view = SlabView { bytes, side };
-    put(&mut view, ask(6, 0, 6));
-    put(&mut view, ask(1, 0, 1));
-    put(&mut view, ask(7, 0, 7));
+    put_three(&mut view);
     put(&mut view, ask(2, 0, 2));
     let four = listed(&view);
     if view.find(7 * PER_PRICE).is_some() {
@@ -178,6 +187,47 @@ fn orders_stand_in_book_order(rt: HostRuntime) -> Result<(), Fail> {
         is_well_formed(&bytes, side)?;
         assert_eq!(rt; orders_change(&mut bytes, side), expected);
         is_well_formed(&bytes, side)?;
+    }
+    Ok(())
+}
+
+/// Puts a fourth order on, behind which the tree may be written whole.
+fn put_fourth(bytes: &mut [u8], side: Side, writes_whole: bool)
+    requires { IsSlab bytes.old }
+{
+    let mut view = SlabView { bytes, side };
+    put(&mut view, ask(2, 0, 2));
+    if writes_whole {
+        write_whole_tree(view.bytes, side);
+    }
+}
+
+/// How many of an account's nine nodes differ.
+fn changed_nodes(old: &[u8; 700], new: &[u8; 700]) -> usize {
+    let before = old[45..].chunks(72);
+    let after = new[45..].chunks(72);
+    before
+        .zip(after)
+        .filter(|(one, other)| one != other)
+        .count()
+}
+
+#[test]
+fn a_whole_new_tree_changes_more_than_three_nodes(rt: HostRuntime) -> Result<(), Fail> {
+    for (writes_whole, expected) in [(false, 3), (true, 7)] {
+        for side in [Side::Bid, Side::Ask] {
+            let mut bytes = [0; 700];
+            is_well_formed(&bytes, side)?;
+            put_three(&mut SlabView {
+                bytes: &mut bytes,
+                side,
+            });
+            let before = bytes;
+            is_well_formed(&bytes, side)?;
+            put_fourth(&mut bytes, side, writes_whole);
+            is_well_formed(&bytes, side)?;
+            assert_eq!(rt; changed_nodes(&before, &bytes), expected);
+        }
     }
     Ok(())
 }

@@ -7,9 +7,10 @@ ghost use Rattle.dex_slab.specs.Path.{bit_behind, shared_bits};
 ghost use Rattle.dex_slab.specs.Slab.{IsSlab};
 ghost use Rattle.dex_slab.specs.Walks.{IsFound, IsPlace, RestsIn, child_towards, next_towards, tree_at};
 
-use crate::nodes::{Branch, branch_of, node_bytes};
+use crate::node_reads::key_of;
+use crate::nodes::{Branch, branch_of};
+use dex_fields::get_u32;
 use dex_fields::slab::ROOT_NODE;
-use dex_fields::{get_u32, get_u128, inner_node};
 
 /// Where a new key enters the tree.
 #[derive(Clone, Copy, Debug)]
@@ -53,14 +54,6 @@ pub fn child_towards(id: u128, branch: Branch) -> u32
     } else {
         branch.first
     }
-}
-
-/// The key at a node, of an inner node or of a leaf.
-fn key_of(bytes: &[u8], node: u32) -> u128
-    requires { end_of (node_field node) ≤ length bytes.now }
-    ensures { result ≡ key_of bytes.now node }
-{
-    get_u128(node_bytes(bytes, node), inner_node::KEY)
 }
 
 /// The next node on the way of a new key; None where it enters the tree.

@@ -30,10 +30,10 @@ loop-left-preserved c =
     record {
       sound = λ sound. c.loop-left.invariant.sound
           (sound_more bytes left (left - 1) c.loop-left.node is c.in_ok-below_rule.ensures c.in_ok-tag_rule.ensures
-          (subst (λ n. IsSoundFree bytes (free_from bytes (left - 1) n)) c.next-node.ensures sound));
+          (subst (λ n. IsSoundFree bytes (free_from bytes (left - 1) n)) c.next_of-node.ensures sound));
       breaks = λ fault breaks. c.loop-left.invariant.breaks fault
           (breaks_more bytes left (left - 1) c.loop-left.node fault is
-          (subst (λ n. BreaksFree bytes (free_from bytes (left - 1) n) fault) c.next-node.ensures breaks));
+          (subst (λ n. BreaksFree bytes (free_from bytes (left - 1) n) fault) c.next_of-node.ensures breaks));
     }
 
 pub returns : goal.returns

@@ -2,15 +2,14 @@ use Rattle.std.proofs.Common.{rules, ◌≡◌, ◌∷◌, ℕ, ◌-◌, ap, sub
 use Rattle.dex_fields.specs.declared.slab.TheConstants.{BUMP_INDEX, FREE_LIST_HEAD, FREE_LIST_LEN, LEAF_COUNT, ROOT_NODE}
 use Rattle.dex_slab.specs.Nodes.{bump_of, free_head_of, free_len_of, next_of}
 use Rattle.dex_slab.specs.Slab.{IsShared, free_of}
-use Rattle.dex_slab.proofs.NodeWrites.{ChangesHeader-by, ChangesHeader-then, node_within, number_kept}
+use Rattle.dex_slab.proofs.NodeWrites.{ChangesHeader-by, ChangesHeader-then, number_kept}
 use Rattle.dex_slab.proofs.PoolLaw.{head-below, shared-popped}
 use Rattle.dex_slab.proofs.pool.take_freed.Goals as goal
 
 pub next_of-next-requires : goal.next_of-next-requires
 next_of-next-requires c =
     let spare = c.requires.spare in
-    node_within c.args.bytes.now c.get_u32-node.result
-    (omega (arith, c.get_u32-node.ensures, head-below c.args.bytes.now spare.used spare.shared c.requires.some_free))
+    omega (arith, c.get_u32-node.ensures, head-below c.args.bytes.now spare.used spare.shared c.requires.some_free)
 
 pub returns-clause-changes : goal.returns-clause-changes
 returns-clause-changes c =

@@ -25,7 +25,7 @@ next_towards-requires-clause-prefix c =
 pub key_of-requires : goal.key_of-requires
 key_of-requires c =
     let r = rooted c.args.bytes.now c.requires.slab c.requires.some in
-    node_within c.args.bytes.now c.loop-child.node (way-below c.args.bytes.now c.args.id c.loop-child.node r c.loop-child.invariant)
+    way-below c.args.bytes.now c.args.id c.loop-child.node r c.loop-child.invariant
 
 pub loop-child-smaller : goal.loop-child-smaller
 loop-child-smaller c =

@@ -1,6 +1,7 @@
 use Rattle.std.proofs.Common.{arith}
 use Rattle.dex_slab.specs.Slab.{tree_of}
-use Rattle.dex_slab.proofs.FoundLaw.{count-listed, new-rests}
+use Rattle.dex_slab.proofs.FoundLaw.{new-rests}
+use Rattle.dex_slab.proofs.Standing.{count-listed}
 use Rattle.dex_slab.proofs.view_writes.SlabViewSideBook.insert.Goals as goal
 
 pub insert_order-requires-clause-new : goal.insert_order-requires-clause-new

@@ -1,0 +1,47 @@
+//! Bodies that the contracts of a side refuse: each does all that its call promises but one thing, and the edits in
+//! `must-fail` put it in the call's place.
+
+ghost use Rattle.std.specs.Prelude.{◌≡◌, ◌+◌, Some};
+ghost use Rattle.dex_types.specs.declared.terms.Side as sides;
+ghost use Rattle.dex_types.specs.Cancel.{order_with, without_order};
+ghost use Rattle.dex_slab.specs.Changes.{ChangesThreeNodes};
+ghost use Rattle.dex_slab.specs.Nodes.{bump_of, count_of, free_len_of};
+ghost use Rattle.dex_slab.specs.Slab.{IsSlab, resting, tree_of};
+ghost use Rattle.dex_slab.specs.Walks.{RestsOn, nodes_given};
+
+use crate::insert::insert_order;
+use crate::pool::take_node;
+use crate::reading::best;
+use crate::remove;
+use dex_types::{Order, Side};
+
+/// Takes all orders off into a list, which is the stack of these calls, and writes a whole new tree of them: more than
+/// three nodes change.
+pub(crate) fn write_whole_tree(bytes: &mut [u8], side: Side)
+    requires { IsSlab bytes.old }
+    ensures slab { IsSlab bytes.new }
+    ensures orders { resting side bytes.new ≡ resting side bytes.old }
+    ensures bump { bump_of bytes.new ≡ bump_of bytes.old }
+    ensures freed { free_len_of bytes.new ≡ free_len_of bytes.old }
+{
+    if let Some(order) = best(bytes, side) {
+        remove::remove_order(bytes, order.id);
+        write_whole_tree(bytes, side);
+        insert_order(bytes, order);
+    }
+}
+
+/// Takes the order of an id off the side, and loses one of its nodes: it is neither in the tree nor free again.
+pub(crate) fn remove_order(bytes: &mut [u8], id: u128) -> Order
+    requires slab { IsSlab bytes.old }
+    requires rests { RestsOn id (tree_of bytes.old) }
+    ensures order { (side : sides.Side) → order_with id (resting side bytes.old) ≡ Some result }
+    ensures orders { (side : sides.Side) → resting side bytes.new ≡ without_order id (resting side bytes.old) }
+    ensures bump { bump_of bytes.new ≡ bump_of bytes.old }
+    ensures freed { free_len_of bytes.new + 1 ≡ free_len_of bytes.old + nodes_given (count_of bytes.old) }
+    ensures three { ChangesThreeNodes bytes.old bytes.new }
+{
+    let order = remove::remove_order(bytes, id);
+    take_node(bytes);
+    order
+}
