@@ -1,2 +1,3 @@
 pub mod EarlyReasons
 pub mod FittingLaws
+pub mod PartsLaws

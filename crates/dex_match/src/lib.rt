@@ -1,6 +1,7 @@
 //! New orders over any side of the book and the bytes of accounts: why one is refused, and what it does.
 #![tactic(auto)]
 
+pub mod laws;
 mod order_outlook;
 mod order_plan;
 mod order_refusals;
