@@ -1,3 +1,4 @@
 pub mod EarlyReasons
 pub mod FittingLaws
 pub mod PartsLaws
+pub mod TradeLaws

@@ -1,12 +1,16 @@
 //! New orders over any side of the book and the bytes of accounts: why one is refused, and what it does.
 #![tactic(auto)]
 
+mod applying;
+mod intake;
 pub mod laws;
 mod order_outlook;
 mod order_plan;
 mod order_refusals;
 mod order_terms;
+mod payment;
 pub mod side_laws;
+mod trading;
 
 pub use dex_meet::post_or_boot;
 pub use order_outlook::{OrderOutlook, outlook};

@@ -1,0 +1,200 @@
+//! A new order meets the other side of the book, and what is left of it rests on its own.
+
+ghost use Rattle.std.specs.Prelude.{◌≡◌, ◌<◌, ◌≤◌, ◌^◌, ◌==◌, ◌∷◌, [], length, IfSome, if◌then◌else◌};
+ghost use Rattle.dex_laws.specs.Locks.{locked};
+ghost use Rattle.dex_match.specs.Applying as applying;
+ghost use Rattle.dex_match.specs.OrderTerms.{meeting_with, order_of};
+ghost use Rattle.dex_meet.specs.Prospects.{FitsSums};
+ghost use Rattle.dex_meet.specs.RingEvents.{appended, HasRoom};
+ghost use Rattle.dex_ring.specs.Ring.{IsEventQueue, ring_of};
+ghost use Rattle.dex_types.specs.BookSide.{CanRest, IsNewId};
+ghost use Rattle.dex_types.specs.Meeting as meeting;
+ghost use Rattle.dex_types.specs.NewOrder as orders;
+ghost use Rattle.dex_types.specs.Owed.{order_lock};
+ghost use Rattle.dex_types.specs.Posting as posting;
+ghost use Rattle.dex_types.specs.QueuedEvent as events;
+ghost use Rattle.dex_types.specs.Side as book;
+
+use crate::order_plan::OrderPlan;
+use crate::order_terms::{Taker, terms_of, want_of};
+use crate::payment::fill_amounts;
+use dex_fees::tiers::tier_number;
+use dex_meet::event_kinds::{Amounts, Kind};
+use dex_meet::ring_events::{push, push_plain_out, push_releasing_out};
+use dex_meet::{meet_side, post_or_boot};
+use dex_ring::RingView;
+use dex_types::{Lots, Order, Side, SideBook};
+
+/// Meets the opposite side, appends the events, and answers the makers' rebates.
+fn meet_opposite<A: SideBook>(
+    sizes: Lots,
+    taker: Taker,
+    opposite: &mut A,
+    ring: &mut RingView<'_>,
+) -> u64
+    requires holds { A.holds opposite.old }
+    requires accepted { IsEventQueue ring.old.bytes.now }
+    requires counted { (ring_of ring.old.bytes.now).seq_num < 2 ^ 64 }
+    requires fits { FitsSums taker.id_side sizes (meeting_with sizes taker (A.orders opposite.old)) }
+    requires room { HasRoom (length (meeting_with sizes taker (A.orders opposite.old)).events) (ring_of ring.old.bytes.now) }
+    requires locks { locked (book.opposite taker.id_side) sizes (A.orders opposite.old) < 2 ^ 64 }
+    ensures rebates { result ≡ (meeting_with sizes taker (A.orders opposite.old)).rebates }
+    ensures left { A.orders opposite.new ≡ (meeting_with sizes taker (A.orders opposite.old)).left }
+    ensures holds { A.holds opposite.new }
+    ensures same_side { A.side opposite.new ≡ A.side opposite.old }
+    ensures same_room { A.room opposite.new ≡ A.room opposite.old }
+    ensures same_place { A.same_place opposite.old opposite.new }
+    ensures list { ring_of ring.new.bytes.now ≡ appended (meeting_with sizes taker (A.orders opposite.old)).events (ring_of ring.old.bytes.now) }
+    ensures accepted { IsEventQueue ring.new.bytes.now }
+    ensures place { ring.new.bytes.ghost_name ≡ ring.old.bytes.ghost_name }
+{
+    let terms = terms_of(sizes, taker);
+    let want = want_of(sizes, taker);
+    let met = meet_side(taker.id_side, terms, want, opposite, ring);
+    met.sums.rebates
+}
+
+/// The order of a plan as it rests.
+fn order_by(plan: &OrderPlan, taker: Taker) -> Order
+    ensures { result ≡ applying.order_by plan.now (order_of taker) }
+{
+    Order {
+        id: plan.id,
+        owner: taker.account,
+        slot: plan.slot,
+        tier: tier_number(taker.tier),
+        lots: plan.rested,
+        client: taker.client,
+    }
+}
+
+/// Appends the one event of all fills of the order, where they have quote.
+fn push_fills(ring: &mut RingView<'_>, side: Side, order: Order, pc: u64, amounts: Amounts)
+    requires accepted { IsEventQueue ring.old.bytes.now }
+    requires counted { (ring_of ring.old.bytes.now).seq_num < 2 ^ 64 }
+    requires room { HasRoom (length (if pc == 0 then []
+        else meeting.event_of (events.TakerFill side) order amounts.released amounts.paid amounts.fee_or_rebate ∷ [])) (ring_of ring.old.bytes.now) }
+    requires slot { order.slot < 128 }
+    requires tier { order.tier < 7 }
+    ensures place { ring.new.bytes.ghost_name ≡ ring.old.bytes.ghost_name }
+    ensures accepted { IsEventQueue ring.new.bytes.now }
+    ensures list { ring_of ring.new.bytes.now ≡ appended (if pc == 0 then []
+        else meeting.event_of (events.TakerFill side) order amounts.released amounts.paid amounts.fee_or_rebate ∷ []) (ring_of ring.old.bytes.now) }
+{
+    if pc != 0 {
+        push(ring, Kind::TakerFill, side, order, amounts);
+    }
+}
+
+/// Posts an order that has lots, and answers the one that had to leave for it.
+fn post<B: SideBook>(book: &mut B, order: Order) -> Option<Order>
+    requires holds { B.holds book.old }
+    requires new { IsNewId order.id (B.orders book.old) }
+    requires can_rest { 1 ≤ order.lots → CanRest order }
+    requires capacity { 1 ≤ B.room book.old }
+    ensures orders { B.orders book.new ≡ (posting.post (B.side book.old) (B.room book.old) order (B.orders book.old)).side }
+    ensures booted { result ≡ (posting.post (B.side book.old) (B.room book.old) order (B.orders book.old)).booted }
+    ensures holds { B.holds book.new }
+    ensures side { B.side book.new ≡ B.side book.old }
+    ensures room { B.room book.new ≡ B.room book.old }
+    ensures place { B.same_place book.old book.new }
+{
+    if order.lots == 0 {
+        return None;
+    }
+    post_or_boot(book, order)
+}
+
+/// Appends the last event of an order: that another had to leave for it, or that it is gone where it does not rest.
+fn push_last(
+    ring: &mut RingView<'_>,
+    side: Side,
+    sizes: Lots,
+    order: Order,
+    booted: Option<Order>,
+)
+    requires accepted { IsEventQueue ring.old.bytes.now }
+    requires counted { (ring_of ring.old.bytes.now).seq_num < 2 ^ 64 }
+    requires room { HasRoom (length (orders.last_events side sizes order booted)) (ring_of ring.old.bytes.now) }
+    requires slot { order.slot < 128 }
+    requires tier { order.tier < 7 }
+    requires gone { IfSome booted (λ gone. applying.CanLeave side sizes gone) }
+    ensures place { ring.new.bytes.ghost_name ≡ ring.old.bytes.ghost_name }
+    ensures accepted { IsEventQueue ring.new.bytes.now }
+    ensures list { ring_of ring.new.bytes.now ≡ appended (orders.last_events side sizes order booted) (ring_of ring.old.bytes.now) }
+{
+    match booted {
+        Some(gone) => push_releasing_out(ring, side, sizes, gone, gone.lots),
+        None => {
+            if order.lots == 0 {
+                push_plain_out(ring, side, order);
+            }
+        }
+    }
+}
+
+/// Posts what rests of an order, and appends the order's last event.
+fn rest_or_end<B: SideBook>(
+    sizes: Lots,
+    side: Side,
+    order: Order,
+    own: &mut B,
+    ring: &mut RingView<'_>,
+)
+    requires holds { B.holds own.old }
+    requires side { B.side own.old ≡ side }
+    requires posts { applying.CanPost side sizes order (B.room own.old) (B.orders own.old) }
+    requires accepted { IsEventQueue ring.old.bytes.now }
+    requires counted { (ring_of ring.old.bytes.now).seq_num < 2 ^ 64 }
+    requires room { HasRoom (length (orders.last_events side sizes order (posting.post side (B.room own.old) order (B.orders own.old)).booted)) (ring_of ring.old.bytes.now) }
+    ensures orders { B.orders own.new ≡ (posting.post side (B.room own.old) order (B.orders own.old)).side }
+    ensures holds { B.holds own.new }
+    ensures same_side { B.side own.new ≡ B.side own.old }
+    ensures same_room { B.room own.new ≡ B.room own.old }
+    ensures same_place { B.same_place own.old own.new }
+    ensures list { ring_of ring.new.bytes.now ≡ appended (orders.last_events side sizes order (posting.post side (B.room own.old) order (B.orders own.old)).booted) (ring_of ring.old.bytes.now) }
+    ensures accepted { IsEventQueue ring.new.bytes.now }
+    ensures place { ring.new.bytes.ghost_name ≡ ring.old.bytes.ghost_name }
+{
+    let booted = post(own, order);
+    push_last(ring, side, sizes, order, booted);
+}
+
+/// Meets the opposite side, appends the event of all fills, and lets the rest of the order rest or end. It answers the makers'
+/// rebates.
+pub(crate) fn trade<B: SideBook, A: SideBook>(
+    plan: &OrderPlan,
+    sizes: Lots,
+    taker: Taker,
+    own: &mut B,
+    opposite: &mut A,
+    ring: &mut RingView<'_>,
+) -> u64
+    requires own { B.holds own.old }
+    requires opposite { A.holds opposite.old }
+    requires side { B.side own.old ≡ taker.id_side }
+    requires accepted { IsEventQueue ring.old.bytes.now }
+    requires can_trade { applying.CanTrade taker.id_side sizes (order_of taker) plan.now (B.room own.old) (B.orders own.old) (A.orders opposite.old) (ring_of ring.old.bytes.now) }
+    ensures rebates { result ≡ (meeting_with sizes taker (A.orders opposite.old)).rebates }
+    ensures own { B.orders own.new ≡ (applying.posted_by taker.id_side (order_of taker) plan.now (B.room own.old) (B.orders own.old)).side }
+    ensures own_holds { B.holds own.new }
+    ensures own_side { B.side own.new ≡ B.side own.old }
+    ensures own_room { B.room own.new ≡ B.room own.old }
+    ensures own_place { B.same_place own.old own.new }
+    ensures opposite { A.orders opposite.new ≡ (meeting_with sizes taker (A.orders opposite.old)).left }
+    ensures opposite_holds { A.holds opposite.new }
+    ensures opposite_side { A.side opposite.new ≡ A.side opposite.old }
+    ensures opposite_room { A.room opposite.new ≡ A.room opposite.old }
+    ensures opposite_place { A.same_place opposite.old opposite.new }
+    ensures list { ring_of ring.new.bytes.now ≡ appended (applying.events_by taker.id_side sizes (order_of taker) plan.now (meeting_with sizes taker (A.orders opposite.old))
+        (applying.posted_by taker.id_side (order_of taker) plan.now (B.room own.old) (B.orders own.old))) (ring_of ring.old.bytes.now) }
+    ensures accepted { IsEventQueue ring.new.bytes.now }
+    ensures place { ring.new.bytes.ghost_name ≡ ring.old.bytes.ghost_name }
+{
+    let rebates = meet_opposite(sizes, taker, opposite, ring);
+    let order = order_by(plan, taker);
+    let amounts = fill_amounts(sizes, taker, plan);
+    push_fills(ring, taker.id_side, order, plan.pc, amounts);
+    rest_or_end(sizes, taker.id_side, order, own, ring);
+    rebates
+}
