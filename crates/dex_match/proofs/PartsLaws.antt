@@ -1,9 +1,8 @@
 -- what is given of a market is read as the market is
-use Rattle.std.proofs.Common.{◌≡◌, ℕ, ◌+◌, ◌-◌, ◌≤◌, ◌^◌, ◌<◌, List, ◌∷◌, [], ◌++◌, Option, Some, None, length, refl, sym, ap, ◌∙◌, arith, not, nat_le}
+use Rattle.std.proofs.Common.{◌≡◌, ℕ, ◌+◌, ◌≤◌, List, ◌∷◌, [], Option, Some, length, sym, ap, ◌∙◌, arith}
 use Rattle.dex_types.specs.declared.addresses.Address.{Address}
 use Rattle.dex_types.specs.declared.orders.Order.{Order}
 use Rattle.dex_types.specs.declared.refusals.Refusal.{Refusal}
-use Rattle.dex_types.specs.declared.refusals.Refusal.TheVariants.{SumTooLarge}
 use Rattle.dex_types.specs.declared.rows.Seen.{Seen}
 use Rattle.dex_types.specs.declared.rows.WalletSeen.{WalletSeen}
 use Rattle.dex_types.specs.declared.terms.Side.{Side}
@@ -16,7 +15,7 @@ use Rattle.dex_types.specs.Solvency.{vault, all_leaving}
 use Rattle.dex_types.specs.Soundness.{IsSound}
 use Rattle.dex_types.specs.Trader.{Account}
 use Rattle.dex_types.specs.Why.{payer, why_ordering}
-use Rattle.dex_market.specs.MarketAccount.{MarketWords, market_words}
+use Rattle.dex_market.specs.MarketAccount.{MarketWords}
 use Rattle.dex_market.specs.RequestQueue.{next_sequence}
 use Rattle.dex_market.specs.StandsFor.{words_of}
 use Rattle.dex_orders.specs.OrdersAccount.{account_of}
@@ -24,7 +23,7 @@ use Rattle.dex_reasons.specs.Reading.{beyond, short_by}
 use Rattle.dex_ring.specs.Ring.{Ring, ring_of}
 use Rattle.dex_ring.specs.StandsFor.{ring_of_market}
 use Rattle.dex_match.specs.OrderParts.{AreOf, OrderGiven, OrderParts, parts_of}
-use Rattle.dex_match.specs.Ordering.{early_reasons, late_reasons, leaving_after, order_reason, ordering_in, vault_after}
+use Rattle.dex_match.specs.Ordering.{early_reasons, late_reasons, order_reason, ordering_in, vault_after}
 
 abbrev parts_by : MarketWords → ℕ → Ring → Account → List Order → ℕ → List Order → OrderParts
 parts_by words next ring account own room opposing =

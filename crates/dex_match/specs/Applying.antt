@@ -1,5 +1,5 @@
 -- What a new order leaves of the accounts: the market's words, the trader's funds, and the bytes that say so.
-use Rattle.std.specs.Prelude.{◌≡◌, ℕ, ◌+◌, ◌-◌, ◌*◌, ◌^◌, ◌<◌, ◌≤◌, ◌==◌, List, [], ◌∷◌, ◌++◌, Option, Some, None, length, if◌then◌else◌}
+use Rattle.std.specs.Prelude.{ℕ, ◌+◌, ◌-◌, ◌*◌, ◌^◌, ◌<◌, ◌≤◌, ◌==◌, List, [], ◌∷◌, ◌++◌, length, if◌then◌else◌}
 use Rattle.std.specs.List.{All}
 use Rattle.dex_fields.specs.declared.market.TheConstants.{COIN_DEPOSITS_TOTAL, PC_DEPOSITS_TOTAL, PC_FEES_ACCRUED, REFERRER_REBATES_ACCRUED}
 use Rattle.dex_fields.specs.declared.request_queue.TheConstants.{NEXT_SEQ_NUM}
@@ -17,18 +17,17 @@ use Rattle.dex_types.specs.Owed.{order_lock}
 use Rattle.dex_types.specs.Posting.{Posting, post}
 use Rattle.dex_types.specs.QueuedEvent.{QueuedEvent, TakerFill}
 use Rattle.dex_types.specs.Side.{by_side, lock, opposite, price_of}
-use Rattle.dex_types.specs.Trader.{Account, free_slot}
 use Rattle.dex_market.specs.MarketAccount.{MarketWords, market_words}
 use Rattle.dex_market.specs.RequestQueue.{next_sequence}
 use Rattle.dex_meet.specs.Prospects.{FitsSums}
 use Rattle.dex_meet.specs.RingEvents.{HasRoom}
 use Rattle.dex_orders.specs.declared.amounts.Funds.{Funds}
-use Rattle.dex_orders.specs.OrdersAccount.{HasNoOrder, account_of, added, funded, funds_of}
+use Rattle.dex_orders.specs.OrdersAccount.{account_of, added, funded, funds_of}
 use Rattle.dex_ring.specs.Ring.{Ring}
 use Rattle.dex_match.specs.declared.intake.Intake.{Intake}
 use Rattle.dex_match.specs.declared.order_plan.OrderPlan.{OrderPlan}
 use Rattle.dex_match.specs.declared.payment.Moves.{Moves}
-use Rattle.dex_match.specs.OrderParts.{OrderGiven, OrderParts, parts_of, sizes_of}
+use Rattle.dex_match.specs.OrderParts.{OrderGiven, parts_of}
 use Rattle.dex_match.specs.Ordering.{ordering_in}
 
 -- the accounts' bytes, the orders of the order's own side with its room, and those of the other side

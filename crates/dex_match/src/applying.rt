@@ -11,6 +11,11 @@ ghost use Rattle.dex_match.specs.OrderTerms.{meeting_with, order_of};
 ghost use Rattle.dex_meet.specs.RingEvents.{appended};
 ghost use Rattle.dex_orders.specs.OrdersAccount.{HasNoOrder, IsOpen, account_of, added, funded, funds_of, market_of, with_funds};
 ghost use Rattle.dex_ring.specs.Ring.{IsEventQueue, ring_of};
+ghost use Rattle.dex_match.specs.OrderParts.{AreOf, AreSoundParts, parts_of};
+ghost use Rattle.dex_match.specs.Ordering.{IsDecided};
+ghost use Rattle.dex_types.specs.Market.{Market};
+ghost use Rattle.dex_types.specs.NewOrder.{after_order, order_reply};
+ghost use Rattle.dex_types.specs.Soundness.{IsSound};
 
 use crate::intake::{intake_by, sizes_in, take_in};
 use crate::order_plan::OrderPlan;
@@ -35,6 +40,12 @@ fn reply_by(plan: &OrderPlan) -> Reply
         rested: plan.rested,
     }
 }
+
+/// The amounts of an order fit their fields. It does nothing: of what stands behind a reference that is not known by itself.
+fn amounts_fit(taker: Taker)
+    ensures lots { taker.lots < 2 ^ 64 }
+    ensures lock { taker.lock < 2 ^ 64 }
+{}
 
 /// Does a plan, where the book, the queues, the market's words and the trader's funds have room for it.
 pub(crate) fn apply<B: SideBook, A: SideBook>(
@@ -113,4 +124,59 @@ pub(crate) fn apply<B: SideBook, A: SideBook>(
     take_in(intake_by(taker.id_side, plan, rebates), market);
     pay(plan, taker, moves_by(sizes, taker, plan), orders);
     reply_by(plan)
+}
+
+/// Does a new order as it was decided. It meets the other side, and what it meets leaves the book or loses lots there; what is
+/// left of it rests on its own side, where the last order of a full side leaves for it; all its events are appended; the
+/// market gives out one more sequence number, and its words take in the deposit and the fee; and the trader's account pays,
+/// gets what the fills bring in, and holds the order in its lowest free slot. It is answered by its id, slot, fills and fee,
+/// and by the lots that rest. It is never refused. All other bytes stay.
+pub fn apply_order<B: SideBook, A: SideBook>(
+    plan: &OrderPlan,
+    taker: &Taker,
+    market: &mut MarketView<'_>,
+    requests: &mut RequestView<'_>,
+    own: &mut B,
+    opposite: &mut A,
+    ring: &mut RingView<'_>,
+    orders: &mut OrdersView<'_>,
+) -> Reply
+    requires own { B.holds own.old }
+    requires opposite { A.holds opposite.old }
+    requires side { B.side own.old ≡ taker.now.id_side }
+    requires price { 1 ≤ taker.now.price }
+    requires parts { AreSoundParts taker.now.id_side taker.now.account (applying.given_by market.old.bytes.now requests.old.bytes.now ring.old.bytes.now orders.old.bytes.now (B.orders own.old) (B.room own.old) (A.orders opposite.old)) }
+    requires decided { IsDecided plan.now taker.now.id_side (order_of taker.now) (parts_of (applying.given_by market.old.bytes.now requests.old.bytes.now ring.old.bytes.now orders.old.bytes.now (B.orders own.old) (B.room own.old) (A.orders opposite.old))) }
+    ensures reply { result ≡ order_reply (order_of taker.entry.now) (applying.ordering_over taker.entry.now.id_side (order_of taker.entry.now) (applying.given_by market.old.bytes.now requests.old.bytes.now ring.old.bytes.now orders.old.bytes.now (B.orders own.old) (B.room own.old) (A.orders opposite.old))) }
+    ensures after { (m : Market) → IsSound m → AreOf taker.entry.now.id_side taker.entry.now.account (applying.given_by market.old.bytes.now requests.old.bytes.now ring.old.bytes.now orders.old.bytes.now (B.orders own.old) (B.room own.old) (A.orders opposite.old)) m →
+        AreOf taker.entry.now.id_side taker.entry.now.account (applying.given_by market.new.bytes.now requests.new.bytes.now ring.new.bytes.now orders.new.bytes.now (B.orders own.new) (B.room own.new) (A.orders opposite.new))
+        (after_order taker.entry.now.id_side (account_of orders.old.bytes.now) (order_of taker.entry.now) (applying.ordering_over taker.entry.now.id_side (order_of taker.entry.now) (applying.given_by market.old.bytes.now requests.old.bytes.now ring.old.bytes.now orders.old.bytes.now (B.orders own.old) (B.room own.old) (A.orders opposite.old))) m) }
+    ensures sound { (m : Market) → IsSound m → AreOf taker.entry.now.id_side taker.entry.now.account (applying.given_by market.old.bytes.now requests.old.bytes.now ring.old.bytes.now orders.old.bytes.now (B.orders own.old) (B.room own.old) (A.orders opposite.old)) m →
+        IsSound (after_order taker.entry.now.id_side (account_of orders.old.bytes.now) (order_of taker.entry.now) (applying.ordering_over taker.entry.now.id_side (order_of taker.entry.now) (applying.given_by market.old.bytes.now requests.old.bytes.now ring.old.bytes.now orders.old.bytes.now (B.orders own.old) (B.room own.old) (A.orders opposite.old))) m) }
+    ensures market_place { market.new.bytes.ghost_name ≡ market.old.bytes.ghost_name }
+    ensures market_bytes { market.new.bytes.now ≡ applying.bytes_with (applying.intake_of taker.entry.now.id_side (order_of taker.entry.now) (applying.ordering_over taker.entry.now.id_side (order_of taker.entry.now) (applying.given_by market.old.bytes.now requests.old.bytes.now ring.old.bytes.now orders.old.bytes.now (B.orders own.old) (B.room own.old) (A.orders opposite.old)))) market.old.bytes.now }
+    ensures market_accepted { IsMarket market.new.bytes.now }
+    ensures requests_place { requests.new.bytes.ghost_name ≡ requests.old.bytes.ghost_name }
+    ensures requests_bytes { requests.new.bytes.now ≡ applying.requests_after requests.old.bytes.now }
+    ensures requests_accepted { IsRequestQueue requests.new.bytes.now }
+    ensures own_orders { B.orders own.new ≡ (applying.ordering_over taker.entry.now.id_side (order_of taker.entry.now) (applying.given_by market.old.bytes.now requests.old.bytes.now ring.old.bytes.now orders.old.bytes.now (B.orders own.old) (B.room own.old) (A.orders opposite.old))).posting.side }
+    ensures own_holds { B.holds own.new }
+    ensures own_side { B.side own.new ≡ B.side own.old }
+    ensures own_room { B.room own.new ≡ B.room own.old }
+    ensures own_place { B.same_place own.old own.new }
+    ensures opposite_orders { A.orders opposite.new ≡ (applying.ordering_over taker.entry.now.id_side (order_of taker.entry.now) (applying.given_by market.old.bytes.now requests.old.bytes.now ring.old.bytes.now orders.old.bytes.now (B.orders own.old) (B.room own.old) (A.orders opposite.old))).met.left }
+    ensures opposite_holds { A.holds opposite.new }
+    ensures opposite_side { A.side opposite.new ≡ A.side opposite.old }
+    ensures opposite_room { A.room opposite.new ≡ A.room opposite.old }
+    ensures opposite_place { A.same_place opposite.old opposite.new }
+    ensures ring_place { ring.new.bytes.ghost_name ≡ ring.old.bytes.ghost_name }
+    ensures ring_list { ring_of ring.new.bytes.now ≡ appended (applying.ordering_over taker.entry.now.id_side (order_of taker.entry.now) (applying.given_by market.old.bytes.now requests.old.bytes.now ring.old.bytes.now orders.old.bytes.now (B.orders own.old) (B.room own.old) (A.orders opposite.old))).events (ring_of ring.old.bytes.now) }
+    ensures ring_accepted { IsEventQueue ring.new.bytes.now }
+    ensures orders_place { orders.new.bytes.ghost_name ≡ orders.old.bytes.ghost_name }
+    ensures orders_bytes { orders.new.bytes.now ≡ applying.account_bytes_after taker.entry.now.id_side (sizes_of (market_words market.old.bytes.now)) (order_of taker.entry.now) (applying.ordering_over taker.entry.now.id_side (order_of taker.entry.now) (applying.given_by market.old.bytes.now requests.old.bytes.now ring.old.bytes.now orders.old.bytes.now (B.orders own.old) (B.room own.old) (A.orders opposite.old)))
+        orders.old.bytes.now }
+    ensures orders_accepted { IsOpen orders.new.bytes.now }
+{
+    amounts_fit(*taker);
+    apply(plan, *taker, market, requests, own, opposite, ring, orders)
 }

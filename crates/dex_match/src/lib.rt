@@ -12,6 +12,7 @@ mod payment;
 pub mod side_laws;
 mod trading;
 
+pub use applying::apply_order;
 pub use dex_meet::post_or_boot;
 pub use order_outlook::{OrderOutlook, outlook};
 pub use order_plan::OrderPlan;

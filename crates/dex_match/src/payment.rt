@@ -38,9 +38,9 @@ fn whole_lock(sizes: Lots, taker: Taker) -> u64
 pub(crate) fn fill_amounts(sizes: Lots, taker: Taker, plan: &OrderPlan) -> Amounts
     requires { applying.CanMove taker.id_side sizes (order_of taker) plan.now }
     ensures { result ≡ record {
-        released = applying.got_by taker.id_side sizes plan.now;
-        paid = applying.spent_by taker.id_side sizes plan.now;
-        fee_or_rebate = plan.now.fee;
+      released = applying.got_by taker.id_side sizes plan.now;
+      paid = applying.spent_by taker.id_side sizes plan.now;
+      fee_or_rebate = plan.now.fee;
     } }
 {
     match taker.id_side {

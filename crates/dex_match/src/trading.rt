@@ -106,13 +106,7 @@ fn post<B: SideBook>(book: &mut B, order: Order) -> Option<Order>
 }
 
 /// Appends the last event of an order: that another had to leave for it, or that it is gone where it does not rest.
-fn push_last(
-    ring: &mut RingView<'_>,
-    side: Side,
-    sizes: Lots,
-    order: Order,
-    booted: Option<Order>,
-)
+fn push_last(ring: &mut RingView<'_>, side: Side, sizes: Lots, order: Order, booted: Option<Order>)
     requires accepted { IsEventQueue ring.old.bytes.now }
     requires counted { (ring_of ring.old.bytes.now).seq_num < 2 ^ 64 }
     requires room { HasRoom (length (orders.last_events side sizes order booted)) (ring_of ring.old.bytes.now) }
