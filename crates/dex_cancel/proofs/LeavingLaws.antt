@@ -1,14 +1,13 @@
 -- what is left of the sides and of the event queue when orders leave
-use Rattle.std.proofs.Common.{length-append, ℕ, zero, suc, take, drop, ◌+◌, ◌≤◌, ◌<◌, ◌^◌, ◌≡◌, List, [], ◌∷◌, ◌++◌, Some, None, length, refl, sym, ap, ◌∙◌, subst, arith}
+use Rattle.std.proofs.Common.{length-append, ◌+◌, ◌≤◌, ◌<◌, ◌^◌, ◌≡◌, List, [], ◌∷◌, ◌++◌, Some, length, refl, sym, ap, ◌∙◌, subst, arith}
 use Rattle.std.specs.List.{All}
-use Rattle.std.proofs.lemmas.Bool.{cond_both, cond-true}
+use Rattle.std.proofs.lemmas.Bool.{cond_both}
 use Rattle.std.proofs.lemmas.List.Elements.{All-head}
 use Rattle.dex_types.specs.declared.addresses.Address.{Address}
 use Rattle.dex_types.specs.declared.orders.Order.{Order}
 use Rattle.dex_types.specs.declared.terms.Lots.{Lots}
 use Rattle.dex_types.specs.declared.terms.Side.{Side}
 use Rattle.dex_types.specs.declared.terms.Side.TheVariants.{Bid, Ask}
-use Rattle.dex_types.specs.BookSide.{CanRest}
 use Rattle.dex_types.specs.Cancel.{RestingOrder, order_with, without_order, all_orders_of, without_taken, cancel_one, after_cancels}
 use Rattle.dex_types.specs.Market.{Market}
 use Rattle.dex_types.specs.Owed.{order_lock}
@@ -18,10 +17,9 @@ use Rattle.dex_types.specs.Tokens.{is_same_side}
 use Rattle.dex_ring.specs.Ring.{Ring}
 use Rattle.dex_ring.specs.StandsFor.{ring_of_market}
 use Rattle.dex_laws.proofs.PostLaws.{All-posted}
-use Rattle.dex_sound.proofs.WithoutLaws.{found-All, All-without}
+use Rattle.dex_sound.proofs.WithoutLaws.{All-without}
 use Rattle.dex_cancel.specs.Leaving.{DoLocksFit, DoRest, HasRoom, without_one, without_all, with_out, with_outs}
-use Rattle.dex_cancel.specs.Finding.{first_found}
-use Rattle.dex_cancel.proofs.OwnLaws.{IsMine, all-without, same-self}
+use Rattle.dex_cancel.proofs.OwnLaws.{IsMine, all-without}
 use Rattle.dex_cancel.proofs.WalkSteps.{on}
 
 -- one after the other
@@ -61,22 +59,6 @@ rests-there resting side bids asks rest is =
     subst (λ s. order_with resting.order.id (by_side s bids asks) ≡ Some resting.order) is
     (All-head (λ (r : RestingOrder). order_with r.order.id (by_side r.side bids asks) ≡ Some r.order) resting [] rest)
 
--- so its lock fits, and it can rest
-pub lock-fits : (sizes : Lots) (resting : RestingOrder) (bids asks : List Order) → DoLocksFit sizes bids asks → DoRest (resting ∷ []) bids asks
-    → order_lock resting.side sizes resting.order < 2 ^ 64
-lock-fits sizes resting bids asks fit rest = by resting.side resting.order (rests-there resting resting.side bids asks rest refl)
-  where
-    by : (side : Side) (order : Order) → order_with order.id (by_side side bids asks) ≡ Some order → order_lock side sizes order < 2 ^ 64
-    by Bid order found = found-All (λ (o : Order). order_lock Bid sizes o < 2 ^ 64) order.id order bids found fit.0
-    by Ask order found = found-All (λ (o : Order). order_lock Ask sizes o < 2 ^ 64) order.id order asks found fit.1
-
-pub CanRest-there : (resting : RestingOrder) (bids asks : List Order) → All CanRest bids → All CanRest asks → DoRest (resting ∷ []) bids asks → CanRest resting.order
-CanRest-there resting bids asks bids_can asks_can rest = by resting.side resting.order (rests-there resting resting.side bids asks rest refl)
-  where
-    by : (side : Side) (order : Order) → order_with order.id (by_side side bids asks) ≡ Some order → CanRest order
-    by Bid order found = found-All CanRest order.id order bids found bids_can
-    by Ask order found = found-All CanRest order.id order asks found asks_can
-
 -- the market's parts
 pub market-left : (gone : List RestingOrder) (m : Market) → after_cancels gone m ≡ record m {
   bids = without_all Bid gone m.bids;
@@ -110,10 +92,6 @@ pub record IsLeft (sizes : Lots) (owner : Address) (gone left : List RestingOrde
   pub ring_is : ring_now ≡ with_outs sizes gone ring
   pub rest : all_orders_of owner bids_now asks_now ≡ left
 
--- at first none
-pub left-none : (sizes : Lots) (owner : Address) (bids asks : List Order) (ring : Ring) → IsLeft sizes owner [] (all_orders_of owner bids asks) bids asks ring bids asks ring
-left-none sizes owner bids asks ring = record { bids_are = refl; asks_are = refl; ring_is = refl; rest = refl }
-
 -- and then one more
 pub left-more : (sizes : Lots) (owner : Address) (gone left : List RestingOrder) (bids asks : List Order) (ring : Ring) (bids_now asks_now : List Order) (ring_now : Ring)
     (resting : RestingOrder) (bids_then asks_then : List Order) (ring_then : Ring)
@@ -142,38 +120,6 @@ pub room-now : (sizes : Lots) (gone more all : List RestingOrder) (ring ring_now
     → length gone + length more ≤ length all → HasRoom more ring_now
 room-now sizes gone more all ring ring_now is room fit =
     omega (arith, room, fit, ap (λ (r : Ring). length r.events) is, ap (λ (r : Ring). r.capacity) is, length-with_outs sizes gone ring, capacity-with_outs sizes gone ring)
-
--- the first of these is what holds of all
-pub first_found-All : (P : RestingOrder → Type 0) (resting : List RestingOrder) (found : RestingOrder) → All P resting → Some found ≡ first_found resting → P found
-first_found-All P [] found all is = absurd (cc)
-first_found-All P (first ∷ others) found all is = let same : first ≡ found = cc in subst P same (All-head P first others all)
-
--- one more of the first so many
-pub record IsNext (all : List RestingOrder) (count : ℕ) (found : RestingOrder) : Type 0 where
-  pub taken : take (count + 1) all ≡ take count all ++ found ∷ []
-  pub left : drop (count + 1) all ≡ without_taken (Some found) (drop count all)
-  pub within : count < length all
-
-pub next-taken : (all : List RestingOrder) (count : ℕ) (found : RestingOrder) → Some found ≡ first_found (drop count all) → IsNext all count found
-next-taken [] zero found is = absurd (cc)
-next-taken [] (suc count) found is = absurd (cc)
-next-taken (first ∷ others) zero found is =
-    let same : first ≡ found = cc in
-    subst (IsNext (first ∷ others) 0) same (record { taken = refl; left = sym (cond-true _ _ _ (same-self first.side first.order)); within = omega arith })
-next-taken (first ∷ others) (suc count) found is =
-    let later : IsNext others count found = next-taken others count found is in
-    let more : suc count + 1 ≡ suc (count + 1) = omega arith in
-    record {
-      taken = ap (λ n. take n (first ∷ others)) more ∙ ap (λ os. first ∷ os) later.taken;
-      left = ap (λ n. drop n (first ∷ others)) more ∙ later.left;
-      within = omega (arith, later.within);
-    }
-
--- none is left where as many as there are were taken
-pub none-left : (all : List RestingOrder) (count : ℕ) → None ≡ first_found (drop count all) → length all ≤ count
-none-left [] count is = omega arith
-none-left (first ∷ others) zero is = absurd (cc)
-none-left (first ∷ others) (suc count) is = omega (arith, none-left others count is)
 
 -- what fits on either side still does when some leave, and where one that fits is posted
 pub fit-left : (sizes : Lots) (side : Side) (gone : List RestingOrder) (orders then : List Order) → then ≡ without_all side gone orders → DoLocksFit sizes orders orders → DoLocksFit sizes then then

@@ -10,7 +10,7 @@ use Rattle.dex_types.specs.Cancel.{RestingOrder, orders_of, age_of, older, oldes
 use Rattle.dex_laws.specs.Walks.{orders_from, IsReached}
 use Rattle.dex_laws.proofs.WalkLaws.{walk-step}
 use Rattle.dex_cancel.specs.Counting.{count_of_client}
-use Rattle.dex_cancel.specs.Finding.{older_of, first_found}
+use Rattle.dex_cancel.specs.Finding.{older_of}
 
 -- where an order is next, it comes first of what is left, and behind it is what follows
 pub stepped : (side : Side) (room : ℕ) (orders : List Order) (next : Option Order) (order : Order) (following : Option Order) → IsBookSide side room orders
@@ -154,12 +154,3 @@ oldest-unnamed owner side client order others unnamed =
     (λ (parts : (is_same owner order.owner ≡ true) × (eqb order.client client ≡ false)).
     ap (oldest client) (orders_of-own owner side order others parts.0) ∙ cond-false _ _ _ parts.1)
     (named-cases owner client order unnamed)
-
--- the first of two lists
-pub first_found-append : (first later : List RestingOrder) → first_found first ≡ None → first_found (first ++ later) ≡ first_found later
-first_found-append [] later none = refl
-first_found-append (one ∷ first) later none = absurd (cc)
-
-pub first_found-here : (first later : List RestingOrder) (found : RestingOrder) → first_found first ≡ Some found → first_found (first ++ later) ≡ Some found
-first_found-here [] later found some = absurd (cc)
-first_found-here (one ∷ first) later found some = some

@@ -1,5 +1,5 @@
 -- An order that a walk along the sides finds.
-use Rattle.std.specs.Prelude.{List, [], ◌∷◌, Option, Some, None}
+use Rattle.std.specs.Prelude.{Option, Some, None}
 use Rattle.dex_types.specs.Cancel.{RestingOrder, older}
 use Rattle.dex_cancel.specs.declared.found.Found.{Found}
 
@@ -16,8 +16,3 @@ maybe_resting (Some found) = Some (resting found)
 abbrev pub older_of : Option RestingOrder → Option RestingOrder → Option RestingOrder
 older_of None other = other
 older_of (Some first) other = Some (older first other)
-
--- the first of these, if there is one
-abbrev pub first_found : List RestingOrder → Option RestingOrder
-first_found [] = None
-first_found (first ∷ others) = Some first

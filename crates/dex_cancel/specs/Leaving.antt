@@ -34,9 +34,13 @@ abbrev pub with_outs : Lots → List RestingOrder → Ring → Ring
 with_outs sizes [] ring = ring
 with_outs sizes (gone ∷ others) ring = with_outs sizes others (with_out sizes gone ring)
 
--- the orders of a side lock native amounts of 64 bits
+-- each of these orders of a side locks a native amount of 64 bits
+abbrev pub DoOrdersFit : Side → Lots → List Order → Type 0
+DoOrdersFit side sizes orders = All (λ (order : Order). order_lock side sizes order < 2 ^ 64) orders
+
+-- so does each order of the two sides
 abbrev pub DoLocksFit : Lots → List Order → List Order → Type 0
-DoLocksFit sizes bids asks = All (λ (order : Order). order_lock Bid sizes order < 2 ^ 64) bids × All (λ (order : Order). order_lock Ask sizes order < 2 ^ 64) asks
+DoLocksFit sizes bids asks = DoOrdersFit Bid sizes bids × DoOrdersFit Ask sizes asks
 
 -- each of these orders rests on its side
 abbrev pub DoRest : List RestingOrder → List Order → List Order → Type 0

@@ -5,7 +5,7 @@ ghost use Rattle.dex_types.specs.Addresses as addresses;
 ghost use Rattle.dex_types.specs.Cancel.{all_orders_of, oldest, order_with, orders_of};
 ghost use Rattle.dex_types.specs.Side.{by_side};
 ghost use Rattle.dex_cancel.specs.Finding as finding;
-ghost use Rattle.dex_cancel.specs.Finding.{first_found, maybe_resting};
+ghost use Rattle.dex_cancel.specs.Finding.{maybe_resting};
 
 use crate::found::{Found, older_of};
 use dex_types::{Address, Order, Side, SideRead, is_same};
@@ -59,31 +59,4 @@ pub fn find_oldest<B: SideRead, A: SideRead>(
     let bid = oldest_on(bids, Side::Bid, account, client);
     let ask = oldest_on(asks, Side::Ask, account, client);
     older_of(bid, ask)
-}
-
-/// The account's first order on a side.
-fn first_on<B: SideRead>(book: &B, side: Side, account: Address) -> Option<Found>
-    requires holds { B.holds book.now }
-    ensures { maybe_resting result ≡ first_found (orders_of account side (B.orders book.now)) }
-{
-    let mut next = book.best();
-    'orders: while let Some(order) = next {
-        if is_same(account, order.owner) {
-            return Some(Found { side, order });
-        }
-        next = book.after(order.id);
-    }
-    None
-}
-
-/// The account's first order: its first bid, or its first ask where it has no bid.
-pub fn find_first<B: SideRead, A: SideRead>(bids: &B, asks: &A, account: Address) -> Option<Found>
-    requires bids { B.holds bids.now }
-    requires asks { A.holds asks.now }
-    ensures { maybe_resting result ≡ first_found (all_orders_of account (B.orders bids.now) (A.orders asks.now)) }
-{
-    match first_on(bids, Side::Bid, account) {
-        Some(bid) => Some(bid),
-        None => first_on(asks, Side::Ask, account),
-    }
 }

@@ -11,9 +11,10 @@ ghost use Rattle.dex_cancel.specs.Finding.{maybe_resting, resting};
 ghost use Rattle.dex_cancel.specs.Leaving.{DoLocksFit, DoRest, HasRoom, with_outs, without_all};
 ghost use Rattle.dex_cancel.specs.Parts.{ArePartsOf, AreSoundParts};
 
-use crate::finding::{find_first, find_oldest, find_on};
+use crate::finding::{find_oldest, find_on};
 use crate::found::{Found, found_on};
-use crate::outs::releasing_out;
+use crate::pruning::prune;
+use crate::taking::take_off;
 use crate::what::CancelWhat;
 use dex_ring::RingView;
 use dex_types::{Address, ClientIds, Lots, Side, SideBook};
@@ -47,14 +48,9 @@ fn cancel_found<B: SideBook, A: SideBook>(
     ensures ring_place { ring.new.bytes.ghost_name ≡ ring.old.bytes.ghost_name }
 {
     match found.side {
-        Side::Bid => {
-            let _ = bids.remove(found.order.id);
-        }
-        Side::Ask => {
-            let _ = asks.remove(found.order.id);
-        }
+        Side::Bid => take_off(found.order, Side::Bid, lots, bids, ring),
+        Side::Ask => take_off(found.order, Side::Ask, lots, asks, ring),
     }
-    ring.push(&releasing_out(found.side, lots, &found.order));
 }
 
 /// Takes an order, if there is one, off its side and appends its out. It answers how many orders that is.
@@ -232,44 +228,6 @@ fn cancel_listed<B: SideBook, A: SideBook>(
         count += cancel_named(ids.ids[place], account, lots, bids, asks, ring);
     }
     count
-}
-
-/// Takes the account's first orders, at most so many, and appends their outs. It answers how many orders there were.
-fn prune<B: SideBook, A: SideBook>(
-    limit: u16,
-    account: Address,
-    lots: Lots,
-    bids: &mut B,
-    asks: &mut A,
-    ring: &mut RingView<'_>,
-) -> u32
-    requires bids { B.holds bids.old }
-    requires asks { A.holds asks.old }
-    requires accepted { IsEventQueue ring.old.bytes.now }
-    requires locks { DoLocksFit lots (B.orders bids.old) (A.orders asks.old) }
-    requires room { HasRoom (take limit (all_orders_of account (B.orders bids.old) (A.orders asks.old))) (ring_of ring.old.bytes.now) }
-    ensures count { result ≡ length (take limit (all_orders_of account (B.orders bids.old) (A.orders asks.old))) }
-    ensures bids { B.orders bids.new ≡ without_all sides.Bid (take limit (all_orders_of account (B.orders bids.old) (A.orders asks.old))) (B.orders bids.old) }
-    ensures asks { A.orders asks.new ≡ without_all sides.Ask (take limit (all_orders_of account (B.orders bids.old) (A.orders asks.old))) (A.orders asks.old) }
-    ensures ring { ring_of ring.new.bytes.now ≡ with_outs lots (take limit (all_orders_of account (B.orders bids.old) (A.orders asks.old))) (ring_of ring.old.bytes.now) }
-    ensures bids_hold { B.holds bids.new }
-    ensures asks_hold { A.holds asks.new }
-    ensures accepted { IsEventQueue ring.new.bytes.now }
-    ensures bid_side { B.side bids.new ≡ B.side bids.old }
-    ensures ask_side { A.side asks.new ≡ A.side asks.old }
-    ensures bid_room { B.room bids.new ≡ B.room bids.old }
-    ensures ask_room { A.room asks.new ≡ A.room asks.old }
-    ensures bid_place { B.same_place bids.old bids.new }
-    ensures ask_place { A.same_place asks.old asks.new }
-    ensures ring_place { ring.new.bytes.ghost_name ≡ ring.old.bytes.ghost_name }
-{
-    for count in 0..limit {
-        let Some(found) = find_first(bids, asks, account) else {
-            return u32::from(count);
-        };
-        cancel_found(found, lots, bids, asks, ring);
-    }
-    u32::from(limit)
 }
 
 /// Takes the orders that a cancel names, and appends their outs. It answers how many they were.

@@ -8,6 +8,8 @@ mod found;
 mod laws;
 mod leaving;
 mod outs;
+mod pruning;
+mod taking;
 mod what;
 
 pub use deciding::decide_cancel;

@@ -237,3 +237,36 @@ fn pruning_takes_bids_before_asks(rt: HostRuntime) -> Result<(), Fail> {
     );
     Ok(())
 }
+
+/// The account's orders stand between another's on both sides, and the limit ends inside its asks: the other's orders stay,
+/// and the account's asks behind the limit.
+#[test]
+fn pruning_ends_inside_the_asks(rt: HostRuntime) -> Result<(), Fail> {
+    let mut bids = ListSide::with_room(rt.alloc(), Side::Bid, 8)?;
+    let mut asks = ListSide::with_room(rt.alloc(), Side::Ask, 8)?;
+    let mut bytes = queue();
+    check_events(&bytes)?;
+    put(&mut bids, order(33, 9, BEN, 1));
+    put(&mut bids, order(32, 8, AMY, 2));
+    put(&mut bids, order(31, 7, BEN, 3));
+    put(&mut asks, order(50, 0, BEN, 4));
+    put(&mut asks, order(51, 1, AMY, 5));
+    put(&mut asks, order(52, 2, AMY, 6));
+    put(&mut asks, order(53, 3, BEN, 7));
+    put(&mut asks, order(54, 4, AMY, 8));
+    put(&mut asks, order(55, 5, AMY, 9));
+    put(&mut asks, order(56, 6, BEN, 10));
+    assert_eq!(rt;
+        cancel(CancelWhat::Prune(4), AMY, &mut bids, &mut asks, &mut bytes),
+        Ok(4)
+    );
+    assert_eq!(rt; event(&bytes, 0), Some((22, 320, 0, 32 * PER_PRICE + 8)));
+    assert_eq!(rt; event(&bytes, 1), Some((18, 100, 0, 51 * PER_PRICE + 1)));
+    assert_eq!(rt; event(&bytes, 2), Some((18, 100, 0, 52 * PER_PRICE + 2)));
+    assert_eq!(rt; event(&bytes, 3), Some((18, 100, 0, 54 * PER_PRICE + 4)));
+    assert_eq!(rt; (bids.count(), asks.count()), (2, 4));
+    for (price, low) in [(50, 0), (53, 3), (55, 5), (56, 6)] {
+        assert!(rt; asks.find(price * PER_PRICE + low).is_some());
+    }
+    Ok(())
+}

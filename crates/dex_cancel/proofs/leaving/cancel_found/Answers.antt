@@ -1,21 +1,24 @@
-use Rattle.std.proofs.Common.{ap}
-use Rattle.std.specs.Option.{is_some}
+use Rattle.std.proofs.Common.{◌<◌, ◌^◌}
+use Rattle.dex_types.specs.declared.orders.Order.{Order}
 use Rattle.dex_types.specs.declared.terms.Side.TheVariants.{Bid, Ask}
+use Rattle.dex_types.specs.Owed.{order_lock}
+use Rattle.dex_sound.proofs.WithoutLaws.{found-All}
 use Rattle.dex_cancel.specs.Finding.{resting}
-use Rattle.dex_cancel.proofs.LeavingLaws.{rests-there, lock-fits, CanRest-there}
+use Rattle.dex_cancel.proofs.LeavingLaws.{rests-there}
 use Rattle.dex_cancel.proofs.leaving.cancel_found.Goals as goal
 
-pub remove-requires-clause-rests : goal.remove-requires-clause-rests
-remove-requires-clause-rests g c = ap is_some (rests-there (resting c.args.found) Bid _ (g.A.SideRead.orders c.args.asks.now) c.requires.rests c.in-Bid.is)
+pub take_off-requires-clause-rests : goal.take_off-requires-clause-rests
+take_off-requires-clause-rests g c = rests-there (resting c.args.found) Bid _ (g.A.SideRead.orders c.args.asks.now) c.requires.rests c.in-Bid.is
 
-pub remove-requires-in-Ask-clause-rests : goal.remove-requires-in-Ask-clause-rests
-remove-requires-in-Ask-clause-rests g c = ap is_some (rests-there (resting c.args.found) Ask (g.B.SideRead.orders c.args.bids.now) _ c.requires.rests c.in-Ask.is)
+pub take_off-requires-clause-fits : goal.take_off-requires-clause-fits
+take_off-requires-clause-fits g c =
+    found-All (λ (o : Order). order_lock Bid c.args.lots o < 2 ^ 64) c.args.found.order.id c.args.found.order (g.B.SideRead.orders c.args.bids.now)
+    (rests-there (resting c.args.found) Bid _ (g.A.SideRead.orders c.args.asks.now) c.requires.rests c.in-Bid.is) c.requires.locks.0
 
-pub releasing_out-requires-clause-fits : goal.releasing_out-requires-clause-fits
-releasing_out-requires-clause-fits g c =
-    lock-fits c.args.lots (resting c.args.found) (g.B.SideRead.orders c.args.bids.now) (g.A.SideRead.orders c.args.asks.now) c.requires.locks c.requires.rests
+pub take_off-requires-in-Ask-clause-rests : goal.take_off-requires-in-Ask-clause-rests
+take_off-requires-in-Ask-clause-rests g c = rests-there (resting c.args.found) Ask (g.B.SideRead.orders c.args.bids.now) _ c.requires.rests c.in-Ask.is
 
-pub releasing_out-requires-clause-can_rest : goal.releasing_out-requires-clause-can_rest
-releasing_out-requires-clause-can_rest g c =
-    CanRest-there (resting c.args.found) (g.B.SideRead.orders c.args.bids.now) (g.A.SideRead.orders c.args.asks.now)
-    (g.met.B.SideRead.is_book_side c.args.bids.now c.requires.bids).can_rest (g.met.A.SideRead.is_book_side c.args.asks.now c.requires.asks).can_rest c.requires.rests
+pub take_off-requires-in-Ask-clause-fits : goal.take_off-requires-in-Ask-clause-fits
+take_off-requires-in-Ask-clause-fits g c =
+    found-All (λ (o : Order). order_lock Ask c.args.lots o < 2 ^ 64) c.args.found.order.id c.args.found.order (g.A.SideRead.orders c.args.asks.now)
+    (rests-there (resting c.args.found) Ask (g.B.SideRead.orders c.args.bids.now) _ c.requires.rests c.in-Ask.is) c.requires.locks.1
