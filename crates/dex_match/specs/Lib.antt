@@ -1,3 +1,4 @@
+pub mod Deciding
 pub mod OrderParts
 pub mod OrderTerms
 pub mod Ordering
