@@ -14,4 +14,4 @@ pub use dex_meet::post_or_boot;
 pub use order_outlook::{OrderOutlook, outlook};
 pub use order_plan::OrderPlan;
 pub use order_refusals::refused_early;
-pub use order_terms::{Taker, full_lock};
+pub use order_terms::{Taker, full_lock, want_of};
