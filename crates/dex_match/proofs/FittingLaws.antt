@@ -6,9 +6,9 @@ use Rattle.dex_types.specs.declared.terms.Lots.{Lots}
 use Rattle.dex_types.specs.declared.terms.Side.{Side}
 use Rattle.dex_types.specs.declared.terms.Side.TheVariants.{Bid, Ask}
 use Rattle.dex_types.specs.Market.{Market, orders}
-use Rattle.dex_types.specs.Meeting.{Meeting}
+use Rattle.dex_types.specs.Meeting.{TakerTerms, Demand, Meeting, meet}
 use Rattle.dex_types.specs.NewOrder.{NewOrder, full_lock, terms_of, demand_of, fee_of, meeting_of, spent, standing_of}
-use Rattle.dex_types.specs.Side.{opposite, Coin, Pc}
+use Rattle.dex_types.specs.Side.{opposite, by_side, Coin, Pc}
 use Rattle.dex_types.specs.Soundness.{IsSound}
 use Rattle.dex_laws.specs.Locks.{locked}
 use Rattle.dex_laws.proofs.DemandLaws.{meet-lots, meet-rebates_le}
@@ -16,27 +16,35 @@ use Rattle.dex_laws.proofs.MovedLaws.{meet-moved_le}
 use Rattle.dex_laws.proofs.SpendLaws.{fee_of-covers, met_by, spent-le}
 use Rattle.dex_meet.specs.Prospects.{FitsSums}
 
--- the sums of a meeting fit where what is locked on both sides does
+-- the sums of a meeting fit where what is locked on the other side does, and what the taker pays
+pub fits-paid : (side : Side) (t : TakerTerms) (w : Demand) (opposing : List Order) (fee lock : ℕ) → w.lots < 2 ^ 64 → lock < 2 ^ 64
+    → locked (opposite side) t.sizes opposing < 2 ^ 64 → (meet side t w opposing).rebates ≤ fee
+    → by_side side ((meet side t w opposing).pc + fee) ((meet side t w opposing).lots * t.sizes.coin) ≤ lock → FitsSums side t.sizes (meet side t w opposing)
+fits-paid Bid t w opposing fee lock lots small locks covers paid = record {
+  lots = omega (arith, lots, meet-lots Bid t w opposing);
+  base = omega (arith, locks, meet-moved_le Bid t w opposing);
+  pc = omega (arith, small, paid);
+  rebates = omega (arith, small, paid, covers);
+  received = λ bid. omega (arith, small, paid, covers);
+}
+fits-paid Ask t w opposing fee lock lots small locks covers paid = record {
+  lots = omega (arith, lots, meet-lots Ask t w opposing);
+  base = omega (arith, small, paid);
+  pc = omega (arith, locks, meet-moved_le Ask t w opposing);
+  rebates = omega (arith, locks, meet-moved_le Ask t w opposing, meet-rebates_le Ask t w opposing);
+  received = λ bid. absurd cc;
+}
+
+-- so do those of a new order whose lock does
 pub fits-sums : (side : Side) (sizes : Lots) (n : NewOrder) (opposing : List Order) → n.lots < 2 ^ 64 → full_lock side sizes n < 2 ^ 64
     → locked (opposite side) sizes opposing < 2 ^ 64 → FitsSums side sizes (met_by side sizes n opposing)
-fits-sums Bid sizes n opposing lots lock locks =
-    let paid = spent-le Bid sizes n opposing in
-    record {
-      lots = omega (arith, lots, meet-lots Bid (terms_of sizes n) (demand_of Bid sizes n) opposing);
-      base = omega (arith, locks, meet-moved_le Bid (terms_of sizes n) (demand_of Bid sizes n) opposing);
-      pc = omega (arith, lock, paid);
-      rebates = omega (arith, lock, paid, meet-rebates_le Bid (terms_of sizes n) (demand_of Bid sizes n) opposing);
-      received = λ bid. omega (arith, lock, paid, fee_of-covers Bid sizes n opposing);
-    }
-fits-sums Ask sizes n opposing lots lock locks =
-    let sold = meet-moved_le Ask (terms_of sizes n) (demand_of Ask sizes n) opposing in
-    record {
-      lots = omega (arith, lots, meet-lots Ask (terms_of sizes n) (demand_of Ask sizes n) opposing);
-      base = omega (arith, lock, spent-le Ask sizes n opposing);
-      pc = omega (arith, locks, sold);
-      rebates = omega (arith, locks, sold, meet-rebates_le Ask (terms_of sizes n) (demand_of Ask sizes n) opposing);
-      received = λ bid. absurd cc;
-    }
+fits-sums side sizes n opposing lots lock locks =
+    fits-paid side (terms_of sizes n) (demand_of side sizes n) opposing (fee_of n (met_by side sizes n opposing)) (full_lock side sizes n) lots lock locks
+    (omega (arith, fee_of-covers side sizes n opposing)) (rw (← (spent-by_side side sizes n (met_by side sizes n opposing))) (spent-le side sizes n opposing))
+  where
+    spent-by_side : (side : Side) (sizes : Lots) (n : NewOrder) (met : Meeting) → spent side sizes n met ≡ by_side side (met.pc + fee_of n met) (met.lots * sizes.coin)
+    spent-by_side Bid sizes n met = refl
+    spent-by_side Ask sizes n met = refl
 
 -- what a side of a sound market locks is in its vault
 pub locks-fit : (side : Side) (m : Market) → IsSound m → locked (opposite side) m.listing.sizes (orders (opposite side) m) < 2 ^ 64

@@ -1,7 +1,11 @@
 pub mod AfterLaws
 pub mod DecidedLaws
+pub mod DecidedSound
 pub mod EarlyReasons
+pub mod FirstReasons
 pub mod FittingLaws
+pub mod ForeseenLaws
+pub mod PartLaws
 pub mod PartsLaws
 pub mod RoomLaws
 pub mod TradeLaws

@@ -30,18 +30,6 @@ use Rattle.dex_match.specs.declared.payment.Moves.{Moves}
 use Rattle.dex_match.specs.OrderParts.{OrderGiven, parts_of}
 use Rattle.dex_match.specs.Ordering.{ordering_in}
 
--- the accounts' bytes, the orders of the order's own side with its room, and those of the other side
-abbrev pub given_by : List ℕ → List ℕ → List ℕ → List ℕ → List Order → ℕ → List Order → OrderGiven
-given_by market requests events account own own_room opposing = record {
-  market = market;
-  requests = requests;
-  events = events;
-  account = account;
-  own = own;
-  own_room = own_room;
-  opposing = opposing;
-}
-
 -- what a new order decides over them
 abbrev pub ordering_over : Side → NewOrder → OrderGiven → Ordering
 ordering_over side n given = ordering_in side n (parts_of given)

@@ -1,4 +1,5 @@
 pub mod Applying
+pub mod Deciding
 pub mod OrderParts
 pub mod OrderTerms
 pub mod Ordering

@@ -27,6 +27,18 @@ pub record OrderGiven : Type 0 where
   pub own_room : ℕ
   pub opposing : List Order
 
+-- the same, one by one
+abbrev pub given_by : List ℕ → List ℕ → List ℕ → List ℕ → List Order → ℕ → List Order → OrderGiven
+given_by market requests events account own own_room opposing = record {
+  market = market;
+  requests = requests;
+  events = events;
+  account = account;
+  own = own;
+  own_room = own_room;
+  opposing = opposing;
+}
+
 -- what a new order reads of them
 pub record OrderParts : Type 0 where
   pub words : MarketWords

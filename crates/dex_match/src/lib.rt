@@ -2,6 +2,8 @@
 #![tactic(auto)]
 
 mod applying;
+mod deciding;
+mod foreseeing;
 mod intake;
 pub mod laws;
 mod order_outlook;
@@ -13,8 +15,9 @@ pub mod side_laws;
 mod trading;
 
 pub use applying::apply_order;
+pub use deciding::decide_order;
 pub use dex_meet::post_or_boot;
 pub use order_outlook::{OrderOutlook, outlook};
 pub use order_plan::OrderPlan;
 pub use order_refusals::refused_early;
-pub use order_terms::{Taker, full_lock};
+pub use order_terms::{Taker, full_lock, want_of};

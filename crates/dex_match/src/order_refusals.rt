@@ -2,15 +2,38 @@
 
 ghost use Rattle.std.specs.Prelude.{◌≡◌, [], ◌∷◌};
 ghost use Rattle.dex_market.specs.RequestQueue.{IsRequestQueue, next_sequence};
-ghost use Rattle.dex_match.specs.OrderTerms.{order_of};
 ghost use Rattle.dex_orders.specs.OrdersAccount.{IsOpen, account_of};
-ghost use Rattle.dex_types.specs.Market.{Market};
+ghost use Rattle.dex_reasons.specs.Reading.{used_up as is_used_up};
 ghost use Rattle.dex_types.specs.Reasons as reasons;
+ghost use Rattle.dex_types.specs.Trader as trader;
 
 use crate::order_terms::Taker;
 use dex_market::RequestRef;
 use dex_orders::OrdersRef;
-use dex_types::{Lots, Refusal, Side};
+use dex_reasons::{ask_too_large, time_past, used_up};
+use dex_types::{Lots, Refusal};
+
+/// The lowest free slot of an account, or 128 where all are taken.
+pub(crate) fn lowest_slot(orders: &OrdersRef<'_>) -> u8
+    requires { IsOpen orders.now.bytes.now }
+    ensures { result ≡ trader.free_slot (account_of orders.now.bytes.now).slots }
+{
+    match orders.free_slot() {
+        None => 128,
+        Some(slot) => slot,
+    }
+}
+
+/// The market's next sequence number, or 2^64 - 1, which no order gets, where all have been given out.
+pub(crate) fn sequence_of(requests: &RequestRef<'_>) -> u64
+    requires { IsRequestQueue requests.now.bytes.now }
+    ensures { result ≡ next_sequence requests.now.bytes.now }
+{
+    match requests.next_seq() {
+        Err(_) => u64::MAX,
+        Ok(sequence) => sequence,
+    }
+}
 
 /// All 128 slots of the account are taken.
 fn no_slot(orders: &OrdersRef<'_>) -> Option<Refusal>
@@ -23,43 +46,11 @@ fn no_slot(orders: &OrdersRef<'_>) -> Option<Refusal>
     }
 }
 
-/// The native base of an ask is 2^64 or more.
-fn ask_too_large(sizes: Lots, taker: Taker) -> Option<Refusal>
-    ensures { result ≡ reasons.ask_too_large taker.id_side sizes taker.lots }
-{
-    match taker.id_side {
-        Side::Bid => None,
-        Side::Ask => match taker.lots.checked_mul(sizes.coin) {
-            None => Some(Refusal::AskTooLarge),
-            Some(_) => None,
-        },
-    }
-}
-
-/// The market has given out all sequence numbers.
-fn no_sequence(requests: &RequestRef<'_>) -> Option<Refusal>
-    requires { IsRequestQueue requests.now.bytes.now }
-    ensures { (m : Market) → next_sequence requests.now.bytes.now ≡ m.next_sequence → result ≡ reasons.no_sequence m }
-{
-    match requests.next_seq() {
-        Err(_) => Some(Refusal::SequenceExhausted),
-        Ok(_) => None,
-    }
-}
-
 /// The clock is past the latest time of an order that has one.
-fn time_past(taker: Taker) -> Option<Refusal>
+fn too_late(taker: Taker) -> Option<Refusal>
     ensures { result ≡ reasons.time_past taker.now taker.max_ts }
 {
-    let max = taker.max_ts?;
-    if max < taker.now {
-        Some(Refusal::TimePast {
-            now: taker.now,
-            max,
-        })
-    } else {
-        None
-    }
+    time_past(taker.now, taker.max_ts)
 }
 
 /// Why a new order of an open account is refused before it meets anything, if it is. It reads only.
@@ -74,12 +65,11 @@ pub fn refused_early(
 ) -> Option<Refusal>
     requires requests { IsRequestQueue requests.now.bytes.now }
     requires account { IsOpen orders.now.bytes.now }
-    ensures { (m : Market) → m.listing.sizes ≡ sizes → next_sequence requests.now.bytes.now ≡ m.next_sequence →
-        result ≡ reasons.first_of (reasons.no_slot (account_of orders.now.bytes.now) ∷ reasons.ask_too_large taker.id_side m.listing.sizes (order_of taker).lots
-        ∷ reasons.no_sequence m ∷ reasons.time_past (order_of taker).now (order_of taker).latest ∷ []) }
+    ensures { result ≡ reasons.first_of (reasons.no_slot (account_of orders.now.bytes.now) ∷ reasons.ask_too_large taker.id_side sizes taker.lots
+        ∷ is_used_up (next_sequence requests.now.bytes.now) ∷ reasons.time_past taker.now taker.max_ts ∷ []) }
 {
     no_slot(orders)
-        .or(ask_too_large(sizes, taker))
-        .or(no_sequence(requests))
-        .or(time_past(taker))
+        .or(ask_too_large(taker.id_side, sizes, taker.lots))
+        .or(used_up(sequence_of(requests)))
+        .or(too_late(taker))
 }

@@ -71,7 +71,7 @@ pub(crate) fn terms_of(sizes: Lots, taker: Taker) -> Terms
 }
 
 /// What a new order wants before it meets anything.
-pub(crate) fn want_of(sizes: Lots, taker: Taker) -> Want
+pub fn want_of(sizes: Lots, taker: Taker) -> Want
     ensures { demand result ≡ orders.demand_of taker.id_side sizes (order_of taker) }
 {
     Want {

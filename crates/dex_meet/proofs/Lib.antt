@@ -1,3 +1,4 @@
 pub mod MeetingSteps
+pub mod PendingLaws
 pub mod RingLaws
 pub mod SideMeetings

@@ -4,6 +4,7 @@
 pub mod event_kinds;
 pub mod fills;
 pub mod met;
+mod pending;
 pub mod prices;
 pub mod resting;
 pub mod ring_events;
@@ -14,6 +15,7 @@ pub mod taking;
 mod wants;
 
 pub use met::Met;
+pub use pending::{Leaving, pending_leaving, with_fills};
 pub use side_meeting::meet_side;
 pub use side_posting::post_or_boot;
 pub use side_walk::{Prospect, foresee};

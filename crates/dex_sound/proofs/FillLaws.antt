@@ -12,7 +12,7 @@ use Rattle.dex_types.specs.Meeting.{TakerTerms, Demand, Meeting, is_own, meet, m
 use Rattle.dex_types.specs.NewOrder.{NewOrder, terms_of, demand_of, fee_of, fees_kept, spent, got}
 use Rattle.dex_types.specs.Owed.{leaving}
 use Rattle.dex_types.specs.QueuedEvent.{QueuedEvent}
-use Rattle.dex_types.specs.Side.{Token, Coin, Pc, opposite, locked_token, gained_token}
+use Rattle.dex_types.specs.Side.{Token, Coin, Pc, by_side, by_token, opposite, locked_token, gained_token}
 use Rattle.dex_types.specs.Take.{Take, take_meeting, take_terms, take_demand, take_fee, take_paid, take_got, take_lock, take_budget}
 use Rattle.dex_types.specs.Totals.{total}
 use Rattle.dex_fees.proofs.FeeLaws.{maker_rebate-le, fee-covers, taker_fee-le}
@@ -106,6 +106,15 @@ no-leaving-coin t = told-never Ask t (leaving Coin) (λ order lots. refl) (λ or
 
 no-gained-pc : (t : TakerTerms) (w : Demand) (orders : List Order) → 0 ≡ total (gained Pc) (meet Ask t w orders).events
 no-gained-pc t = told-never Ask t (gained Pc) (λ order lots. refl) (λ order lots. refl) (λ order. refl)
+
+-- what the makers' fills of a meeting are still to take off totals: of asks base, of bids quote less the rebates
+pub meet-leaving : (side : Side) (t : TakerTerms) (w : Demand) (orders : List Order) (token : Token)
+    → total (leaving token) (meet side t w orders).events
+    ≡ by_token token (by_side side ((meet side t w orders).lots * t.sizes.coin) 0) (by_side side 0 ((meet side t w orders).pc - (meet side t w orders).rebates))
+meet-leaving Bid t w orders Coin = omega (arith, leaving-coin t w orders)
+meet-leaving Bid t w orders Pc = omega (arith, no-leaving-pc t w orders)
+meet-leaving Ask t w orders Coin = omega (arith, no-leaving-coin t w orders)
+meet-leaving Ask t w orders Pc = omega (arith, leaving-pc t w orders)
 
 -- taker and makers pay what they get and what is withheld, for any fee that covers the rebates and is part of the quote
 pub meet-balanced : (side : Side) (t : TakerTerms) (w : Demand) (orders : List Order) (fee : ℕ)

@@ -37,10 +37,10 @@ use Rattle.dex_sound.proofs.PlaceLaws.{SlotsAgree-places}
 use Rattle.dex_sound.proofs.PlaceParts.{sides-hold, put-sides-sum}
 
 -- what a take meets on a market, and what it leaves
-abbrev met_of : Side → Take → Market → Meeting
+abbrev pub met_of : Side → Take → Market → Meeting
 met_of side t m = take_meeting side m.listing.sizes t (orders (opposite side) m)
 
-abbrev taken_market : Side → Take → Market → Market
+abbrev pub taken_market : Side → Take → Market → Market
 taken_market side t m = after_take side t (met_of side t m) m
 
 -- its events have room, and the sums are within the bound
@@ -48,12 +48,13 @@ record IsAllowed (side : Side) (t : Take) (m : Market) : Type 0 where
   room : length m.events + length (met_of side t m).events ≤ m.listing.event_capacity
   bounded : IsBounded (taken_market side t m)
 
-allowed : (side : Side) (t : Take) (request : Request) (seen : Seen) (m : Market) → IsWellFormed m → why_take side t request seen m ≡ None → IsAllowed side t m
-allowed side t request seen m form none =
+-- where nothing that a take would do is a reason to refuse it
+allowed : (side : Side) (t : Take) (seen : Seen) (m : Market) → IsWellFormed m
+    → why_taking side t seen m (met_of side t m) (take_transfers side m.listing.sizes t (met_of side t m)) (taken_market side t m) ≡ None → IsAllowed side t m
+allowed side t seen m form none =
     let met : Meeting = met_of side t m in
     let after : Market = taken_market side t m in
     let transfers : Transfers = take_transfers side m.listing.sizes t met in
-    let parts = first_of-none (why_take_early side t request seen m ∷ why_taking side t seen m met transfers after ∷ []) none in
     let taking = first_of-none (
     below_minimum (too_little side t met)
     ∷ queue_full (length met.events) m
@@ -63,7 +64,7 @@ allowed side t request seen m form none =
     ∷ past_bound Coin after
     ∷ past_bound Pc after
     ∷ []
-    ) parts.1.0 in
+    ) none in
     record {
       room = queue_full-none (length met.events) m taking.1.0 form.events_within;
       bounded = IsBounded-none after taking.1.1.1.1.1.0 taking.1.1.1.1.1.1.0;
@@ -206,13 +207,24 @@ take-funds side t m funds allowed =
       bounded = allowed.bounded;
     }
 
--- a take that is not refused leaves a sound market
-pub take-sound : (side : Side) (t : Take) (request : Request) (seen : Seen) (m : Market) → IsSound m → why_take side t request seen m ≡ None
-    → IsSound (after_take side t (take_meeting side m.listing.sizes t (orders (opposite side) m)) m)
-take-sound side t request seen m sound none =
-    let may : IsAllowed side t m = allowed side t request seen m sound.form none in
+-- a take that is not refused for what it would do leaves a sound market
+pub taking-sound : (side : Side) (t : Take) (seen : Seen) (m : Market) → IsSound m
+    → why_taking side t seen m (met_of side t m) (take_transfers side m.listing.sizes t (met_of side t m)) (taken_market side t m) ≡ None → IsSound (taken_market side t m)
+taking-sound side t seen m sound none =
+    let may : IsAllowed side t m = allowed side t seen m sound.form none in
     record {
       form = take-form side t m sound.form may;
       slots = (SlotsAgree-places (taken_market side t m)).1 (take-places side t m sound.form ((SlotsAgree-places m).0 sound.slots));
       funds = take-funds side t m sound.funds may;
     }
+
+-- and so does one that is not refused at all
+pub take-sound : (side : Side) (t : Take) (request : Request) (seen : Seen) (m : Market) → IsSound m → why_take side t request seen m ≡ None
+    → IsSound (after_take side t (take_meeting side m.listing.sizes t (orders (opposite side) m)) m)
+take-sound side t request seen m sound none =
+    let parts = first_of-none (
+    why_take_early side t request seen m
+    ∷ why_taking side t seen m (met_of side t m) (take_transfers side m.listing.sizes t (met_of side t m)) (taken_market side t m)
+    ∷ []
+    ) none in
+    taking-sound side t seen m sound parts.1.0

@@ -11,11 +11,11 @@ use Rattle.dex_orders.specs.declared.amounts.Funds.{Funds}
 use Rattle.dex_orders.specs.OrdersAccount.{account_of, added, funded, funds_of, with_funds}
 use Rattle.dex_ring.specs.Ring.{ring_of}
 use Rattle.dex_match.specs.declared.order_plan.OrderPlan.{OrderPlan}
-use Rattle.dex_match.specs.Applying.{events_by, given_by, intake_by, ordering_over, posted_by, words_with}
-use Rattle.dex_match.specs.OrderParts.{parts_of, sizes_of}
+use Rattle.dex_match.specs.Applying.{events_by, intake_by, ordering_over, posted_by, words_with}
+use Rattle.dex_match.specs.OrderParts.{given_by, parts_of, sizes_of}
 use Rattle.dex_match.specs.OrderTerms.{order_of}
 use Rattle.dex_match.proofs.AfterLaws.{IsDone, done-are, is-open}
-use Rattle.dex_match.proofs.DecidedLaws.{decided-sound}
+use Rattle.dex_match.proofs.DecidedSound.{decided-sound}
 use Rattle.dex_match.proofs.PartsLaws.{ordering-is}
 use Rattle.dex_match.proofs.RoomLaws.{events-are, given-apply, given-funds}
 use Rattle.dex_match.proofs.applying.apply_order.Goals as goal

@@ -1,0 +1,37 @@
+-- what the parts of one sound market are by themselves
+use Rattle.std.proofs.Common.{◌≡◌, ℕ, ◌^◌, ◌<◌, Bool, true, false, cond, eqb, List, refl, ap, sym, subst}
+use Rattle.std.proofs.lemmas.Bool.{eqb-true}
+use Rattle.dex_fields.specs.declared.open_orders.TheConstants.{ACCOUNT_FLAGS}
+use Rattle.dex_fields.specs.Bytes.{number_in}
+use Rattle.dex_laws.specs.Locks.{locked}
+use Rattle.dex_market.specs.MarketAccount.{market_words}
+use Rattle.dex_orders.proofs.Verdicts.{open_from_flags}
+use Rattle.dex_orders.specs.OrdersAccount.{IsOpen, account_of}
+use Rattle.dex_orders.specs.StandsFor.{StandsForTrader}
+use Rattle.dex_types.specs.declared.addresses.Address.{Address}
+use Rattle.dex_types.specs.declared.orders.Order.{Order}
+use Rattle.dex_types.specs.declared.terms.Lots.{Lots}
+use Rattle.dex_types.specs.declared.terms.Side.{Side}
+use Rattle.dex_types.specs.Side.{opposite}
+use Rattle.dex_types.specs.Trader.{Account, Blank, Closed, Open}
+use Rattle.dex_match.specs.OrderParts.{AreSoundParts, OrderGiven, sizes_of}
+use Rattle.dex_match.proofs.FittingLaws.{locks-fit}
+
+open-by : (is_open is_closed : Bool) (account known : Account) → cond is_open (Open account) (cond is_closed Closed Blank) ≡ Open known → is_open ≡ true
+open-by true is_closed account known is = refl
+open-by false true account known is = absurd cc
+open-by false false account known is = absurd cc
+
+-- bytes that stand for an open trader are an open account
+pub is-open : (bytes : List ℕ) (market : Address) (account : Account) → StandsForTrader bytes market (Open account) → IsOpen bytes
+is-open bytes market account stands =
+    open_from_flags bytes stands.accepted
+    (eqb-true _ _ (open-by (eqb (number_in bytes ACCOUNT_FLAGS) 5) (eqb (number_in bytes ACCOUNT_FLAGS) 256) (account_of bytes) account stands.stands))
+
+-- what the other side locks fits
+pub locks-given : (side : Side) (owner : Address) (given : OrderGiven) → AreSoundParts side owner given
+    → locked (opposite side) (sizes_of (market_words given.market)) given.opposing < 2 ^ 64
+locks-given side owner given whole =
+    let sizes : sizes_of (market_words given.market) ≡ whole.market.listing.sizes = ap sizes_of whole.parts.market.words in
+    subst (λ (s : Lots). locked (opposite side) s given.opposing < 2 ^ 64) (sym sizes)
+    (subst (λ (os : List Order). locked (opposite side) whole.market.listing.sizes os < 2 ^ 64) whole.parts.opposing (locks-fit side whole.market whole.sound))

@@ -1,0 +1,71 @@
+//! What makers' fills that are pending are still to take off their owners' totals.
+
+ghost use Rattle.std.specs.Prelude.{◌≡◌, ◌+◌, ◌-◌, ◌*◌, ◌^◌, ◌<◌, ◌≤◌, if◌then◌else◌, ◌==◌};
+ghost use Rattle.dex_ring.specs.Ring.{IsEventQueue, ring_of};
+ghost use Rattle.dex_types.specs.Side.{Coin, Pc, by_side};
+ghost use Rattle.dex_types.specs.Solvency.{all_leaving};
+
+use crate::wants::Sums;
+use dex_ring::RingRef;
+use dex_types::{Event, Lots, Side};
+
+/// The flags of the fill of a resting ask, whose owner pays base, and of a resting bid, whose owner pays quote.
+const ASK_FILL: u8 = 9;
+
+const BID_FILL: u8 = 13;
+
+/// What makers' fills are still to take off their owners' totals, in native base and in native quote.
+#[derive(Clone, Copy, Debug, PartialEq, Eq)]
+pub struct Leaving {
+    pub coin: u128,
+    pub pc: u128,
+}
+
+/// The native amount that the owner pays by an event with these flags, or 0 by another one.
+fn paid_by(event: Event, flags: u8) -> u64
+    ensures { result ≡ (if event.flags == flags then event.paid else 0) }
+{
+    if event.flags == flags { event.paid } else { 0 }
+}
+
+/// What the pending fills of an event queue are still to take off totals. Each event is read once.
+pub fn pending_leaving(ring: &RingRef<'_>) -> Leaving
+    requires { IsEventQueue ring.now.bytes.now }
+    ensures coin { result.coin ≡ all_leaving Coin (ring_of ring.now.bytes.now).events }
+    ensures pc { result.pc ≡ all_leaving Pc (ring_of ring.now.bytes.now).events }
+    ensures coin_small { result.coin < 2 ^ 80 }
+    ensures pc_small { result.pc < 2 ^ 80 }
+{
+    let mut coin: u128 = 0;
+    let mut pc: u128 = 0;
+    for number in 0..ring.len() {
+        let event = ring.at(number);
+        coin += u128::from(paid_by(event, ASK_FILL));
+        pc += u128::from(paid_by(event, BID_FILL));
+    }
+    Leaving { coin, pc }
+}
+
+/// The same once the fills of a taker of the side, with these sums, are pending too: a bid's makers pay base, and an
+/// ask's makers pay quote less their rebates.
+pub fn with_fills(pending: Leaving, side: Side, sizes: Lots, sums: Sums) -> Leaving
+    requires base { sums.lots * sizes.coin < 2 ^ 64 }
+    requires rebates { sums.rebates ≤ sums.pc }
+    requires coin { pending.coin < 2 ^ 80 }
+    requires pc { pending.pc < 2 ^ 80 }
+    ensures coin { result.coin ≡ pending.coin + by_side side (sums.lots * sizes.coin) 0 }
+    ensures pc { result.pc ≡ pending.pc + by_side side 0 (sums.pc - sums.rebates) }
+    ensures coin_small { result.coin < 2 ^ 81 }
+    ensures pc_small { result.pc < 2 ^ 81 }
+{
+    match side {
+        Side::Bid => Leaving {
+            coin: pending.coin + u128::from(sums.lots * sizes.coin),
+            pc: pending.pc,
+        },
+        Side::Ask => Leaving {
+            coin: pending.coin,
+            pc: pending.pc + u128::from(sums.pc - sums.rebates),
+        },
+    }
+}

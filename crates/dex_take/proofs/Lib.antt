@@ -1,0 +1,3 @@
+pub mod TakeAmounts
+pub mod TakeReasons
+pub mod TakeLeaves

@@ -1,0 +1,107 @@
+-- what a take meets fits 64 bits, and a sound market holds what it pays out
+use Rattle.std.proofs.Common.{◌≡◌, ℕ, ◌+◌, ◌*◌, ◌^◌, ◌<◌, ◌≤◌, List, None, refl, sym, subst, arith}
+use Rattle.std.proofs.lemmas.Bool.{leb-false}
+use Rattle.dex_types.specs.declared.orders.Order.{Order}
+use Rattle.dex_types.specs.declared.terms.Lots.{Lots}
+use Rattle.dex_types.specs.declared.terms.Side.{Side}
+use Rattle.dex_types.specs.declared.terms.Side.TheVariants.{Bid, Ask}
+use Rattle.dex_types.specs.Market.{Market, orders}
+use Rattle.dex_types.specs.Meeting.{Meeting}
+use Rattle.dex_types.specs.Reasons.{ask_too_large}
+use Rattle.dex_types.specs.Side.{Coin, Pc, by_side, opposite}
+use Rattle.dex_types.specs.Soundness.{IsSound}
+use Rattle.dex_types.specs.Take.{Take, take_demand, take_fee, take_lock, take_meeting, take_paid, take_terms, take_transfers}
+use Rattle.dex_fees.proofs.FeeLaws.{fee-covers, taker_fee-le}
+use Rattle.dex_laws.specs.Locks.{locked}
+use Rattle.dex_laws.proofs.DemandLaws.{meet-rebates}
+use Rattle.dex_laws.proofs.MovedLaws.{meet-moved_le}
+use Rattle.dex_market.specs.StandsFor.{words_of}
+use Rattle.dex_match.specs.declared.order_terms.Taker.{Taker}
+use Rattle.dex_match.specs.OrderParts.{sizes_of}
+use Rattle.dex_match.specs.Ordering.{vault_of}
+use Rattle.dex_match.proofs.FittingLaws.{fits-paid, locks-fit}
+use Rattle.dex_meet.specs.Prospects.{FitsSums}
+use Rattle.dex_ring.specs.StandsFor.{ring_of_market}
+use Rattle.dex_sound.proofs.FillLaws.{take-within}
+use Rattle.dex_sound.proofs.OrderSoundReasons.{refused_where-none}
+use Rattle.dex_take.specs.TakeParts.{AreOf, TakeGiven, TakeParts, parts_of}
+use Rattle.dex_take.specs.TakeTerms.{bare_take, take_of}
+use Rattle.dex_take.specs.Taking.{meeting_in, plan_by}
+
+-- the fee of a take covers its makers' rebates, and is part of the quote
+pub take-covers : (side : Side) (sizes : Lots) (t : Take) (opposing : List Order)
+    → (take_meeting side sizes t opposing).rebates ≤ take_fee t (take_meeting side sizes t opposing)
+take-covers side sizes t opposing =
+    let met : Meeting = take_meeting side sizes t opposing in
+    omega (arith, fee-covers t.program t.tier met.pc met.rebates (meet-rebates side (take_terms sizes t) (take_demand side sizes t) opposing))
+
+pub take_fee-part : (t : Take) (met : Meeting) → take_fee t met ≤ met.pc
+take_fee-part t met = taker_fee-le t.program t.tier met.pc
+
+-- what a take may use fits, where its size was not refused
+pub lock-fits : (side : Side) (sizes : Lots) (t : Take) → ask_too_large side sizes t.lots ≡ None → t.max_pc < 2 ^ 64 → take_lock side sizes t < 2 ^ 64
+lock-fits Bid sizes t none small = small
+lock-fits Ask sizes t none small = leb-false (2 ^ 64) (t.lots * sizes.coin) (refused_where-none _ _ none)
+
+paid-by_side : (side : Side) (sizes : Lots) (t : Take) (met : Meeting) → by_side side (met.pc + take_fee t met) (met.lots * sizes.coin) ≡ take_paid side sizes t met
+paid-by_side Bid sizes t met = refl
+paid-by_side Ask sizes t met = refl
+
+-- the sums of what a take meets fit
+pub fits-take : (side : Side) (sizes : Lots) (t : Take) (opposing : List Order) → t.lots < 2 ^ 64 → take_lock side sizes t < 2 ^ 64
+    → locked (opposite side) sizes opposing < 2 ^ 64 → FitsSums side sizes (take_meeting side sizes t opposing)
+fits-take side sizes t opposing lots lock locks =
+    let met : Meeting = take_meeting side sizes t opposing in
+    fits-paid side (take_terms sizes t) (take_demand side sizes t) opposing (take_fee t met) (take_lock side sizes t) lots lock locks (take-covers side sizes t opposing)
+    (rw (paid-by_side side sizes t met) (take-within side sizes t opposing))
+
+-- the quote of a bid fits with its fee
+pub quote-fits : (side : Side) (sizes : Lots) (t : Take) (opposing : List Order) → take_lock side sizes t < 2 ^ 64 → side ≡ Bid
+    → (take_meeting side sizes t opposing).pc + take_fee t (take_meeting side sizes t opposing) < 2 ^ 64
+quote-fits Bid sizes t opposing lock bid = omega (arith, lock, take-within Bid sizes t opposing)
+quote-fits Ask sizes t opposing lock bid = absurd cc
+
+-- a take meets and does the same whatever it has to fill at least
+pub bare-meeting : (side : Side) (sizes : Lots) (taker : Taker) (min_lots min_pc : ℕ) (opposing : List Order)
+    → take_meeting side sizes (bare_take taker) opposing ≡ take_meeting side sizes (take_of taker min_lots min_pc) opposing
+bare-meeting Bid sizes taker min_lots min_pc opposing = refl
+bare-meeting Ask sizes taker min_lots min_pc opposing = refl
+
+pub bare-plan : (side : Side) (sizes : Lots) (taker : Taker) (min_lots min_pc : ℕ) (opposing : List Order)
+    → plan_by side sizes (bare_take taker) (take_meeting side sizes (bare_take taker) opposing)
+    ≡ plan_by side sizes (take_of taker min_lots min_pc) (take_meeting side sizes (take_of taker min_lots min_pc) opposing)
+bare-plan Bid sizes taker min_lots min_pc opposing = refl
+bare-plan Ask sizes taker min_lots min_pc opposing = refl
+
+-- the parts of a market
+abbrev pub of_market : Side → Market → TakeParts
+of_market side m = record { words = words_of m; ring = ring_of_market m; opposing = orders (opposite side) m }
+
+pub parts-of : (side : Side) (given : TakeGiven) (m : Market) → AreOf side given m → parts_of given ≡ of_market side m
+parts-of side given m parts = rw (parts.market.words, parts.events.ring, parts.opposing) refl
+
+pub meeting-of : (side : Side) (t : Take) (m : Market) → meeting_in side t (of_market side m) ≡ take_meeting side m.listing.sizes t (orders (opposite side) m)
+meeting-of side t m = refl
+
+-- a sound market holds what a take pays out, and what its makers lock fits
+pub record IsPayable (side : Side) (t : Take) (parts : TakeParts) : Type 0 where
+  pub locks : locked (opposite side) (sizes_of parts.words) parts.opposing < 2 ^ 64
+  pub coin : (take_transfers side (sizes_of parts.words) t (meeting_in side t parts)).coin_out ≤ vault_of Coin parts.words
+  pub pc : (take_transfers side (sizes_of parts.words) t (meeting_in side t parts)).pc_out ≤ vault_of Pc parts.words
+
+payable-market : (side : Side) (t : Take) (m : Market) → IsSound m → IsPayable side t (of_market side m)
+payable-market Bid t m sound =
+    record {
+      locks = locks-fit Bid m sound;
+      coin = omega (arith, sound.funds.solvent.vaults Coin, meet-moved_le Bid (take_terms m.listing.sizes t) (take_demand Bid m.listing.sizes t) m.asks);
+      pc = omega arith;
+    }
+payable-market Ask t m sound =
+    record {
+      locks = locks-fit Ask m sound;
+      coin = omega arith;
+      pc = omega (arith, sound.funds.solvent.vaults Pc, meet-moved_le Ask (take_terms m.listing.sizes t) (take_demand Ask m.listing.sizes t) m.bids);
+    }
+
+pub payable : (side : Side) (t : Take) (given : TakeGiven) (m : Market) → IsSound m → AreOf side given m → IsPayable side t (parts_of given)
+payable side t given m sound parts = subst (IsPayable side t) (sym (parts-of side given m parts)) (payable-market side t m sound)

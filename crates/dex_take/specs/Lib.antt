@@ -1,0 +1,4 @@
+pub mod TakeParts
+pub mod TakeTerms
+pub mod Taking
+pub mod Leaving

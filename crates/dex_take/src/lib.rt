@@ -1,0 +1,15 @@
+//! Takes over any side of the book and the bytes of accounts: an order that trades at once, straight from and to wallets.
+#![tactic(auto)]
+
+mod apply;
+mod decide;
+mod laws;
+mod outlook;
+mod plan;
+mod reasons;
+mod terms;
+
+pub use apply::apply_take;
+pub use decide::decide_take;
+pub use laws::what_is_decided_is_the_markets;
+pub use plan::TakePlan;

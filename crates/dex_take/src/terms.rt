@@ -1,0 +1,37 @@
+//! What a take keeps to and wants.
+
+ghost use Rattle.std.specs.Prelude.{◌≡◌, ◌<◌, ◌^◌};
+ghost use Rattle.dex_match.specs.OrderTerms.{order_of};
+ghost use Rattle.dex_meet.specs.Taker.{demand, taking};
+ghost use Rattle.dex_take.specs.TakeTerms.{bare_take};
+ghost use Rattle.dex_types.specs.Take.{take_demand, take_terms};
+
+use dex_match::Taker;
+use dex_meet::{Terms, Want};
+use dex_types::{Lots, OrderType, SelfTrade};
+
+/// What a take keeps to while it meets the opposite side. It has no owner, so no order is its own and the self-trade rule
+/// decides nothing.
+pub(crate) fn terms_of(sizes: Lots, taker: Taker) -> Terms
+    ensures keeps { taking result ≡ take_terms sizes (bare_take taker) }
+    ensures sizes { result.sizes ≡ sizes }
+    ensures limit { result.limit_price ≡ taker.price }
+{
+    Terms {
+        program: taker.program,
+        sizes,
+        limit_price: taker.price,
+        order_type: OrderType::Ioc,
+        self_trade: SelfTrade::Decrement,
+        owner: None,
+    }
+}
+
+/// What a take wants before it meets anything: as much as a new order with the same terms. Its lots and its lock fit 64 bits.
+pub(crate) fn want_of(sizes: Lots, taker: Taker) -> Want
+    ensures wants { demand result ≡ take_demand taker.id_side sizes (bare_take taker) }
+    ensures lots { taker.lots < 2 ^ 64 }
+    ensures lock { taker.lock < 2 ^ 64 }
+{
+    dex_match::want_of(sizes, taker)
+}
