@@ -25,6 +25,10 @@ bytes_in-wrote bytes (w ∷ ws) field h =
     bytes_in-wrote (with_bytes bytes w.field w.piece) ws field both.1
     ∙ bytes_in-with_bytes_apart bytes field w.field w.piece (AreApart-from_test field w.field both.0)
 
+pub number_in-wrote : (bytes : List ℕ) (ws : List Write) (field : Field) → all_apart field ws ≡ true → number_in (wrote bytes ws) field ≡ number_in bytes field
+unfolding number_in
+number_in-wrote bytes ws field h = ap number_of_bytes (bytes_in-wrote bytes ws field h)
+
 -- the write with this number
 abbrev pub nth : List Write → ℕ → Write
 nth [] k = record { field = record { at = 0; len = 0 }; piece = [] }

@@ -5,9 +5,9 @@ ghost use Rattle.dex_fields.specs.Bytes.{bytes_in, end_of, number_in};
 ghost use Rattle.dex_fields.specs.Empty.{empty_account};
 ghost use Rattle.dex_fields.specs.Frame.{IsFramed};
 
+use crate::Field;
 use crate::frame::{END_TEXT, FRONT, FRONT_TEXT};
 use crate::put::{put_piece, put_u64};
-use crate::Field;
 
 /// The field of the flags, which every account has behind its first text.
 pub const FLAGS: Field = Field { at: 5, len: 8 };

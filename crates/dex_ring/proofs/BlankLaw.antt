@@ -1,9 +1,8 @@
 -- What an event queue holds as it is made.
-use Rattle.std.proofs.Common.{◌≡◌, ℕ, ◌+◌, ◌-◌, ◌*◌, ◌/◌, ◌<◌, ◌≤◌, List, [], length, map, refl, sym, ap, ◌∙◌, arith, lit≤, lit<}
+use Rattle.std.proofs.Common.{◌≡◌, ℕ, ◌-◌, ◌/◌, ◌≤◌, List, [], length, map, ap, ◌∙◌, arith, lit≤, lit<}
 use Rattle.std.specs.List.{range_with_len}
 use Rattle.dex_fields.specs.declared.event_queue.TheConstants.{HEAD, COUNT, SEQ_NUM}
 use Rattle.dex_fields.specs.Bytes.{number_in}
-use Rattle.dex_fields.specs.Empty.{empty_account}
 use Rattle.dex_fields.proofs.EmptyLaw.{IsFramed-empty_account, flags-empty_account, length-empty_account, number_in-empty_account}
 use Rattle.dex_types.specs.QueuedEvent.{QueuedEvent, decoded_event}
 use Rattle.dex_ring.specs.Blank.{IsMadeSize, blank_queue}

@@ -1,15 +1,12 @@
 -- What a side's account holds as it is made.
-use Rattle.std.proofs.Common.{◌≡◌, ℕ, ◌+◌, ◌-◌, ◌*◌, ◌/◌, ◌<◌, ◌≤◌, ◌^◌, List, [], ◌++◌, length, Option, Some, None, IfSome, refl, sym, ap, subst, ◌∙◌, arith, lit≤, lit<}
+use Rattle.std.proofs.Common.{◌≡◌, ℕ, ◌<◌, ◌≤◌, ◌^◌, List, [], length, Option, None, IfSome, sym, ap, subst, ◌∙◌, arith, lit≤, lit<}
 use Rattle.dex_fields.specs.declared.slab.TheConstants.{BUMP_INDEX, FREE_LIST_LEN, LEAF_COUNT}
-use Rattle.dex_fields.specs.Bytes.{number_in}
-use Rattle.dex_fields.specs.Empty.{empty_account}
 use Rattle.dex_fields.proofs.EmptyLaw.{length-empty_account, number_in-empty_account}
-use Rattle.dex_types.specs.declared.orders.Order.{Order}
 use Rattle.dex_types.specs.declared.terms.Side.{Side}
 use Rattle.dex_types.specs.declared.terms.Side.TheVariants.{Bid, Ask}
 use Rattle.dex_slab.specs.Blank.{IsMadeSize, blank_side, side_flags}
 use Rattle.dex_slab.specs.Nodes.{bump_of, count_of, free_head_of, free_len_of, nodes_within, room_of}
-use Rattle.dex_slab.specs.Slab.{AreFree, IsShared, IsSlab, IsTree, free_from, free_of, leaves_in, nodes_in, orders_in, resting, room_in, times, tree_of}
+use Rattle.dex_slab.specs.Slab.{IsShared, IsSlab, IsTree, free_from, free_of, leaves_in, nodes_in, orders_in, resting, room_in, tree_of}
 use Rattle.dex_slab.specs.Tree.{Tree}
 use Rattle.dex_slab.proofs.RootLaws.{tree_of-none}
 

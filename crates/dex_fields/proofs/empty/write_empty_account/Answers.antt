@@ -1,7 +1,6 @@
-use Rattle.std.proofs.Common.{◌≡◌, ◌+◌, ◌≤◌, length, replicate, ℕ, List, ap, subst, sym, ◌∙◌, arith, refl}
-use Rattle.dex_fields.specs.declared.field.Field.{Field}
+use Rattle.std.proofs.Common.{◌≡◌, length, replicate, ℕ, List, ap, subst, sym, ◌∙◌}
 use Rattle.dex_fields.specs.declared.frame.TheConstants.{END_TEXT, FRONT, FRONT_TEXT}
-use Rattle.dex_fields.specs.Bytes.{bytes_in, end_of, with_bytes, with_number}
+use Rattle.dex_fields.specs.Bytes.{bytes_in, with_bytes, with_number}
 use Rattle.dex_fields.specs.Empty.{empty_account, last_field}
 use Rattle.dex_fields.specs.Frame.{IsFramed}
 use Rattle.dex_fields.proofs.EmptyLaw.{IsFramed-empty_account, bytes_in-empty_account}
