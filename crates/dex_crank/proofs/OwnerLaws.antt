@@ -10,8 +10,8 @@ use Rattle.dex_types.specs.Accounts.{PlainAccount, orders_account_of}
 use Rattle.dex_types.specs.Addresses.{is_same}
 use Rattle.dex_types.specs.Trader.{Trader, Traders, trader_at, put_trader}
 use Rattle.dex_orders.specs.OrdersAccount.{market_of}
-use Rattle.dex_orders.specs.StandsFor.{trader_of}
-use Rattle.dex_crank.specs.Parts.{entry_of, place_of, traders_of}
+use Rattle.dex_orders.specs.StandsFor.{entry_of, trader_of, traders_of}
+use Rattle.dex_crank.specs.Parts.{place_of}
 use Rattle.dex_crank.specs.PaidBytes.{bytes_at, changed_at}
 use Rattle.dex_crank.specs.Places.{IsFirst}
 

@@ -6,7 +6,7 @@ use Rattle.std.proofs.lemmas.List.Elements.{All-head}
 use Rattle.dex_fields.specs.declared.open_orders.TheConstants.{ACCOUNT_FLAGS}
 use Rattle.dex_fields.specs.Bytes.{number_in}
 use Rattle.dex_orders.specs.OrdersAccount.{IsOpen, IsOrders, account_of}
-use Rattle.dex_orders.specs.StandsFor.{trader_of}
+use Rattle.dex_orders.specs.StandsFor.{trader_of, traders_of}
 use Rattle.dex_orders.proofs.Verdicts.{open_from_flags}
 use Rattle.dex_ring.specs.Ring.{IsEventQueue, Ring, events_of, ring_of}
 use Rattle.dex_sound.specs.Fields.{AccountFits, CanBePaid}
@@ -22,7 +22,7 @@ use Rattle.dex_types.specs.Side.{Coin, Pc}
 use Rattle.dex_types.specs.Soundness.{IsSound, event_holding, held_by}
 use Rattle.dex_types.specs.Trader.{Account, Trader, Blank, Closed, Open, trader_at, put_trader}
 use Rattle.dex_crank.specs.PaidBytes.{CanTake, CrankBytes, HasOwner, IsPaid, bytes_at, changed_at, paid_in}
-use Rattle.dex_crank.specs.Parts.{AreAccepted, AreOf, Keeps, traders_of}
+use Rattle.dex_crank.specs.Parts.{AreAccepted, AreOf, Keeps}
 use Rattle.dex_crank.proofs.OwnerLaws.{All-bytes_at, All-changed_at, Stands, places-changed_at, stands-of, traders_of-changed_at}
 use Rattle.dex_crank.proofs.PaymentLaws.{FitsFunds-from}
 

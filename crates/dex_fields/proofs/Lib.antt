@@ -1,3 +1,4 @@
+pub mod EmptyLaw
 pub mod FirstFault
 pub mod FrameLaw
 pub mod Numbers
@@ -6,3 +7,4 @@ pub mod Reading
 pub mod Rules
 pub mod TilingLaw
 pub mod Writing
+pub mod Wrote

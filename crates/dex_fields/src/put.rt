@@ -5,7 +5,8 @@ ghost use Rattle.dex_fields.specs.Bytes.{ChangesOnly, IsWithin, bytes_in, number
 
 use crate::Field;
 
-fn put_piece(bytes: &mut [u8], field: Field, piece: &[u8])
+/// Writes the piece into the field, which it fills; all other bytes stay.
+pub fn put_piece(bytes: &mut [u8], field: Field, piece: &[u8])
     requires within { IsWithin field bytes.old }
     requires whole { length piece.now ≡ field.len }
     ensures bytes { bytes.new ≡ with_bytes bytes.old field piece.now }

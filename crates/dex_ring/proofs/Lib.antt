@@ -1,3 +1,4 @@
+pub mod BlankLaw
 pub mod EventLaw
 pub mod Parts
 pub mod PopLaw

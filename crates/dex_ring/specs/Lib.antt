@@ -2,3 +2,4 @@ pub mod EventBytes
 pub mod Ring
 pub mod Faults
 pub mod StandsFor
+pub mod Blank

@@ -2,11 +2,13 @@
 #![tactic(auto)]
 
 mod event_bytes;
+mod making;
 mod places;
 mod ring_check;
 mod ring_ref;
 mod ring_view;
 
+pub use making::{blank, made_size};
 pub use ring_check::check_events;
 pub use ring_ref::RingRef;
 pub use ring_view::RingView;

@@ -19,7 +19,7 @@ const LEAST: usize = 132;
 const MOST: usize = 5_767_211;
 
 /// The flags of an event queue: Initialized and EventQueue.
-const EVENT_QUEUE_FLAGS: u64 = 17;
+pub const EVENT_QUEUE_FLAGS: u64 = 17;
 
 /// Whether the bytes are an event queue, by the rules that need this account alone; else the first rule that is
 /// broken, by its kind and then by its place.

@@ -1,3 +1,4 @@
+pub mod BlankLaw
 pub mod BesideLaw
 pub mod Entering
 pub mod FirstLaw
@@ -31,7 +32,6 @@ pub mod TreeOrders
 pub mod WalkLaw
 pub mod Written
 pub mod WellFormedLaws
-pub mod Wrote
 pub mod Descents
 pub mod Ends
 pub mod Parts

@@ -5,10 +5,11 @@ use Rattle.dex_fields.specs.declared.inner_node.TheConstants as inner
 use Rattle.dex_fields.specs.declared.leaf_node.TheConstants as leaf
 use Rattle.dex_fields.specs.Bytes.{bytes_in, number_in}
 use Rattle.dex_fields.proofs.Places.{bytes_in-replicate}
+use Rattle.dex_fields.specs.Writes.{Write, bytes_write, number_write, wrote}
+use Rattle.dex_fields.proofs.Wrote.{bytes_at, bytes_in-wrote, number_at}
 use Rattle.dex_types.specs.declared.orders.Order.{Order}
 use Rattle.dex_slab.specs.Held.{HasFreePadding, HasInnerPadding, HasLeafPadding, IsFree, IsInner, IsLeaf}
 use Rattle.dex_slab.specs.Nodes.{order_in}
-use Rattle.dex_slab.proofs.Wrote.{Write, bytes_at, bytes_in-wrote, bytes_write, number_at, number_write, wrote}
 
 abbrev pub zeros : List ℕ
 zeros = replicate 72 0

@@ -9,6 +9,7 @@ mod check_nodes;
 mod check_tests;
 mod check_tree;
 mod insert;
+mod making;
 mod node_reads;
 mod node_writes;
 mod nodes;
@@ -28,6 +29,7 @@ mod view_writes;
 mod walks;
 
 pub use check::{is_slab_size, is_well_formed};
+pub use making::{blank, made_size};
 pub use slab_fault::SlabFault;
 pub use slab_ref::SlabRef;
 pub use slab_view::SlabView;

@@ -1,8 +1,8 @@
 use Rattle.std.proofs.Common.{rules, ◌≡◌, subst, sym}
 use Rattle.dex_fields.specs.Bytes.{with_number}
+use Rattle.dex_fields.specs.Writes.{wrote}
 use Rattle.dex_slab.specs.Held.{HasFreePadding, IsFree}
 use Rattle.dex_slab.proofs.PieceLaw.{free-padding, free-wrote, free_writes, zeros}
-use Rattle.dex_slab.proofs.Wrote.{wrote}
 use Rattle.dex_slab.proofs.pieces.free_piece.Goals as goal
 
 pub returns : goal.returns

@@ -1,8 +1,8 @@
 use Rattle.std.proofs.Common.{rules, ◌≡◌, subst, sym}
 use Rattle.dex_fields.specs.Bytes.{with_number}
+use Rattle.dex_fields.specs.Writes.{wrote}
 use Rattle.dex_slab.specs.Held.{HasInnerPadding, IsInner}
 use Rattle.dex_slab.proofs.PieceLaw.{inner-padding, inner-wrote, inner_writes, zeros}
-use Rattle.dex_slab.proofs.Wrote.{wrote}
 use Rattle.dex_slab.proofs.pieces.inner_piece.Goals as goal
 
 pub returns : goal.returns

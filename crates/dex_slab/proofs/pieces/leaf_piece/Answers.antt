@@ -2,9 +2,9 @@ use Rattle.std.proofs.Common.{rules, ◌≡◌, length, ap, subst, sym, ◌∙�
 use Rattle.dex_fields.specs.declared.leaf_node.TheConstants.{OWNER}
 use Rattle.dex_fields.specs.Bytes.{with_number}
 use Rattle.dex_fields.proofs.Reading.{length-bytes_in}
+use Rattle.dex_fields.specs.Writes.{wrote}
 use Rattle.dex_slab.specs.Held.{HasLeafPadding, IsLeaf}
 use Rattle.dex_slab.proofs.PieceLaw.{IsFitting, leaf-padding, leaf-wrote, leaf_writes, zeros}
-use Rattle.dex_slab.proofs.Wrote.{wrote}
 use Rattle.dex_slab.proofs.pieces.leaf_piece.Goals as goal
 
 pub returns : goal.returns

@@ -3,25 +3,15 @@ use Rattle.std.proofs.Common.{◌≡◌, ℕ, zero, suc, Bool, true, false, ◌&
 use Rattle.std.proofs.lemmas.Bool.{and_parts}
 use Rattle.dex_fields.specs.declared.field.Field.{Field}
 use Rattle.dex_fields.specs.Bytes.{IsWithin, bytes_in, bytes_of_number, end_of, number_in, number_of_bytes, with_bytes}
+use Rattle.dex_fields.specs.Writes.{Write, number_write, wrote}
 use Rattle.dex_fields.proofs.Numbers.{length-bytes_of_number, number_of_bytes-bytes_of_number}
 use Rattle.dex_fields.proofs.Places.{AreApart-from_test, are_apart}
 use Rattle.dex_fields.proofs.Writing.{bytes_in-with_bytes, bytes_in-with_bytes_apart, length-with_bytes}
 
--- what is written into a field
-pub record Write : Type 0 where
-  pub field : Field
-  pub piece : List ℕ
-
-abbrev pub number_write : Field → ℕ → Write
-number_write field x = record { field = field; piece = bytes_of_number field.len x }
-
-abbrev pub bytes_write : Field → List ℕ → Write
-bytes_write field piece = record { field = field; piece = piece }
-
--- the bytes after the writes, the first one first
-abbrev pub wrote : List ℕ → List Write → List ℕ
-wrote bytes [] = bytes
-wrote bytes (w ∷ ws) = wrote (with_bytes bytes w.field w.piece) ws
+-- writes keep the length
+pub length-wrote : (bytes : List ℕ) (ws : List Write) → length (wrote bytes ws) ≡ length bytes
+length-wrote bytes [] = refl
+length-wrote bytes (w ∷ ws) = length-wrote (with_bytes bytes w.field w.piece) ws ∙ length-with_bytes bytes w.field w.piece
 
 -- a field is apart from all that is written
 abbrev pub all_apart : Field → List Write → Bool
@@ -34,6 +24,10 @@ bytes_in-wrote bytes (w ∷ ws) field h =
     let both = and_parts (are_apart field w.field) (all_apart field ws) h in
     bytes_in-wrote (with_bytes bytes w.field w.piece) ws field both.1
     ∙ bytes_in-with_bytes_apart bytes field w.field w.piece (AreApart-from_test field w.field both.0)
+
+pub number_in-wrote : (bytes : List ℕ) (ws : List Write) (field : Field) → all_apart field ws ≡ true → number_in (wrote bytes ws) field ≡ number_in bytes field
+unfolding number_in
+number_in-wrote bytes ws field h = ap number_of_bytes (bytes_in-wrote bytes ws field h)
 
 -- the write with this number
 abbrev pub nth : List Write → ℕ → Write
