@@ -15,7 +15,8 @@ use Rattle.dex_types.specs.Soundness.{IsProper}
 use Rattle.dex_ring.specs.Ring.{Ring}
 use Rattle.dex_ring.specs.StandsFor.{ring_of_market}
 use Rattle.dex_sound.proofs.OrderSoundReasons.{first_of-none, refused_where-none}
-use Rattle.dex_cancel.specs.Cancelling.{decided, too_many, why_refused, why_unnamed}
+use Rattle.dex_cancel.specs.Cancelling.{decided, why_refused, why_unnamed}
+use Rattle.dex_reasons.specs.Reading.{no_room}
 use Rattle.dex_types.specs.Reasons.{answered}
 use Rattle.dex_cancel.specs.Leaving.{DoLocksFit, with_outs, without_all}
 use Rattle.dex_cancel.specs.Parts.{ArePartsOf, AreSoundParts}
@@ -65,7 +66,7 @@ pub decided-within : (by : CancelBy) (owner : Address) (bids asks : List Order) 
 decided-within by owner bids asks room ok =
     let gone = cancelled by owner bids asks in
     let none : why_refused by owner bids asks room ≡ None = accepted (why_refused by owner bids asks room) (length gone) ok in
-    let parts = first_of-none (why_unnamed by owner bids asks gone ∷ too_many (length gone) room ∷ []) none in
+    let parts = first_of-none (why_unnamed by owner bids asks gone ∷ no_room (length gone) room ∷ []) none in
     ltb-false room (length gone) (refused_where-none (ltb room (length gone)) (refusal.EventQueueFull (length gone) room) parts.1.0)
   where
     accepted : (why : Option Refusal) (count : ℕ) → IsOk (answered why count) → why ≡ None

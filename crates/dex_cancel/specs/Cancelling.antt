@@ -1,14 +1,13 @@
 -- What a cancel asks for, and what it is answered.
-use Rattle.std.specs.Prelude.{ℕ, ◌-◌, List, [], ◌∷◌, Option, None, Result, nat_lt, length, take}
+use Rattle.std.specs.Prelude.{ℕ, List, [], ◌∷◌, Option, None, Result, length, take}
 use Rattle.dex_types.specs.declared.addresses.Address.{Address}
 use Rattle.dex_types.specs.declared.orders.Order.{Order}
 use Rattle.dex_types.specs.declared.refusals.Refusal.{Refusal}
-use Rattle.dex_types.specs.declared.refusals.Refusal.TheVariants as refusal
 use Rattle.dex_types.specs.Cancel as cancel
 use Rattle.dex_types.specs.Cancel.{CancelBy, RestingOrder, cancelled, order_with}
-use Rattle.dex_types.specs.Reasons.{answered, first_of, refused_where, not_resting, not_yours, zero_client, no_order}
+use Rattle.dex_types.specs.Reasons.{answered, first_of, not_resting, not_yours, zero_client, no_order}
 use Rattle.dex_types.specs.Side.{by_side, opposite}
-use Rattle.dex_ring.specs.Ring.{Ring}
+use Rattle.dex_reasons.specs.Reading.{no_room}
 use Rattle.dex_cancel.specs.declared.what.CancelWhat.{CancelWhat}
 use Rattle.dex_cancel.specs.declared.what.CancelWhat.TheVariants as what
 
@@ -30,20 +29,12 @@ why_unnamed (cancel.ByClient client) owner bids asks gone = first_of (zero_clien
 why_unnamed (cancel.ByClients clients) owner bids asks gone = None
 why_unnamed (cancel.First count) owner bids asks gone = None
 
--- so many events are more than the free places
-abbrev pub too_many : ℕ → ℕ → Option Refusal
-too_many needed room = refused_where (nat_lt room needed) (refusal.EventQueueFull needed room)
-
 -- why a cancel is refused, by what rests on the two sides and the free places of the event queue
 abbrev pub why_refused : CancelBy → Address → List Order → List Order → ℕ → Option Refusal
 why_refused by owner bids asks room =
     let gone = cancelled by owner bids asks in
-    first_of (why_unnamed by owner bids asks gone ∷ too_many (length gone) room ∷ [])
+    first_of (why_unnamed by owner bids asks gone ∷ no_room (length gone) room ∷ [])
 
 -- what a cancel is answered: why it is refused, else how many orders it takes
 abbrev pub decided : CancelBy → Address → List Order → List Order → ℕ → Result ℕ Refusal
 decided by owner bids asks room = answered (why_refused by owner bids asks room) (length (cancelled by owner bids asks))
-
--- the free places of an event queue
-abbrev pub room_of : Ring → ℕ
-room_of ring = ring.capacity - length ring.events

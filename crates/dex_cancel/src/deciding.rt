@@ -3,21 +3,22 @@
 ghost use Rattle.std.specs.Prelude.{◌≡◌};
 ghost use Rattle.dex_types.specs.Cancel as cancel;
 ghost use Rattle.dex_types.specs.Reasons.{answered};
-ghost use Rattle.dex_cancel.specs.Cancelling.{decided, named_by, too_many};
+ghost use Rattle.dex_cancel.specs.Cancelling.{decided, named_by};
+ghost use Rattle.dex_reasons.specs.Reading.{no_room};
 
 use crate::counting::{count_listed, count_own};
 use crate::finding::{find_oldest, find_on};
 use crate::what::CancelWhat;
+use dex_reasons::no_room;
 use dex_types::{Address, Refusal, Side, SideRead, is_same};
 
 /// So many orders, where the event queue has room for an out of each.
 fn with_room(needed: u32, room: u32) -> Result<u32, Refusal>
-    ensures { result ≡ answered (too_many needed room) needed }
+    ensures { result ≡ answered (no_room needed room) needed }
 {
-    if room < needed {
-        Err(Refusal::EventQueueFull { needed, room })
-    } else {
-        Ok(needed)
+    match no_room(needed, room) {
+        Some(why) => Err(why),
+        None => Ok(needed),
     }
 }
 

@@ -6,7 +6,8 @@ ghost use Rattle.dex_types.specs.Cancel.{after_cancels, all_orders_of, at_most_o
 ghost use Rattle.dex_types.specs.Market.{Market};
 ghost use Rattle.dex_types.specs.Side.{by_side};
 ghost use Rattle.dex_ring.specs.Ring.{IsEventQueue, ring_of};
-ghost use Rattle.dex_cancel.specs.Cancelling.{decided, named_by, room_of};
+ghost use Rattle.dex_cancel.specs.Cancelling.{decided, named_by};
+ghost use Rattle.dex_ring.specs.Ring.{room_of};
 ghost use Rattle.dex_cancel.specs.Finding.{maybe_resting, resting};
 ghost use Rattle.dex_cancel.specs.Leaving.{DoLocksFit, DoRest, HasRoom, with_outs, without_all};
 ghost use Rattle.dex_cancel.specs.Parts.{ArePartsOf, AreSoundParts};

@@ -1,11 +1,13 @@
 -- What a market account says, word by word, and which bytes are a market account.
-use Rattle.std.specs.Prelude.{◌≡◌, ℕ, ◌<◌, ◌≤◌, ◌⊎◌, false, List, [], ◌∷◌, length, slice_index_or}
+use Rattle.std.specs.Prelude.{◌≡◌, ℕ, ◌+◌, ◌<◌, ◌≤◌, ◌⊎◌, false, List, [], ◌∷◌, length, slice_index_or}
 use Rattle.dex_fields.specs.declared.field.Field.{Field}
 use Rattle.dex_fields.specs.declared.market.TheConstants.{ACCOUNT_FLAGS, OWN_ADDRESS, VAULT_SIGNER_NONCE, COIN_MINT, PC_MINT, COIN_VAULT, COIN_DEPOSITS_TOTAL, COIN_FEES_ACCRUED, PC_VAULT, PC_DEPOSITS_TOTAL, PC_FEES_ACCRUED, PC_DUST_THRESHOLD, REQ_Q, EVENT_Q, BIDS, ASKS, COIN_LOT_SIZE, PC_LOT_SIZE, FEE_RATE_BPS, REFERRER_REBATES_ACCRUED}
 use Rattle.dex_fields.specs.Bytes.{bytes_in, number_in}
 use Rattle.dex_fields.specs.Frame.{IsFramed}
 use Rattle.dex_types.specs.declared.addresses.Address.{Address}
+use Rattle.dex_types.specs.declared.terms.Lots.{Lots}
 use Rattle.dex_types.specs.Addresses.{is_same}
+use Rattle.dex_types.specs.Side.{Token, by_token}
 
 -- the address that stands in a field
 abbrev pub address_in : List ℕ → Field → Address
@@ -93,3 +95,14 @@ pub record IsMarket (bytes : List ℕ) : Type 0 where
   pub framed : IsFramed bytes
   pub flags : AreMarketFlags (market_words bytes).account_flags
   pub terms : AreTerms (market_terms bytes)
+
+-- the lot sizes that a market's words state
+abbrev pub sizes_of : MarketWords → Lots
+sizes_of words = record { coin = words.terms.coin_lot_size; pc = words.terms.pc_lot_size }
+
+-- the native amount of a token in its vault, by the market's words
+abbrev pub vault_of : Token → MarketWords → ℕ
+vault_of token words =
+    by_token token
+    (words.coin_deposits_total + words.coin_fees_accrued)
+    (words.pc_deposits_total + (words.pc_fees_accrued + words.referrer_rebates_accrued))

@@ -22,7 +22,8 @@ use Rattle.dex_orders.specs.StandsFor.{StandsForTrader, trader_of}
 use Rattle.dex_orders.proofs.Verdicts.{open_from_flags}
 use Rattle.dex_ring.specs.Ring.{IsEventQueue, ring_of}
 use Rattle.dex_match.specs.Applying.{intake_of, words_with}
-use Rattle.dex_match.specs.OrderParts.{AreOf, OrderGiven, sizes_of}
+use Rattle.dex_match.specs.OrderParts.{AreOf, OrderGiven}
+use Rattle.dex_market.specs.MarketAccount.{sizes_of}
 
 -- the accounts, the sides and the queues are what an order leaves of them
 pub record IsDone (side : Side) (n : NewOrder) (o : Ordering) (given new : OrderGiven) : Type 0 where

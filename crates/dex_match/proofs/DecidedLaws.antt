@@ -13,8 +13,11 @@ use Rattle.dex_match.specs.declared.foreseeing.Foreseen.{Foreseen}
 use Rattle.dex_match.specs.declared.order_plan.OrderPlan.{OrderPlan}
 use Rattle.dex_match.specs.declared.order_terms.Taker.{Taker}
 use Rattle.dex_match.specs.Deciding.{Foretells, standing_at}
-use Rattle.dex_match.specs.Ordering.{early_reasons, late_reasons, leaving_after, order_answer, ordering_in, plan_by, room_of, vault_after, vault_of}
-use Rattle.dex_match.specs.OrderParts.{OrderParts, sizes_of, standing_in}
+use Rattle.dex_match.specs.Ordering.{early_reasons, late_reasons, leaving_after, order_answer, ordering_in, plan_by, vault_after}
+use Rattle.dex_ring.specs.Ring.{room_of}
+use Rattle.dex_market.specs.MarketAccount.{vault_of}
+use Rattle.dex_match.specs.OrderParts.{OrderParts, standing_in}
+use Rattle.dex_market.specs.MarketAccount.{sizes_of}
 use Rattle.dex_match.specs.OrderTerms.{order_of}
 use Rattle.dex_match.proofs.ForeseenLaws.{leaving-after}
 

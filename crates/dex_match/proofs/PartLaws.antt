@@ -14,7 +14,8 @@ use Rattle.dex_types.specs.declared.terms.Lots.{Lots}
 use Rattle.dex_types.specs.declared.terms.Side.{Side}
 use Rattle.dex_types.specs.Side.{opposite}
 use Rattle.dex_types.specs.Trader.{Account, Blank, Closed, Open}
-use Rattle.dex_match.specs.OrderParts.{AreSoundParts, OrderGiven, sizes_of}
+use Rattle.dex_match.specs.OrderParts.{AreSoundParts, OrderGiven}
+use Rattle.dex_market.specs.MarketAccount.{sizes_of}
 use Rattle.dex_match.proofs.FittingLaws.{locks-fit}
 
 open-by : (is_open is_closed : Bool) (account known : Account) → cond is_open (Open account) (cond is_closed Closed Blank) ≡ Open known → is_open ≡ true

@@ -31,7 +31,8 @@ use Rattle.dex_sound.proofs.OrderSoundReasons.{first_of-none, refused_where-none
 use Rattle.dex_sound.proofs.PlaceLaws.{is_same_side-true}
 use Rattle.dex_match.specs.declared.order_plan.OrderPlan.{OrderPlan}
 use Rattle.dex_match.specs.Applying.{AreFunds, CanMove, CanPay, CanPost, CanTakeIn, CanTrade, events_by, funds_with, got_by, intake_by, met_with, moves_by, spent_by}
-use Rattle.dex_match.specs.OrderParts.{AreOf, AreSoundParts, OrderGiven, OrderParts, parts_of, sizes_of}
+use Rattle.dex_match.specs.OrderParts.{AreOf, AreSoundParts, OrderGiven, OrderParts, parts_of}
+use Rattle.dex_market.specs.MarketAccount.{sizes_of}
 use Rattle.dex_match.specs.Ordering.{IsDecided, early_reasons, late_reasons, order_reason, ordering_in, plan_by}
 use Rattle.dex_match.proofs.DecidedSound.{decided-sound}
 use Rattle.dex_match.proofs.FittingLaws.{locks-fit, meeting-fits}

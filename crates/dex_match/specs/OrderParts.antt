@@ -2,14 +2,13 @@
 use Rattle.std.specs.Prelude.{◌≡◌, ℕ, List, Some}
 use Rattle.dex_types.specs.declared.addresses.Address.{Address}
 use Rattle.dex_types.specs.declared.orders.Order.{Order}
-use Rattle.dex_types.specs.declared.terms.Lots.{Lots}
 use Rattle.dex_types.specs.declared.terms.Side.{Side}
 use Rattle.dex_types.specs.Market.{Market, capacity, orders}
 use Rattle.dex_types.specs.NewOrder.{Standing}
 use Rattle.dex_types.specs.Side.{opposite}
 use Rattle.dex_types.specs.Soundness.{IsSound}
 use Rattle.dex_types.specs.Trader.{Account, Open, trader_at}
-use Rattle.dex_market.specs.MarketAccount.{MarketWords, market_words}
+use Rattle.dex_market.specs.MarketAccount.{MarketWords, market_words, sizes_of}
 use Rattle.dex_market.specs.RequestQueue.{next_sequence}
 use Rattle.dex_market.specs.StandsFor.{StandsForMarket, StandsForRequests}
 use Rattle.dex_orders.specs.OrdersAccount.{account_of}
@@ -59,10 +58,6 @@ parts_of given = record {
   own_room = given.own_room;
   opposing = given.opposing;
 }
-
--- the lot sizes that a market's words state
-abbrev pub sizes_of : MarketWords → Lots
-sizes_of words = record { coin = words.terms.coin_lot_size; pc = words.terms.pc_lot_size }
 
 -- where the order stands
 abbrev pub standing_in : OrderParts → Standing

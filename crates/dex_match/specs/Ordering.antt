@@ -1,16 +1,16 @@
 -- Why a new order is refused, and what it does else, by what it is given alone.
-use Rattle.std.specs.Prelude.{◌≡◌, ℕ, ◌+◌, ◌-◌, List, [], ◌∷◌, ◌++◌, Option, None, Result, length}
+use Rattle.std.specs.Prelude.{◌≡◌, ℕ, ◌+◌, List, [], ◌∷◌, ◌++◌, Option, None, Result, length}
 use Rattle.dex_types.specs.declared.refusals.Refusal.{Refusal}
 use Rattle.dex_types.specs.declared.terms.Side.{Side}
 use Rattle.dex_types.specs.NewOrder.{NewOrder, Ordering, fee_of, meeting_of, ordering_of}
 use Rattle.dex_types.specs.Reasons.{answered, ask_too_large, first_of, no_slot, time_past, would_self_trade}
 use Rattle.dex_types.specs.Side.{Token, Coin, Pc, by_side, by_token}
 use Rattle.dex_types.specs.Solvency.{all_leaving}
-use Rattle.dex_market.specs.MarketAccount.{MarketWords}
+use Rattle.dex_market.specs.MarketAccount.{sizes_of, vault_of}
 use Rattle.dex_reasons.specs.Reading.{beyond, no_room, short_by, used_up}
-use Rattle.dex_ring.specs.Ring.{Ring}
+use Rattle.dex_ring.specs.Ring.{room_of}
 use Rattle.dex_match.specs.declared.order_plan.OrderPlan.{OrderPlan}
-use Rattle.dex_match.specs.OrderParts.{OrderParts, sizes_of, standing_in}
+use Rattle.dex_match.specs.OrderParts.{OrderParts, standing_in}
 
 -- what a new order decides
 abbrev pub ordering_in : Side → NewOrder → OrderParts → Ordering
@@ -29,13 +29,6 @@ plan_by n o = record {
   id = o.order.id;
 }
 
--- the native amount of a token in its vault, by the market's words
-abbrev pub vault_of : Token → MarketWords → ℕ
-vault_of token words =
-    by_token token
-    (words.coin_deposits_total + words.coin_fees_accrued)
-    (words.pc_deposits_total + (words.pc_fees_accrued + words.referrer_rebates_accrued))
-
 -- the same after the deposit of an order: a bid's is quote, an ask's base
 abbrev pub vault_after : Token → Side → OrderParts → Ordering → ℕ
 vault_after token side parts o = vault_of token parts.words + by_token token (by_side side 0 o.deposit) (by_side side o.deposit 0)
@@ -43,10 +36,6 @@ vault_after token side parts o = vault_of token parts.words + by_token token (by
 -- what pending makers' fills are to take off totals of a token after the order
 abbrev pub leaving_after : Token → OrderParts → Ordering → ℕ
 leaving_after token parts o = all_leaving token (parts.ring.events ++ o.events)
-
--- the free places of an event queue
-abbrev pub room_of : Ring → ℕ
-room_of ring = ring.capacity - length ring.events
 
 -- the reasons that ask for nothing of the book
 abbrev pub early_reasons : Side → NewOrder → OrderParts → List (Option Refusal)

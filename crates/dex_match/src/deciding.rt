@@ -4,8 +4,11 @@ ghost use Rattle.std.specs.Prelude.{◌≡◌, ◌+◌, ◌^◌, ◌<◌, ◌≤
 ghost use Rattle.dex_laws.specs.Locks.{locked};
 ghost use Rattle.dex_market.specs.MarketAccount.{IsMarket, market_words};
 ghost use Rattle.dex_market.specs.RequestQueue.{IsRequestQueue};
-ghost use Rattle.dex_match.specs.OrderParts.{AreSoundParts, given_by, parts_of, sizes_of};
-ghost use Rattle.dex_match.specs.Ordering.{order_answer, room_of, vault_of};
+ghost use Rattle.dex_match.specs.OrderParts.{AreSoundParts, given_by, parts_of};
+ghost use Rattle.dex_market.specs.MarketAccount.{sizes_of};
+ghost use Rattle.dex_match.specs.Ordering.{order_answer};
+ghost use Rattle.dex_ring.specs.Ring.{room_of};
+ghost use Rattle.dex_market.specs.MarketAccount.{vault_of};
 ghost use Rattle.dex_match.specs.OrderTerms.{order_of};
 ghost use Rattle.dex_orders.specs.OrdersAccount.{IsOpen};
 ghost use Rattle.dex_reasons.specs.Reading as reading;

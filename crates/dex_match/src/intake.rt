@@ -3,7 +3,7 @@
 ghost use Rattle.std.specs.Prelude.{◌≡◌, ◌+◌, ◌≤◌};
 ghost use Rattle.dex_market.specs.MarketAccount.{IsMarket, market_words};
 ghost use Rattle.dex_match.specs.Applying as applying;
-ghost use Rattle.dex_match.specs.OrderParts.{sizes_of};
+ghost use Rattle.dex_market.specs.MarketAccount.{sizes_of};
 ghost use Rattle.dex_types.specs.Fees as fees;
 
 use crate::order_plan::OrderPlan;

@@ -73,3 +73,7 @@ popped bytes =
     (with_number bytes HEAD (place_of (capacity_of bytes) (number_in bytes HEAD) 1))
     COUNT
     (number_in bytes COUNT - 1)
+
+-- the free places of an event queue
+abbrev pub room_of : Ring → ℕ
+room_of ring = ring.capacity - length ring.events

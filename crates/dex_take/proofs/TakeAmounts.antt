@@ -17,8 +17,8 @@ use Rattle.dex_laws.proofs.DemandLaws.{meet-rebates}
 use Rattle.dex_laws.proofs.MovedLaws.{meet-moved_le}
 use Rattle.dex_market.specs.StandsFor.{words_of}
 use Rattle.dex_match.specs.declared.order_terms.Taker.{Taker}
-use Rattle.dex_match.specs.OrderParts.{sizes_of}
-use Rattle.dex_match.specs.Ordering.{vault_of}
+use Rattle.dex_market.specs.MarketAccount.{sizes_of}
+use Rattle.dex_market.specs.MarketAccount.{vault_of}
 use Rattle.dex_match.proofs.FittingLaws.{fits-paid, locks-fit}
 use Rattle.dex_meet.specs.Prospects.{FitsSums}
 use Rattle.dex_ring.specs.StandsFor.{ring_of_market}

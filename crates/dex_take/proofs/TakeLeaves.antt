@@ -15,7 +15,7 @@ use Rattle.dex_laws.proofs.MovedLaws.{meet-moved_le}
 use Rattle.dex_market.specs.MarketAccount.{IsMarket, MarketWords, market_words}
 use Rattle.dex_market.specs.StandsFor.{words_of}
 use Rattle.dex_match.specs.declared.order_terms.Taker.{Taker}
-use Rattle.dex_match.specs.OrderParts.{sizes_of}
+use Rattle.dex_market.specs.MarketAccount.{sizes_of}
 use Rattle.dex_meet.specs.RingEvents.{HasRoom, appended}
 use Rattle.dex_ring.specs.Ring.{IsEventQueue, ring_of}
 use Rattle.dex_sound.proofs.OrderSoundReasons.{first_of-none, queue_full-none}

@@ -21,8 +21,8 @@ use Rattle.dex_laws.proofs.TotalLaws.{total-append}
 use Rattle.dex_market.specs.MarketAccount.{MarketWords, market_words}
 use Rattle.dex_market.specs.StandsFor.{words_of}
 use Rattle.dex_match.specs.declared.order_terms.Taker.{Taker}
-use Rattle.dex_match.specs.OrderParts.{sizes_of}
-use Rattle.dex_match.specs.Ordering.{room_of}
+use Rattle.dex_market.specs.MarketAccount.{sizes_of}
+use Rattle.dex_ring.specs.Ring.{room_of}
 use Rattle.dex_reasons.specs.Reading.{beyond, no_room}
 use Rattle.dex_reasons.proofs.FirstReasons.{first_of-one}
 use Rattle.dex_sound.proofs.FillLaws.{meet-leaving}

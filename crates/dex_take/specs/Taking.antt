@@ -13,8 +13,9 @@ use Rattle.dex_types.specs.Transfers.{Transfers, exchange}
 use Rattle.dex_types.specs.Why.{payer}
 use Rattle.dex_market.specs.MarketAccount.{MarketWords}
 use Rattle.dex_match.specs.declared.order_terms.Taker.{Taker}
-use Rattle.dex_match.specs.OrderParts.{sizes_of}
-use Rattle.dex_match.specs.Ordering.{room_of, vault_of}
+use Rattle.dex_market.specs.MarketAccount.{sizes_of}
+use Rattle.dex_ring.specs.Ring.{room_of}
+use Rattle.dex_market.specs.MarketAccount.{vault_of}
 use Rattle.dex_reasons.specs.Reading.{beyond, no_room}
 use Rattle.dex_take.specs.declared.plan.TakePlan.{TakePlan}
 use Rattle.dex_take.specs.TakeParts.{TakeParts}

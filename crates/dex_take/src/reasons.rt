@@ -2,7 +2,8 @@
 
 ghost use Rattle.std.specs.Prelude.{◌≡◌, ◌+◌, ◌-◌, ◌*◌, ◌<◌, ◌≤◌, ◌^◌, ◌∷◌, []};
 ghost use Rattle.dex_market.specs.MarketAccount.{IsMarket, market_words};
-ghost use Rattle.dex_match.specs.Ordering.{room_of, vault_of};
+ghost use Rattle.dex_ring.specs.Ring.{room_of};
+ghost use Rattle.dex_market.specs.MarketAccount.{vault_of};
 ghost use Rattle.dex_reasons.specs.Reading as reading;
 ghost use Rattle.dex_ring.specs.Ring.{IsEventQueue, ring_of};
 ghost use Rattle.dex_take.specs.Taking.{too_little_by, transfers_by, vault_after};

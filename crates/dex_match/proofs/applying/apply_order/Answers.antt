@@ -12,7 +12,8 @@ use Rattle.dex_orders.specs.OrdersAccount.{account_of, added, funded, funds_of, 
 use Rattle.dex_ring.specs.Ring.{ring_of}
 use Rattle.dex_match.specs.declared.order_plan.OrderPlan.{OrderPlan}
 use Rattle.dex_match.specs.Applying.{events_by, intake_by, ordering_over, posted_by, words_with}
-use Rattle.dex_match.specs.OrderParts.{given_by, parts_of, sizes_of}
+use Rattle.dex_match.specs.OrderParts.{given_by, parts_of}
+use Rattle.dex_market.specs.MarketAccount.{sizes_of}
 use Rattle.dex_match.specs.OrderTerms.{order_of}
 use Rattle.dex_match.proofs.AfterLaws.{IsDone, done-are, is-open}
 use Rattle.dex_match.proofs.DecidedSound.{decided-sound}

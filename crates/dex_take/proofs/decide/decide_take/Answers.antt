@@ -1,6 +1,6 @@
 use Rattle.std.proofs.Common.{◌≡◌, ◌∙◌, ap, sym, arith}
 use Rattle.dex_market.specs.MarketAccount.{market_words}
-use Rattle.dex_match.specs.OrderParts.{sizes_of}
+use Rattle.dex_market.specs.MarketAccount.{sizes_of}
 use Rattle.dex_types.specs.declared.terms.Lots.{Lots}
 use Rattle.dex_types.specs.Reasons.{answered}
 use Rattle.dex_take.specs.declared.plan.TakePlan.{TakePlan}

@@ -1,7 +1,7 @@
 use Rattle.std.proofs.Common.{◌≡◌, ◌∙◌, ℕ, ◌*◌, ◌-◌, List, Option, sym, ap, arith}
 use Rattle.dex_types.specs.declared.refusals.Refusal.{Refusal}
 use Rattle.dex_market.specs.MarketAccount.{market_words}
-use Rattle.dex_match.specs.Ordering.{room_of}
+use Rattle.dex_ring.specs.Ring.{room_of}
 use Rattle.dex_reasons.proofs.FirstReasons.{first_of-early, first_of-late}
 use Rattle.dex_ring.specs.Ring.{ring_of}
 use Rattle.dex_types.specs.Reasons.{first_of}
