@@ -10,3 +10,5 @@ pub mod Slab
 pub mod Tree
 pub mod Walks
 pub mod SlabSide
+pub mod SamePlace
+pub mod StandsFor

@@ -9,6 +9,7 @@ mod check_nodes;
 mod check_tests;
 mod check_tree;
 mod insert;
+pub mod laws;
 mod node_reads;
 mod node_writes;
 mod nodes;
