@@ -4,7 +4,7 @@ ghost use Rattle.std.specs.Prelude.{◌≡◌, ◌<◌, ◌≤◌, IsSome, Some,
 ghost use Rattle.dex_types.specs.BookSide.{CanRest, IsNewId, with_lots};
 ghost use Rattle.dex_types.specs.Cancel.{order_with, without_order};
 ghost use Rattle.dex_types.specs.Posting.{posted};
-ghost use Rattle.dex_slab.specs.Changes.{ChangesLotsOf, ChangesThreeNodes};
+ghost use Rattle.dex_slab.specs.Changes.{ChangesLotsOf, ChangesThreeNodes, KeepsFrame};
 ghost use Rattle.dex_slab.specs.Slab.{IsSlab, resting, room_in};
 
 use dex_slab::{SlabRef, SlabView};
@@ -71,13 +71,16 @@ impl SideRead for SlabSide<'_> {
 
 /// Every call works on the account's bytes in place: what it writes is seen by whoever lent them.
 impl SideBook for SlabSide<'_> {
-    ghost use Rattle.std.proofs.Common.{refl, ◌∙◌};
+    ghost use Rattle.std.proofs.Common.{refl, ◌∙◌, ◌≡◌};
+    ghost use Rattle.dex_slab.specs.Changes.{KeepsFrame};
+    ghost use Rattle.dex_slab.specs.SamePlace.{frame_chains, frame_stays};
 
-    ghost same_place = { λ old new. new.bytes.ghost_name ≡ old.bytes.ghost_name };
+    ghost same_place = { λ old new. (new.bytes.ghost_name ≡ old.bytes.ghost_name) × KeepsFrame old.bytes.now new.bytes.now };
 
-    ghost stays = { λ s. refl };
+    ghost stays = { λ s. (refl, frame_stays s.bytes.now) };
 
-    ghost chains = { λ first second third here there. there ∙ here };
+    ghost chains = { λ first second third here there.
+        (there.0 ∙ here.0, frame_chains first.bytes.now second.bytes.now third.bytes.now here.1 there.1) };
 
     /// Puts an order in its place. At most three nodes change, beside the slab's header.
     fn insert(&mut self, order: Order)
@@ -89,7 +92,7 @@ impl SideBook for SlabSide<'_> {
         ensures holds { IsSlab self.new.bytes.now }
         ensures side { self.new.side ≡ self.old.side }
         ensures room { room_in self.new.bytes.now ≡ room_in self.old.bytes.now }
-        ensures place { self.new.bytes.ghost_name ≡ self.old.bytes.ghost_name }
+        ensures place { (self.new.bytes.ghost_name ≡ self.old.bytes.ghost_name) × KeepsFrame self.old.bytes.now self.new.bytes.now }
         ensures three { ChangesThreeNodes self.old.bytes.now self.new.bytes.now }
     {
         let mut view = SlabView {
@@ -108,7 +111,7 @@ impl SideBook for SlabSide<'_> {
         ensures holds { IsSlab self.new.bytes.now }
         ensures side { self.new.side ≡ self.old.side }
         ensures room { room_in self.new.bytes.now ≡ room_in self.old.bytes.now }
-        ensures place { self.new.bytes.ghost_name ≡ self.old.bytes.ghost_name }
+        ensures place { (self.new.bytes.ghost_name ≡ self.old.bytes.ghost_name) × KeepsFrame self.old.bytes.now self.new.bytes.now }
         ensures eight { ChangesLotsOf id self.old.bytes.now self.new.bytes.now }
     {
         let mut view = SlabView {
@@ -127,7 +130,7 @@ impl SideBook for SlabSide<'_> {
         ensures holds { IsSlab self.new.bytes.now }
         ensures side { self.new.side ≡ self.old.side }
         ensures room { room_in self.new.bytes.now ≡ room_in self.old.bytes.now }
-        ensures place { self.new.bytes.ghost_name ≡ self.old.bytes.ghost_name }
+        ensures place { (self.new.bytes.ghost_name ≡ self.old.bytes.ghost_name) × KeepsFrame self.old.bytes.now self.new.bytes.now }
         ensures three { ChangesThreeNodes self.old.bytes.now self.new.bytes.now }
     {
         let mut view = SlabView {

@@ -6,9 +6,11 @@ ghost use Rattle.dex_types.specs.Totals.{total};
 ghost use Rattle.dex_book.specs.ListSide.{IsListed};
 ghost use Rattle.std.specs.Bool.{OnTrue};
 ghost use Rattle.dex_slab.specs.Slab.{IsSlab, resting, room_in};
+ghost use Rattle.dex_slab.specs.StandsFor.{IsSideAccount};
 ghost use Rattle.std.proofs.Common.{refl, ◌∙◌};
 
 use super::*;
+use dex_slab::laws::what_keeps_its_frame_stays_an_account;
 use dex_slab::{SlabRef, is_slab_size, is_well_formed};
 use dex_types::{Address, Order, Side, SideBook, SideRead};
 use std::test::Fail;
@@ -125,6 +127,20 @@ fn post_through(side: &mut ListSide, order: Order) -> Option<Order>
 {
     let mut lent = LentSide { side };
     post_or_boot(&mut lent, order)
+}
+
+/// An account of a side on which a call posts an order that is written for any side is an account of that side again.
+fn post_on_account(bytes: &mut [u8], side: Side, order: Order) -> Option<Order>
+    requires account { IsSideAccount side bytes.old }
+    requires new { IsNewId order.id (resting side bytes.old) }
+    requires can_rest { CanRest order }
+    ensures orders { resting side bytes.new ≡ (post side (room_in bytes.old) order (resting side bytes.old)).side }
+    ensures account { IsSideAccount side bytes.new }
+{
+    let mut book = SlabSide { bytes, side };
+    let booted = post_or_boot(&mut book, order);
+    what_keeps_its_frame_stays_an_account();
+    booted
 }
 
 /// The ids of one price: the distance of two prices in an id.

@@ -7,7 +7,8 @@ ghost use Rattle.dex_ring.specs.Blank as queue;
 ghost use Rattle.dex_ring.specs.Ring.{IsEventQueue, ring_of};
 ghost use Rattle.dex_slab.specs.Blank as slab;
 ghost use Rattle.dex_slab.specs.Nodes.{room_of};
-ghost use Rattle.dex_slab.specs.Slab.{IsSlab, resting, room_in};
+ghost use Rattle.dex_slab.specs.Slab.{resting, room_in};
+ghost use Rattle.dex_slab.specs.StandsFor.{IsSideAccount};
 ghost use Rattle.dex_sound.specs.Made.{made_market};
 ghost use Rattle.dex_types.specs.Accounts.{market_accounts_of};
 ghost use Rattle.dex_dump.specs.MarketBytes.{HasAddresses, blank_orders, made_accounts, market_bytes, request_bytes};
@@ -129,7 +130,7 @@ fn side_account(alloc: Global, side: Side, nodes: u32) -> Result<Vec<u8>, NoMemo
     requires some { 1 ≤ nodes }
     requires few { nodes ≤ 65536 }
     ensures bytes { IfOk result (λ bytes. bytes.items ≡ slab.blank_side side (slab.made_size nodes)) }
-    ensures accepted { IfOk result (λ bytes. IsSlab bytes.items) }
+    ensures accepted { IfOk result (λ bytes. IsSideAccount side bytes.items) }
     ensures orders { IfOk result (λ bytes. resting side bytes.items ≡ []) }
     ensures room { IfOk result (λ bytes. room_in bytes.items ≡ room_of nodes) }
 {

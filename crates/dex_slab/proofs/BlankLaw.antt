@@ -8,7 +8,7 @@ use Rattle.dex_slab.specs.Blank.{IsMadeSize, blank_side, side_flags}
 use Rattle.dex_slab.specs.Nodes.{bump_of, count_of, free_head_of, free_len_of, nodes_within, room_of}
 use Rattle.dex_slab.specs.Slab.{IsShared, IsSlab, IsTree, free_from, free_of, leaves_in, nodes_in, orders_in, resting, room_in, tree_of}
 use Rattle.dex_slab.specs.Tree.{Tree}
-use Rattle.dex_slab.proofs.RootLaws.{tree_of-none}
+use Rattle.dex_slab.proofs.Standing.{tree_of-empty}
 
 pub side_flags-fit : (side : Side) → side_flags side < 2 ^ 64
 side_flags-fit Bid = lit< tt
@@ -34,7 +34,7 @@ module _ (side : Side) (size : ℕ) (made : IsMadeSize size) where
   count = number_in-empty_account size (side_flags side) long LEAF_COUNT (lit≤ tt) (omega (arith, made.least))
 
   tree : tree_of now ≡ None
-  tree = tree_of-none now count
+  tree = tree_of-empty now count
 
   free : free_of now ≡ []
   unfolding free_from

@@ -38,3 +38,5 @@ pub mod Parts
 pub mod Rooted
 pub mod BestLaw
 pub mod HeaderLaw
+pub mod FrameKept
+pub mod FrameWrites

@@ -1,5 +1,5 @@
 -- Which bytes of a side's account a call may change.
-use Rattle.std.specs.Prelude.{◌≡◌, ◌≢◌, ℕ, ◌<◌, ◌≤◌, ◌⊎◌, List, length, slice_index}
+use Rattle.std.specs.Prelude.{◌≡◌, ◌≢◌, ℕ, ◌+◌, ◌*◌, ◌<◌, ◌≤◌, ◌⊎◌, List, length, slice_index}
 use Rattle.dex_fields.specs.declared.field.Field.{Field}
 use Rattle.dex_fields.specs.declared.leaf_node.TheConstants.{QUANTITY}
 use Rattle.dex_fields.specs.Bytes.{ChangesOnly, end_of, number_in}
@@ -52,3 +52,14 @@ pub record ChangesLotsOf (id : ℕ) (old new : List ℕ) : Type 0 where
   pub tag : tag_of old leaf ≡ 2
   pub key : key_of old leaf ≡ id
   pub changes : ChangesLots leaf old new
+
+-- where the slab's header and the nodes of an account of so many bytes stand: one behind another, with the account's flags before
+-- them and its end behind them
+abbrev pub slab_field : ℕ → Field
+slab_field size = record { at = header.at; len = header.len + nodes_within size * 72 }
+
+-- all bytes outside of the header and the nodes are as before: the text at the front, the flags, and whatever stands behind the
+-- last node, with the text at the end
+pub record KeepsFrame (old new : List ℕ) : Type 0 where
+  pub size : length new ≡ length old
+  pub others : ChangesOnly (slab_field (length old)) old new

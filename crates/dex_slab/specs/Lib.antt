@@ -11,4 +11,5 @@ pub mod Tree
 pub mod Walks
 pub mod SlabSide
 pub mod Blank
+pub mod SamePlace
 pub mod StandsFor

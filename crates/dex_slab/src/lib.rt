@@ -10,6 +10,7 @@ mod check_tests;
 mod check_tree;
 mod insert;
 mod making;
+pub mod laws;
 mod node_reads;
 mod node_writes;
 mod nodes;

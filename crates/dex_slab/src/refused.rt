@@ -13,6 +13,8 @@ use crate::insert::insert_order;
 use crate::pool::take_node;
 use crate::reading::best;
 use crate::remove;
+use dex_fields::slab::ACCOUNT_FLAGS;
+use dex_fields::{Field, put_u8, put_u64};
 use dex_types::{Order, Side};
 
 /// Takes all orders off into a list, which is the stack of these calls, and writes a whole new tree of them: more than
@@ -44,4 +46,30 @@ pub(crate) fn remove_order(bytes: &mut [u8], id: u128) -> Order
     let order = remove::remove_order(bytes, id);
     take_node(bytes);
     order
+}
+
+/// Clears the account's flags, which stand before the slab.
+pub(crate) fn clear_flags(bytes: &mut [u8])
+    requires { IsSlab bytes.old }
+    ensures slab { IsSlab bytes.new }
+    ensures orders { (side : sides.Side) → resting side bytes.new ≡ resting side bytes.old }
+    ensures bump { bump_of bytes.new ≡ bump_of bytes.old }
+    ensures freed { free_len_of bytes.new ≡ free_len_of bytes.old }
+{
+    put_u64(bytes, ACCOUNT_FLAGS, 0);
+}
+
+/// Clears the last byte of the account, which is one of its text at the end.
+pub(crate) fn clear_end(bytes: &mut [u8])
+    requires { IsSlab bytes.old }
+    ensures slab { IsSlab bytes.new }
+    ensures orders { (side : sides.Side) → resting side bytes.new ≡ resting side bytes.old }
+    ensures bump { bump_of bytes.new ≡ bump_of bytes.old }
+    ensures freed { free_len_of bytes.new ≡ free_len_of bytes.old }
+{
+    let last = Field {
+        at: bytes.len() - 1,
+        len: 1,
+    };
+    put_u8(bytes, last, 0);
 }

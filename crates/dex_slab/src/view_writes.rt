@@ -4,7 +4,7 @@ ghost use Rattle.std.specs.Prelude.{◌≡◌, ◌+◌, ◌-◌, ◌<◌, ◌≤
 ghost use Rattle.dex_types.specs.BookSide.{CanRest, IsNewId, with_lots};
 ghost use Rattle.dex_types.specs.Cancel.{order_with, without_order};
 ghost use Rattle.dex_types.specs.Posting.{posted};
-ghost use Rattle.dex_slab.specs.Changes.{ChangesLotsOf, ChangesThreeNodes};
+ghost use Rattle.dex_slab.specs.Changes.{ChangesLotsOf, ChangesThreeNodes, KeepsFrame};
 ghost use Rattle.dex_slab.specs.Nodes.{bump_of, count_of, free_len_of};
 ghost use Rattle.dex_slab.specs.Slab.{IsSlab, resting, room_in};
 ghost use Rattle.dex_slab.specs.Walks.{nodes_given, nodes_taken};
@@ -18,13 +18,16 @@ use dex_types::{Order, SideBook};
 /// What is written goes to the slice that the view was made with, node by node. No call's work grows with the number of orders
 /// or nodes, only with the depth of the tree, which is 128 at most.
 impl SideBook for SlabView<'_> {
-    ghost use Rattle.std.proofs.Common.{refl, ◌∙◌};
+    ghost use Rattle.std.proofs.Common.{refl, ◌∙◌, ◌≡◌};
+    ghost use Rattle.dex_slab.specs.Changes.{KeepsFrame};
+    ghost use Rattle.dex_slab.specs.SamePlace.{frame_chains, frame_stays};
 
-    ghost same_place = { λ old new. new.bytes.ghost_name ≡ old.bytes.ghost_name };
+    ghost same_place = { λ old new. (new.bytes.ghost_name ≡ old.bytes.ghost_name) × KeepsFrame old.bytes.now new.bytes.now };
 
-    ghost stays = { λ s. refl };
+    ghost stays = { λ s. (refl, frame_stays s.bytes.now) };
 
-    ghost chains = { λ first second third here there. there ∙ here };
+    ghost chains = { λ first second third here there.
+        (there.0 ∙ here.0, frame_chains first.bytes.now second.bytes.now third.bytes.now here.1 there.1) };
 
     /// Puts an order in its place. At most three nodes change, beside the slab's header. A new node is the first of the free
     /// list, else the first that was never used.
@@ -37,7 +40,7 @@ impl SideBook for SlabView<'_> {
         ensures holds { IsSlab self.new.bytes.now }
         ensures side { self.new.side ≡ self.old.side }
         ensures room { room_in self.new.bytes.now ≡ room_in self.old.bytes.now }
-        ensures place { self.new.bytes.ghost_name ≡ self.old.bytes.ghost_name }
+        ensures place { (self.new.bytes.ghost_name ≡ self.old.bytes.ghost_name) × KeepsFrame self.old.bytes.now self.new.bytes.now }
         ensures bump { bump_of self.new.bytes.now ≡ bump_of self.old.bytes.now
             + (nodes_taken (count_of self.old.bytes.now) - free_len_of self.old.bytes.now) }
         ensures freed { free_len_of self.new.bytes.now ≡ free_len_of self.old.bytes.now - nodes_taken (count_of self.old.bytes.now) }
@@ -55,7 +58,7 @@ impl SideBook for SlabView<'_> {
         ensures holds { IsSlab self.new.bytes.now }
         ensures side { self.new.side ≡ self.old.side }
         ensures room { room_in self.new.bytes.now ≡ room_in self.old.bytes.now }
-        ensures place { self.new.bytes.ghost_name ≡ self.old.bytes.ghost_name }
+        ensures place { (self.new.bytes.ghost_name ≡ self.old.bytes.ghost_name) × KeepsFrame self.old.bytes.now self.new.bytes.now }
         ensures eight { ChangesLotsOf id self.old.bytes.now self.new.bytes.now }
     {
         set_order_lots(self.bytes, id, lots);
@@ -71,7 +74,7 @@ impl SideBook for SlabView<'_> {
         ensures holds { IsSlab self.new.bytes.now }
         ensures side { self.new.side ≡ self.old.side }
         ensures room { room_in self.new.bytes.now ≡ room_in self.old.bytes.now }
-        ensures place { self.new.bytes.ghost_name ≡ self.old.bytes.ghost_name }
+        ensures place { (self.new.bytes.ghost_name ≡ self.old.bytes.ghost_name) × KeepsFrame self.old.bytes.now self.new.bytes.now }
         ensures bump { bump_of self.new.bytes.now ≡ bump_of self.old.bytes.now }
         ensures freed { free_len_of self.new.bytes.now ≡ free_len_of self.old.bytes.now + nodes_given (count_of self.old.bytes.now) }
         ensures three { ChangesThreeNodes self.old.bytes.now self.new.bytes.now }

@@ -1,7 +1,8 @@
-use Rattle.std.proofs.Common.{arith}
+use Rattle.std.proofs.Common.{rules, arith}
 use Rattle.dex_slab.specs.Slab.{tree_of}
 use Rattle.dex_slab.proofs.FoundLaw.{new-rests}
 use Rattle.dex_slab.proofs.Standing.{count-listed}
+use Rattle.dex_slab.proofs.FrameKept.{frame_of_three}
 use Rattle.dex_slab.proofs.view_writes.SlabViewSideBook.insert.Goals as goal
 
 pub insert_order-requires-clause-new : goal.insert_order-requires-clause-new
@@ -13,3 +14,8 @@ pub insert_order-requires-clause-room : goal.insert_order-requires-clause-room
 insert_order-requires-clause-room c =
     let view = c.args.self.now in
     omega (arith, c.requires.room, count-listed view.side view.bytes.now c.requires.holds)
+
+pub returns-clause-place : goal.returns-clause-place
+returns-clause-place c =
+    let view = c.args.self.now in
+    (search rules, frame_of_three view.bytes.now c.insert_order.new.bytes (search rules) c.insert_order.ensures.three)
