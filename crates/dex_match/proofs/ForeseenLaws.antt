@@ -2,21 +2,21 @@
 use Rattle.std.proofs.Common.{◌≡◌, ℕ, ◌+◌, ◌-◌, ◌*◌, ◌^◌, ◌<◌, ◌≤◌, ◌∙◌, Bool, true, false, cond, eqb, List, ◌++◌, Option, Some, None, length, refl, sym, ap, ⊎_elim, arith}
 use Rattle.std.proofs.lemmas.Bool.{cases_Bool, eq-eqb, ne_eqb, leb-false, le-leb, lt-leb}
 use Rattle.std.proofs.lemmas.List.{length-append}
-use Rattle.std.specs.Prelude.{nat_le}
+use Rattle.std.specs.Prelude.{min, nat_le}
 use Rattle.dex_types.specs.declared.orders.Order.{Order}
 use Rattle.dex_types.specs.declared.terms.Lots.{Lots}
 use Rattle.dex_types.specs.declared.terms.Side.{Side}
 use Rattle.dex_types.specs.declared.terms.Side.TheVariants.{Bid, Ask}
 use Rattle.dex_types.specs.Meeting.{Meeting}
-use Rattle.dex_types.specs.NewOrder.{NewOrder, Standing, deposit_of, demand_of, fee_of, full_lock, last_events, meeting_of, rested, taker_events, terms_of}
+use Rattle.dex_types.specs.NewOrder.{NewOrder, Standing, demand_of, fee_of, full_lock, last_events, meeting_of, rested, taker_events, terms_of}
 use Rattle.dex_types.specs.Posting.{Posting, last_of, post}
 use Rattle.dex_types.specs.QueuedEvent.{QueuedEvent}
 use Rattle.dex_types.specs.Owed.{leaving}
 use Rattle.dex_types.specs.Reasons.{ask_too_large}
-use Rattle.dex_types.specs.Side.{Token, Coin, Pc, by_side, by_token, id_of}
+use Rattle.dex_types.specs.Side.{Token, Coin, Pc, by_side, by_token, id_of, locked_token}
 use Rattle.dex_types.specs.Solvency.{all_leaving}
 use Rattle.dex_types.specs.Totals.{total}
-use Rattle.dex_types.specs.Trader.{Account, free_slot}
+use Rattle.dex_types.specs.Trader.{Account, balance, free_slot}
 use Rattle.dex_laws.proofs.PostLaws.{last_of-none, post-induction}
 use Rattle.dex_laws.proofs.TotalLaws.{total-append}
 use Rattle.dex_sound.proofs.FillLaws.{meet-leaving}
@@ -86,8 +86,9 @@ length-ordering s account taker events own pc lots full some_room met p l f coun
 
 -- ---- the plan
 
-pub planned : (s : Standing) (account : Account) (taker : Taker) (deposit needed lots pc fee rests slot id : ℕ)
-    → deposit ≡ deposit_of taker.id_side s.sizes account (order_of taker)
+pub planned : (s : Standing) (account : Account) (taker : Taker) (lock deposit needed lots pc fee rests slot id : ℕ)
+    → lock ≡ full_lock taker.id_side s.sizes (order_of taker)
+    → deposit ≡ lock - min (balance (locked_token taker.id_side) account).free lock
     → needed ≡ length (ordering_at s account taker).events
     → lots ≡ (meeting_of taker.id_side s (order_of taker)).lots
     → pc ≡ (meeting_of taker.id_side s (order_of taker)).pc
@@ -97,7 +98,7 @@ pub planned : (s : Standing) (account : Account) (taker : Taker) (deposit needed
     → id ≡ id_of taker.id_side taker.price s.next_sequence
     → (let plan : OrderPlan = record { deposit = deposit; needed = needed; lots = lots; pc = pc; fee = fee; rested = rests; slot = slot; id = id } in plan)
     ≡ plan_by (order_of taker) (ordering_at s account taker)
-planned s account taker deposit needed lots pc fee rests slot id d ne l p f r sl i = cc
+planned s account taker lock deposit needed lots pc fee rests slot id k d ne l p f r sl i = cc
 
 -- ---- what is to leave totals
 

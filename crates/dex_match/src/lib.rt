@@ -21,3 +21,6 @@ pub use order_outlook::{OrderOutlook, outlook};
 pub use order_plan::OrderPlan;
 pub use order_refusals::refused_early;
 pub use order_terms::{Taker, full_lock, want_of};
+
+#[cfg(test)]
+mod tests;

@@ -1,7 +1,4 @@
-use Rattle.std.proofs.Common.{◌∙◌, ◌-◌, ◌<◌, ◌^◌, ap, arith}
-use Rattle.std.specs.Prelude.{min}
-use Rattle.dex_types.specs.Side.{locked_token}
-use Rattle.dex_types.specs.Trader.{balance}
+use Rattle.std.proofs.Common.{◌<◌, ◌^◌, arith}
 use Rattle.dex_types.specs.Meeting.{Meeting}
 use Rattle.dex_types.specs.NewOrder.{Standing, demand_of, full_lock, meeting_of, terms_of}
 use Rattle.dex_laws.proofs.DemandLaws.{meet-rebates_le}
@@ -35,8 +32,7 @@ returns g c =
     let lock : full_lock side c.args.sizes n < 2 ^ 64 = omega (arith, c.lock_of-lock.ensures, c.lock_of-lock.type_inv) in
     let fits = fits-sums side c.args.sizes n opposing (omega arith) lock c.requires.locks in
     record {
-      plan = planned s account c.args.taker _ _ _ _ _ _ _ _
-          (c.deposit_of.ensures ∙ ap (λ k. k - min (balance (locked_token side) account).free k) c.lock_of-lock.ensures)
+      plan = planned s account c.args.taker c.lock_of-lock.result _ _ _ _ _ _ _ _ c.lock_of-lock.ensures c.deposit_of.ensures
           (length-ordering s account c.args.taker _ _ _ _ _ c.requires.room foreseen.events foreseen.met.pc c.outlook-outlook.ensures.rested c.is_full.ensures c.own_events.ensures.value)
           foreseen.met.lots foreseen.met.pc c.outlook-outlook.ensures.fee c.outlook-outlook.ensures.rested c.lowest_slot.ensures c.id_of.ensures;
       aborts = foreseen.aborts;
