@@ -1,6 +1,6 @@
-use Rattle.std.proofs.Common.{rules, ◌≡◌, List, [], ◌∷◌, Option, None, length, get_or, refl, ap, sym, ◌∙◌}
+use Rattle.std.proofs.Common.{rules, ◌≡◌, List, [], ◌∷◌, Option, None, length, get_or, ap, sym, ◌∙◌}
 use Rattle.dex_types.specs.declared.addresses.Address.{Address}
-use Rattle.dex_locks.specs.Places.{carry_of, put}
+use Rattle.dex_locks.specs.Places.{put}
 use Rattle.dex_locks.proofs.PlaceLaws.{four, put-none}
 use Rattle.dex_locks.proofs.insert.with_role.Goals as goal
 

@@ -1,5 +1,4 @@
-use Rattle.std.proofs.Common.{◌≡◌, List, Option, ap, ◌∙◌, sym, subst}
-use Rattle.dex_types.specs.declared.addresses.Address.{Address}
+use Rattle.std.proofs.Common.{◌≡◌, ap, ◌∙◌, sym, subst}
 use Rattle.dex_types.specs.Rows.{row_of}
 use Rattle.dex_types.specs.Wallets.{row_wallets}
 use Rattle.dex_locks.specs.Places.{StandInFront, carry_of, front, put}
