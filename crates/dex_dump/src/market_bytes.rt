@@ -1,16 +1,18 @@
 //! The market account as it is made.
 
 ghost use Rattle.std.specs.Prelude.{◌≡◌, [], length};
+ghost use Rattle.dex_fields.specs.Bytes.{IsWithin, with_bytes};
 ghost use Rattle.dex_fields.specs.Writes.{wrote};
 ghost use Rattle.dex_market.specs.StandsFor.{StandsForMarket};
 ghost use Rattle.dex_sound.specs.Made.{made_market};
+ghost use Rattle.dex_dump.specs.Derived as parts;
 ghost use Rattle.dex_dump.specs.MarketBytes.{HasAddresses, address_writes, market_bytes, term_writes};
 ghost use Rattle.dex_dump.specs.MarketSet.{CanTrade, IsInitialize, IsMarketSet, initial_terms, listing_of};
 
 use crate::market::MarketSet;
 use crate::parts::{MarketPart, derived};
-use dex_fields::{market, put_addr, put_u64, write_empty_account};
-use dex_types::Ix;
+use dex_fields::{Field, market, put_addr, put_u64, write_empty_account};
+use dex_types::{Address, Ix};
 
 /// The flags of a market account: Initialized and Market.
 const MARKET_FLAGS: u64 = 3;
@@ -70,36 +72,26 @@ fn write_addresses(bytes: &mut [u8], set: &MarketSet)
     put_addr(bytes, market::OWN_ADDRESS, set.address.0);
     put_addr(bytes, market::COIN_MINT, set.coin.0);
     put_addr(bytes, market::PC_MINT, set.pc.0);
-    put_addr(
+    put_part(
         bytes,
         market::COIN_VAULT,
-        derived(set.address, MarketPart::CoinVault).0,
+        set.address,
+        MarketPart::CoinVault,
     );
-    put_addr(
-        bytes,
-        market::PC_VAULT,
-        derived(set.address, MarketPart::PcVault).0,
-    );
-    put_addr(
-        bytes,
-        market::REQ_Q,
-        derived(set.address, MarketPart::RequestQueue).0,
-    );
-    put_addr(
-        bytes,
-        market::EVENT_Q,
-        derived(set.address, MarketPart::EventQueue).0,
-    );
-    put_addr(
-        bytes,
-        market::BIDS,
-        derived(set.address, MarketPart::Bids).0,
-    );
-    put_addr(
-        bytes,
-        market::ASKS,
-        derived(set.address, MarketPart::Asks).0,
-    );
+    put_part(bytes, market::PC_VAULT, set.address, MarketPart::PcVault);
+    put_part(bytes, market::REQ_Q, set.address, MarketPart::RequestQueue);
+    put_part(bytes, market::EVENT_Q, set.address, MarketPart::EventQueue);
+    put_part(bytes, market::BIDS, set.address, MarketPart::Bids);
+    put_part(bytes, market::ASKS, set.address, MarketPart::Asks);
+}
+
+/// Writes the address of a part of the market into a field.
+fn put_part(bytes: &mut [u8], field: Field, market: Address, part: MarketPart)
+    requires within { IsWithin field bytes.old }
+    requires wide { field.len ≡ 32 }
+    ensures { bytes.new ≡ with_bytes bytes.old field (parts.derived market part).0 }
+{
+    put_addr(bytes, field, derived(market, part).0);
 }
 
 /// Writes the numbers of a market account that never change.

@@ -1,0 +1,10 @@
+//! In which order a row takes what it works on: its market first, and then the wallets that it names.
+#![tactic(auto)]
+
+mod insert;
+mod plan;
+
+pub use plan::{LockPlan, plan_locks};
+
+#[cfg(test)]
+mod tests;
