@@ -10,7 +10,7 @@ use Rattle.dex_types.specs.Meeting.{Meeting}
 use Rattle.dex_types.specs.Reasons.{ask_too_large}
 use Rattle.dex_types.specs.Side.{Coin, Pc, by_side, opposite}
 use Rattle.dex_types.specs.Soundness.{IsSound}
-use Rattle.dex_types.specs.Take.{Take, take_demand, take_fee, take_lock, take_meeting, take_paid, take_terms, take_transfers}
+use Rattle.dex_types.specs.Take.{Take, take_demand, take_fee, take_lock, take_meeting, take_paid, take_terms}
 use Rattle.dex_fees.proofs.FeeLaws.{fee-covers, taker_fee-le}
 use Rattle.dex_laws.specs.Locks.{locked}
 use Rattle.dex_laws.proofs.DemandLaws.{meet-rebates}
@@ -26,7 +26,7 @@ use Rattle.dex_sound.proofs.FillLaws.{take-within}
 use Rattle.dex_sound.proofs.OrderSoundReasons.{refused_where-none}
 use Rattle.dex_take.specs.TakeParts.{AreOf, TakeGiven, TakeParts, parts_of}
 use Rattle.dex_take.specs.TakeTerms.{bare_take, take_of}
-use Rattle.dex_take.specs.Taking.{meeting_in, plan_by}
+use Rattle.dex_take.specs.Taking.{IsBacked, meeting_in, plan_by, plan_in, transfers_by}
 
 -- the fee of a take covers its makers' rebates, and is part of the quote
 pub take-covers : (side : Side) (sizes : Lots) (t : Take) (opposing : List Order)
@@ -83,25 +83,27 @@ parts-of side given m parts = rw (parts.market.words, parts.events.ring, parts.o
 pub meeting-of : (side : Side) (t : Take) (m : Market) → meeting_in side t (of_market side m) ≡ take_meeting side m.listing.sizes t (orders (opposite side) m)
 meeting-of side t m = refl
 
--- a sound market holds what a take pays out, and what its makers lock fits
-pub record IsPayable (side : Side) (t : Take) (parts : TakeParts) : Type 0 where
-  pub locks : locked (opposite side) (sizes_of parts.words) parts.opposing < 2 ^ 64
-  pub coin : (take_transfers side (sizes_of parts.words) t (meeting_in side t parts)).coin_out ≤ vault_of Coin parts.words
-  pub pc : (take_transfers side (sizes_of parts.words) t (meeting_in side t parts)).pc_out ≤ vault_of Pc parts.words
+-- in a sound market what the side that is met locks is in its vault
+backed-market : (side : Side) (m : Market) → IsSound m → IsBacked side (of_market side m)
+backed-market Bid m sound = record { fits = locks-fit Bid m sound; held = omega (arith, sound.funds.solvent.vaults Coin) }
+backed-market Ask m sound = record { fits = locks-fit Ask m sound; held = omega (arith, sound.funds.solvent.vaults Pc) }
 
-payable-market : (side : Side) (t : Take) (m : Market) → IsSound m → IsPayable side t (of_market side m)
-payable-market Bid t m sound =
+pub backed : (side : Side) (given : TakeGiven) (m : Market) → IsSound m → AreOf side given m → IsBacked side (parts_of given)
+backed side given m sound parts = subst (IsBacked side) (sym (parts-of side given m parts)) (backed-market side m sound)
+
+-- so what a take pays out is there
+pub record IsPaidOut (side : Side) (t : Take) (parts : TakeParts) : Type 0 where
+  pub coin : (transfers_by side (plan_in side t parts)).coin_out ≤ vault_of Coin parts.words
+  pub pc : (transfers_by side (plan_in side t parts)).pc_out ≤ vault_of Pc parts.words
+
+pub paid-out : (side : Side) (t : Take) (parts : TakeParts) → IsBacked side parts → IsPaidOut side t parts
+paid-out Bid t parts backed =
     record {
-      locks = locks-fit Bid m sound;
-      coin = omega (arith, sound.funds.solvent.vaults Coin, meet-moved_le Bid (take_terms m.listing.sizes t) (take_demand Bid m.listing.sizes t) m.asks);
+      coin = omega (arith, backed.held, meet-moved_le Bid (take_terms (sizes_of parts.words) t) (take_demand Bid (sizes_of parts.words) t) parts.opposing);
       pc = omega arith;
     }
-payable-market Ask t m sound =
+paid-out Ask t parts backed =
     record {
-      locks = locks-fit Ask m sound;
       coin = omega arith;
-      pc = omega (arith, sound.funds.solvent.vaults Pc, meet-moved_le Ask (take_terms m.listing.sizes t) (take_demand Ask m.listing.sizes t) m.bids);
+      pc = omega (arith, backed.held, meet-moved_le Ask (take_terms (sizes_of parts.words) t) (take_demand Ask (sizes_of parts.words) t) parts.opposing);
     }
-
-pub payable : (side : Side) (t : Take) (given : TakeGiven) (m : Market) → IsSound m → AreOf side given m → IsPayable side t (parts_of given)
-payable side t given m sound parts = subst (IsPayable side t) (sym (parts-of side given m parts)) (payable-market side t m sound)

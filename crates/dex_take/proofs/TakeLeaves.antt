@@ -1,11 +1,13 @@
 -- what a take that is not refused leaves of a sound market
-use Rattle.std.proofs.Common.{◌≡◌, ℕ, ◌+◌, ◌-◌, ◌^◌, ◌<◌, [], ◌∷◌, None, length, refl, sym, ap, subst, ◌∙◌, arith}
+use Rattle.std.proofs.Common.{◌≡◌, ℕ, ◌+◌, ◌-◌, ◌^◌, ◌<◌, [], ◌∷◌, None, length, refl, sym, ap, subst, ◌∙◌, arith, ◌≤◌, Option, Some, Ok}
+use Rattle.std.proofs.lemmas.Bool.{ltb-false}
+use Rattle.dex_types.specs.declared.refusals.Refusal.{Refusal}
 use Rattle.dex_types.specs.declared.rows.Seen.{Seen}
 use Rattle.dex_types.specs.declared.terms.Side.{Side}
 use Rattle.dex_types.specs.declared.terms.Side.TheVariants.{Bid, Ask}
 use Rattle.dex_types.specs.Market.{Market, orders}
 use Rattle.dex_types.specs.Meeting.{Meeting}
-use Rattle.dex_types.specs.Reasons.{ask_too_large, below_minimum, first_of, past_bound, queue_full, short_of, too_full}
+use Rattle.dex_types.specs.Reasons.{answered, ask_too_large, below_minimum, first_of, past_bound, queue_full, short_of, too_full}
 use Rattle.dex_types.specs.Side.{Coin, Pc, opposite}
 use Rattle.dex_types.specs.Soundness.{IsSound}
 use Rattle.dex_types.specs.Take.{Take, after_take, take_demand, take_paid, take_terms, take_transfers, too_little}
@@ -16,15 +18,18 @@ use Rattle.dex_market.specs.MarketAccount.{IsMarket, MarketWords, market_words}
 use Rattle.dex_market.specs.StandsFor.{words_of}
 use Rattle.dex_match.specs.declared.order_terms.Taker.{Taker}
 use Rattle.dex_market.specs.MarketAccount.{sizes_of}
+use Rattle.dex_ring.specs.Ring.{room_of}
 use Rattle.dex_meet.specs.RingEvents.{HasRoom, appended}
 use Rattle.dex_ring.specs.Ring.{IsEventQueue, ring_of}
-use Rattle.dex_sound.proofs.OrderSoundReasons.{first_of-none, queue_full-none}
+use Rattle.dex_reasons.specs.Reading.{no_room}
+use Rattle.dex_sound.proofs.OrderSoundReasons.{first_of-none, queue_full-none, refused_where-none}
 use Rattle.dex_sound.proofs.TakeSound.{met_of, taken_market, taking-sound}
+use Rattle.dex_take.specs.declared.plan.TakePlan.{TakePlan}
 use Rattle.dex_take.specs.Leaving.{CanExchange, kept_of, words_after}
 use Rattle.dex_take.specs.TakeParts.{AreOf, TakeGiven, TakeParts, parts_of}
-use Rattle.dex_take.specs.TakeTerms.{take_of}
-use Rattle.dex_take.specs.Taking.{meeting_in, plan_in, take_reason}
-use Rattle.dex_take.proofs.TakeAmounts.{of_market, parts-of, take-covers, take_fee-part}
+use Rattle.dex_take.specs.TakeTerms.{bare_take, take_of}
+use Rattle.dex_take.specs.Taking.{CanBeDone, IsDecided, meeting_in, plan_in, take_answer, take_reason, taking_reasons, transfers_by}
+use Rattle.dex_take.proofs.TakeAmounts.{bare-meeting, of_market, parts-of, take-covers, take_fee-part}
 use Rattle.dex_take.proofs.TakeReasons.{reason-given}
 
 abbrev moved_of : Side → Take → Market → Transfers
@@ -130,6 +135,11 @@ pub any-plan : (side : Side) (taker : Taker) (min_lots min_pc other_lots other_p
 any-plan Bid taker min_lots min_pc other_lots other_pc parts = refl
 any-plan Ask taker min_lots min_pc other_lots other_pc parts = refl
 
+pub kept-any : (side : Side) (taker : Taker) (min_lots min_pc : ℕ) (parts : TakeParts)
+    → kept_of (bare_take taker) (meeting_in side (bare_take taker) parts) ≡ kept_of (take_of taker min_lots min_pc) (meeting_in side (take_of taker min_lots min_pc) parts)
+kept-any Bid taker min_lots min_pc parts = refl
+kept-any Ask taker min_lots min_pc parts = refl
+
 orders-left : (side : Side) (t : Take) (met : Meeting) (m : Market) → orders (opposite side) (after_take side t met m) ≡ met.left
 orders-left Bid t met m = refl
 orders-left Ask t met m = refl
@@ -146,3 +156,52 @@ parts-after side t given new m parts is market words events list left = record {
   events = record { accepted = events; ring = list ∙ ap (appended (meeting_in side t (parts_of given)).events) parts.events.ring };
   opposing = orders-left side t (meeting_in side t (parts_of given)) m ∙ sym left;
 }
+
+-- what was decided can be done
+pub can-be-done : (taker : Taker) (plan : TakePlan) (given : TakeGiven) (m : Market) → IsSound m → AreOf taker.id_side given m → IsDecided plan taker (parts_of given)
+    → CanBeDone plan taker (parts_of given)
+can-be-done taker plan given m sound parts d =
+    let is = taken taker.id_side taker d.min_lots d.min_pc 0 0 d.seen given m sound parts d.accepted in
+    let planned : plan ≡ plan_in taker.id_side (bare_take taker) (parts_of given) = d.planned ∙ any-plan taker.id_side taker d.min_lots d.min_pc 0 0 (parts_of given) in
+    record {
+      planned = planned;
+      size = is.size;
+      room = is.room;
+      counted = is.counted;
+      can = subst (λ (p : TakePlan). CanExchange (transfers_by taker.id_side p) (kept_of (bare_take taker) (meeting_in taker.id_side (bare_take taker) (parts_of given))) (parts_of given).words)
+          (sym planned) is.can;
+    }
+
+-- so can what was answered, where the words can exchange it
+answered-ok : {X : Type 0} (reason : Option Refusal) (x y : X) → answered reason x ≡ Ok y → (reason ≡ None) × (y ≡ x)
+answered-ok None x y is = (refl, cc)
+answered-ok (Some why) x y is = absurd cc
+
+no_room-none : (needed room : ℕ) → no_room needed room ≡ None → needed ≤ room
+no_room-none needed room none = omega (arith, ltb-false room needed (refused_where-none _ _ none))
+
+pub answered-can_be_done : (taker : Taker) (min_lots min_pc : ℕ) (seen : Seen) (plan : TakePlan) (parts : TakeParts)
+    → take_answer taker.id_side (take_of taker min_lots min_pc) parts seen ≡ Ok plan
+    → length parts.ring.events ≤ parts.ring.capacity → parts.ring.seq_num < 2 ^ 64
+    → ((kept : ℕ) → kept ≤ plan.fee → CanExchange (transfers_by taker.id_side plan) kept parts.words) → CanBeDone plan taker parts
+answered-can_be_done taker min_lots min_pc seen plan parts is within counted can =
+    let t = take_of taker min_lots min_pc in
+    let side = taker.id_side in
+    let met : Meeting = meeting_in side t parts in
+    let moved : Transfers = take_transfers side (sizes_of parts.words) t met in
+    let ok = answered-ok (take_reason side t parts seen) (plan_in side t parts) plan is in
+    let both = first_of-none (ask_too_large side (sizes_of parts.words) t.lots ∷ first_of (taking_reasons side t parts seen met moved) ∷ []) ok.0 in
+    let taking = first_of-none (taking_reasons side t parts seen met moved) both.1.0 in
+    let planned : plan ≡ plan_in side (bare_take taker) parts = ok.1 ∙ any-plan side taker min_lots min_pc 0 0 parts in
+    record {
+      planned = planned;
+      size = both.0;
+      room = omega (
+        arith,
+        within,
+        no_room-none (length met.events) (room_of parts.ring) taking.1.0,
+        ap (λ (m : Meeting). length m.events) (bare-meeting side (sizes_of parts.words) taker min_lots min_pc parts.opposing),
+      );
+      counted = counted;
+      can = can (kept_of (bare_take taker) (meeting_in side (bare_take taker) parts)) (omega (arith, ap (λ (p : TakePlan). p.fee) planned));
+    }

@@ -1,25 +1,28 @@
 -- Why a take is refused, and what it does else, by what it is given alone.
-use Rattle.std.specs.Prelude.{◌≡◌, ℕ, ◌+◌, ◌-◌, List, [], ◌∷◌, ◌++◌, Option, Some, None, Result, length, nat_lt, if◌then◌else◌}
+use Rattle.std.specs.Prelude.{◌≡◌, ℕ, ◌+◌, ◌-◌, ◌^◌, ◌<◌, ◌≤◌, List, [], ◌∷◌, ◌++◌, Option, Some, None, Result, length, nat_lt, if◌then◌else◌}
 use Rattle.dex_types.specs.declared.refusals.Refusal.{Refusal}
 use Rattle.dex_types.specs.declared.rows.Seen.{Seen}
 use Rattle.dex_types.specs.declared.terms.Lots.{Lots}
 use Rattle.dex_types.specs.declared.terms.Side.{Side}
 use Rattle.dex_types.specs.Meeting.{Meeting}
 use Rattle.dex_types.specs.Reasons.{answered, ask_too_large, below_minimum, first_of, short_of, too_full}
-use Rattle.dex_types.specs.Side.{Token, Coin, Pc, by_side, by_token, locked_token}
+use Rattle.dex_types.specs.Side.{Token, Coin, Pc, by_side, by_token, gained_token, locked_token, opposite}
 use Rattle.dex_types.specs.Solvency.{all_leaving}
 use Rattle.dex_types.specs.Take.{Take, take_fee, take_got, take_meeting, take_paid, take_transfers, too_little}
 use Rattle.dex_types.specs.Transfers.{Transfers, exchange}
 use Rattle.dex_types.specs.Why.{payer}
+use Rattle.dex_laws.specs.Locks.{locked}
 use Rattle.dex_market.specs.MarketAccount.{MarketWords}
 use Rattle.dex_match.specs.declared.order_terms.Taker.{Taker}
 use Rattle.dex_market.specs.MarketAccount.{sizes_of}
 use Rattle.dex_ring.specs.Ring.{room_of}
 use Rattle.dex_market.specs.MarketAccount.{vault_of}
+use Rattle.dex_meet.specs.RingEvents.{HasRoom}
 use Rattle.dex_reasons.specs.Reading.{beyond, no_room}
 use Rattle.dex_take.specs.declared.plan.TakePlan.{TakePlan}
+use Rattle.dex_take.specs.Leaving.{CanExchange, kept_of}
 use Rattle.dex_take.specs.TakeParts.{TakeParts}
-use Rattle.dex_take.specs.TakeTerms.{take_of}
+use Rattle.dex_take.specs.TakeTerms.{bare_take, take_of}
 
 -- what a take meets
 abbrev pub meeting_in : Side → Take → TakeParts → Meeting
@@ -81,6 +84,20 @@ take_reason side t parts seen =
 -- what deciding answers
 abbrev pub take_answer : Side → Take → TakeParts → Seen → Result TakePlan Refusal
 take_answer side t parts seen = answered (take_reason side t parts seen) (plan_in side t parts)
+
+-- what the side that is met locks fits 64 bits, and is in its vault
+pub record IsBacked (side : Side) (parts : TakeParts) : Type 0 where
+  pub fits : locked (opposite side) (sizes_of parts.words) parts.opposing < 2 ^ 64
+  pub held : locked (opposite side) (sizes_of parts.words) parts.opposing ≤ vault_of (gained_token side) parts.words
+
+-- the plan says what the take does by these parts, and it can be done there: its native base fits, its events have room,
+-- and the words of the market can take in and pay out what it moves
+pub record CanBeDone (plan : TakePlan) (taker : Taker) (parts : TakeParts) : Type 0 where
+  pub planned : plan ≡ plan_in taker.id_side (bare_take taker) parts
+  pub size : ask_too_large taker.id_side (sizes_of parts.words) taker.lots ≡ None
+  pub room : HasRoom (length (meeting_in taker.id_side (bare_take taker) parts).events) parts.ring
+  pub counted : parts.ring.seq_num < 2 ^ 64
+  pub can : CanExchange (transfers_by taker.id_side plan) (kept_of (bare_take taker) (meeting_in taker.id_side (bare_take taker) parts)) parts.words
 
 -- the plan was decided on these parts, with some least fill, for wallets as some row saw them
 pub record IsDecided (plan : TakePlan) (taker : Taker) (parts : TakeParts) : Type 0 where

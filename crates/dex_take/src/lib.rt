@@ -13,3 +13,6 @@ pub use apply::apply_take;
 pub use decide::decide_take;
 pub use laws::what_is_decided_is_the_markets;
 pub use plan::TakePlan;
+
+#[cfg(test)]
+mod tests;

@@ -1,6 +1,6 @@
 //! What a take keeps to and wants.
 
-ghost use Rattle.std.specs.Prelude.{◌≡◌, ◌<◌, ◌^◌};
+ghost use Rattle.std.specs.Prelude.{◌≡◌};
 ghost use Rattle.dex_match.specs.OrderTerms.{order_of};
 ghost use Rattle.dex_meet.specs.Taker.{demand, taking};
 ghost use Rattle.dex_take.specs.TakeTerms.{bare_take};
@@ -27,11 +27,9 @@ pub(crate) fn terms_of(sizes: Lots, taker: Taker) -> Terms
     }
 }
 
-/// What a take wants before it meets anything: as much as a new order with the same terms. Its lots and its lock fit 64 bits.
+/// What a take wants before it meets anything: as much as a new order with the same terms.
 pub(crate) fn want_of(sizes: Lots, taker: Taker) -> Want
-    ensures wants { demand result ≡ take_demand taker.id_side sizes (bare_take taker) }
-    ensures lots { taker.lots < 2 ^ 64 }
-    ensures lock { taker.lock < 2 ^ 64 }
+    ensures { demand result ≡ take_demand taker.id_side sizes (bare_take taker) }
 {
     dex_match::want_of(sizes, taker)
 }

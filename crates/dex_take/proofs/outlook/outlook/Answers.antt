@@ -10,7 +10,7 @@ pub foresee-prospect-requires-clause-fits : goal.foresee-prospect-requires-claus
 foresee-prospect-requires-clause-fits g c =
     let t = bare_take c.args.taker in
     let side = c.args.taker.id_side in
-    rw (c.terms_of-terms.ensures.keeps, c.want_of-want.ensures.wants, c.terms_of-terms.ensures.sizes)
+    rw (c.terms_of-terms.ensures.keeps, c.want_of-want.ensures, c.terms_of-terms.ensures.sizes)
     (fits-take side c.args.sizes t (g.B.SideRead.orders c.args.opposing.now) (omega arith) (lock-fits side c.args.sizes t c.requires.base (omega arith)) c.requires.locks)
 
 pub returns-clause-fits : goal.returns-clause-fits
