@@ -23,4 +23,4 @@ pub use order_refusals::refused_early;
 pub use order_terms::{Taker, full_lock, want_of};
 
 #[cfg(test)]
-mod tests;
+mod deciding_tests;

@@ -4,7 +4,7 @@ use Rattle.dex_types.specs.declared.terms.Side.TheVariants.{Ask}
 use Rattle.dex_types.specs.Owed.{order_lock}
 use Rattle.dex_laws.specs.Locks.{locked}
 use Rattle.dex_laws.proofs.PostLaws.{total-posted}
-use Rattle.dex_match.proofs.tests.put.Goals as goal
+use Rattle.dex_match.proofs.deciding_tests.put.Goals as goal
 
 pub returns-then-count-capacity-clause-locks : goal.returns-then-count-capacity-clause-locks
 returns-then-count-capacity-clause-locks c =
