@@ -9,3 +9,4 @@ pub mod PartLaws
 pub mod PartsLaws
 pub mod RoomLaws
 pub mod TradeLaws
+pub mod TestLaws

@@ -79,7 +79,7 @@ allowed side n given m balance sound are priced small accepted =
       after = decided-sound side n given m balance sound are priced accepted;
     }
 
-tier_number-lt : (tier : Tier) → tier_number tier < 7
+pub tier_number-lt : (tier : Tier) → tier_number tier < 7
 tier_number-lt Base = omega arith
 tier_number-lt Srm2 = omega arith
 tier_number-lt Srm3 = omega arith

@@ -1,5 +1,6 @@
 pub mod Applying
 pub mod Deciding
+pub mod Foretold
 pub mod OrderParts
 pub mod OrderTerms
 pub mod Ordering

@@ -23,4 +23,6 @@ pub use order_refusals::refused_early;
 pub use order_terms::{Taker, full_lock, want_of};
 
 #[cfg(test)]
+mod applying_tests;
+#[cfg(test)]
 mod deciding_tests;
