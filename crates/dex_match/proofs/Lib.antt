@@ -2,7 +2,6 @@ pub mod AfterLaws
 pub mod DecidedLaws
 pub mod DecidedSound
 pub mod EarlyReasons
-pub mod FirstReasons
 pub mod FittingLaws
 pub mod ForeseenLaws
 pub mod PartLaws

@@ -32,3 +32,7 @@ first_of-late ((Some why) ∷ early) late none = absurd cc
 pub first_of-one : (reason : Option Refusal) → first_of (reason ∷ []) ≡ reason
 first_of-one None = refl
 first_of-one (Some why) = refl
+
+-- four of them, by other names for the reasons
+pub first_of-same : (a a' b b' c c' d d' : Option Refusal) → a ≡ a' → b ≡ b' → c ≡ c' → d ≡ d' → first_of (a ∷ b ∷ c ∷ d ∷ []) ≡ first_of (a' ∷ b' ∷ c' ∷ d' ∷ [])
+first_of-same a a' b b' c c' d d' first second third fourth = rw (first, second, third, fourth) refl

@@ -1,4 +1,3 @@
-pub mod FirstReasons
 pub mod ModelLaws
 pub mod PayLaws
 pub mod TraderLaws

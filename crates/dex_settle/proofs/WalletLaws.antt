@@ -1,6 +1,6 @@
 -- what a payout brings to one wallet fits a balance's field
 use Rattle.std.proofs.Common.{ℕ, ◌+◌, ◌≤◌, ◌<◌, ◌≡◌, ◌⊎◌, ◌^◌, true, false, not, Option, Some, None, refl, sym, ap, ◌∙◌, arith, inl, inr, ⊎_elim}
-use Rattle.std.proofs.lemmas.Bool.{cases_Bool, cond_both, cond-false, false≢true, not-false}
+use Rattle.std.proofs.lemmas.Bool.{cases_Bool, cond-false, false≢true, not-false}
 use Rattle.dex_types.specs.declared.addresses.Address.{Address}
 use Rattle.dex_types.specs.declared.refusals.Refusal.TheVariants.{WrongMint}
 use Rattle.dex_types.specs.declared.rows.Seen.{Seen}
@@ -10,13 +10,9 @@ use Rattle.dex_types.specs.Reasons.{other_mint}
 use Rattle.dex_types.specs.Transfers.{Transfers}
 use Rattle.dex_types.specs.Wallets.{amount_at, brought_to}
 use Rattle.dex_laws.proofs.TraderLaws.{is_same-true, is_same-refl}
+use Rattle.dex_reasons.proofs.WalletAmounts.{amount-le}
 use Rattle.dex_sound.proofs.OrderSoundReasons.{refused_where-none}
 use Rattle.dex_settle.specs.Parts.{HaveOneMint, HasOneCoinMint}
-
--- a role brings its amount or nothing
-pub amount-le : (address : Address) (role : Option WalletSeen) (amount : ℕ) → amount_at address role amount ≤ amount
-amount-le address None amount = omega arith
-amount-le address (Some wallet) amount = cond_both (is_same address wallet.address) amount 0 (λ part. part ≤ amount) (λ is. omega arith) (λ is. omega arith)
 
 -- a wallet that a role takes has its mint
 right-mint : (mint : Address) (wallet : WalletSeen) → other_mint mint (Some wallet) ≡ None → mint ≡ wallet.mint
@@ -62,8 +58,3 @@ brought-fits coin_mint pc_mint seen t address apart one coin pc referrer coin_fi
     (λ (no_referrer : amount_at address seen.referrer t.referrer_out ≡ 0). omega (arith, no_pc, no_referrer, x, coin_fits))
     (one-brings coin_mint pc_mint address seen.coin seen.referrer t.coin_out t.referrer_out apart coin referrer one.referrer))
     (one-brings coin_mint pc_mint address seen.coin seen.pc t.coin_out t.pc_out apart coin pc one.pc)
-
--- a payout brings to no wallet more than it pays in all
-pub brought-le : (seen : Seen) (t : Transfers) (address : Address) → brought_to seen t address ≤ t.coin_out + t.pc_out + t.referrer_out
-brought-le seen t address =
-    omega (arith, amount-le address seen.coin t.coin_out, amount-le address seen.pc t.pc_out, amount-le address seen.referrer t.referrer_out)

@@ -1,35 +1,15 @@
 -- Why a call is refused, by what it reads alone: the terms and flags of the market account, an account, the signer, and what the row sees.
-use Rattle.std.specs.Prelude.{ℕ, List, [], ◌∷◌, Option, Some, None, Result, Ok, Err, not, is_some, nat_le, ◌+◌, ◌^◌, ◌==◌}
+use Rattle.std.specs.Prelude.{ℕ, List, [], ◌∷◌, Option, Some, is_some}
 use Rattle.dex_types.specs.declared.addresses.Address.{Address}
 use Rattle.dex_types.specs.declared.refusals.Refusal.{Refusal}
 use Rattle.dex_types.specs.declared.refusals.Refusal.TheVariants as refusal
 use Rattle.dex_types.specs.declared.rows.Seen.{Seen}
-use Rattle.dex_types.specs.Addresses.{is_same}
-use Rattle.dex_types.specs.Reasons.{first_of, refused_where, missing, not_blank, other_mint, not_empty, too_full}
+use Rattle.dex_types.specs.Reasons.{first_of, missing, not_blank, other_mint, not_empty, too_full}
 use Rattle.dex_types.specs.Settle.{settlement, settle_transfers}
 use Rattle.dex_types.specs.Trader.{Account, Trader, Open, Closed, Blank}
 use Rattle.dex_types.specs.Transfers.{Transfers, payout}
+use Rattle.dex_reasons.specs.Reading.{flagged_disabled, not_person, not_this_authority}
 use Rattle.dex_market.specs.MarketAccount.{MarketTerms, MarketWords}
-
--- the flags are those of a disabled market
-abbrev pub flagged_disabled : ℕ → Option Refusal
-flagged_disabled flags = refused_where (flags == 131) refusal.MarketDisabled
-
--- the signer is not this person
-abbrev pub not_person : Address → Address → Option Refusal
-not_person person signer = refused_where (not (is_same person signer)) (refusal.NotOwner person)
-
--- the signer is not this authority
-abbrev pub not_this_authority : Address → Address → Option Refusal
-not_this_authority authority signer = refused_where (not (is_same authority signer)) (refusal.NotAuthority authority)
-
--- a mint is another than the one that is wanted
-abbrev pub wrong_mint : Address → Address → Option Refusal
-wrong_mint wanted mint = refused_where (not (is_same wanted mint)) (refusal.WrongMint mint)
-
--- a balance would be 2^64 or more with this amount more
-abbrev pub overfull : ℕ → ℕ → Option Refusal
-overfull balance amount = refused_where (nat_le (2 ^ 64) (balance + amount)) (refusal.BalanceTooLarge balance amount)
 
 -- the reasons against settling that ask for wallets, for the signer and for the wallets' mints
 abbrev pub early_settle_reasons : MarketTerms → Address → Seen → Account → List (Option Refusal)

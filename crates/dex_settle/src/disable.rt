@@ -12,8 +12,8 @@ ghost use Rattle.dex_market.specs.MarketAccount.{IsMarket, market_words};
 ghost use Rattle.dex_market.specs.StandsFor.{StandsForMarket};
 ghost use Rattle.dex_settle.specs.Refusing as refusing;
 
-use crate::reasons::{DISABLED_FLAGS, disabled, not_authority};
 use dex_market::{MarketRef, MarketView};
+use dex_reasons::{DISABLED_FLAGS, disabled, not_authority};
 use dex_types::{Address, Refusal};
 
 /// Whether the market may be disabled, or why that is refused. It reads only.

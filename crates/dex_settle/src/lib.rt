@@ -5,7 +5,6 @@ mod disable;
 mod laws;
 mod lifecycle;
 mod plan;
-mod reasons;
 mod settle;
 mod sweep;
 

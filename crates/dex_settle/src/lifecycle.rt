@@ -14,9 +14,9 @@ ghost use Rattle.dex_orders.specs.OrdersAccount.{IsBlank, IsEmptyAccount, IsOpen
 ghost use Rattle.dex_orders.specs.StandsFor.{trader_of};
 ghost use Rattle.dex_settle.specs.Refusing as refusing;
 
-use crate::reasons::{disabled, not_owner};
 use dex_market::MarketRef;
 use dex_orders::{Funds, OrdersRef, OrdersState, state_of};
+use dex_reasons::{disabled, not_owner};
 use dex_types::{Address, Refusal};
 
 /// The account was opened before.

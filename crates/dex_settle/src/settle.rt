@@ -18,9 +18,9 @@ ghost use Rattle.dex_settle.specs.Parts.{AreParts, HasOneCoinMint};
 ghost use Rattle.dex_settle.specs.Refusing as refusing;
 
 use crate::plan::SettlePlan;
-use crate::reasons::{missing, not_owner, other_mint, too_full};
 use dex_market::{MarketRef, MarketView};
 use dex_orders::{Funds, OrdersRef, OrdersView};
+use dex_reasons::{Payout, missing, not_owner, other_mint, too_full};
 use dex_types::{Address, Refusal, Seen};
 
 fn plan_of(orders: &OrdersRef<'_>, has_referrer: bool) -> SettlePlan
@@ -61,9 +61,14 @@ fn full_reason(seen: &Seen, plan: &SettlePlan) -> Option<Refusal>
     requires { (address : Address) → brought_to seen.now (leaving.transfers_by plan.now) address < 2 ^ 64 }
     ensures { result ≡ first_of (refusing.full_reasons seen.now (leaving.transfers_by plan.now)) }
 {
-    too_full(seen, plan, seen.coin)
-        .or(too_full(seen, plan, seen.pc))
-        .or(too_full(seen, plan, seen.referrer))
+    let paid = Payout {
+        coin: plan.coin,
+        pc: plan.pc,
+        referrer: plan.referrer,
+    };
+    too_full(seen, paid, seen.coin)
+        .or(too_full(seen, paid, seen.pc))
+        .or(too_full(seen, paid, seen.referrer))
 }
 
 /// The plan or the refusal, where what the account is paid of pc fits a balance's field.

@@ -12,23 +12,9 @@ ghost use Rattle.dex_market.specs.MarketAccount.{IsMarket, market_words};
 ghost use Rattle.dex_market.specs.StandsFor.{StandsForMarket};
 ghost use Rattle.dex_settle.specs.Refusing as refusing;
 
-use crate::plan::SettlePlan;
-use crate::reasons::{missing, not_authority, other_mint, too_full};
 use dex_market::{MarketRef, MarketView};
+use dex_reasons::{Payout, missing, not_authority, other_mint, too_full};
 use dex_types::{Address, Refusal, Seen};
-
-/// All pc fees to the pc wallet.
-fn plan_of(market: &MarketRef<'_>) -> SettlePlan
-    requires { IsMarket market.now.bytes.now }
-    ensures { result ≡ record { coin = 0; pc = (market_words market.now.bytes.now).pc_fees_accrued; referrer = 0; to_fees = 0 } }
-{
-    SettlePlan {
-        coin: 0,
-        pc: market.pc_fees_accrued(),
-        referrer: 0,
-        to_fees: 0,
-    }
-}
 
 fn refusal_of(
     market: &MarketRef<'_>,
@@ -39,11 +25,15 @@ fn refusal_of(
     requires { IsMarket market.now.bytes.now }
     ensures { result ≡ refusing.sweep_reason (market_words market.now.bytes.now) authority signer seen.now }
 {
-    let plan = plan_of(market);
+    let paid = Payout {
+        coin: 0,
+        pc: market.pc_fees_accrued(),
+        referrer: 0,
+    };
     missing(seen.pc)
         .or(not_authority(authority, signer))
         .or(other_mint(market.pc_mint(), seen.pc))
-        .or(too_full(seen, &plan, seen.pc))
+        .or(too_full(seen, paid, seen.pc))
 }
 
 /// The native pc that sweeping pays to the pc wallet, which is all pc fees, or why it is refused. It reads only.

@@ -1,7 +1,7 @@
 use Rattle.std.proofs.Common.{rules, ◌∙◌, ◌≡◌, ◌∷◌, []}
 use Rattle.dex_reasons.specs.Reading.{beyond, no_room, short_by}
 use Rattle.dex_types.specs.Reasons.{would_self_trade}
-use Rattle.dex_match.proofs.FirstReasons.{joined, joined-first}
+use Rattle.dex_reasons.proofs.FirstReasons.{joined, joined-first}
 use Rattle.dex_match.proofs.deciding.refused_late.Goals as goal
 
 pub returns : goal.returns

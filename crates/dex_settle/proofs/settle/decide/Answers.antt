@@ -6,7 +6,7 @@ use Rattle.dex_sound.proofs.OrderSoundReasons.{NoneOf, first_of-none}
 use Rattle.dex_settle.specs.Leaving.{plan_of, transfers_by}
 use Rattle.dex_types.specs.Reasons.{answered}
 use Rattle.dex_settle.specs.Refusing.{early_settle_reasons, full_reasons}
-use Rattle.dex_settle.proofs.FirstReasons.{first_of-early}
+use Rattle.dex_reasons.proofs.FirstReasons.{first_of-early}
 use Rattle.dex_settle.proofs.WalletLaws.{brought-fits}
 use Rattle.dex_settle.proofs.settle.decide.Goals as goal
 

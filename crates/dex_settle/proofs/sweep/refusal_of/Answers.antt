@@ -2,19 +2,14 @@ use Rattle.std.proofs.Common.{rules, ◌∙◌, ◌≡◌, ◌∷◌, [], arith,
 use Rattle.dex_types.specs.Reasons.{missing, other_mint, too_full}
 use Rattle.dex_types.specs.Transfers.{payout}
 use Rattle.dex_market.specs.MarketAccount.{market_words}
-use Rattle.dex_settle.specs.declared.plan.SettlePlan.{SettlePlan}
-use Rattle.dex_settle.specs.Leaving.{transfers_by}
-use Rattle.dex_settle.specs.Refusing.{not_this_authority}
-use Rattle.dex_settle.proofs.FirstReasons.{joined, joined-first}
-use Rattle.dex_settle.proofs.WalletLaws.{brought-le}
+use Rattle.dex_reasons.specs.Reading.{not_this_authority}
+use Rattle.dex_reasons.proofs.FirstReasons.{joined, joined-first}
+use Rattle.dex_reasons.proofs.WalletAmounts.{brought-le}
 use Rattle.dex_settle.proofs.sweep.refusal_of.Goals as goal
 
 pub too_full-requires : goal.too_full-requires
 too_full-requires c address =
-    let plan = c.plan_of-plan.result in
-    let coin : plan.coin ≡ 0 = ap (λ (p : SettlePlan). p.coin) c.plan_of-plan.ensures in
-    let referrer : plan.referrer ≡ 0 = ap (λ (p : SettlePlan). p.referrer) c.plan_of-plan.ensures in
-    omega (arith, coin, referrer, brought-le c.args.seen.now (transfers_by plan) address)
+    omega (arith, brought-le c.args.seen.now (payout 0 c.pc_fees_accrued.result 0) address)
 
 pub returns : goal.returns
 returns c =
@@ -22,6 +17,6 @@ returns c =
     let words = market_words c.args.market.now.bytes.now in
     let later = not_this_authority c.args.authority c.args.signer ∷ other_mint words.terms.pc_mint seen.pc ∷ too_full seen (payout 0 words.pc_fees_accrued 0) seen.pc ∷ [] in
     let full : c.too_full.result ≡ too_full seen (payout 0 words.pc_fees_accrued 0) seen.pc =
-    c.too_full.ensures ∙ ap (λ p. too_full seen (transfers_by p) seen.pc) c.plan_of-plan.ensures in
+    c.too_full.ensures ∙ ap (λ fees. too_full seen (payout 0 fees 0) seen.pc) c.pc_fees_accrued.ensures in
     let made : c.or-3.result ≡ joined (missing seen.pc) later = search rules in
     made ∙ joined-first (missing seen.pc) later
