@@ -1,6 +1,6 @@
 //! New orders on accounts that are built by hand, over the list sides.
 
-ghost use Rattle.std.specs.Prelude.{◌≡◌, ◌<◌, ◌≤◌, ◌^◌, IfSome, IsTrue, length, ℕ, ◌+◌};
+ghost use Rattle.std.specs.Prelude.{MatchOption, ◌≡◌, ◌<◌, ◌≤◌, ◌^◌, IfSome, IsTrue, length, ℕ, ◌+◌};
 ghost use Rattle.std.specs.List.{All};
 ghost use Rattle.dex_book.specs.ListSide.{IsListed};
 ghost use Rattle.dex_types.specs.declared.orders.Order.{Order};
@@ -38,6 +38,17 @@ use dex_types::{
     Address, Lots, Order, OrderType, Program, Reply, SelfTrade, Side, SideBook, SideRead, Tier,
 };
 use std::test::Fail;
+
+/// The native amount that a new order locks, where 64 bits hold it.
+fn checked_lock(sizes: Lots, taker: Taker) -> Option<u64>
+    ensures { MatchOption result (2 ^ 64 ≤ full_lock taker.id_side sizes (order_of taker))
+        (λ lock. lock ≡ full_lock taker.id_side sizes (order_of taker)) }
+{
+    match taker.id_side {
+        Side::Bid => Some(taker.lock),
+        Side::Ask => taker.lots.checked_mul(sizes.coin),
+    }
+}
 
 const AMY: Address = Address([1; 32]);
 
@@ -104,7 +115,7 @@ fn plan_of(
     ensures slot { IfSome result (λ plan. plan.slot ≡ slot) }
     ensures id { IfSome result (λ plan. plan.id ≡ book.id_of taker.id_side taker.price sequence) }
 {
-    let lock = super::full_lock(sizes, taker)?;
+    let lock = checked_lock(sizes, taker)?;
     let outlook = outlook(sizes, taker, lock, opposite);
     Some(OrderPlan {
         deposit: lock - free.min(lock),

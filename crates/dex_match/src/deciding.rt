@@ -151,22 +151,22 @@ pub(crate) fn decide<B: SideRead, A: SideRead>(
 /// sequence numbers are given out; an order whose latest time is past; one that would have to abort at an own order; one
 /// whose events are more than the free places of the event queue; one whose deposit is more than the balance; and one that
 /// would leave a vault, with what pending makers' fills are still to take off totals, at 2^64 or more, base before quote.
-pub fn decide_order<B: SideRead, A: SideRead>(
+pub fn decide_order<B: SideRead>(
     market: &MarketRef<'_>,
     requests: &RequestRef<'_>,
     own: &B,
-    opposite: &A,
+    opposite: &B,
     ring: &RingRef<'_>,
     orders: &OrdersRef<'_>,
     taker: &Taker,
     balance: u64,
 ) -> Result<OrderPlan, Refusal>
     requires own { B.holds own.now }
-    requires opposite { A.holds opposite.now }
+    requires opposite { B.holds opposite.now }
     requires parts { AreSoundParts taker.now.id_side taker.now.account (given_by market.now.bytes.now requests.now.bytes.now
-        ring.now.bytes.now orders.now.bytes.now (B.orders own.now) (B.room own.now) (A.orders opposite.now)) }
+        ring.now.bytes.now orders.now.bytes.now (B.orders own.now) (B.room own.now) (B.orders opposite.now)) }
     ensures { result ≡ order_answer taker.entry.now.id_side (order_of taker.entry.now) (parts_of (given_by market.now.bytes.now requests.now.bytes.now
-        ring.now.bytes.now orders.now.bytes.now (B.orders own.now) (B.room own.now) (A.orders opposite.now))) balance }
+        ring.now.bytes.now orders.now.bytes.now (B.orders own.now) (B.room own.now) (B.orders opposite.now))) balance }
 {
     decide(
         market, requests, own, opposite, ring, orders, taker, balance,

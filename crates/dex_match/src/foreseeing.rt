@@ -5,7 +5,6 @@ ghost use Rattle.dex_laws.specs.Locks.{locked};
 ghost use Rattle.dex_match.specs.Deciding.{Foretells, standing_at};
 ghost use Rattle.dex_match.specs.OrderTerms.{order_of};
 ghost use Rattle.dex_orders.specs.OrdersAccount.{IsOpen, account_of};
-ghost use Rattle.dex_types.specs.NewOrder.{full_lock};
 ghost use Rattle.dex_types.specs.Reasons.{ask_too_large};
 ghost use Rattle.dex_types.specs.Side as book;
 ghost use Rattle.dex_types.specs.Trader.{balance};
@@ -13,7 +12,7 @@ ghost use Rattle.dex_types.specs.Trader.{balance};
 use crate::order_outlook::outlook;
 use crate::order_plan::OrderPlan;
 use crate::order_refusals::lowest_slot;
-use crate::order_terms::Taker;
+use crate::order_terms::{Taker, lock_of};
 use dex_meet::Sums;
 use dex_meet::prices::id_of;
 use dex_orders::OrdersRef;
@@ -25,17 +24,6 @@ pub(crate) struct Foreseen {
     pub(crate) plan: OrderPlan,
     pub(crate) aborts: Option<u128>,
     pub(crate) sums: Sums,
-}
-
-/// The native amount that a new order locks, which 64 bits hold.
-fn lock_of(sizes: Lots, taker: Taker) -> u64
-    requires { full_lock taker.id_side sizes (order_of taker) < 2 ^ 64 }
-    ensures { result ≡ full_lock taker.id_side sizes (order_of taker) }
-{
-    match taker.id_side {
-        Side::Bid => taker.lock,
-        Side::Ask => taker.lots * sizes.coin,
-    }
 }
 
 /// The native amount of a lock that the account's free funds of the locked token do not pay.

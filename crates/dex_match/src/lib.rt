@@ -17,10 +17,8 @@ mod trading;
 pub use applying::apply_order;
 pub use deciding::decide_order;
 pub use dex_meet::post_or_boot;
-pub use order_outlook::{OrderOutlook, outlook};
 pub use order_plan::OrderPlan;
-pub use order_refusals::refused_early;
-pub use order_terms::{Taker, full_lock, want_of};
+pub use order_terms::{Taker, want_of};
 
 #[cfg(test)]
 mod applying_tests;

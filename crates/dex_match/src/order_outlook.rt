@@ -18,11 +18,11 @@ use dex_types::{Lots, Side, SideRead};
 /// What becomes of a new order: what it meets, its fee, the native amount that its fills take from its lock, and the lots
 /// that rest.
 #[derive(Clone, Copy)]
-pub struct OrderOutlook {
-    pub prospect: Prospect,
-    pub fee: u64,
-    pub spent: u64,
-    pub rested: u64,
+pub(crate) struct OrderOutlook {
+    pub(crate) prospect: Prospect,
+    pub(crate) fee: u64,
+    pub(crate) spent: u64,
+    pub(crate) rested: u64,
 }
 
 /// The native amount that fills take from the lock of an order: a bid pays quote and the fee, an ask pays base.
@@ -56,7 +56,12 @@ fn rested_of(sizes: Lots, taker: Taker, prospect: Prospect, lock_left: u64) -> u
 }
 
 /// What becomes of a new order with this lock, on an opposite side.
-pub fn outlook<B: SideRead>(sizes: Lots, taker: Taker, lock: u64, opposing: &B) -> OrderOutlook
+pub(crate) fn outlook<B: SideRead>(
+    sizes: Lots,
+    taker: Taker,
+    lock: u64,
+    opposing: &B,
+) -> OrderOutlook
     requires holds { B.holds opposing.now }
     requires lock { lock ≡ orders.full_lock taker.id_side sizes (order_of taker) }
     requires locks { locked (book.opposite taker.id_side) sizes (B.orders opposing.now) < 2 ^ 64 }

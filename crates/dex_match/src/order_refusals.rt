@@ -57,7 +57,7 @@ fn too_late(taker: Taker) -> Option<Refusal>
 ///
 /// Refused are, in this order: an account without a free slot; an ask of 2^64 native base or more; any order once all
 /// sequence numbers are given out; an order whose latest time is past.
-pub fn refused_early(
+pub(crate) fn refused_early(
     sizes: Lots,
     taker: Taker,
     requests: &RequestRef<'_>,

@@ -1,6 +1,6 @@
 //! A new order of a trader, as it is stated, and what its terms come to.
 
-ghost use Rattle.std.specs.Prelude.{◌≡◌, ◌≤◌, ◌^◌, MatchOption};
+ghost use Rattle.std.specs.Prelude.{◌≡◌, ◌<◌, ◌^◌};
 ghost use Rattle.dex_match.specs.OrderTerms.{order_of};
 ghost use Rattle.dex_meet.specs.Taker.{taking, demand};
 ghost use Rattle.dex_types.specs.NewOrder as orders;
@@ -30,14 +30,14 @@ pub struct Taker {
     pub program: Program,
 }
 
-/// The native amount that a new order locks, where 64 bits hold it.
-pub fn full_lock(sizes: Lots, taker: Taker) -> Option<u64>
-    ensures { MatchOption result (2 ^ 64 ≤ orders.full_lock taker.id_side sizes (order_of taker))
-        (λ lock. lock ≡ orders.full_lock taker.id_side sizes (order_of taker)) }
+/// The native amount that a new order locks, which 64 bits hold.
+pub(crate) fn lock_of(sizes: Lots, taker: Taker) -> u64
+    requires { orders.full_lock taker.id_side sizes (order_of taker) < 2 ^ 64 }
+    ensures { result ≡ orders.full_lock taker.id_side sizes (order_of taker) }
 {
     match taker.id_side {
-        Side::Bid => Some(taker.lock),
-        Side::Ask => taker.lots.checked_mul(sizes.coin),
+        Side::Bid => taker.lock,
+        Side::Ask => taker.lots * sizes.coin,
     }
 }
 

@@ -7,7 +7,7 @@ ghost use Rattle.dex_orders.specs.OrdersAccount.{HasNoOrder, IsOpen, account_of,
 ghost use Rattle.dex_types.specs.NewOrder as orders;
 
 use crate::order_plan::OrderPlan;
-use crate::order_terms::Taker;
+use crate::order_terms::{Taker, lock_of};
 use dex_meet::event_kinds::Amounts;
 use dex_meet::fills::lock;
 use dex_orders::{Funds, OrdersView};
@@ -21,17 +21,6 @@ pub struct Moves {
     pub left: u64,
     pub locked: u64,
     pub got: u64,
-}
-
-/// The native amount that a new order locks before it meets anything.
-fn whole_lock(sizes: Lots, taker: Taker) -> u64
-    requires { orders.full_lock taker.id_side sizes (order_of taker) < 2 ^ 64 }
-    ensures { result ≡ orders.full_lock taker.id_side sizes (order_of taker) }
-{
-    match taker.id_side {
-        Side::Bid => taker.lock,
-        Side::Ask => taker.lots * sizes.coin,
-    }
 }
 
 /// The amounts of the event of all fills: what they bring in, what they take from the lock, and the fee.
@@ -62,7 +51,7 @@ pub(crate) fn moves_by(sizes: Lots, taker: Taker, plan: &OrderPlan) -> Moves
     requires { applying.CanMove taker.id_side sizes (order_of taker) plan.now }
     ensures { result ≡ applying.moves_by taker.id_side sizes (order_of taker) plan.now }
 {
-    let whole = whole_lock(sizes, taker);
+    let whole = lock_of(sizes, taker);
     let amounts = fill_amounts(sizes, taker, plan);
     Moves {
         from_free: whole - plan.deposit,

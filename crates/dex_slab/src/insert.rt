@@ -4,7 +4,7 @@ ghost use Rattle.std.specs.Prelude.{◌≡◌, ◌+◌, ◌-◌, ◌<◌, ◌≤
 ghost use Rattle.dex_types.specs.declared.terms.Side.{Side};
 ghost use Rattle.dex_types.specs.BookSide.{CanRest, IsNewId};
 ghost use Rattle.dex_types.specs.Posting.{posted};
-ghost use Rattle.dex_slab.specs.Changes.{ChangesThreeNodes};
+ghost use Rattle.dex_slab.specs.Changes.{ChangesThreeNodes, KeepsFrame};
 ghost use Rattle.dex_slab.specs.Nodes.{bump_of, count_of, free_len_of, root_of};
 ghost use Rattle.dex_slab.specs.Slab.{IsSlab, resting, room_in, tree_of};
 ghost use Rattle.dex_slab.specs.Walks.{RestsIn, RestsOn, branch_above, nodes_taken, tree_at};
@@ -88,6 +88,7 @@ pub fn insert_order(bytes: &mut [u8], order: Order)
     ensures bump { bump_of bytes.new ≡ bump_of bytes.old + (nodes_taken (count_of bytes.old) - free_len_of bytes.old) }
     ensures freed { free_len_of bytes.new ≡ free_len_of bytes.old - nodes_taken (count_of bytes.old) }
     ensures three { ChangesThreeNodes bytes.old bytes.new }
+    ensures frame { KeepsFrame bytes.old bytes.new }
 {
     if get_u64(bytes, LEAF_COUNT) == 0 {
         insert_first(bytes, order);

@@ -20,6 +20,8 @@ mod reading;
 #[cfg(test)]
 mod refused;
 mod remove;
+#[cfg(test)]
+mod rewriting;
 mod search;
 mod set_lots;
 mod slab_fault;

@@ -9,29 +9,11 @@ ghost use Rattle.dex_slab.specs.Nodes.{bump_of, count_of, free_len_of};
 ghost use Rattle.dex_slab.specs.Slab.{IsSlab, resting, tree_of};
 ghost use Rattle.dex_slab.specs.Walks.{RestsOn, nodes_given};
 
-use crate::insert::insert_order;
 use crate::pool::take_node;
-use crate::reading::best;
 use crate::remove;
 use dex_fields::slab::ACCOUNT_FLAGS;
 use dex_fields::{Field, put_u8, put_u64};
-use dex_types::{Order, Side};
-
-/// Takes all orders off into a list, which is the stack of these calls, and writes a whole new tree of them: more than
-/// three nodes change.
-pub(crate) fn write_whole_tree(bytes: &mut [u8], side: Side)
-    requires { IsSlab bytes.old }
-    ensures slab { IsSlab bytes.new }
-    ensures orders { resting side bytes.new ≡ resting side bytes.old }
-    ensures bump { bump_of bytes.new ≡ bump_of bytes.old }
-    ensures freed { free_len_of bytes.new ≡ free_len_of bytes.old }
-{
-    if let Some(order) = best(bytes, side) {
-        remove::remove_order(bytes, order.id);
-        write_whole_tree(bytes, side);
-        insert_order(bytes, order);
-    }
-}
+use dex_types::Order;
 
 /// Takes the order of an id off the side, and loses one of its nodes: it is neither in the tree nor free again.
 pub(crate) fn remove_order(bytes: &mut [u8], id: u128) -> Order

@@ -4,7 +4,7 @@ ghost use Rattle.std.specs.Prelude.{◌≡◌, ◌+◌, ◌<◌, ◌≤◌, ℕ,
 ghost use Rattle.dex_fields.specs.Bytes.{end_of};
 ghost use Rattle.dex_types.specs.declared.terms.Side.{Side};
 ghost use Rattle.dex_types.specs.Cancel.{order_with, without_order};
-ghost use Rattle.dex_slab.specs.Changes.{ChangesThreeNodes};
+ghost use Rattle.dex_slab.specs.Changes.{ChangesThreeNodes, KeepsFrame};
 ghost use Rattle.dex_slab.specs.Nodes.{bump_of, count_of, free_len_of, node_field, root_of};
 ghost use Rattle.dex_slab.specs.Slab.{IsSlab, resting, tree_of};
 ghost use Rattle.dex_slab.specs.Walks.{IsFound, RestsOn, nodes_given, sibling_of, tree_at};
@@ -79,6 +79,7 @@ pub fn remove_order(bytes: &mut [u8], id: u128) -> Order
     ensures bump { bump_of bytes.new ≡ bump_of bytes.old }
     ensures freed { free_len_of bytes.new ≡ free_len_of bytes.old + nodes_given (count_of bytes.old) }
     ensures three { ChangesThreeNodes bytes.old bytes.new }
+    ensures frame { KeepsFrame bytes.old bytes.new }
 {
     let found = find_leaf(bytes, id);
     let order = order_of(bytes, found.leaf);

@@ -4,7 +4,7 @@ ghost use Rattle.dex_slab.specs.Slab.{IsSlab, IsSlabSize};
 ghost use Rattle.std.specs.Prelude.{length};
 
 use super::*;
-use crate::refused::write_whole_tree;
+use crate::rewriting::write_whole_tree;
 use dex_fields::get_u64;
 use dex_fields::slab::{BUMP_INDEX, FREE_LIST_LEN, LEAF_COUNT};
 use dex_types::{Address, Order, Side, SideBook, SideRead};

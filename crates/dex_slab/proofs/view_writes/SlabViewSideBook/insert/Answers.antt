@@ -2,7 +2,6 @@ use Rattle.std.proofs.Common.{rules, arith}
 use Rattle.dex_slab.specs.Slab.{tree_of}
 use Rattle.dex_slab.proofs.FoundLaw.{new-rests}
 use Rattle.dex_slab.proofs.Standing.{count-listed}
-use Rattle.dex_slab.proofs.FrameKept.{frame_of_three}
 use Rattle.dex_slab.proofs.view_writes.SlabViewSideBook.insert.Goals as goal
 
 pub insert_order-requires-clause-new : goal.insert_order-requires-clause-new
@@ -16,6 +15,4 @@ insert_order-requires-clause-room c =
     omega (arith, c.requires.room, count-listed view.side view.bytes.now c.requires.holds)
 
 pub returns-clause-place : goal.returns-clause-place
-returns-clause-place c =
-    let view = c.args.self.now in
-    (search rules, frame_of_three view.bytes.now c.insert_order.new.bytes (search rules) c.insert_order.ensures.three)
+returns-clause-place c = (search rules, c.insert_order.ensures.frame)

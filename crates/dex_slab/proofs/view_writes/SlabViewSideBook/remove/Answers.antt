@@ -1,7 +1,6 @@
 use Rattle.std.proofs.Common.{rules}
 use Rattle.dex_slab.specs.Slab.{tree_of}
 use Rattle.dex_slab.proofs.FoundLaw.{RestsOn-from}
-use Rattle.dex_slab.proofs.FrameKept.{frame_of_three}
 use Rattle.dex_slab.proofs.view_writes.SlabViewSideBook.remove.Goals as goal
 
 pub remove_order-requires-clause-rests : goal.remove_order-requires-clause-rests
@@ -10,6 +9,4 @@ remove_order-requires-clause-rests c =
     RestsOn-from view.side c.args.id (tree_of view.bytes.now) c.requires.rests
 
 pub returns-clause-place : goal.returns-clause-place
-returns-clause-place c =
-    let view = c.args.self.now in
-    (search rules, frame_of_three view.bytes.now c.remove_order.new.bytes (search rules) c.remove_order.ensures.three)
+returns-clause-place c = (search rules, c.remove_order.ensures.frame)

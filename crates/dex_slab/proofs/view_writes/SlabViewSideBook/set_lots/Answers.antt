@@ -1,7 +1,6 @@
 use Rattle.std.proofs.Common.{rules}
 use Rattle.dex_slab.specs.Slab.{tree_of}
 use Rattle.dex_slab.proofs.FoundLaw.{RestsOn-from}
-use Rattle.dex_slab.proofs.FrameKept.{frame_of_lots}
 use Rattle.dex_slab.proofs.view_writes.SlabViewSideBook.set_lots.Goals as goal
 
 pub set_order_lots-requires-clause-rests : goal.set_order_lots-requires-clause-rests
@@ -10,6 +9,4 @@ set_order_lots-requires-clause-rests c =
     RestsOn-from view.side c.args.id (tree_of view.bytes.now) c.requires.rests
 
 pub returns-clause-place : goal.returns-clause-place
-returns-clause-place c =
-    let view = c.args.self.now in
-    (search rules, frame_of_lots c.args.id view.bytes.now c.set_order_lots.new.bytes c.requires.holds (search rules) c.set_order_lots.ensures.eight)
+returns-clause-place c = (search rules, c.set_order_lots.ensures.frame)

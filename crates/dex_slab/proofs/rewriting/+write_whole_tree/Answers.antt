@@ -1,7 +1,8 @@
 use Rattle.std.proofs.Common.{sym, ◌∙◌, arith}
+use Rattle.dex_slab.specs.SamePlace.{frame_chains}
 use Rattle.dex_slab.proofs.BestLaw.{best-back, best-fewer, best-is, best-new, best-nodes, best-rests}
 use Rattle.dex_slab.proofs.Standing.{count-room}
-use Rattle.dex_slab.proofs.refused.+write_whole_tree.Goals as goal
+use Rattle.dex_slab.proofs.rewriting.+write_whole_tree.Goals as goal
 
 pub remove_order-requires-clause-rests : goal.remove_order-requires-clause-rests
 remove_order-requires-clause-rests t c =
@@ -74,3 +75,11 @@ returns-in-Some-clause-freed t c =
       c.write_whole_tree.ensures.freed,
       c.remove_order.ensures.freed,
     )
+
+pub returns-in-Some-clause-frame : goal.returns-in-Some-clause-frame
+returns-in-Some-clause-frame t c =
+    let first = c.args.bytes.now in
+    let second = c.remove_order.new.bytes in
+    let third = c.write_whole_tree.new.bytes in
+    let fourth = c.insert_order.new.bytes in
+    frame_chains first third fourth (frame_chains first second third c.remove_order.ensures.frame c.write_whole_tree.ensures.frame) c.insert_order.ensures.frame
