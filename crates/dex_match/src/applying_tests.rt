@@ -24,6 +24,7 @@ ghost use Rattle.dex_types.specs.Side as book;
 use super::*;
 use crate::applying::apply;
 use crate::intake::sizes_in;
+use crate::order_outlook::outlook;
 use crate::payment::{Moves, moves_by};
 use dex_book::ListSide;
 use dex_fields::{
