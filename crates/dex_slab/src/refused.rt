@@ -4,7 +4,7 @@
 ghost use Rattle.std.specs.Prelude.{◌≡◌, ◌+◌, Some};
 ghost use Rattle.dex_types.specs.declared.terms.Side as sides;
 ghost use Rattle.dex_types.specs.Cancel.{order_with, without_order};
-ghost use Rattle.dex_slab.specs.Changes.{ChangesThreeNodes};
+ghost use Rattle.dex_slab.specs.Changes.{ChangesThreeNodes, KeepsFrame};
 ghost use Rattle.dex_slab.specs.Nodes.{bump_of, count_of, free_len_of};
 ghost use Rattle.dex_slab.specs.Slab.{IsSlab, resting, tree_of};
 ghost use Rattle.dex_slab.specs.Walks.{RestsOn, nodes_given};
@@ -24,6 +24,7 @@ pub(crate) fn remove_order(bytes: &mut [u8], id: u128) -> Order
     ensures bump { bump_of bytes.new ≡ bump_of bytes.old }
     ensures freed { free_len_of bytes.new + 1 ≡ free_len_of bytes.old + nodes_given (count_of bytes.old) }
     ensures three { ChangesThreeNodes bytes.old bytes.new }
+    ensures frame { KeepsFrame bytes.old bytes.new }
 {
     let order = remove::remove_order(bytes, id);
     take_node(bytes);
