@@ -3,4 +3,3 @@ pub mod PartLaws
 pub mod TokenLaws
 pub mod RequestLaws
 pub mod MadeLaws
-pub mod OneMarket

@@ -17,7 +17,8 @@ use Rattle.dex_sound.proofs.MadeLaws.{made_market-sound}
 use Rattle.dex_dump.specs.declared.market.MarketSet.{MarketSet}
 use Rattle.dex_dump.specs.MarketBytes.{blank_orders}
 use Rattle.dex_dump.specs.MarketSet.{CanTrade, IsMarketSet, listing_of}
-use Rattle.dex_dump.specs.StandsFor.{StandsFor, blank_account, with_blanks}
+use Rattle.dex_accounts.specs.StandsFor.{StandsFor}
+use Rattle.dex_dump.specs.Blanks.{blank_account, with_blanks}
 
 pub IsBlank-blank_orders : IsBlank blank_orders
 unfolding blank_orders

@@ -2,4 +2,4 @@ pub mod Derived
 pub mod TokenBytes
 pub mod MarketSet
 pub mod MarketBytes
-pub mod StandsFor
+pub mod Blanks

@@ -4,14 +4,15 @@ ghost use Rattle.std.specs.Prelude.{◌≡◌, ◌≢◌, false, [], List, lengt
 ghost use Rattle.dex_types.specs.declared.addresses.Address.{Address};
 ghost use Rattle.dex_types.specs.Accounts.{PlainMarketAccounts};
 ghost use Rattle.dex_types.specs.Addresses.{is_same};
-ghost use Rattle.dex_types.specs.Market.{Listing, Market};
+ghost use Rattle.dex_types.specs.Market.{Listing};
 ghost use Rattle.dex_types.specs.Soundness.{AreDistinct, IsSound};
 ghost use Rattle.dex_sound.specs.Made.{CanMake, blanks, made_market};
 ghost use Rattle.dex_dump.specs.declared.market.MarketSet.{MarketSet};
 ghost use Rattle.dex_dump.specs.declared.parts.MarketPart.{MarketPart};
 ghost use Rattle.dex_dump.specs.Derived.{derived};
 ghost use Rattle.dex_dump.specs.MarketSet.{CanTrade, IsMarketSet, listing_of};
-ghost use Rattle.dex_dump.specs.StandsFor.{StandsFor, with_blanks};
+ghost use Rattle.dex_accounts.specs.StandsFor.{StandsFor};
+ghost use Rattle.dex_dump.specs.Blanks.{with_blanks};
 
 /// Two parts of a market have two addresses, and where the market's own address has 0 as its last byte, none has that.
 pub fn parts_have_addresses_of_their_own()
@@ -19,11 +20,6 @@ pub fn parts_have_addresses_of_their_own()
         → is_same (derived market part) (derived market other) ≡ false }
     ensures own { (market : Address) → length market.0 ≡ 32 → slice_index market.0 31 ≡ 0 → (part : MarketPart)
         → is_same (derived market part) market ≡ false }
-{}
-
-/// A market's accounts stand for one market: they determine all of it.
-pub fn accounts_stand_for_one_market()
-    ensures { (accounts : PlainMarketAccounts) (market other : Market) → StandsFor accounts market → StandsFor accounts other → market ≡ other }
 {}
 
 /// Where accounts stand for a market as it is made, these with blank open-orders accounts stand for the market as it is

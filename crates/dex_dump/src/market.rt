@@ -13,7 +13,7 @@ ghost use Rattle.dex_sound.specs.Made.{made_market};
 ghost use Rattle.dex_types.specs.Accounts.{market_accounts_of};
 ghost use Rattle.dex_dump.specs.MarketBytes.{HasAddresses, blank_orders, made_accounts, market_bytes, request_bytes};
 ghost use Rattle.dex_dump.specs.MarketSet.{CanTrade, IsMarketSet, listing_of};
-ghost use Rattle.dex_dump.specs.StandsFor.{StandsFor};
+ghost use Rattle.dex_accounts.specs.StandsFor.{StandsFor};
 ghost use Rattle.dex_market.specs.StandsFor.{StandsForMarket};
 
 use crate::market_bytes::write_market;

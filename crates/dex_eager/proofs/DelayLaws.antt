@@ -23,8 +23,8 @@ use Rattle.dex_instruction.specs.Reading.{decoded}
 use Rattle.dex_laws.proofs.TraderLaws.{is_same-true, traders-induction, trader_at-here, trader_at-there}
 use Rattle.dex_sound.proofs.KeepLaws.{step-keeps}
 use Rattle.dex_sound.specs.Kept.{addresses}
-use Rattle.dex_cell.proofs.PriceLaws.{row-sound}
-use Rattle.dex_cell.specs.Journal.{Call, IsLegal, request_of, step_of, entry_on, market_after}
+use Rattle.dex_history.proofs.PriceLaws.{row-sound}
+use Rattle.dex_history.specs.Journal.{Call, IsLegal, request_of, step_of, entry_on, market_after}
 use Rattle.dex_eager.specs.Eager.{Eager, EagerStep, eager_at, worth_at, unchanged, by_account, eager_order, eager_take, eager_act, eager_decoded, eager_step}
 use Rattle.dex_eager.specs.Histories.{IsPaidAs, Fill, Trade, is_refusal, is_crank, counts, counted, trade_of, trades, eager_call, eager_after, eager_start, eager_end, eager_fills, fills_by, fills_of, appended, moves_after, moves_of}
 use Rattle.dex_eager.specs.Slots.{maker_fills}

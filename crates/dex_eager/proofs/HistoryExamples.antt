@@ -13,7 +13,7 @@ use Rattle.dex_types.specs.Side.{Coin, Pc, price_of, sequence_of, id_of}
 use Rattle.dex_instruction.specs.Numbers.{number_at}
 use Rattle.dex_instruction.specs.Reading.{decoded, instruction}
 use Rattle.dex_instruction.specs.Rules.{broken}
-use Rattle.dex_cell.specs.Journal.{Call, market_after}
+use Rattle.dex_history.specs.Journal.{Call, market_after}
 use Rattle.dex_sound.proofs.ExampleMarket.{label, amy, ben, ann, bob, base, ask_sees, buy_sees, nothing}
 use Rattle.dex_eager.specs.Histories.{Fill, counted, eager_end, eager_fills, eager_start, fills_of, moves_of}
 use Rattle.dex_eager.specs.Worth.{worth_of}

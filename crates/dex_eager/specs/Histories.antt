@@ -14,7 +14,7 @@ use Rattle.dex_types.specs.Rows.{PlainRow}
 use Rattle.dex_types.specs.Steps.{Step}
 use Rattle.dex_types.specs.Terms.{tier_seen}
 use Rattle.dex_instruction.specs.Reading.{decoded}
-use Rattle.dex_cell.specs.Journal.{Call, request_of, step_of}
+use Rattle.dex_history.specs.Journal.{Call, request_of, step_of}
 use Rattle.dex_eager.specs.Eager.{Eager, EagerStep, eager_at, eager_step}
 use Rattle.dex_eager.specs.Slots.{maker_fills}
 use Rattle.dex_eager.specs.Worth.{Ledger, no_moves, with_step}

@@ -7,7 +7,7 @@ ghost use Rattle.dex_types.specs.Side.{Token};
 ghost use Rattle.dex_types.specs.Solvency.{own_locked};
 ghost use Rattle.dex_types.specs.Soundness.{IsSound};
 ghost use Rattle.dex_types.specs.Trader.{Trader, trader_at};
-ghost use Rattle.dex_cell.specs.Journal.{Call, IsLegal, market_after};
+ghost use Rattle.dex_history.specs.Journal.{Call, IsLegal, market_after};
 ghost use Rattle.dex_eager.specs.Eager.{eager_at, worth_at};
 ghost use Rattle.dex_eager.specs.Histories.{counted, trades, eager_start, eager_end, eager_fills, fills_of, moves_of};
 ghost use Rattle.dex_eager.specs.Slots.{without_slots};

@@ -1,0 +1,2 @@
+pub mod OneMarket
+pub mod Decoded

@@ -1,0 +1,3 @@
+pub mod StandsFor
+pub mod Decoded
+pub mod Accepted

@@ -1,5 +1,0 @@
-use Rattle.dex_cell.proofs.BalanceLaws.{balance-never}
-use Rattle.dex_cell.proofs.balances.no_balance_is_too_large_within_a_supply.Goals as goal
-
-pub returns : goal.returns
-returns c = balance-never

@@ -1,5 +1,0 @@
-use Rattle.dex_cell.proofs.PriceLaws.{crank-answered}
-use Rattle.dex_cell.proofs.soundness.a_crank_row_is_never_refused.Goals as goal
-
-pub returns : goal.returns
-returns c = crank-answered
