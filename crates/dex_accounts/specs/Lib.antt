@@ -1,3 +1,6 @@
 pub mod StandsFor
 pub mod Decoded
 pub mod Accepted
+pub mod Owners
+pub mod Parts
+pub mod Keeps

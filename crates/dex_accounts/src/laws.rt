@@ -5,6 +5,7 @@ ghost use Rattle.dex_types.specs.Accounts.{PlainMarketAccounts};
 ghost use Rattle.dex_types.specs.Market.{Market};
 ghost use Rattle.dex_accounts.specs.Decoded.{market_in};
 ghost use Rattle.dex_accounts.specs.StandsFor.{StandsFor};
+ghost use Rattle.dex_accounts.specs.Parts.{AreOf, parts_of};
 
 /// A market's accounts stand for one market: they determine all of it.
 pub fn accounts_stand_for_one_market()
@@ -14,4 +15,9 @@ pub fn accounts_stand_for_one_market()
 /// Where accounts stand for a market, it is the one that they tell.
 pub fn accounts_tell_their_market()
     ensures { (accounts : PlainMarketAccounts) (market : Market) → StandsFor accounts market → market_in accounts ≡ market }
+{}
+
+/// The parts that accounts hold are those of the market that they stand for.
+pub fn parts_of_accounts_are_of_their_market()
+    ensures { (accounts : PlainMarketAccounts) (market : Market) → StandsFor accounts market → AreOf (parts_of accounts) market }
 {}

@@ -3,4 +3,7 @@
 
 mod laws;
 
-pub use laws::{accounts_stand_for_one_market, accounts_tell_their_market};
+pub use laws::{
+    accounts_stand_for_one_market, accounts_tell_their_market,
+    parts_of_accounts_are_of_their_market,
+};
