@@ -1,5 +1,5 @@
 -- histories: the eager market's end is the market's, and cranks change neither
-use Rattle.std.proofs.Common.{ℕ, zero, suc, pos, ◌+◌, ◌-ℤ◌, ◌≡◌, true, false, not, ◌&&◌, List, [], ◌∷◌, ◌++◌, map, take, Option, Some, None, Result, Ok, Err, refl, sym, ap, ◌∙◌, arith, ⊎_elim}
+use Rattle.std.proofs.Common.{ℕ, pos, ◌+◌, ◌-ℤ◌, ◌≡◌, true, false, not, ◌&&◌, List, [], ◌∷◌, ◌++◌, map, take, Option, Some, None, Result, Ok, Err, refl, sym, ap, ◌∙◌, arith, ⊎_elim}
 use Rattle.std.proofs.lemmas.Bool.{cases_Bool, cond-true, cond-false}
 use Rattle.std.proofs.lemmas.Int.{ints}
 use Rattle.dex_types.specs.declared.addresses.Address.{Address}
@@ -19,12 +19,12 @@ use Rattle.dex_types.specs.Soundness.{IsSound}
 use Rattle.dex_types.specs.Take.{Take}
 use Rattle.dex_types.specs.Terms.{tier_seen}
 use Rattle.dex_types.specs.Trader.{Trader, Traders, trader_at}
-use Rattle.dex_instruction.specs.Reading.{decoded}
 use Rattle.dex_laws.proofs.TraderLaws.{is_same-true, traders-induction, trader_at-here, trader_at-there}
 use Rattle.dex_sound.proofs.KeepLaws.{step-keeps}
 use Rattle.dex_sound.specs.Kept.{addresses}
-use Rattle.dex_history.proofs.PriceLaws.{row-sound}
-use Rattle.dex_history.specs.Journal.{Call, IsLegal, request_of, step_of, entry_on, market_after}
+use Rattle.dex_history.proofs.HistoryLaws.{IsLegal-front}
+use Rattle.dex_history.proofs.PriceLaws.{asked-sound}
+use Rattle.dex_history.specs.Journal.{Call, IsLegal, step_of, entry_on, market_after}
 use Rattle.dex_eager.specs.Eager.{Eager, EagerStep, eager_at, worth_at, unchanged, by_account, eager_order, eager_take, eager_act, eager_decoded, eager_step}
 use Rattle.dex_eager.specs.Histories.{IsPaidAs, Fill, Trade, is_refusal, is_crank, counts, counted, trade_of, trades, eager_call, eager_after, eager_start, eager_end, eager_fills, fills_by, fills_of, appended, moves_after, moves_of}
 use Rattle.dex_eager.specs.Slots.{maker_fills}
@@ -33,23 +33,23 @@ use Rattle.dex_eager.proofs.HistorySteps.{Goes, step-goes}
 use Rattle.dex_eager.proofs.WorthLists.{worths_by, worths-by}
 
 -- a call that counts is the eager market's, and any other changes nothing there
-call-goes : (call : Call) (m : Market) (ledger : Ledger) → IsSound m → Goes m ledger (request_of call.row) call.seen
-call-goes call m ledger sound = step-goes m ledger (request_of call.row) call.seen sound
+call-goes : (call : Call) (m : Market) (ledger : Ledger) → IsSound m → Goes m ledger call.asked.request call.seen
+call-goes call m ledger sound = step-goes m ledger call.asked.request call.seen sound
 
 answered : (call : Call) (m : Market) → call.entry ≡ entry_on call m → call.entry.reply ≡ (step_of call m).reply
 answered call m is = ap (λ entry. entry.reply) is
 
 counted-goes : (call : Call) (m : Market) (ledger : Ledger) → IsSound m → call.entry ≡ entry_on call m → counts call ≡ true
-    → IsPaidAs m ledger call.row.named (step_of call m) (eager_call call (eager_at m ledger))
+    → IsPaidAs m ledger call.asked.request.named (step_of call m) (eager_call call (eager_at m ledger))
 counted-goes call m ledger sound is does =
     (call-goes call m ledger sound).counted
-    (sym (ap (λ reply. not (is_refusal reply) && not (is_crank (decoded call.row.bytes))) (answered call m is)) ∙ does)
+    (sym (ap (λ reply. not (is_refusal reply) && not (is_crank call.asked.request.instruction)) (answered call m is)) ∙ does)
 
 passed-goes : (call : Call) (m : Market) (ledger : Ledger) → IsSound m → call.entry ≡ entry_on call m → counts call ≡ false
-    → IsPaidAs m ledger call.row.named (step_of call m) (unchanged (eager_at m ledger))
+    → IsPaidAs m ledger call.asked.request.named (step_of call m) (unchanged (eager_at m ledger))
 passed-goes call m ledger sound is not_counted =
     (call-goes call m ledger sound).passed
-    (sym (ap (λ reply. not (is_refusal reply) && not (is_crank (decoded call.row.bytes))) (answered call m is)) ∙ not_counted)
+    (sym (ap (λ reply. not (is_refusal reply) && not (is_crank call.asked.request.instruction)) (answered call m is)) ∙ not_counted)
 
 counted-true : (call : Call) (calls : List Call) → counts call ≡ true → counted (call ∷ calls) ≡ call ∷ counted calls
 counted-true call calls is = cond-true _ _ _ is
@@ -63,17 +63,17 @@ pub history-market : (calls : List Call) (m : Market) (ledger : Ledger) → IsSo
 history-market [] m ledger sound legal = refl
 history-market (call ∷ calls) m ledger sound legal =
     let after : Market = (step_of call m).market in
-    let later : Ledger = with_step call.row.named (step_of call m) ledger in
+    let later : Ledger = with_step call.asked.request.named (step_of call m) ledger in
     let rest : eager_after (eager_at after later) (counted calls) ≡ eager_at (market_after after calls) (moves_after after calls later) =
-    history-market calls after later (row-sound call.row call.seen m sound) legal.2 in
+    history-market calls after later (asked-sound call.asked call.seen m sound legal.0.price) legal.1 in
     ⊎_elim
     (λ (does : counts call ≡ true).
     ap (eager_after (eager_at m ledger)) (counted-true call calls does)
-    ∙ ap (λ e. eager_after e (counted calls)) (sym (counted-goes call m ledger sound legal.1 does).market)
+    ∙ ap (λ e. eager_after e (counted calls)) (sym (counted-goes call m ledger sound legal.0.entry does).market)
     ∙ rest)
     (λ (passes : counts call ≡ false).
     ap (eager_after (eager_at m ledger)) (counted-false call calls passes)
-    ∙ ap (λ e. eager_after e (counted calls)) (sym (passed-goes call m ledger sound legal.1 passes).market)
+    ∙ ap (λ e. eager_after e (counted calls)) (sym (passed-goes call m ledger sound legal.0.entry passes).market)
     ∙ rest)
     (cases_Bool (counts call))
 
@@ -83,34 +83,28 @@ pub history-fills : (calls : List Call) (m : Market) (ledger : Ledger) → IsSou
 history-fills [] m ledger sound legal = refl
 history-fills (call ∷ calls) m ledger sound legal =
     let after : Market = (step_of call m).market in
-    let later : Ledger = with_step call.row.named (step_of call m) ledger in
+    let later : Ledger = with_step call.asked.request.named (step_of call m) ledger in
     let rest : eager_fills (eager_at after later) (counted calls) ≡ fills_of after calls =
-    history-fills calls after later (row-sound call.row call.seen m sound) legal.2 in
+    history-fills calls after later (asked-sound call.asked call.seen m sound legal.0.price) legal.1 in
     ⊎_elim
     (λ (does : counts call ≡ true).
-    let paid : IsPaidAs m ledger call.row.named (step_of call m) (eager_call call (eager_at m ledger)) = counted-goes call m ledger sound legal.1 does in
+    let paid : IsPaidAs m ledger call.asked.request.named (step_of call m) (eager_call call (eager_at m ledger)) = counted-goes call m ledger sound legal.0.entry does in
     ap (eager_fills (eager_at m ledger)) (counted-true call calls does)
     ∙ ap (λ fills. fills_by call fills ++ eager_fills (eager_call call (eager_at m ledger)).market (counted calls)) (sym paid.fills)
     ∙ ap (λ e. fills_by call (maker_fills (appended m after)) ++ eager_fills e (counted calls)) (sym paid.market)
     ∙ ap (λ fills. fills_by call (maker_fills (appended m after)) ++ fills) rest)
     (λ (passes : counts call ≡ false).
-    let paid : IsPaidAs m ledger call.row.named (step_of call m) (unchanged (eager_at m ledger)) = passed-goes call m ledger sound legal.1 passes in
+    let paid : IsPaidAs m ledger call.asked.request.named (step_of call m) (unchanged (eager_at m ledger)) = passed-goes call m ledger sound legal.0.entry passes in
     ap (eager_fills (eager_at m ledger)) (counted-false call calls passes)
     ∙ ap (λ e. eager_fills e (counted calls)) (sym paid.market)
     ∙ rest
     ∙ ap (λ fills. fills_by call fills ++ fills_of after calls) (sym paid.fills))
     (cases_Bool (counts call))
 
--- the front of a legal history is legal
-pub legal-front : (count : ℕ) (calls : List Call) (m : Market) → IsLegal m calls → IsLegal m (take count calls)
-legal-front zero calls m legal = tt
-legal-front (suc count) [] m legal = tt
-legal-front (suc count) (call ∷ calls) m legal = (legal.0, legal.1, legal-front count calls (step_of call m).market legal.2)
-
 -- at each place
 pub place-market : (count : ℕ) (calls : List Call) (m : Market) → IsSound m → IsLegal m calls
     → eager_end m (take count calls) ≡ eager_at (market_after m (take count calls)) (moves_of m (take count calls))
-place-market count calls m sound legal = history-market (take count calls) m no_moves sound (legal-front count calls m legal)
+place-market count calls m sound legal = history-market (take count calls) m no_moves sound (IsLegal-front count calls m legal)
 
 -- what an instruction does on the eager market goes by the tier and the program alone of what it sees
 act-sees : (ix : Ix) (request : Request) (seen other : Seen) (e : Eager) → tier_seen seen ≡ tier_seen other → seen.program ≡ other.program
@@ -154,8 +148,8 @@ decoded-sees (Ok ix) request seen other e tier program = act-sees ix request see
 -- so one trade does one thing
 trade-same : (call other : Call) (e : Eager) → trade_of call ≡ trade_of other → eager_call call e ≡ eager_call other e
 trade-same call other e same =
-    ap (λ (trade : Trade). eager_step (request_of trade.row) call.seen e) same
-    ∙ decoded-sees (decoded other.row.bytes) (request_of other.row) call.seen other.seen e (ap (λ (trade : Trade). trade.tier) same) (ap (λ (trade : Trade). trade.program) same)
+    ap (λ (trade : Trade). eager_step trade.asked.request call.seen e) same
+    ∙ decoded-sees other.asked.request.instruction other.asked.request call.seen other.seen e (ap (λ (trade : Trade). trade.tier) same) (ap (λ (trade : Trade). trade.program) same)
 
 -- the first and the others of two equal lists
 abbrev first_or : Trade → List Trade → Trade
@@ -184,8 +178,8 @@ trades-fills (call ∷ calls) [] e same = absurd cc
 trades-fills (call ∷ calls) (other ∷ others) e same =
     let one : trade_of call ≡ trade_of other = ap (first_or (trade_of call)) same in
     let numbered : ℕ → List QueuedEvent → List Fill = λ number events. map (λ event. record { row = number; event = event }) events in
-    ap (λ (s : EagerStep). numbered call.row.number s.fills ++ eager_fills s.market calls) (trade-same call other e one)
-    ∙ ap (λ (trade : Trade). numbered trade.row.number (eager_call other e).fills ++ eager_fills (eager_call other e).market calls) one
+    ap (λ (s : EagerStep). numbered call.asked.number s.fills ++ eager_fills s.market calls) (trade-same call other e one)
+    ∙ ap (λ (trade : Trade). numbered trade.asked.number (eager_call other e).fills ++ eager_fills (eager_call other e).market calls) one
     ∙ ap (λ fills. fills_by other (eager_call other e).fills ++ fills) (trades-fills calls others (eager_call other e).market (ap behind same))
 
 -- so do two histories of one start with equal trades
@@ -232,7 +226,7 @@ worth-drained token owner m ledger drained =
 pub addresses-after : (calls : List Call) (m : Market) → addresses (market_after m calls).traders ≡ addresses m.traders
 addresses-after [] m = refl
 addresses-after (call ∷ calls) m =
-    addresses-after calls (step_of call m).market ∙ (step-keeps (request_of call.row) call.seen m).accounts
+    addresses-after calls (step_of call m).market ∙ (step-keeps call.asked.request call.seen m).accounts
 
 -- so the worths at its end are of the accounts at its start
 worths-at-start : (calls : List Call) (m : Market) (worth : Address → Worth)

@@ -13,7 +13,7 @@ use Rattle.dex_types.specs.Side.{Coin, Pc, price_of, sequence_of, id_of}
 use Rattle.dex_instruction.specs.Numbers.{number_at}
 use Rattle.dex_instruction.specs.Reading.{decoded, instruction}
 use Rattle.dex_instruction.specs.Rules.{broken}
-use Rattle.dex_history.specs.Journal.{Call, market_after}
+use Rattle.dex_history.specs.Journal.{Call, asked_of, market_after}
 use Rattle.dex_sound.proofs.ExampleMarket.{label, amy, ben, ann, bob, base, ask_sees, buy_sees, nothing}
 use Rattle.dex_eager.specs.Histories.{Fill, counted, eager_end, eager_fills, eager_start, fills_of, moves_of}
 use Rattle.dex_eager.specs.Worth.{worth_of}
@@ -29,7 +29,7 @@ crank_data = 0 ∷ 3 ∷ 0 ∷ 0 ∷ 0 ∷ 5 ∷ 0 ∷ []
 
 abbrev call : ℕ → Address → List Address → List ℕ → Seen → Reply → Call
 call number signer named bytes seen reply = record {
-  row = record {
+  asked = asked_of (record {
     lane = 0;
     number = number;
     market = label (codes "m");
@@ -41,7 +41,7 @@ call number signer named bytes seen reply = record {
     referrer = None;
     bytes = bytes;
     now = pos 0;
-  };
+  });
   seen = seen;
   entry = record { lane = 0; row = number; reply = reply; moves = [] };
 }
@@ -55,7 +55,7 @@ history =
     ∷ []
 
 -- two of the calls count
-two_count : map (λ (one : Call). one.row.number) (counted history) ≡ 12 ∷ 14 ∷ []
+two_count : map (λ (one : Call). one.asked.number) (counted history) ≡ 12 ∷ 14 ∷ []
 unfolding decoded broken instruction number_at
 two_count = refl
 

@@ -18,7 +18,6 @@ use Rattle.dex_types.specs.Meeting.{Meeting}
 use Rattle.dex_types.specs.NewOrder.{NewOrder, Ordering, order_on, after_order}
 use Rattle.dex_types.specs.Reasons.{ask_too_large, disabled, first_of, other_mint, too_full}
 use Rattle.dex_types.specs.Requests.{Request, Party, party_of}
-use Rattle.dex_types.specs.Rows.{PlainRow}
 use Rattle.dex_types.specs.Settle.{settlement, settle_transfers, sweep_transfers}
 use Rattle.dex_types.specs.Side.{Token, Coin, Pc, opposite}
 use Rattle.dex_types.specs.Solvency.{vault}
@@ -36,7 +35,7 @@ use Rattle.dex_sound.proofs.GivenLaws.{is_plain, Gives, IsPlain, first_of-gives,
 use Rattle.dex_sound.proofs.OrderSoundReasons.{first_of-none, refused_where-none}
 use Rattle.dex_sound.proofs.StepSound.{party-found}
 use Rattle.dex_history.specs.Balances.{mint_of, FitsVault, FitVaults}
-use Rattle.dex_history.specs.Journal.{Agree, Sees, request_of}
+use Rattle.dex_history.specs.Journal.{Agree, Asked, Sees}
 
 -- what transfers pay out of each vault is in it, and a referrer is paid out of the quote vault
 pub record ArePaid (t : Transfers) (m : Market) : Type 0 where
@@ -143,7 +142,7 @@ record Roles (seen : Seen) (t : Transfers) (m : Market) : Type 0 where
   pub pc : other_mint m.listing.pc_mint seen.pc ≡ None
   pub paid : ArePaid t m
 
-coin-full : (row : PlainRow) (seen : Seen) (t : Transfers) (m : Market) → Sees row seen → FitVaults seen m → Roles seen t m
+coin-full : (row : Asked) (seen : Seen) (t : Transfers) (m : Market) → Sees row seen → FitVaults seen m → Roles seen t m
     → ((wallet : WalletSeen) → seen.coin ≡ Some wallet → is_same m.listing.coin_mint wallet.mint ≡ true → amount_at wallet.address seen.referrer t.referrer_out ≡ 0)
     → Gives NotBalance (too_full seen t seen.coin)
 coin-full row seen t m sees fit roles referrer =
@@ -157,7 +156,7 @@ coin-full row seen t m sees fit roles referrer =
           (referrer wallet is mint),
     ))
 
-pc-full : (row : PlainRow) (seen : Seen) (t : Transfers) (m : Market) → Sees row seen → FitVaults seen m → Roles seen t m → Gives NotBalance (too_full seen t seen.pc)
+pc-full : (row : Asked) (seen : Seen) (t : Transfers) (m : Market) → Sees row seen → FitVaults seen m → Roles seen t m → Gives NotBalance (too_full seen t seen.pc)
 pc-full row seen t m sees fit roles =
     fits-full Pc seen t m seen.pc (fit.pc Pc) roles.pc
     (λ wallet is mint.
@@ -169,7 +168,7 @@ pc-full row seen t m sees fit roles =
           (apart-amount m.listing.pc_mint m.listing.coin_mint wallet seen.coin t.coin_out (apart-back m roles.mints) mint roles.coin (agree-one_back wallet seen.coin agree)),
     ))
 
-referrer-full : (row : PlainRow) (seen : Seen) (t : Transfers) (m : Market) → Sees row seen → FitVaults seen m → Roles seen t m
+referrer-full : (row : Asked) (seen : Seen) (t : Transfers) (m : Market) → Sees row seen → FitVaults seen m → Roles seen t m
     → other_mint m.listing.pc_mint seen.referrer ≡ None → Gives NotBalance (too_full seen t seen.referrer)
 referrer-full row seen t m sees fit roles right =
     fits-full Pc seen t m seen.referrer (fit.referrer Pc) right
@@ -183,7 +182,7 @@ referrer-full row seen t m sees fit roles right =
     ))
 
 -- settling
-settle-balances : (row : PlainRow) (request : Request) (seen : Seen) (m : Market) (party : Party) → IsSound m → Sees row seen → FitVaults seen m
+settle-balances : (row : Asked) (request : Request) (seen : Seen) (m : Market) (party : Party) → IsSound m → Sees row seen → FitVaults seen m
     → trader_at party.address m.traders ≡ Some (Open party.account) → Gives NotBalance (why_settle request seen m party)
 settle-balances row request seen m party sound sees fit found =
     let t : Transfers = settle_transfers (settlement (is_some seen.referrer) party.account) in
@@ -237,7 +236,7 @@ sweep-balances request seen m sound fit =
     none-at address role = omega (arith, amount-le address role 0)
 
 -- a take
-taking-balances : (row : PlainRow) (side : Side) (t : Take) (seen : Seen) (m : Market) → IsSound m → Sees row seen → FitVaults seen m
+taking-balances : (row : Asked) (side : Side) (t : Take) (seen : Seen) (m : Market) → IsSound m → Sees row seen → FitVaults seen m
     → other_mint m.listing.coin_mint seen.coin ≡ None → other_mint m.listing.pc_mint seen.pc ≡ None → Gives NotBalance (why_taking side t seen (take_reading side t seen m))
 taking-balances row side t seen m sound sees fit coin pc =
     let met : Meeting = take_meeting side m.listing.sizes t (orders (opposite side) m) in
@@ -267,7 +266,7 @@ taking-balances row side t seen m sound sees fit coin pc =
       ),
     )
 
-take-balances : (row : PlainRow) (side : Side) (t : Take) (request : Request) (seen : Seen) (m : Market) → IsSound m → Sees row seen → FitVaults seen m
+take-balances : (row : Asked) (side : Side) (t : Take) (request : Request) (seen : Seen) (m : Market) → IsSound m → Sees row seen → FitVaults seen m
     → Gives NotBalance (why_take side t request seen m)
 take-balances row side t request seen m sound sees fit =
     first_of-gives NotBalance (why_take_early side request seen m ∷ why_taking side t seen (take_reading side t seen m) ∷ []) (
@@ -312,7 +311,7 @@ party-balances : (why : Party → Option Refusal) (party : Option Party) → ((f
 party-balances why None each = some-gives NotBalance _ tt
 party-balances why (Some found) each = each found refl
 
-instruction-balances : (row : PlainRow) (ix : Ix) (request : Request) (seen : Seen) (m : Market) → IsSound m → Sees row seen → FitVaults seen m → Gives NotBalance (why_instruction ix request seen m)
+instruction-balances : (row : Asked) (ix : Ix) (request : Request) (seen : Seen) (m : Market) → IsSound m → Sees row seen → FitVaults seen m → Gives NotBalance (why_instruction ix request seen m)
 instruction-balances row (InitializeMarket coin_lot pc_lot fee_rate_bps nonce dust) request seen m sound sees fit = some-gives NotBalance _ tt
 instruction-balances row (MatchOrders limit) request seen m sound sees fit = none-gives NotBalance
 instruction-balances row (ConsumeEvents limit) request seen m sound sees fit = none-gives NotBalance
@@ -342,12 +341,12 @@ instruction-balances row (CancelOrdersByClientIds ids) request seen m sound sees
     let by : CancelBy = ByClients (take ids.count ids.ids) in
     party-balances (why_cancel by request m) (party_of request.named m.traders) (λ party found. plainly _ (why_cancel-plain by request m party))
 
-decoded-balances : (row : PlainRow) (instruction : Result Ix BadData) (request : Request) (seen : Seen) (m : Market) → IsSound m → Sees row seen → FitVaults seen m
+decoded-balances : (row : Asked) (instruction : Result Ix BadData) (request : Request) (seen : Seen) (m : Market) → IsSound m → Sees row seen → FitVaults seen m
     → Gives NotBalance (why_decoded instruction request seen m)
 decoded-balances row (Err rule) request seen m sound sees fit = some-gives NotBalance _ tt
 decoded-balances row (Ok ix) request seen m sound sees fit = instruction-balances row ix request seen m sound sees fit
 
 -- so no row is refused for a balance
-pub balance-never : (row : PlainRow) (seen : Seen) (m : Market) (balance amount : ℕ) → IsSound m → Sees row seen → FitVaults seen m → why (request_of row) seen m ≢ Some (BalanceTooLarge balance amount)
+pub balance-never : (row : Asked) (seen : Seen) (m : Market) (balance amount : ℕ) → IsSound m → Sees row seen → FitVaults seen m → why row.request seen m ≢ Some (BalanceTooLarge balance amount)
 balance-never row seen m balance amount sound sees fit refused =
-    decoded-balances row (request_of row).instruction (request_of row) seen m sound sees fit (BalanceTooLarge balance amount) refused
+    decoded-balances row row.request.instruction row.request seen m sound sees fit (BalanceTooLarge balance amount) refused

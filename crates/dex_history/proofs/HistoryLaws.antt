@@ -1,22 +1,28 @@
 -- histories grow at their end
-use Rattle.std.proofs.Common.{ℕ, ◌≡◌, ◌↔◌, List, [], ◌∷◌, ◌++◌, refl, subst}
+use Rattle.std.proofs.Common.{ℕ, zero, suc, take, ◌≡◌, ◌↔◌, List, [], ◌∷◌, ◌++◌, refl, subst}
 use Rattle.dex_types.specs.declared.movements.WalletEntry.{WalletEntry}
 use Rattle.dex_types.specs.Market.{Market}
 use Rattle.dex_types.specs.WalletJournal.{IsWalletLegal, CanMove, balance_after, moved_balance}
-use Rattle.dex_history.specs.Journal.{Call, IsLegal, Sees, market_after, entry_on, step_of}
+use Rattle.dex_history.specs.Journal.{Call, IsLegal, Stands, market_after, step_of}
 
 pub IsLegal-append : (calls later : List Call) (m : Market) → IsLegal m (calls ++ later) ↔ (IsLegal m calls × IsLegal (market_after m calls) later)
 IsLegal-append [] later m = (λ legal. (tt, legal), λ (front, legal). legal)
 IsLegal-append (call ∷ calls) later m =
     let rest : IsLegal (step_of call m).market (calls ++ later) ↔ (IsLegal (step_of call m).market calls × IsLegal (market_after (step_of call m).market calls) later) =
     IsLegal-append calls later (step_of call m).market in
-    (λ legal. ((legal.0, legal.1, (rest.0 legal.2).0), (rest.0 legal.2).1), λ both. (both.0.0, both.0.1, rest.1 (both.0.2, both.1)))
+    (λ legal. ((legal.0, (rest.0 legal.1).0), (rest.0 legal.1).1), λ both. (both.0.0, rest.1 (both.0.1, both.1)))
 
 pub IsLegal-one : (calls : List Call) (call : Call) (m : Market)
-    → IsLegal m (calls ++ (call ∷ [])) ↔ (IsLegal m calls × Sees call.row call.seen × (call.entry ≡ entry_on call (market_after m calls)))
+    → IsLegal m (calls ++ (call ∷ [])) ↔ (IsLegal m calls × Stands call (market_after m calls))
 IsLegal-one calls call m =
     let both : IsLegal m (calls ++ (call ∷ [])) ↔ (IsLegal m calls × IsLegal (market_after m calls) (call ∷ [])) = IsLegal-append calls (call ∷ []) m in
-    (λ legal. ((both.0 legal).0, (both.0 legal).1.0, (both.0 legal).1.1), λ parts. both.1 (parts.0, (parts.1, parts.2, tt)))
+    (λ legal. ((both.0 legal).0, (both.0 legal).1.0), λ parts. both.1 (parts.0, (parts.1, tt)))
+
+-- the front of a legal history is legal
+pub IsLegal-front : (count : ℕ) (calls : List Call) (m : Market) → IsLegal m calls → IsLegal m (take count calls)
+IsLegal-front zero calls m legal = tt
+IsLegal-front (suc count) [] m legal = tt
+IsLegal-front (suc count) (call ∷ calls) m legal = (legal.0, IsLegal-front count calls (step_of call m).market legal.1)
 
 pub market_after-append : (calls later : List Call) (m : Market) → market_after m (calls ++ later) ≡ market_after (market_after m calls) later
 market_after-append [] later m = refl

@@ -13,14 +13,13 @@ use Rattle.dex_types.specs.declared.rows.Seen.{Seen}
 use Rattle.dex_types.specs.declared.rows.WalletSeen.{WalletSeen}
 use Rattle.dex_types.specs.Fees.{taker_rate, maker_rate}
 use Rattle.dex_types.specs.Meeting.{taken, demand_after}
-use Rattle.dex_types.specs.Rows.{PlainRow}
 use Rattle.dex_types.specs.Side.{price_of, sequence_of, id_of}
 use Rattle.dex_types.specs.WalletJournal.{IsWalletLegal, balance_after}
 use Rattle.dex_types.specs.Wallets.{address_seen}
 use Rattle.dex_instruction.specs.Numbers.{number_at}
 use Rattle.dex_instruction.specs.Reading.{decoded, instruction}
 use Rattle.dex_instruction.specs.Rules.{broken}
-use Rattle.dex_history.specs.Journal.{Agree, Call, IsLegal, Sees, market_after}
+use Rattle.dex_history.specs.Journal.{Agree, Asked, Call, IsLegal, Sees, Stands, asked_of, market_after, step_of}
 use Rattle.dex_sound.proofs.ExampleMarket.{label, amy, ben, ann, bob, ann_coin, bob_coin, bob_usd, debit, sees, nothing, base, ask_sees, buy_sees, bought}
 
 -- the data of ann's ask of 4 lots at 50, and of bob's immediate bid for 3 lots at 60
@@ -33,7 +32,7 @@ buy_data = 0 ∷ 10 ∷ 0 ∷ 0 ∷ 0 ∷ 0 ∷ 0 ∷ 0 ∷ 0 ∷ 60 ∷ 0 ∷ 0
 -- ann's ask and bob's bid, with their entries
 abbrev ask_call : Call
 ask_call = record {
-  row = record {
+  asked = asked_of (record {
     lane = 0;
     number = 12;
     market = label (codes "m");
@@ -45,14 +44,14 @@ ask_call = record {
     referrer = None;
     bytes = ask_data;
     now = pos 0;
-  };
+  });
   seen = ask_sees 1000;
   entry = record { lane = 0; row = 12; reply = Ordered 922337203685477580800 0 0 0 0 4; moves = Some (debit (codes "ann_coin") 400 1000) ∷ None ∷ None ∷ None ∷ [] };
 }
 
 abbrev buy_call : Call
 buy_call = record {
-  row = record {
+  asked = asked_of (record {
     lane = 1;
     number = 13;
     market = label (codes "m");
@@ -64,13 +63,13 @@ buy_call = record {
     referrer = None;
     bytes = buy_data;
     now = pos 0;
-  };
+  });
   seen = buy_sees;
   entry = record { lane = 1; row = 13; reply = Ordered 1125251388496282648574 0 3 1500 4 0; moves = Some (debit (codes "bob_usd") 2000 5000) ∷ None ∷ None ∷ None ∷ [] };
 }
 
 -- what a row sees of the only wallet that it names
-only : (row : PlainRow) (seen : Seen) → address_seen seen.coin ≡ row.coin → address_seen seen.pc ≡ row.pc → address_seen None ≡ row.discount
+only : (row : Asked) (seen : Seen) → address_seen seen.coin ≡ row.coin → address_seen seen.pc ≡ row.pc → address_seen None ≡ row.discount
     → address_seen None ≡ row.referrer → Agree seen.coin seen.pc → Agree seen.coin None → Agree seen.pc None
     → Sees row (sees seen.coin seen.pc)
 only row seen coin pc discount referrer both first other = record {
@@ -86,11 +85,29 @@ only row seen coin pc discount referrer both first other = record {
   discount_referrer = tt;
 }
 
+-- each stands at its place
+ask_stands : Stands ask_call base
+unfolding decoded broken instruction number_at taken demand_after price_of sequence_of id_of taker_rate maker_rate
+ask_stands = record {
+  market = refl;
+  price = lit≤ tt;
+  sees = only ask_call.asked ask_call.seen refl refl refl refl tt tt tt;
+  entry = refl;
+}
+
+buy_stands : Stands buy_call (step_of ask_call base).market
+unfolding decoded broken instruction number_at taken demand_after price_of sequence_of id_of taker_rate maker_rate
+buy_stands = record {
+  market = refl;
+  price = lit≤ tt;
+  sees = only buy_call.asked buy_call.seen refl refl refl refl tt tt tt;
+  entry = refl;
+}
+
 -- one after the other they are a history of the market, and leave what the rows leave
 is_history : IsLegal base (ask_call ∷ buy_call ∷ [])
 unfolding decoded broken instruction number_at taken demand_after price_of sequence_of id_of taker_rate maker_rate
-is_history =
-    (only ask_call.row ask_call.seen refl refl refl refl tt tt tt, refl, (only buy_call.row buy_call.seen refl refl refl refl tt tt tt, refl, tt))
+is_history = (ask_stands, (buy_stands, tt))
 
 history_leaves : market_after base (ask_call ∷ buy_call ∷ []) ≡ bought.market
 unfolding decoded broken instruction number_at taken demand_after price_of sequence_of id_of taker_rate maker_rate
@@ -120,7 +137,7 @@ filled_lots _ = 0
 -- the other way round they are none: there is no ask yet that bob's bid could have met
 not_the_other_way : IsLegal base (buy_call ∷ ask_call ∷ []) → ⊥
 unfolding decoded broken instruction number_at taken demand_after price_of sequence_of id_of taker_rate maker_rate
-not_the_other_way legal = apart 0 3 (lit< tt) (sym (ap (λ (entry : Entry). filled_lots entry.reply) legal.1))
+not_the_other_way legal = apart 0 3 (lit< tt) (sym (ap (λ (entry : Entry). filled_lots entry.reply) legal.0.entry))
 
 -- nor with another amount moved, or with the entry of another lane
 abbrev debits : List (Option Movement) → ℕ
@@ -129,11 +146,11 @@ debits _ = 0
 
 not_with_less : IsLegal base (record ask_call { entry = record (ask_call.entry) { moves = Some (debit (codes "ann_coin") 399 1000) ∷ None ∷ None ∷ None ∷ [] } } ∷ []) → ⊥
 unfolding decoded broken instruction number_at taken demand_after price_of sequence_of id_of taker_rate maker_rate
-not_with_less legal = apart 399 400 (lit< tt) (ap (λ (entry : Entry). debits entry.moves) legal.1)
+not_with_less legal = apart 399 400 (lit< tt) (ap (λ (entry : Entry). debits entry.moves) legal.0.entry)
 
 not_of_another_lane : IsLegal base (record ask_call { entry = record (ask_call.entry) { lane = 1 } } ∷ []) → ⊥
 unfolding decoded broken instruction number_at taken demand_after price_of sequence_of id_of taker_rate maker_rate
-not_of_another_lane legal = apart 0 1 (lit< tt) (sym (ap (λ (entry : Entry). entry.lane) legal.1))
+not_of_another_lane legal = apart 0 1 (lit< tt) (sym (ap (λ (entry : Entry). entry.lane) legal.0.entry))
 
 -- the first byte of an address
 abbrev initial : Option Address → ℕ
@@ -142,16 +159,16 @@ initial (Some address) = slice_index_or address.0 0 0
 
 -- nor where it saw a wallet that its row does not name, or did not see one that it names
 not_of_another_wallet : IsLegal base (record ask_call { seen = sees (bob_coin 1000) None } ∷ []) → ⊥
-not_of_another_wallet legal = apart 97 98 (lit< tt) (sym (ap initial legal.0.coin))
+not_of_another_wallet legal = apart 97 98 (lit< tt) (sym (ap initial legal.0.sees.coin))
 
 not_of_no_wallet : IsLegal base (record ask_call { seen = nothing } ∷ []) → ⊥
-not_of_no_wallet legal = absurd (let e = legal.0.coin in cc)
+not_of_no_wallet legal = absurd (let e = legal.0.sees.coin in cc)
 
 not_of_one_more : IsLegal base (record ask_call { seen = sees (ann_coin 1000) (bob_usd 1) } ∷ []) → ⊥
-not_of_one_more legal = absurd (let e = legal.0.pc in cc)
+not_of_one_more legal = absurd (let e = legal.0.sees.pc in cc)
 
 -- nor where one wallet is seen with two balances
-not_of_two_balances : Sees (record (ask_call.row) { discount = Some (label (codes "ann_coin")) }) (record (ask_sees 1000) { discount = ann_coin 999 }) → ⊥
+not_of_two_balances : Sees (record (ask_call.asked) { discount = Some (label (codes "ann_coin")) }) (record (ask_sees 1000) { discount = ann_coin 999 }) → ⊥
 not_of_two_balances s = apart 999 1000 (lit< tt) (sym (ap (λ (wallet : WalletSeen). wallet.balance) (s.coin_discount refl)))
 
 -- movements that are no wallet's: of another balance, of nothing, of more than there is, of too much, and a probe of something

@@ -7,7 +7,6 @@ use Rattle.dex_types.specs.declared.rows.Seen.{Seen}
 use Rattle.dex_types.specs.declared.rows.WalletSeen.{WalletSeen}
 use Rattle.dex_types.specs.Addresses.{is_same}
 use Rattle.dex_types.specs.Market.{Market}
-use Rattle.dex_types.specs.Rows.{PlainRow}
 use Rattle.dex_types.specs.Side.{Token, Coin, Pc}
 use Rattle.dex_types.specs.Totals.{total, weighed_where}
 use Rattle.dex_types.specs.Transfers.{Transfers}
@@ -15,7 +14,7 @@ use Rattle.dex_types.specs.Wallets.{address_seen, amount_at, brought_to, taken_f
 use Rattle.dex_laws.proofs.TotalLaws.{total-agree, total-none}
 use Rattle.dex_laws.proofs.TraderLaws.{is_same-true, is_same-refl, is_same-sym}
 use Rattle.dex_history.specs.Balances.{mint_of}
-use Rattle.dex_history.specs.Journal.{Sees}
+use Rattle.dex_history.specs.Journal.{Asked, Sees}
 use Rattle.dex_history.specs.Mints.{is_mint_in, is_of_mint, debited, credited, all_debited, all_credited, into_vault, out_of_vault, MeetVaults}
 use Rattle.dex_history.proofs.AddressOrder.{AreRising, times, with_address-rising, with_address-times}
 use Rattle.dex_history.proofs.BalanceLaws.{amount-le, apart-back}
@@ -233,23 +232,23 @@ pub record AreOfMints (seen : Seen) (m : Market) (t : Transfers) : Type 0 where
   pub referrer_out : IsOfMint m.listing.pc_mint seen.referrer t.referrer_out
 
 -- the roles, over the wallets of a mint
-coin-total : (row : PlainRow) (seen : Seen) (mint of : Address) (amount : ℕ) → Sees row seen → IsOfMint of seen.coin amount
+coin-total : (row : Asked) (seen : Seen) (mint of : Address) (amount : ℕ) → Sees row seen → IsOfMint of seen.coin amount
     → total (λ (a : Address). cond (is_of_mint seen mint a) (amount_at a seen.coin amount) 0) (seen_wallets seen) ≡ cond (is_same mint of) amount 0
 coin-total row seen mint of amount sees is =
     role-total seen mint of seen.coin amount is (λ wallet here. mint-in mint wallet (roles_of seen) (coin-one row seen wallet sees here) (inl here)) (coin-once seen)
 
-pc-total : (row : PlainRow) (seen : Seen) (mint of : Address) (amount : ℕ) → Sees row seen → IsOfMint of seen.pc amount
+pc-total : (row : Asked) (seen : Seen) (mint of : Address) (amount : ℕ) → Sees row seen → IsOfMint of seen.pc amount
     → total (λ (a : Address). cond (is_of_mint seen mint a) (amount_at a seen.pc amount) 0) (seen_wallets seen) ≡ cond (is_same mint of) amount 0
 pc-total row seen mint of amount sees is =
     role-total seen mint of seen.pc amount is (λ wallet here. mint-in mint wallet (roles_of seen) (pc-one row seen wallet sees here) (inr (inl here))) (pc-once seen)
 
-referrer-total : (row : PlainRow) (seen : Seen) (mint of : Address) (amount : ℕ) → Sees row seen → IsOfMint of seen.referrer amount
+referrer-total : (row : Asked) (seen : Seen) (mint of : Address) (amount : ℕ) → Sees row seen → IsOfMint of seen.referrer amount
     → total (λ (a : Address). cond (is_of_mint seen mint a) (amount_at a seen.referrer amount) 0) (seen_wallets seen) ≡ cond (is_same mint of) amount 0
 referrer-total row seen mint of amount sees is =
     role-total seen mint of seen.referrer amount is (λ wallet here. mint-in mint wallet (roles_of seen) (referrer-one row seen wallet sees here) (inr (inr (inr (inl here))))) (referrer-once seen)
 
 -- of each mint
-debits-of : (row : PlainRow) (seen : Seen) (m : Market) (t : Transfers) (mint : Address) → Sees row seen → AreOfMints seen m t
+debits-of : (row : Asked) (seen : Seen) (m : Market) (t : Transfers) (mint : Address) → Sees row seen → AreOfMints seen m t
     → all_debited seen mint (movements seen t) ≡ cond (is_same mint m.listing.coin_mint) t.coin_in 0 + cond (is_same mint m.listing.pc_mint) t.pc_in 0
 debits-of row seen m t mint sees are =
     omega (
@@ -259,7 +258,7 @@ debits-of row seen m t mint sees are =
       pc-total row seen mint m.listing.pc_mint t.pc_in sees are.pc_in,
     )
 
-credits-of : (row : PlainRow) (seen : Seen) (m : Market) (t : Transfers) (mint : Address) → Sees row seen → AreOfMints seen m t
+credits-of : (row : Asked) (seen : Seen) (m : Market) (t : Transfers) (mint : Address) → Sees row seen → AreOfMints seen m t
     → ((address : Address) → (taken_from seen t address ≡ 0) ⊎ (brought_to seen t address ≡ 0))
     → all_credited seen mint (movements seen t)
     ≡ cond (is_same mint m.listing.coin_mint) t.coin_out 0 + cond (is_same mint m.listing.pc_mint) t.pc_out 0 + cond (is_same mint m.listing.pc_mint) t.referrer_out 0
@@ -277,7 +276,7 @@ at-mint : (mint coin pc : Address) (first second : ℕ) (coin_is pc_is : Bool) �
     → cond (is_same mint coin) first 0 + cond (is_same mint pc) second 0 ≡ cond coin_is first 0 + cond pc_is second 0
 at-mint mint coin pc first second coin_is pc_is is_coin is_pc = ap (λ b. cond b first 0 + cond (is_same mint pc) second 0) is_coin ∙ ap (λ b. cond coin_is first 0 + cond b second 0) is_pc
 
-pub transfers-meet : (row : PlainRow) (seen : Seen) (m : Market) (t : Transfers) → is_same m.listing.coin_mint m.listing.pc_mint ≡ false → Sees row seen → AreOfMints seen m t
+pub transfers-meet : (row : Asked) (seen : Seen) (m : Market) (t : Transfers) → is_same m.listing.coin_mint m.listing.pc_mint ≡ false → Sees row seen → AreOfMints seen m t
     → ((address : Address) → (taken_from seen t address ≡ 0) ⊎ (brought_to seen t address ≡ 0)) → MeetVaults seen m t (movements seen t)
 transfers-meet row seen m t apart sees are one_way =
     let coin : Address = m.listing.coin_mint in
@@ -296,7 +295,7 @@ transfers-meet row seen m t apart sees are one_way =
           );
     }
   where
-    debits : (row : PlainRow) (seen : Seen) (m : Market) (t : Transfers) → is_same m.listing.coin_mint m.listing.pc_mint ≡ false → Sees row seen → AreOfMints seen m t
+    debits : (row : Asked) (seen : Seen) (m : Market) (t : Transfers) → is_same m.listing.coin_mint m.listing.pc_mint ≡ false → Sees row seen → AreOfMints seen m t
         → (token : Token) → all_debited seen (mint_of token m) (movements seen t) ≡ into_vault token t
     debits row seen m t apart sees are Coin =
         debits-of row seen m t m.listing.coin_mint sees are
@@ -307,7 +306,7 @@ transfers-meet row seen m t apart sees are one_way =
         ∙ at-mint m.listing.pc_mint m.listing.coin_mint m.listing.pc_mint t.coin_in t.pc_in false true (apart-back m apart) (is_same-refl m.listing.pc_mint)
         ∙ omega arith
 
-    credits : (row : PlainRow) (seen : Seen) (m : Market) (t : Transfers) → is_same m.listing.coin_mint m.listing.pc_mint ≡ false → Sees row seen → AreOfMints seen m t
+    credits : (row : Asked) (seen : Seen) (m : Market) (t : Transfers) → is_same m.listing.coin_mint m.listing.pc_mint ≡ false → Sees row seen → AreOfMints seen m t
         → ((address : Address) → (taken_from seen t address ≡ 0) ⊎ (brought_to seen t address ≡ 0))
         → (token : Token) → all_credited seen (mint_of token m) (movements seen t) ≡ out_of_vault token t
     credits row seen m t apart sees are one_way Coin =

@@ -5,12 +5,11 @@ use Rattle.dex_types.specs.declared.addresses.Address.{Address}
 use Rattle.dex_types.specs.declared.rows.Seen.{Seen}
 use Rattle.dex_types.specs.declared.rows.WalletSeen.{WalletSeen}
 use Rattle.dex_types.specs.Addresses.{is_same}
-use Rattle.dex_types.specs.Rows.{PlainRow}
 use Rattle.dex_types.specs.Transfers.{Transfers}
 use Rattle.dex_types.specs.Wallets.{amount_at, balance_in, balance_seen, brought_to, taken_from, movement_by, movement_of}
 use Rattle.dex_types.specs.WalletJournal.{CanMove}
 use Rattle.dex_laws.proofs.TraderLaws.{is_same-true, is_same-refl}
-use Rattle.dex_history.specs.Journal.{Agree, Sees}
+use Rattle.dex_history.specs.Journal.{Agree, Asked, Sees}
 use Rattle.dex_history.specs.Moves.{left_by, Moves}
 use Rattle.dex_history.proofs.BalanceLaws.{IsOneWith, agree-one, agree-one_back, amount-le}
 
@@ -53,7 +52,7 @@ roles_of seen = seen.coin ∷ seen.pc ∷ seen.discount ∷ seen.referrer ∷ []
 one-itself : (wallet : WalletSeen) (role : Option WalletSeen) → role ≡ Some wallet → IsOneWith wallet role
 one-itself wallet role is other there same = let both : Some wallet ≡ Some other = sym is ∙ there in cc
 
-pub coin-one : (row : PlainRow) (seen : Seen) (wallet : WalletSeen) → Sees row seen → seen.coin ≡ Some wallet → AreOneWith wallet (roles_of seen)
+pub coin-one : (row : Asked) (seen : Seen) (wallet : WalletSeen) → Sees row seen → seen.coin ≡ Some wallet → AreOneWith wallet (roles_of seen)
 coin-one row seen wallet sees is = (
   one-itself wallet seen.coin is,
   (
@@ -65,10 +64,10 @@ coin-one row seen wallet sees is = (
   ),
 )
 
-coin-balance : (row : PlainRow) (seen : Seen) (wallet : WalletSeen) → Sees row seen → seen.coin ≡ Some wallet → balance_seen seen wallet.address ≡ wallet.balance
+coin-balance : (row : Asked) (seen : Seen) (wallet : WalletSeen) → Sees row seen → seen.coin ≡ Some wallet → balance_seen seen wallet.address ≡ wallet.balance
 coin-balance row seen wallet sees is = balance-in wallet (roles_of seen) (coin-one row seen wallet sees is) (inl is)
 
-pub pc-one : (row : PlainRow) (seen : Seen) (wallet : WalletSeen) → Sees row seen → seen.pc ≡ Some wallet → AreOneWith wallet (roles_of seen)
+pub pc-one : (row : Asked) (seen : Seen) (wallet : WalletSeen) → Sees row seen → seen.pc ≡ Some wallet → AreOneWith wallet (roles_of seen)
 pc-one row seen wallet sees is = (
   agree-one_back wallet seen.coin (subst (λ role. Agree seen.coin role) is sees.coin_pc),
   (
@@ -80,10 +79,10 @@ pc-one row seen wallet sees is = (
   ),
 )
 
-pc-balance : (row : PlainRow) (seen : Seen) (wallet : WalletSeen) → Sees row seen → seen.pc ≡ Some wallet → balance_seen seen wallet.address ≡ wallet.balance
+pc-balance : (row : Asked) (seen : Seen) (wallet : WalletSeen) → Sees row seen → seen.pc ≡ Some wallet → balance_seen seen wallet.address ≡ wallet.balance
 pc-balance row seen wallet sees is = balance-in wallet (roles_of seen) (pc-one row seen wallet sees is) (inr (inl is))
 
-pub referrer-one : (row : PlainRow) (seen : Seen) (wallet : WalletSeen) → Sees row seen → seen.referrer ≡ Some wallet → AreOneWith wallet (roles_of seen)
+pub referrer-one : (row : Asked) (seen : Seen) (wallet : WalletSeen) → Sees row seen → seen.referrer ≡ Some wallet → AreOneWith wallet (roles_of seen)
 referrer-one row seen wallet sees is = (
   agree-one_back wallet seen.coin (subst (λ role. Agree seen.coin role) is sees.coin_referrer),
   (
@@ -92,7 +91,7 @@ referrer-one row seen wallet sees is = (
   ),
 )
 
-referrer-balance : (row : PlainRow) (seen : Seen) (wallet : WalletSeen) → Sees row seen → seen.referrer ≡ Some wallet → balance_seen seen wallet.address ≡ wallet.balance
+referrer-balance : (row : Asked) (seen : Seen) (wallet : WalletSeen) → Sees row seen → seen.referrer ≡ Some wallet → balance_seen seen wallet.address ≡ wallet.balance
 referrer-balance row seen wallet sees is = balance-in wallet (roles_of seen) (referrer-one row seen wallet sees is) (inr (inr (inr (inl is))))
 
 -- a payment of the role is covered by its wallet's balance
@@ -125,7 +124,7 @@ amount-covered seen address (Some wallet) amount covers balance =
     (λ (apart : is_same address wallet.address ≡ false). omega (arith, cond-false (is_same address wallet.address) amount 0 apart))
     (cases_Bool (is_same address wallet.address))
 
-taken-covered : (row : PlainRow) (seen : Seen) (t : Transfers) (address : Address) → Sees row seen → CanTransfer seen t → taken_from seen t address ≤ balance_seen seen address
+taken-covered : (row : Asked) (seen : Seen) (t : Transfers) (address : Address) → Sees row seen → CanTransfer seen t → taken_from seen t address ≤ balance_seen seen address
 taken-covered row seen t address sees can =
     ⊎_elim
     (λ (none : t.coin_in ≡ 0).
@@ -161,7 +160,7 @@ amount-fits seen t address (Some wallet) amount room balance =
     (λ (apart : is_same address wallet.address ≡ false). inl (cond-false (is_same address wallet.address) amount 0 apart))
     (cases_Bool (is_same address wallet.address))
 
-brought-fits : (row : PlainRow) (seen : Seen) (t : Transfers) (address : Address) → Sees row seen → CanTransfer seen t → 1 ≤ brought_to seen t address
+brought-fits : (row : Asked) (seen : Seen) (t : Transfers) (address : Address) → Sees row seen → CanTransfer seen t → 1 ≤ brought_to seen t address
     → balance_seen seen address + brought_to seen t address < 2 ^ 64
 brought-fits row seen t address sees can some =
     ⊎_elim
@@ -195,7 +194,7 @@ moves-by address before taken brought one_way covered fits =
     (cases_lt 0 brought))
     (cases_lt 0 taken)
 
-pub transfers-move : (row : PlainRow) (seen : Seen) (t : Transfers) (address : Address) → Sees row seen → CanTransfer seen t → Moves seen t address
+pub transfers-move : (row : Asked) (seen : Seen) (t : Transfers) (address : Address) → Sees row seen → CanTransfer seen t → Moves seen t address
 transfers-move row seen t address sees can =
     let both : (left_by (movement_of seen t address) ≡ balance_seen seen address + brought_to seen t address - taken_from seen t address)
     × CanMove (movement_of seen t address).kind (movement_of seen t address).amount (movement_of seen t address).before =

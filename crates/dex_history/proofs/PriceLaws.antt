@@ -17,7 +17,7 @@ use Rattle.dex_instruction.specs.Reading.{decoded, instruction, tagged, unless_b
 use Rattle.dex_instruction.specs.Rules.{tag_in, is_zero_at, has_zero_field, broken}
 use Rattle.dex_instruction.proofs.Whole.{is_whole}
 use Rattle.dex_sound.proofs.StepSound.{step-sound}
-use Rattle.dex_history.specs.Journal.{Call, request_of, row_step, step_of, market_after}
+use Rattle.dex_history.specs.Journal.{Asked, Call, IsLegal, asked_step, request_of, row_step, step_of, market_after}
 
 -- one of two instructions, by a test
 either : (test : Bool) (ix other : Ix) → (test ≡ true → HasPrice (Ok ix)) → HasPrice (Ok other) → HasPrice (Ok (cond test ix other))
@@ -62,10 +62,15 @@ decoded-priced bytes = unless-priced (broken bytes) (instruction bytes) (λ none
 pub row-sound : (row : PlainRow) (seen : Seen) (m : Market) → IsSound m → IsSound (row_step row seen m).market
 row-sound row seen m sound = step-sound (request_of row) seen m sound (decoded-priced row.bytes)
 
+-- so does whatever is asked for at a price
+pub asked-sound : (asked : Asked) (seen : Seen) (m : Market) → IsSound m → HasPrice asked.request.instruction → IsSound (asked_step asked seen m).market
+asked-sound asked seen m sound priced = step-sound asked.request seen m sound priced
+
 -- and so do calls, one after the other
-pub calls-sound : (calls : List Call) (m : Market) → IsSound m → IsSound (market_after m calls)
-calls-sound [] m sound = sound
-calls-sound (call ∷ calls) m sound = calls-sound calls (step_of call m).market (row-sound call.row call.seen m sound)
+pub calls-sound : (calls : List Call) (m : Market) → IsSound m → IsLegal m calls → IsSound (market_after m calls)
+calls-sound [] m sound legal = sound
+calls-sound (call ∷ calls) m sound legal =
+    calls-sound calls (step_of call m).market (asked-sound call.asked call.seen m sound legal.0.price) legal.1
 
 -- a crank is answered how many events it consumed
 pub crank-answered : (row : PlainRow) (seen : Seen) (m : Market) (limit : ℕ) → decoded row.bytes ≡ Ok (ConsumeEvents limit)

@@ -12,7 +12,6 @@ use Rattle.dex_types.specs.Cancel.{ById, ByClient, ByClients, First}
 use Rattle.dex_types.specs.Market.{Market}
 use Rattle.dex_types.specs.NewOrder.{NewOrder}
 use Rattle.dex_types.specs.Requests.{Request, Party, party_of}
-use Rattle.dex_types.specs.Rows.{PlainRow}
 use Rattle.dex_types.specs.Side.{Token, Coin, Pc, locked_token}
 use Rattle.dex_types.specs.Solvency.{vault}
 use Rattle.dex_types.specs.Soundness.{IsSound}
@@ -25,7 +24,7 @@ use Rattle.dex_sound.specs.Kept.{KeepsMarket}
 use Rattle.dex_sound.proofs.KeepLaws.{step-keeps}
 use Rattle.dex_sound.proofs.StepSound.{party-found}
 use Rattle.dex_history.specs.Balances.{mint_of}
-use Rattle.dex_history.specs.Journal.{Sees, request_of, row_step}
+use Rattle.dex_history.specs.Journal.{Asked, Sees, asked_step}
 use Rattle.dex_history.specs.Mints.{all_debited, all_credited, MeetVaults}
 use Rattle.dex_history.proofs.BalanceLaws.{ArePaid, settle-paid, sweep-paid, take-paid}
 use Rattle.dex_history.proofs.StepMints.{row-meets}
@@ -75,18 +74,18 @@ unless-paid : (reason : Option Refusal) (m : Market) (acted : Step) → ArePaid 
 unless-paid None m acted paid = paid
 unless-paid (Some refusal) m acted paid = still-paid m
 
-row-paid : (row : PlainRow) (seen : Seen) (m : Market) → IsSound m → ArePaid (row_step row seen m).transfers m
+row-paid : (row : Asked) (seen : Seen) (m : Market) → IsSound m → ArePaid (asked_step row seen m).transfers m
 row-paid row seen m sound =
-    unless-paid (why (request_of row) seen m) m (act_decoded (request_of row).instruction (request_of row) seen m) (decoded-paid (request_of row).instruction (request_of row) seen m sound)
+    unless-paid (why row.request seen m) m (act_decoded row.request.instruction row.request seen m) (decoded-paid row.request.instruction row.request seen m sound)
 
 -- so a vault with what wallets of its mint got is what it was with what they paid
-conserved : (row : PlainRow) (seen : Seen) (m : Market) (s : Step) → KeepsMarket m s → ArePaid s.transfers m → MeetVaults seen m s.transfers (movements seen s.transfers) → (token : Token)
+conserved : (row : Asked) (seen : Seen) (m : Market) (s : Step) → KeepsMarket m s → ArePaid s.transfers m → MeetVaults seen m s.transfers (movements seen s.transfers) → (token : Token)
     → vault token s.market + all_credited seen (mint_of token m) (movements seen s.transfers) ≡ vault token m + all_debited seen (mint_of token m) (movements seen s.transfers)
 conserved row seen m s keeps paid meets Coin = omega (arith, keeps.coin, paid.coin, meets.debits Coin, meets.credits Coin)
 conserved row seen m s keeps paid meets Pc = omega (arith, keeps.pc, paid.pc, meets.debits Pc, meets.credits Pc)
 
-pub row-conserves : (row : PlainRow) (seen : Seen) (m : Market) (token : Token) → IsSound m → Sees row seen
-    → vault token (row_step row seen m).market + all_credited seen (mint_of token m) (movements seen (row_step row seen m).transfers)
-    ≡ vault token m + all_debited seen (mint_of token m) (movements seen (row_step row seen m).transfers)
+pub row-conserves : (row : Asked) (seen : Seen) (m : Market) (token : Token) → IsSound m → Sees row seen
+    → vault token (asked_step row seen m).market + all_credited seen (mint_of token m) (movements seen (asked_step row seen m).transfers)
+    ≡ vault token m + all_debited seen (mint_of token m) (movements seen (asked_step row seen m).transfers)
 row-conserves row seen m token sound sees =
-    conserved row seen m (row_step row seen m) (step-keeps (request_of row) seen m) (row-paid row seen m sound) (row-meets row seen m sound sees) token
+    conserved row seen m (asked_step row seen m) (step-keeps row.request seen m) (row-paid row seen m sound) (row-meets row seen m sound sees) token

@@ -15,7 +15,6 @@ use Rattle.dex_types.specs.Meeting.{Meeting}
 use Rattle.dex_types.specs.NewOrder.{NewOrder, Ordering, order_on}
 use Rattle.dex_types.specs.Reasons.{disabled, missing, other_mint}
 use Rattle.dex_types.specs.Requests.{Request, Party, party_of}
-use Rattle.dex_types.specs.Rows.{PlainRow}
 use Rattle.dex_types.specs.Settle.{settlement, settle_transfers, sweep_transfers}
 use Rattle.dex_types.specs.Side.{opposite, locked_token}
 use Rattle.dex_types.specs.Steps.{Step, by_party, act_order, act_cancel, act_settle, act_init, act_close, act, act_decoded, unless_refused}
@@ -27,7 +26,7 @@ use Rattle.dex_types.specs.Wallets.{movements}
 use Rattle.dex_types.specs.Trader.{Account}
 use Rattle.dex_types.specs.Why.{payer, payer_mint, of_party, settling_reasons, sweeping_reasons, why_order, why_take, why_settle, why_sweep, why_instruction, why_decoded, why}
 use Rattle.dex_sound.proofs.OrderSoundReasons.{first_of-none, order-none, take-none}
-use Rattle.dex_history.specs.Journal.{Sees, request_of, row_step}
+use Rattle.dex_history.specs.Journal.{Asked, Sees, asked_step}
 use Rattle.dex_history.proofs.BalanceLaws.{right-mint}
 use Rattle.dex_history.specs.Mints.{MeetVaults}
 use Rattle.dex_history.proofs.MintLaws.{IsOfMint, AreOfMints, transfers-meet}
@@ -144,12 +143,12 @@ unless-of : (reason : Option Refusal) (seen : Seen) (m : Market) (acted : Step) 
 unless-of None seen m acted are = are refl
 unless-of (Some refusal) seen m acted are = still-of seen m
 
-row-of : (row : PlainRow) (seen : Seen) (m : Market) → AreOfMints seen m (row_step row seen m).transfers
+row-of : (row : Asked) (seen : Seen) (m : Market) → AreOfMints seen m (asked_step row seen m).transfers
 row-of row seen m =
-    unless-of (why (request_of row) seen m) seen m (act_decoded (request_of row).instruction (request_of row) seen m)
-    (decoded-of (request_of row).instruction (request_of row) seen m)
+    unless-of (why row.request seen m) seen m (act_decoded row.request.instruction row.request seen m)
+    (decoded-of row.request.instruction row.request seen m)
 
 -- so mint by mint the movements of a row are what enters and leaves vaults
-pub row-meets : (row : PlainRow) (seen : Seen) (m : Market) → IsSound m → Sees row seen → MeetVaults seen m (row_step row seen m).transfers (movements seen (row_step row seen m).transfers)
+pub row-meets : (row : Asked) (seen : Seen) (m : Market) → IsSound m → Sees row seen → MeetVaults seen m (asked_step row seen m).transfers (movements seen (asked_step row seen m).transfers)
 row-meets row seen m sound sees =
-    transfers-meet row seen m (row_step row seen m).transfers sound.form.mints sees (row-of row seen m) (λ address. (row-can row seen m sound sees).one_way address)
+    transfers-meet row seen m (asked_step row seen m).transfers sound.form.mints sees (row-of row seen m) (λ address. (row-can row seen m sound sees).one_way address)

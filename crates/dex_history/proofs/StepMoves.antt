@@ -20,7 +20,6 @@ use Rattle.dex_types.specs.Meeting.{Meeting}
 use Rattle.dex_types.specs.NewOrder.{NewOrder, Ordering, order_on, after_order}
 use Rattle.dex_types.specs.Reasons.{disabled, other_mint, short_of, too_full}
 use Rattle.dex_types.specs.Requests.{Request, Party, party_of}
-use Rattle.dex_types.specs.Rows.{PlainRow}
 use Rattle.dex_types.specs.Settle.{settlement, settle_transfers, sweep_transfers}
 use Rattle.dex_types.specs.Side.{Coin, Pc, opposite, locked_token}
 use Rattle.dex_types.specs.Steps.{Step, by_party, act_order, act_cancel, act_settle, act_init, act_close, act, act_decoded, unless_refused}
@@ -33,7 +32,7 @@ use Rattle.dex_types.specs.WalletJournal.{CanMove}
 use Rattle.dex_types.specs.Why.{payer, of_party, settling_reasons, sweeping_reasons, why_order, why_take, why_settle, why_sweep, why_instruction, why_decoded, why}
 use Rattle.dex_laws.proofs.TraderLaws.{is_same-true}
 use Rattle.dex_sound.proofs.OrderSoundReasons.{first_of-none, order-none, refused_where-none, take-none}
-use Rattle.dex_history.specs.Journal.{Agree, Sees, request_of, row_step}
+use Rattle.dex_history.specs.Journal.{Agree, Asked, Sees, asked_step}
 use Rattle.dex_history.specs.Moves.{Moves}
 use Rattle.dex_history.proofs.BalanceLaws.{agree-one, amount-le, apart-amount, right-mint}
 use Rattle.dex_history.proofs.MoveLaws.{Covers, HasRoom, CanTransfer, transfers-move}
@@ -130,7 +129,7 @@ apart-roles mint other (Some wallet) second apart right there agree address amou
     (cases_Bool (is_same address wallet.address))
 
 -- a take pays under one role and gets under the other
-take-can : (row : PlainRow) (side : Side) (t : Take) (seen : Seen) (m : Market) (met : Meeting) → IsSound m → Sees row seen
+take-can : (row : Asked) (side : Side) (t : Take) (seen : Seen) (m : Market) (met : Meeting) → IsSound m → Sees row seen
     → other_mint m.listing.coin_mint seen.coin ≡ None → other_mint m.listing.pc_mint seen.pc ≡ None
     → short_of (take_paid side m.listing.sizes t met) (payer side seen) ≡ None
     → too_full seen (take_transfers side m.listing.sizes t met) seen.coin ≡ None → too_full seen (take_transfers side m.listing.sizes t met) seen.pc ≡ None
@@ -170,7 +169,7 @@ take-can row Ask t seen m met sound sees coin pc pays coin_fits pc_fits =
           (apart-roles m.listing.coin_mint m.listing.pc_mint seen.coin seen.pc sound.form.mints coin pc sees.coin_pc address paid got);
     }
 
-send_take-can : (row : PlainRow) (side : Side) (t : Take) (request : Request) (seen : Seen) (m : Market) → IsSound m → Sees row seen → why_take side t request seen m ≡ None
+send_take-can : (row : Asked) (side : Side) (t : Take) (request : Request) (seen : Seen) (m : Market) → IsSound m → Sees row seen → why_take side t request seen m ≡ None
     → CanTransfer seen (take_transfers side m.listing.sizes t (take_meeting side m.listing.sizes t (orders (opposite side) m)))
 send_take-can row side t request seen m sound sees none =
     let met : Meeting = take_meeting side m.listing.sizes t (orders (opposite side) m) in
@@ -219,7 +218,7 @@ init-can : (named : List Address) (signer : Address) (seen : Seen) (m : Market) 
 init-can [] signer seen m = still seen
 init-can (address ∷ others) signer seen m = still seen
 
-act-can : (row : PlainRow) (ix : Ix) (request : Request) (seen : Seen) (m : Market) → IsSound m → Sees row seen → why_instruction ix request seen m ≡ None
+act-can : (row : Asked) (ix : Ix) (request : Request) (seen : Seen) (m : Market) → IsSound m → Sees row seen → why_instruction ix request seen m ≡ None
     → CanTransfer seen (act ix request seen m).transfers
 act-can row (InitializeMarket coin_lot pc_lot fee_rate_bps nonce dust) request seen m sound sees none = still seen
 act-can row (MatchOrders limit) request seen m sound sees none = still seen
@@ -246,7 +245,7 @@ act-can row (Prune limit) request seen m sound sees none =
 act-can row (CancelOrdersByClientIds ids) request seen m sound sees none =
     still-party (act_cancel (ByClients (take ids.count ids.ids)) m) seen m (party_of request.named m.traders) (λ party. still seen)
 
-decoded-can : (row : PlainRow) (instruction : Result Ix BadData) (request : Request) (seen : Seen) (m : Market) → IsSound m → Sees row seen → why_decoded instruction request seen m ≡ None
+decoded-can : (row : Asked) (instruction : Result Ix BadData) (request : Request) (seen : Seen) (m : Market) → IsSound m → Sees row seen → why_decoded instruction request seen m ≡ None
     → CanTransfer seen (act_decoded instruction request seen m).transfers
 decoded-can row (Err rule) request seen m sound sees none = still seen
 decoded-can row (Ok ix) request seen m sound sees none = act-can row ix request seen m sound sees none
@@ -255,14 +254,14 @@ unless-can : (reason : Option Refusal) (seen : Seen) (m : Market) (acted : Step)
 unless-can None seen m acted can = can refl
 unless-can (Some refusal) seen m acted can = still seen
 
-pub row-can : (row : PlainRow) (seen : Seen) (m : Market) → IsSound m → Sees row seen → CanTransfer seen (row_step row seen m).transfers
+pub row-can : (row : Asked) (seen : Seen) (m : Market) → IsSound m → Sees row seen → CanTransfer seen (asked_step row seen m).transfers
 row-can row seen m sound sees =
-    unless-can (why (request_of row) seen m) seen m (act_decoded (request_of row).instruction (request_of row) seen m)
-    (decoded-can row (request_of row).instruction (request_of row) seen m sound sees)
+    unless-can (why row.request seen m) seen m (act_decoded row.request.instruction row.request seen m)
+    (decoded-can row row.request.instruction row.request seen m sound sees)
 
 -- so the movement of each wallet is what the row's transfers move
-pub row-moves : (row : PlainRow) (seen : Seen) (m : Market) (address : Address) → IsSound m → Sees row seen → Moves seen (row_step row seen m).transfers address
-row-moves row seen m address sound sees = transfers-move row seen (row_step row seen m).transfers address sees (row-can row seen m sound sees)
+pub row-moves : (row : Asked) (seen : Seen) (m : Market) (address : Address) → IsSound m → Sees row seen → Moves seen (asked_step row seen m).transfers address
+row-moves row seen m address sound sees = transfers-move row seen (asked_step row seen m).transfers address sees (row-can row seen m sound sees)
 
 -- and each movement that it makes is possible
 map-possible : (seen : Seen) (t : Transfers) (addresses : List Address) → ((address : Address) → Moves seen t address)
@@ -272,7 +271,7 @@ map-possible seen t (address ∷ addresses) moves =
     All-cons (λ (move : Movement). CanMove move.kind move.amount move.before) (movement_of seen t address) (map (movement_of seen t) addresses)
     (moves address).possible (map-possible seen t addresses moves)
 
-pub row-possible : (row : PlainRow) (seen : Seen) (m : Market) → IsSound m → Sees row seen
-    → All (λ (move : Movement). CanMove move.kind move.amount move.before) (movements seen (row_step row seen m).transfers)
+pub row-possible : (row : Asked) (seen : Seen) (m : Market) → IsSound m → Sees row seen
+    → All (λ (move : Movement). CanMove move.kind move.amount move.before) (movements seen (asked_step row seen m).transfers)
 row-possible row seen m sound sees =
-    map-possible seen (row_step row seen m).transfers (seen_wallets seen) (λ address. row-moves row seen m address sound sees)
+    map-possible seen (asked_step row seen m).transfers (seen_wallets seen) (λ address. row-moves row seen m address sound sees)

@@ -10,7 +10,7 @@ ghost use Rattle.dex_types.specs.Requests.{HasPrice};
 ghost use Rattle.dex_types.specs.Rows.{PlainRow};
 ghost use Rattle.dex_types.specs.Soundness.{IsSound};
 ghost use Rattle.dex_instruction.specs.Reading.{decoded};
-ghost use Rattle.dex_history.specs.Journal.{Call, market_after, row_step};
+ghost use Rattle.dex_history.specs.Journal.{Asked, Call, IsLegal, asked_step, market_after, row_step};
 
 /// Whatever bytes decode to states a price of at least 1, where it is an order or a take.
 pub fn what_decodes_states_a_price()
@@ -23,10 +23,15 @@ pub fn every_row_keeps_a_market_sound()
     ensures { (row : PlainRow) (seen : Seen) (m : Market) → IsSound m → IsSound (row_step row seen m).market }
 {}
 
-/// From a sound market each place of each history is sound: the market after its first so many calls, and after all.
+/// So does whatever is asked for that states a price, where it is an order or a take.
+pub fn what_is_asked_keeps_a_market_sound()
+    ensures { (asked : Asked) (seen : Seen) (m : Market) → IsSound m → HasPrice asked.request.instruction → IsSound (asked_step asked seen m).market }
+{}
+
+/// From a sound market each place of each legal history is sound: the market after its first so many calls, and after all.
 pub fn each_place_of_a_history_is_sound()
-    ensures places { (m : Market) (calls : List Call) (count : ℕ) → IsSound m → IsSound (market_after m (take count calls)) }
-    ensures end { (m : Market) (calls : List Call) → IsSound m → IsSound (market_after m calls) }
+    ensures places { (m : Market) (calls : List Call) (count : ℕ) → IsSound m → IsLegal m calls → IsSound (market_after m (take count calls)) }
+    ensures end { (m : Market) (calls : List Call) → IsSound m → IsLegal m calls → IsSound (market_after m calls) }
 {}
 
 /// A row whose data decodes to a crank is never refused: it is answered how many events it consumed.
