@@ -18,3 +18,7 @@ pub record Tile (fields : List Field) (size : ℕ) : Type 0 where
 abbrev pub tiles_from : ℕ → List Field → ℕ → Bool
 tiles_from start [] size = start == size
 tiles_from start (field ∷ fields) size = (field.at == start) && tiles_from (start + field.len) fields size
+
+-- where a field stands: its offset and its length, in bytes
+abbrev pub span_of : Field → ℕ × ℕ
+span_of field = (field.at, field.len)

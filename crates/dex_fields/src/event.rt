@@ -1,6 +1,7 @@
 //! An event of the ring.
 
-ghost use Rattle.dex_fields.specs.Tiling.{Tile};
+ghost use Rattle.std.specs.Prelude.{◌≡◌, ◌∷◌, [], map};
+ghost use Rattle.dex_fields.specs.Tiling.{Tile, span_of};
 
 use crate::field::tiles_by_test;
 use crate::{Field, Layout, each_field};
@@ -41,9 +42,12 @@ pub const LAYOUT: Layout<10> = Layout {
     fields: each_field!(event),
 };
 
-/// The fields tile an event: each byte is in exactly one of them.
+/// The fields tile an event: each byte is in exactly one of them. Each stands at its offset, with its length in bytes.
 pub fn tiles()
-    ensures { Tile LAYOUT.fields LAYOUT.size }
+    ensures tiled { Tile LAYOUT.fields LAYOUT.size }
+    ensures places { map span_of (FLAGS ∷ OWNER_SLOT ∷ FEE_TIER ∷ PADDING ∷ NATIVE_QTY_RELEASED ∷ NATIVE_QTY_PAID ∷
+        NATIVE_FEE_OR_REBATE ∷ ORDER_ID ∷ OWNER ∷ CLIENT_ORDER_ID ∷ []) ≡ (0, 1) ∷ (1, 1) ∷ (2, 1) ∷ (3, 5) ∷
+        (8, 8) ∷ (16, 8) ∷ (24, 8) ∷ (32, 16) ∷ (48, 32) ∷ (80, 8) ∷ [] }
 {
     let mut end = 0;
     each_field!(event, field => {

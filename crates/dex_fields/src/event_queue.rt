@@ -1,6 +1,7 @@
 //! The header of an event queue. Behind it stand the ring of events and `padding`.
 
-ghost use Rattle.dex_fields.specs.Tiling.{Tile};
+ghost use Rattle.std.specs.Prelude.{◌≡◌, ◌∷◌, [], map};
+ghost use Rattle.dex_fields.specs.Tiling.{Tile, span_of};
 
 use crate::field::tiles_by_test;
 use crate::{Field, Layout, each_field};
@@ -26,9 +27,11 @@ pub const LAYOUT: Layout<5> = Layout {
     fields: each_field!(event_queue),
 };
 
-/// The fields tile an event queue's header: each byte is in exactly one of them.
+/// The fields tile an event queue's header: each byte is in exactly one of them. Each stands at its offset, with its length in bytes.
 pub fn tiles()
-    ensures { Tile LAYOUT.fields LAYOUT.size }
+    ensures tiled { Tile LAYOUT.fields LAYOUT.size }
+    ensures places { map span_of (SERUM ∷ ACCOUNT_FLAGS ∷ HEAD ∷ COUNT ∷ SEQ_NUM ∷ []) ≡ (0, 5) ∷ (5, 8) ∷
+        (13, 8) ∷ (21, 8) ∷ (29, 8) ∷ [] }
 {
     let mut end = 0;
     each_field!(event_queue, field => {

@@ -1,6 +1,7 @@
 //! A node that is free again, of tag 3, or of tag 4 where it is the last one.
 
-ghost use Rattle.dex_fields.specs.Tiling.{Tile};
+ghost use Rattle.std.specs.Prelude.{◌≡◌, ◌∷◌, [], map};
+ghost use Rattle.dex_fields.specs.Tiling.{Tile, span_of};
 
 use crate::field::tiles_by_test;
 use crate::{Field, Layout, each_field};
@@ -20,9 +21,10 @@ pub const LAYOUT: Layout<3> = Layout {
     fields: each_field!(free_node),
 };
 
-/// The fields tile a free node: each byte is in exactly one of them.
+/// The fields tile a free node: each byte is in exactly one of them. Each stands at its offset, with its length in bytes.
 pub fn tiles()
-    ensures { Tile LAYOUT.fields LAYOUT.size }
+    ensures tiled { Tile LAYOUT.fields LAYOUT.size }
+    ensures places { map span_of (TAG ∷ NEXT ∷ PADDING ∷ []) ≡ (0, 4) ∷ (4, 4) ∷ (8, 64) ∷ [] }
 {
     let mut end = 0;
     each_field!(free_node, field => {

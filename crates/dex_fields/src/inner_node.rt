@@ -1,6 +1,7 @@
 //! An inner node of a slab, of tag 1.
 
-ghost use Rattle.dex_fields.specs.Tiling.{Tile};
+ghost use Rattle.std.specs.Prelude.{◌≡◌, ◌∷◌, [], map};
+ghost use Rattle.dex_fields.specs.Tiling.{Tile, span_of};
 
 use crate::field::tiles_by_test;
 use crate::{Field, Layout, each_field};
@@ -29,9 +30,11 @@ pub const LAYOUT: Layout<6> = Layout {
     fields: each_field!(inner_node),
 };
 
-/// The fields tile an inner node: each byte is in exactly one of them.
+/// The fields tile an inner node: each byte is in exactly one of them. Each stands at its offset, with its length in bytes.
 pub fn tiles()
-    ensures { Tile LAYOUT.fields LAYOUT.size }
+    ensures tiled { Tile LAYOUT.fields LAYOUT.size }
+    ensures places { map span_of (TAG ∷ PREFIX_LEN ∷ KEY ∷ FIRST_CHILD ∷ SECOND_CHILD ∷ PADDING ∷ []) ≡ (0, 4) ∷
+        (4, 4) ∷ (8, 16) ∷ (24, 4) ∷ (28, 4) ∷ (32, 40) ∷ [] }
 {
     let mut end = 0;
     each_field!(inner_node, field => {

@@ -1,6 +1,7 @@
 //! A leaf of a slab, of tag 2: one resting order.
 
-ghost use Rattle.dex_fields.specs.Tiling.{Tile};
+ghost use Rattle.std.specs.Prelude.{◌≡◌, ◌∷◌, [], map};
+ghost use Rattle.dex_fields.specs.Tiling.{Tile, span_of};
 
 use crate::field::tiles_by_test;
 use crate::{Field, Layout, each_field};
@@ -35,9 +36,11 @@ pub const LAYOUT: Layout<8> = Layout {
     fields: each_field!(leaf_node),
 };
 
-/// The fields tile a leaf: each byte is in exactly one of them.
+/// The fields tile a leaf: each byte is in exactly one of them. Each stands at its offset, with its length in bytes.
 pub fn tiles()
-    ensures { Tile LAYOUT.fields LAYOUT.size }
+    ensures tiled { Tile LAYOUT.fields LAYOUT.size }
+    ensures places { map span_of (TAG ∷ OWNER_SLOT ∷ FEE_TIER ∷ PADDING ∷ KEY ∷ OWNER ∷ QUANTITY ∷
+        CLIENT_ORDER_ID ∷ []) ≡ (0, 4) ∷ (4, 1) ∷ (5, 1) ∷ (6, 2) ∷ (8, 16) ∷ (24, 32) ∷ (56, 8) ∷ (64, 8) ∷ [] }
 {
     let mut end = 0;
     each_field!(leaf_node, field => {

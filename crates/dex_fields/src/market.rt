@@ -1,7 +1,7 @@
 //! The market account: 47 words of 8 bytes between `serum` and `padding`. Word w stands at 5 + 8 * w.
 
-ghost use Rattle.std.specs.Prelude.{◌≡◌};
-ghost use Rattle.dex_fields.specs.Tiling.{Tile};
+ghost use Rattle.std.specs.Prelude.{◌≡◌, ◌∷◌, [], map};
+ghost use Rattle.dex_fields.specs.Tiling.{Tile, span_of};
 
 use crate::field::tiles_by_test;
 use crate::{Field, Layout, each_field};
@@ -78,10 +78,15 @@ pub const LAYOUT: Layout<22> = Layout {
     fields: each_field!(market),
 };
 
-/// The fields tile a market account: each byte is in exactly one of them.
+/// The fields tile a market account: each byte is in exactly one of them. Each stands at its offset, with its length in bytes.
 pub fn tiles()
     ensures tiled { Tile LAYOUT.fields LAYOUT.size }
-    ensures fees_place { PC_FEES_ACCRUED.at ≡ 205 }
+    ensures places { map span_of (SERUM ∷ ACCOUNT_FLAGS ∷ OWN_ADDRESS ∷ VAULT_SIGNER_NONCE ∷ COIN_MINT ∷ PC_MINT ∷
+        COIN_VAULT ∷ COIN_DEPOSITS_TOTAL ∷ COIN_FEES_ACCRUED ∷ PC_VAULT ∷ PC_DEPOSITS_TOTAL ∷ PC_FEES_ACCRUED ∷
+        PC_DUST_THRESHOLD ∷ REQ_Q ∷ EVENT_Q ∷ BIDS ∷ ASKS ∷ COIN_LOT_SIZE ∷ PC_LOT_SIZE ∷ FEE_RATE_BPS ∷
+        REFERRER_REBATES_ACCRUED ∷ PADDING ∷ []) ≡ (0, 5) ∷ (5, 8) ∷ (13, 32) ∷ (45, 8) ∷ (53, 32) ∷ (85, 32) ∷
+        (117, 32) ∷ (149, 8) ∷ (157, 8) ∷ (165, 32) ∷ (197, 8) ∷ (205, 8) ∷ (213, 8) ∷ (221, 32) ∷ (253, 32) ∷
+        (285, 32) ∷ (317, 32) ∷ (349, 8) ∷ (357, 8) ∷ (365, 8) ∷ (373, 8) ∷ (381, 7) ∷ [] }
 {
     let mut end = 0;
     each_field!(market, field => {

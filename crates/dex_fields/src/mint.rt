@@ -1,6 +1,7 @@
 //! A mint with the layout of SPL Token.
 
-ghost use Rattle.dex_fields.specs.Tiling.{Tile};
+ghost use Rattle.std.specs.Prelude.{◌≡◌, ◌∷◌, [], map};
+ghost use Rattle.dex_fields.specs.Tiling.{Tile, span_of};
 
 use crate::field::tiles_by_test;
 use crate::{Field, Layout, each_field};
@@ -26,9 +27,11 @@ pub const LAYOUT: Layout<5> = Layout {
     fields: each_field!(mint),
 };
 
-/// The fields tile a mint: each byte is in exactly one of them.
+/// The fields tile a mint: each byte is in exactly one of them. Each stands at its offset, with its length in bytes.
 pub fn tiles()
-    ensures { Tile LAYOUT.fields LAYOUT.size }
+    ensures tiled { Tile LAYOUT.fields LAYOUT.size }
+    ensures places { map span_of (MINT_AUTHORITY ∷ SUPPLY ∷ DECIMALS ∷ IS_INITIALIZED ∷ FREEZE_AUTHORITY ∷ []) ≡
+        (0, 36) ∷ (36, 8) ∷ (44, 1) ∷ (45, 1) ∷ (46, 36) ∷ [] }
 {
     let mut end = 0;
     each_field!(mint, field => {

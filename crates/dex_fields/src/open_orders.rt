@@ -1,6 +1,7 @@
 //! An open-orders account: one trader's funds and slots on one market.
 
-ghost use Rattle.dex_fields.specs.Tiling.{Tile};
+ghost use Rattle.std.specs.Prelude.{◌≡◌, ◌∷◌, [], map};
+ghost use Rattle.dex_fields.specs.Tiling.{Tile, span_of};
 
 use crate::field::tiles_by_test;
 use crate::{Field, Layout, each_field};
@@ -56,9 +57,13 @@ pub const LAYOUT: Layout<14> = Layout {
     fields: each_field!(open_orders),
 };
 
-/// The fields tile an open-orders account: each byte is in exactly one of them.
+/// The fields tile an open-orders account: each byte is in exactly one of them. Each stands at its offset, with its length in bytes.
 pub fn tiles()
-    ensures { Tile LAYOUT.fields LAYOUT.size }
+    ensures tiled { Tile LAYOUT.fields LAYOUT.size }
+    ensures places { map span_of (SERUM ∷ ACCOUNT_FLAGS ∷ MARKET ∷ OWNER ∷ NATIVE_COIN_FREE ∷ NATIVE_COIN_TOTAL ∷
+        NATIVE_PC_FREE ∷ NATIVE_PC_TOTAL ∷ FREE_SLOT_BITS ∷ IS_BID_BITS ∷ ORDERS ∷ CLIENT_ORDER_IDS ∷
+        REFERRER_REBATES_ACCRUED ∷ PADDING ∷ []) ≡ (0, 5) ∷ (5, 8) ∷ (13, 32) ∷ (45, 32) ∷ (77, 8) ∷ (85, 8) ∷
+        (93, 8) ∷ (101, 8) ∷ (109, 16) ∷ (125, 16) ∷ (141, 2048) ∷ (2189, 1024) ∷ (3213, 8) ∷ (3221, 7) ∷ [] }
 {
     let mut end = 0;
     each_field!(open_orders, field => {

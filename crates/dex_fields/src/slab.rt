@@ -1,6 +1,7 @@
 //! The header of bids or asks. Behind it stand the nodes and `padding`.
 
-ghost use Rattle.dex_fields.specs.Tiling.{Tile};
+ghost use Rattle.std.specs.Prelude.{◌≡◌, ◌∷◌, [], map};
+ghost use Rattle.dex_fields.specs.Tiling.{Tile, span_of};
 
 use crate::field::tiles_by_test;
 use crate::{Field, Layout, each_field};
@@ -32,9 +33,11 @@ pub const LAYOUT: Layout<7> = Layout {
     fields: each_field!(slab),
 };
 
-/// The fields tile a slab's header: each byte is in exactly one of them.
+/// The fields tile a slab's header: each byte is in exactly one of them. Each stands at its offset, with its length in bytes.
 pub fn tiles()
-    ensures { Tile LAYOUT.fields LAYOUT.size }
+    ensures tiled { Tile LAYOUT.fields LAYOUT.size }
+    ensures places { map span_of (SERUM ∷ ACCOUNT_FLAGS ∷ BUMP_INDEX ∷ FREE_LIST_LEN ∷ FREE_LIST_HEAD ∷ ROOT_NODE ∷
+        LEAF_COUNT ∷ []) ≡ (0, 5) ∷ (5, 8) ∷ (13, 8) ∷ (21, 8) ∷ (29, 4) ∷ (33, 4) ∷ (37, 8) ∷ [] }
 {
     let mut end = 0;
     each_field!(slab, field => {

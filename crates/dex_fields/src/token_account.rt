@@ -1,6 +1,7 @@
 //! A token account with the layout of SPL Token.
 
-ghost use Rattle.dex_fields.specs.Tiling.{Tile};
+ghost use Rattle.std.specs.Prelude.{◌≡◌, ◌∷◌, [], map};
+ghost use Rattle.dex_fields.specs.Tiling.{Tile, span_of};
 
 use crate::field::tiles_by_test;
 use crate::{Field, Layout, each_field};
@@ -35,9 +36,12 @@ pub const LAYOUT: Layout<8> = Layout {
     fields: each_field!(token_account),
 };
 
-/// The fields tile a token account: each byte is in exactly one of them.
+/// The fields tile a token account: each byte is in exactly one of them. Each stands at its offset, with its length in bytes.
 pub fn tiles()
-    ensures { Tile LAYOUT.fields LAYOUT.size }
+    ensures tiled { Tile LAYOUT.fields LAYOUT.size }
+    ensures places { map span_of (MINT ∷ OWNER ∷ AMOUNT ∷ DELEGATE ∷ STATE ∷ IS_NATIVE ∷ DELEGATED_AMOUNT ∷
+        CLOSE_AUTHORITY ∷ []) ≡ (0, 32) ∷ (32, 32) ∷ (64, 8) ∷ (72, 36) ∷ (108, 1) ∷ (109, 12) ∷ (121, 8) ∷
+        (129, 36) ∷ [] }
 {
     let mut end = 0;
     each_field!(token_account, field => {
