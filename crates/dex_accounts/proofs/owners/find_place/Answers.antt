@@ -1,10 +1,9 @@
-use Rattle.std.proofs.Common.{◌≡◌, ◌<◌, true, false, None, IsSome, length, map, get_or, sym, ap, ◌∙◌, subst, arith, rules, below_more}
+use Rattle.std.proofs.Common.{◌≡◌, ◌<◌, true, false, length, map, get_or, sym, ap, ◌∙◌, arith, rules, below_more}
 use Rattle.std.proofs.lemmas.List.{get_or-map, length-map}
 use Rattle.dex_types.specs.Accounts.{PlainAccount, orders_account_of}
 use Rattle.dex_types.specs.Addresses.{is_same}
-use Rattle.dex_crank.specs.PaidBytes.{bytes_at}
-use Rattle.dex_crank.proofs.OwnerLaws.{bytes_at-none}
-use Rattle.dex_crank.proofs.accounts.place_of.Goals as goal
+use Rattle.dex_accounts.proofs.OwnerLaws.{bytes_at-none}
+use Rattle.dex_accounts.proofs.owners.find_place.Goals as goal
 
 pub loop-place-preserved : goal.loop-place-preserved
 loop-place-preserved c =
@@ -26,11 +25,7 @@ returns-then-is_same c =
       before = c.loop-place.invariant;
     }
 
-pub unreachable-requires : goal.unreachable-requires
-unreachable-requires c =
-    let accounts = map orders_account_of c.args.accounts.now in
-    let none : bytes_at c.args.address accounts ≡ None =
-    bytes_at-none c.args.address accounts
-    (λ place lt default. c.loop-place.invariant place (omega (arith, length-map c.args.accounts.now orders_account_of)) default) in
-    let absent : false ≡ true = subst IsSome none c.requires in
-    cc
+pub returns : goal.returns
+returns c =
+    bytes_at-none c.args.address (map orders_account_of c.args.accounts.now)
+    (λ place lt default. c.loop-place.invariant place (omega (arith, length-map c.args.accounts.now orders_account_of)) default)

@@ -1,8 +1,8 @@
--- The owner's account among others: where it stands, and what a change of it leaves.
+-- The account of an address among others: where it stands, and what a change of it leaves.
 use Rattle.std.proofs.Common.{◌≡◌, ℕ, zero, suc, ◌<◌, true, false, List, [], ◌∷◌, length, map, set, get_or, Some, None, refl, sym, ap, ◌∙◌, subst, arith, ⊎_elim}
 use Rattle.std.specs.List.{All}
 use Rattle.std.proofs.lemmas.Bool.{cases_Bool, cond-true, cond-false}
-use Rattle.std.proofs.lemmas.List.{get_or-map, get_or_default}
+use Rattle.std.proofs.lemmas.List.{get_or-map, get_or_default, length-map}
 use Rattle.std.proofs.lemmas.List.Elements.{All-nil, All-cons, All-head, All-tail, All-same}
 use Rattle.dex_types.specs.declared.addresses.Address.{Address}
 use Rattle.dex_types.specs.declared.account_bytes.OrdersAccount.{OrdersAccount}
@@ -11,9 +11,7 @@ use Rattle.dex_types.specs.Addresses.{is_same}
 use Rattle.dex_types.specs.Trader.{Trader, Traders, trader_at, put_trader}
 use Rattle.dex_orders.specs.OrdersAccount.{market_of}
 use Rattle.dex_orders.specs.StandsFor.{entry_of, trader_of, traders_of}
-use Rattle.dex_crank.specs.Parts.{place_of}
-use Rattle.dex_crank.specs.PaidBytes.{bytes_at, changed_at}
-use Rattle.dex_crank.specs.Places.{IsFirst}
+use Rattle.dex_accounts.specs.Owners.{IsFirst, bytes_at, changed_at, named_in}
 
 -- an account with other bytes
 abbrev pub with_change : (List ℕ → List ℕ) → PlainAccount → PlainAccount
@@ -55,6 +53,14 @@ bytes_at-none address (first ∷ others) none =
 pub with_some : (P : Type 0) (accounts : List OrdersAccount) (place : ℕ) → place < length accounts → ((default : OrdersAccount) → P) → P
 with_some P [] place lt known = absurd (omega arith)
 with_some P (first ∷ others) place lt known = known first
+
+-- the bytes at the first place of an address are those of its account
+pub bytes_at-here : (address : Address) (accounts : List OrdersAccount) (place : ℕ) (default : OrdersAccount) → IsFirst address (map orders_account_of accounts) place
+    → bytes_at address (map orders_account_of accounts) ≡ Some (get_or accounts place default).bytes.items
+bytes_at-here address accounts place default first =
+    let lt : place < length accounts = omega (arith, first.within, length-map accounts orders_account_of) in
+    bytes_at-first address (map orders_account_of accounts) place (orders_account_of default) first
+    ∙ ap (λ (a : PlainAccount). Some a.bytes) (get_or-map orders_account_of accounts place default (orders_account_of default) lt)
 
 -- the account of an address stands at its first place
 pub owned_here : (address : Address) (accounts : List OrdersAccount) (place : ℕ) (default : OrdersAccount) (bytes : List ℕ) → place < length accounts
@@ -163,20 +169,65 @@ traders_of-changed_at address change (first ∷ others) bytes found =
     (cases_Bool (is_same address first.address))
 
 -- what the change leaves of each account, of that one too, stays
-pub places-changed_at : (address : Address) (change : List ℕ → List ℕ) (accounts : List PlainAccount)
+pub named_in-changed_at : (address : Address) (change : List ℕ → List ℕ) (accounts : List PlainAccount)
     → ((bytes : List ℕ) → bytes_at address accounts ≡ Some bytes → market_of (change bytes) ≡ market_of bytes)
-    → map place_of (changed_at address change accounts) ≡ map place_of accounts
-places-changed_at address change [] stays = refl
-places-changed_at address change (first ∷ others) stays =
+    → map named_in (changed_at address change accounts) ≡ map named_in accounts
+named_in-changed_at address change [] stays = refl
+named_in-changed_at address change (first ∷ others) stays =
     ⊎_elim
     (λ (same : is_same address first.address ≡ true).
     let at : bytes_at address (first ∷ others) ≡ Some first.bytes = cond-true _ _ _ same in
     let now : changed_at address change (first ∷ others) ≡ with_change change first ∷ others = cond-true _ _ _ same in
-    let entry : Address → List (Address × Address) = λ market. (first.address, market) ∷ map place_of others in
-    ap (map place_of) now ∙ ap entry (stays first.bytes at))
+    let entry : Address → List (Address × Address) = λ market. (first.address, market) ∷ map named_in others in
+    ap (map named_in) now ∙ ap entry (stays first.bytes at))
     (λ (apart : is_same address first.address ≡ false).
     let past : bytes_at address (first ∷ others) ≡ bytes_at address others = cond-false _ _ _ apart in
     let now : changed_at address change (first ∷ others) ≡ first ∷ changed_at address change others = cond-false _ _ _ apart in
-    ap (map place_of) now
-    ∙ ap (λ (l : List (Address × Address)). place_of first ∷ l) (places-changed_at address change others (λ bytes found. stays bytes (past ∙ found))))
+    ap (map named_in) now
+    ∙ ap (λ (l : List (Address × Address)). named_in first ∷ l) (named_in-changed_at address change others (λ bytes found. stays bytes (past ∙ found))))
     (cases_Bool (is_same address first.address))
+
+-- no account gets another address
+pub addresses-changed_at : (address : Address) (change : List ℕ → List ℕ) (accounts : List PlainAccount)
+    → map (λ (account : PlainAccount). account.address) (changed_at address change accounts) ≡ map (λ (account : PlainAccount). account.address) accounts
+addresses-changed_at address change [] = refl
+addresses-changed_at address change (first ∷ others) =
+    let addresses : List PlainAccount → List Address = map (λ account. account.address) in
+    ⊎_elim
+    (λ (same : is_same address first.address ≡ true).
+    let now : changed_at address change (first ∷ others) ≡ with_change change first ∷ others = cond-true _ _ _ same in
+    ap addresses now)
+    (λ (apart : is_same address first.address ≡ false).
+    let now : changed_at address change (first ∷ others) ≡ first ∷ changed_at address change others = cond-false _ _ _ apart in
+    ap addresses now ∙ ap (λ (l : List Address). first.address ∷ l) (addresses-changed_at address change others))
+    (cases_Bool (is_same address first.address))
+
+-- the account of the address has the other bytes then
+pub bytes_at-changed_at : (address : Address) (change : List ℕ → List ℕ) (accounts : List PlainAccount) (bytes : List ℕ)
+    → bytes_at address accounts ≡ Some bytes → bytes_at address (changed_at address change accounts) ≡ Some (change bytes)
+bytes_at-changed_at address change [] bytes found = absurd (cc)
+bytes_at-changed_at address change (first ∷ others) bytes found =
+    ⊎_elim
+    (λ (same : is_same address first.address ≡ true).
+    let at : bytes_at address (first ∷ others) ≡ Some first.bytes = cond-true _ _ _ same in
+    let is : Some first.bytes ≡ Some bytes = sym at ∙ found in
+    let e : first.bytes ≡ bytes = cc in
+    let now : changed_at address change (first ∷ others) ≡ with_change change first ∷ others = cond-true _ _ _ same in
+    let here : bytes_at address (with_change change first ∷ others) ≡ Some (change first.bytes) = cond-true _ _ _ same in
+    ap (bytes_at address) now ∙ here ∙ ap (λ (b : List ℕ). Some (change b)) e)
+    (λ (apart : is_same address first.address ≡ false).
+    let past : bytes_at address (first ∷ others) ≡ bytes_at address others = cond-false _ _ _ apart in
+    let now : changed_at address change (first ∷ others) ≡ first ∷ changed_at address change others = cond-false _ _ _ apart in
+    let there : bytes_at address (first ∷ changed_at address change others) ≡ bytes_at address (changed_at address change others) = cond-false _ _ _ apart in
+    ap (bytes_at address) now ∙ there ∙ bytes_at-changed_at address change others bytes (sym past ∙ found))
+    (cases_Bool (is_same address first.address))
+
+-- the accounts with other bytes at the first place of an address are changed at it
+pub changed_at-here : (address : Address) (accounts : List OrdersAccount) (place : ℕ) (default : OrdersAccount) (bytes : List ℕ) → IsFirst address (map orders_account_of accounts) place
+    → set (map orders_account_of accounts) place (record { address = (get_or accounts place default).address; bytes = bytes })
+    ≡ changed_at address (λ was. bytes) (map orders_account_of accounts)
+changed_at-here address accounts place default bytes first =
+    let plain = map orders_account_of accounts in
+    let lt : place < length accounts = omega (arith, first.within, length-map accounts orders_account_of) in
+    sym (changed_at-first address (λ was. bytes) plain place (orders_account_of default) first
+    ∙ ap (λ (a : PlainAccount). set plain place (with_change (λ was. bytes) a)) (get_or-map orders_account_of accounts place default (orders_account_of default) lt))
