@@ -1,0 +1,13 @@
+//! Dumps: all accounts of the exchange as rows of text, written and read.
+#![tactic(auto)]
+
+pub mod faults;
+mod writing;
+
+pub use dex_make::{
+    MarketPart, MarketSet, a_made_market_is_sound,
+    accounts_with_blank_ones_stand_for_the_market_with_them, derived, make_market, make_mint,
+    make_orders, make_wallet, parts_have_addresses_of_their_own,
+};
+pub use faults::{DumpError, DumpFault};
+pub use writing::{append_dump, write_dump};
