@@ -1,5 +1,6 @@
 pub mod DumpText
 pub mod Lines
+pub mod Telling
 pub mod Reading
 pub mod Checks
 pub mod Answers

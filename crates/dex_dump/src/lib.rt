@@ -2,6 +2,7 @@
 #![tactic(auto)]
 
 pub mod faults;
+mod lines;
 mod writing;
 
 pub use dex_make::{
@@ -10,4 +11,5 @@ pub use dex_make::{
     make_orders, make_wallet, parts_have_addresses_of_their_own,
 };
 pub use faults::{DumpError, DumpFault};
+pub use lines::{Line, LineError, is_first_row, line_of};
 pub use writing::{append_dump, write_dump};
