@@ -1,6 +1,5 @@
 -- What is checked of the accounts of a row, in their order, and which fault tells that a check fails.
-use Rattle.std.specs.Prelude.{◌≡◌, ℕ, Bool, ◌&&◌, ◌||◌, ◌==◌, ◌⊎◌, nat_lt, if◌then◌else◌, List, [], ◌∷◌, length, map, slice_index, Option, Some, None}
-use Rattle.std.specs.List.{list_all}
+use Rattle.std.specs.Prelude.{◌≡◌, ℕ, Bool, ◌&&◌, ◌||◌, ◌==◌, ◌⊎◌, nat_lt, if◌then◌else◌, List, [], ◌∷◌, ◌++◌, length, slice_index, Option, Some, None}
 use Rattle.std.specs.Option.{option_map, option_or}
 use Rattle.dex_fields.specs.declared.field.Field.{Field}
 use Rattle.dex_fields.specs.declared.frame.Difference.{Difference}
@@ -15,7 +14,7 @@ use Rattle.dex_types.specs.declared.faults.AccountFault.{AccountFault}
 use Rattle.dex_types.specs.declared.terms.Side.{Side}
 use Rattle.dex_types.specs.declared.terms.Side.TheVariants.{Bid, Ask}
 use Rattle.dex_types.specs.AccountFaults.{flags_fault, size_fault, text_fault, word_fault}
-use Rattle.dex_types.specs.Accounts.{PlainAccount, PlainAccounts, PlainMarketAccounts}
+use Rattle.dex_types.specs.Accounts.{PlainAccounts, PlainMarketAccounts}
 use Rattle.dex_market.specs.Faults.{address_fault, market_fault, requests_fault}
 use Rattle.dex_market.specs.MarketAccount.{MarketTerms, address_in, market_terms}
 use Rattle.dex_token.specs.Faults.{mint_fault, token_fault, wallet_fault}
@@ -26,7 +25,7 @@ use Rattle.dex_slab.specs.Blank.{side_flags}
 use Rattle.dex_slab.specs.Faults.{IsFault}
 use Rattle.dex_slab.specs.Slab.{IsSlab}
 use Rattle.dex_dump.specs.Lines.{PlainLine}
-use Rattle.dex_dump.specs.Lines.PlainLine.{Mint, Srm, Msrm, Wallet, Market, Orders, End}
+use Rattle.dex_dump.specs.Lines.PlainLine.{Mint, Wallet, Market, Orders}
 use Rattle.dex_dump.specs.Reading.{PlainReading, is_among, is_mint}
 
 -- ---- the lower of two faults of one account
@@ -67,37 +66,49 @@ abbrev pub taken_rule : List Address → List ℕ → Field → Option AccountFa
 taken_rule taken bytes field =
     if is_among (address_in bytes field) taken then Some (address_fault bytes field) else None
 
+-- an address that the market's vaults, queues and sides have is taken
+unfoldable pub parts_rule : List Address → List ℕ → Option AccountFault
+parts_rule taken bytes =
+    option_or (option_or (option_or (option_or (option_or (taken_rule taken bytes COIN_VAULT) (taken_rule taken bytes PC_VAULT))
+    (taken_rule taken bytes REQ_Q)) (taken_rule taken bytes EVENT_Q)) (taken_rule taken bytes BIDS)) (taken_rule taken bytes ASKS)
+
 -- what the market account has wrong with others: its own address, its mints, and what its vaults, queues and sides are called
 unfoldable pub market_others : PlainReading → Address → List ℕ → Option AccountFault
 market_others reading address bytes =
-    option_or (address_rule bytes OWN_ADDRESS address)
-    (option_or (declared_rule reading.accounts bytes COIN_MINT)
-    (option_or (declared_rule reading.accounts bytes PC_MINT)
-    (option_or (taken_rule reading.taken bytes COIN_VAULT)
-    (option_or (taken_rule reading.taken bytes PC_VAULT)
-    (option_or (taken_rule reading.taken bytes REQ_Q)
-    (option_or (taken_rule reading.taken bytes EVENT_Q)
-    (option_or (taken_rule reading.taken bytes BIDS)
-    (taken_rule reading.taken bytes ASKS))))))))
+    option_or (option_or (option_or (address_rule bytes OWN_ADDRESS address) (declared_rule reading.accounts bytes COIN_MINT))
+    (declared_rule reading.accounts bytes PC_MINT)) (parts_rule reading.taken bytes)
 
 -- a market account
 unfoldable pub market_rule : PlainReading → Address → List ℕ → Option AccountFault
 market_rule reading address bytes = with_others bytes 388 (market_fault bytes) (market_others reading address bytes)
 
+-- the mint of a wallet is not declared
+abbrev pub wallet_others : PlainAccounts → List ℕ → Option AccountFault
+wallet_others accounts bytes =
+    if is_mint accounts (address_in bytes token.MINT) then None else Some (token_fault 0 (slice_index bytes 0) 0)
+
 -- a wallet: its mint is declared
 unfoldable pub wallet_rule : PlainAccounts → List ℕ → Option AccountFault
 wallet_rule accounts bytes = with_others bytes 165 (wallet_fault bytes)
-    (if is_mint accounts (address_in bytes token.MINT) then None else Some (token_fault 0 (slice_index bytes 0) 0))
+    (wallet_others accounts bytes)
+
+-- the mint of a vault is not the market's
+abbrev pub vault_others : Address → List ℕ → Option AccountFault
+vault_others mint bytes = option_map token_differs (difference_from 0 (bytes_in bytes token.MINT) mint.0)
 
 -- a vault: its mint is the market's
 unfoldable pub vault_rule : Address → List ℕ → Option AccountFault
 vault_rule mint bytes = with_others bytes 165 (wallet_fault bytes)
-    (option_map token_differs (difference_from 0 (bytes_in bytes token.MINT) mint.0))
+    (vault_others mint bytes)
+
+-- an open-orders account that is not blank names another market
+abbrev pub orders_others : Address → List ℕ → Option AccountFault
+orders_others market bytes = if are_zeros bytes then None else address_rule bytes open_orders.MARKET market
 
 -- an open-orders account: unless it is blank, it names its market
 unfoldable pub orders_rule : Address → List ℕ → Option AccountFault
 orders_rule market bytes = with_others bytes 3228 (orders_fault bytes)
-    (if are_zeros bytes then None else address_rule bytes open_orders.MARKET market)
+    (orders_others market bytes)
 
 -- the length of a side's account: 1 to 65,536 nodes
 abbrev pub side_size_rule : List ℕ → Option AccountFault
@@ -136,18 +147,25 @@ by_rules account fault = record { account = account; check = Rules fault }
 abbrev pub by_slab : Address → List ℕ → AccountCheck
 by_slab account bytes = record { account = account; check = Slab bytes }
 
--- the market account, and then, at the addresses that it names, the vaults, the queues and the sides
+-- the vaults, at the addresses that the market account names
+abbrev pub vault_checks : MarketTerms → PlainMarketAccounts → List AccountCheck
+vault_checks terms market =
+    by_rules terms.coin_vault (vault_rule terms.coin_mint market.coin_vault)
+    ∷ by_rules terms.pc_vault (vault_rule terms.pc_mint market.pc_vault) ∷ []
+
+-- the queues
+abbrev pub queue_checks : MarketTerms → PlainMarketAccounts → List AccountCheck
+queue_checks terms market =
+    by_rules terms.req_q (requests_fault market.requests) ∷ by_rules terms.event_q (queue_fault market.events) ∷ []
+
+-- a side, and then its slab
+abbrev pub side_checks : Address → Side → List ℕ → List AccountCheck
+side_checks account side bytes = by_rules account (side_rule side bytes) ∷ by_slab account bytes ∷ []
+
+-- the vaults, the queues and the sides
 abbrev pub part_checks : MarketTerms → PlainMarketAccounts → List AccountCheck
 part_checks terms market =
-    by_rules terms.coin_vault (vault_rule terms.coin_mint market.coin_vault)
-    ∷ by_rules terms.pc_vault (vault_rule terms.pc_mint market.pc_vault)
-    ∷ by_rules terms.req_q (requests_fault market.requests)
-    ∷ by_rules terms.event_q (queue_fault market.events)
-    ∷ by_rules terms.bids (side_rule Bid market.bids)
-    ∷ by_slab terms.bids market.bids
-    ∷ by_rules terms.asks (side_rule Ask market.asks)
-    ∷ by_slab terms.asks market.asks
-    ∷ []
+    vault_checks terms market ++ (queue_checks terms market ++ (side_checks terms.bids Bid market.bids ++ side_checks terms.asks Ask market.asks))
 
 unfoldable pub checks : PlainReading → PlainLine → List AccountCheck
 checks reading (Mint mint) = by_rules mint.address (mint_fault mint.bytes) ∷ []

@@ -1,5 +1,5 @@
 -- The accounts that the rows of a dump have declared so far, what a further row may say, and what it adds.
-use Rattle.std.specs.Prelude.{ℕ, Bool, true, false, not, ◌&&◌, ◌||◌, nat_lt, if◌then◌else◌, List, [], ◌∷◌, ◌++◌, length, map, Option, Some, None}
+use Rattle.std.specs.Prelude.{ℕ, Bool, true, false, not, ◌&&◌, nat_lt, if◌then◌else◌, List, [], ◌∷◌, ◌++◌, length, Option, Some, None}
 use Rattle.std.specs.List.{list_any}
 use Rattle.dex_types.specs.declared.addresses.Address.{Address}
 use Rattle.dex_types.specs.Accounts.{PlainAccount, PlainAccounts, PlainMarketAccounts}
@@ -46,8 +46,10 @@ is_name accounts mint None None = is_mint accounts mint
 is_name accounts mint None (Some other) = is_mint accounts mint && not (is_same mint other)
 
 -- the market of an address has room for one more open-orders account
-abbrev pub has_room : Address → PlainMarketAccounts → Bool
-has_room address market = is_same address market.address && nat_lt (length market.orders) 64
+abbrev pub has_room : Address → List PlainMarketAccounts → Bool
+has_room address [] = false
+has_room address (market ∷ markets) =
+    if is_same address market.address then nat_lt (length market.orders) 64 else has_room address markets
 
 -- a row declares no address twice, names what earlier rows declare, and passes no limit: 16 mints, 256 wallets, 16 markets and
 -- 64 open-orders accounts of a market
@@ -58,15 +60,18 @@ is_allowed reading (Msrm mint) = is_name reading.accounts mint reading.accounts.
 is_allowed reading (Wallet wallet) = is_new reading wallet.address (length reading.accounts.wallets) 256
 is_allowed reading (Market market) = is_new reading market.address (length reading.accounts.markets) 16
 is_allowed reading (Orders market account) =
-    not (is_among account.address reading.taken) && list_any (has_room market) reading.accounts.markets
+    not (is_among account.address reading.taken) && has_room market reading.accounts.markets
 is_allowed reading End = true
 
 -- ---- what it adds
 
 -- one more open-orders account of the market with this address
-abbrev pub with_orders : Address → PlainAccount → PlainMarketAccounts → PlainMarketAccounts
-with_orders address account market =
-    if is_same address market.address then record market { orders = market.orders ++ account ∷ [] } else market
+abbrev pub with_orders : Address → PlainAccount → List PlainMarketAccounts → List PlainMarketAccounts
+with_orders address account [] = []
+with_orders address account (market ∷ markets) =
+    if is_same address market.address
+    then record market { orders = market.orders ++ account ∷ [] } ∷ markets
+    else market ∷ with_orders address account markets
 
 -- the accounts with what a line adds
 abbrev pub with_line : PlainAccounts → PlainLine → PlainAccounts
@@ -75,7 +80,7 @@ with_line accounts (Srm mint) = record accounts { srm = Some mint }
 with_line accounts (Msrm mint) = record accounts { msrm = Some mint }
 with_line accounts (Wallet wallet) = record accounts { wallets = accounts.wallets ++ wallet ∷ [] }
 with_line accounts (Market market) = record accounts { markets = accounts.markets ++ market ∷ [] }
-with_line accounts (Orders market account) = record accounts { markets = map (with_orders market account) accounts.markets }
+with_line accounts (Orders market account) = record accounts { markets = with_orders market account accounts.markets }
 with_line accounts End = accounts
 
 -- the addresses that a line takes

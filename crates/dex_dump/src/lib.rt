@@ -1,8 +1,11 @@
 //! Dumps: all accounts of the exchange as rows of text, written and read.
 #![tactic(auto)]
 
+mod checks;
 pub mod faults;
 mod lines;
+mod reader;
+mod reading;
 mod writing;
 
 pub use dex_make::{
@@ -11,5 +14,6 @@ pub use dex_make::{
     make_orders, make_wallet, parts_have_addresses_of_their_own,
 };
 pub use faults::{DumpError, DumpFault};
-pub use lines::{Line, LineError, is_first_row, line_of};
+pub use lines::is_first_row;
+pub use reader::{DumpRead, read_dump, read_rows};
 pub use writing::{append_dump, write_dump};

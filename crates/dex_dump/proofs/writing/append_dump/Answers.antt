@@ -1,4 +1,4 @@
-use Rattle.std.proofs.Common.{append-nil, append_assoc, refl}
+use Rattle.std.proofs.Common.{append-nil, append_assoc}
 use Rattle.dex_dump.specs.DumpText.{account_rows, behind_first, lines_text}
 use Rattle.dex_dump.proofs.TextLaws.{lines_text-append}
 use Rattle.dex_dump.proofs.writing.append_dump.Goals as goal

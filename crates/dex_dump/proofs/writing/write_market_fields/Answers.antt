@@ -1,4 +1,4 @@
-use Rattle.std.proofs.Common.{refl, [], ◌∷◌}
+use Rattle.std.proofs.Common.{[], ◌∷◌}
 use Rattle.std.specs.String.{string_bytes}
 use Rattle.dex_dump.specs.DumpText.{base64_text, behind_first}
 use Rattle.dex_dump.proofs.TextLaws.{pieces}

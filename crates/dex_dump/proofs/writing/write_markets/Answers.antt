@@ -1,4 +1,4 @@
-use Rattle.std.proofs.Common.{append-nil, append_assoc, sym, ap, ◌∙◌, ◌++◌, List, ℕ, refl}
+use Rattle.std.proofs.Common.{append-nil, append_assoc, sym}
 use Rattle.dex_types.specs.Accounts.{market_accounts_of}
 use Rattle.dex_dump.specs.DumpText.{lines_text, market_rows}
 use Rattle.dex_dump.proofs.TextLaws.{rows_more}

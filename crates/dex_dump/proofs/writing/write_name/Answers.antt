@@ -1,4 +1,4 @@
-use Rattle.std.proofs.Common.{append_assoc, append-nil, refl, sym}
+use Rattle.std.proofs.Common.{append_assoc, append-nil, sym}
 use Rattle.dex_dump.specs.DumpText.{behind_first, lines_text}
 use Rattle.dex_dump.proofs.TextLaws.{lines_text-one}
 use Rattle.dex_dump.proofs.writing.write_name.Goals as goal

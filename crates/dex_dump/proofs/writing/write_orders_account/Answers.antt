@@ -1,4 +1,4 @@
-use Rattle.std.proofs.Common.{append_assoc, refl}
+use Rattle.std.proofs.Common.{append_assoc}
 use Rattle.dex_dump.specs.DumpText.{behind_first}
 use Rattle.dex_dump.proofs.writing.write_orders_account.Goals as goal
 

@@ -1,4 +1,4 @@
-use Rattle.std.proofs.Common.{append-nil, sym, ap, ◌∙◌}
+use Rattle.std.proofs.Common.{append-nil, sym, ◌∙◌}
 use Rattle.dex_types.specs.Accounts.{named_of}
 use Rattle.dex_dump.specs.DumpText.{lines_text, wallet_row}
 use Rattle.dex_dump.proofs.TextLaws.{lines_more}
