@@ -1,0 +1,5 @@
+pub mod Lists
+pub mod Slots
+pub mod Funds
+pub mod Findings
+pub mod Audited

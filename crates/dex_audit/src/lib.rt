@@ -1,0 +1,11 @@
+//! What an audit of accounts finds: each place where a rule over several accounts fails.
+#![tactic(auto)]
+
+mod finding;
+mod laws;
+mod taken;
+
+pub use finding::Finding;
+pub use laws::{
+    accounts_without_findings_are_of_sound_markets, mints_without_findings_are_conserved,
+};
