@@ -44,10 +44,10 @@ record IsPlaced (m : Market) (before : List QueuedEvent) (event : QueuedEvent) :
   first : finals_of (event_holding event) before ≡ 0
 
 placed-from : (m : Market) (before : List QueuedEvent) (event : QueuedEvent) (rest : List QueuedEvent) → m.events ≡ before ++ event ∷ rest
-    → astray m (length before) event ≡ [] → IsPlaced m before event
+    → astray m.traders m.events m.listing.event_queue (length before) event ≡ [] → IsPlaced m before event
 placed-from m before event rest are none =
     let held : Bool = is_held (held_at event.owner event.slot m.traders) (event_holding event) in
-    let placed : is_placed m (length before) event ≡ true = unless-none (is_placed m (length before) event) _ none in
+    let placed : is_placed m.traders m.events (length before) event ≡ true = unless-none (is_placed m.traders m.events (length before) event) _ none in
     let parts : (held ≡ true) × (eqb (finals_of (event_holding event) (take (length before) m.events)) 0 ≡ true) =
     and_parts held (eqb (finals_of (event_holding event) (take (length before) m.events)) 0) placed in
     let earlier : take (length before) m.events ≡ before = ap (take (length before)) are ∙ take-front before (event ∷ rest) in
@@ -60,29 +60,29 @@ placed-from m before event rest are none =
 stepped : {X : Type 0} (all before : List X) (x : X) (rest : List X) → all ≡ before ++ x ∷ rest → all ≡ (before ++ x ∷ []) ++ rest
 stepped all before x rest are = are ∙ sym (append_assoc before (x ∷ []) rest)
 
-next-none : (m : Market) (before : List QueuedEvent) (event : QueuedEvent) (rest : List QueuedEvent) → numbered (astray m) (length before + 1) rest ≡ []
-    → numbered (astray m) (length (before ++ event ∷ [])) rest ≡ []
-next-none m before event rest none = subst (λ (n : ℕ). numbered (astray m) n rest ≡ []) (sym (length-append before (event ∷ []))) none
+next-none : (m : Market) (before : List QueuedEvent) (event : QueuedEvent) (rest : List QueuedEvent) → numbered (astray m.traders m.events m.listing.event_queue) (length before + 1) rest ≡ []
+    → numbered (astray m.traders m.events m.listing.event_queue) (length (before ++ event ∷ [])) rest ≡ []
+next-none m before event rest none = subst (λ (n : ℕ). numbered (astray m.traders m.events m.listing.event_queue) n rest ≡ []) (sym (length-append before (event ∷ []))) none
 
 others-from : (m : Market) (event : QueuedEvent) (front back rest : List QueuedEvent) → is_final event ≡ true → m.events ≡ (front ++ event ∷ back) ++ rest
-    → numbered (astray m) (length (front ++ event ∷ back)) rest ≡ [] → AreOfOthers (event_holding event) rest
+    → numbered (astray m.traders m.events m.listing.event_queue) (length (front ++ event ∷ back)) rest ≡ [] → AreOfOthers (event_holding event) rest
 others-from m event front back [] final are none = tt
 others-from m event front back (e ∷ rest) final are none =
     let before : List QueuedEvent = front ++ event ∷ back in
-    let parts = append-none (astray m (length before) e) (numbered (astray m) (length before + 1) rest) none in
+    let parts = append-none (astray m.traders m.events m.listing.event_queue (length before) e) (numbered (astray m.traders m.events m.listing.event_queue) (length before + 1) rest) none in
     let placed : IsPlaced m before e = placed-from m before e rest are parts.0 in
     let counts : counts_final (event_holding e) event ≡ 0 = omega (arith, placed.first, total-between (counts_final (event_holding e)) front back event) in
     let longer : before ++ e ∷ [] ≡ front ++ event ∷ (back ++ e ∷ []) = append_assoc front (event ∷ back) (e ∷ []) in (
       is_one_order-false (event_holding e) (event_holding event) (counts-none (is_final event) (is_one_order (event_holding e) (event_holding event)) final counts),
       others-from m event front (back ++ e ∷ []) rest final
           (stepped m.events before e rest are ∙ ap (λ (l : List QueuedEvent). l ++ rest) longer)
-          (subst (λ (l : List QueuedEvent). numbered (astray m) (length l) rest ≡ []) longer (next-none m before e rest parts.1)),
+          (subst (λ (l : List QueuedEvent). numbered (astray m.traders m.events m.listing.event_queue) (length l) rest ≡ []) longer (next-none m before e rest parts.1)),
     )
 
-held-from : (m : Market) (before rest : List QueuedEvent) → m.events ≡ before ++ rest → numbered (astray m) (length before) rest ≡ [] → AreHeld m.traders rest
+held-from : (m : Market) (before rest : List QueuedEvent) → m.events ≡ before ++ rest → numbered (astray m.traders m.events m.listing.event_queue) (length before) rest ≡ [] → AreHeld m.traders rest
 held-from m before [] are none = tt
 held-from m before (event ∷ rest) are none =
-    let parts = append-none (astray m (length before) event) (numbered (astray m) (length before + 1) rest) none in
+    let parts = append-none (astray m.traders m.events m.listing.event_queue (length before) event) (numbered (astray m.traders m.events m.listing.event_queue) (length before + 1) rest) none in
     let placed : IsPlaced m before event = placed-from m before event rest are parts.0 in (
       is_held-true (held_at event.owner event.slot m.traders) (event_holding event) placed.held,
       (λ final. others-from m event before [] rest final (stepped m.events before event rest are) (next-none m before event rest parts.1)),

@@ -6,3 +6,4 @@ pub mod TraderFrom
 pub mod MarketForm
 pub mod SoundLaw
 pub mod NoneLaw
+pub mod ReadLaws

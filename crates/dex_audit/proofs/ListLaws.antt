@@ -1,8 +1,8 @@
 -- lists of findings in which there are none
-use Rattle.std.proofs.Common.{◌≡◌, ℕ, zero, suc, ◌+◌, ◌<◌, Bool, true, false, List, [], ◌∷◌, ◌++◌, length, get_or, refl, sym, subst, arith}
+use Rattle.std.proofs.Common.{◌≡◌, ℕ, zero, suc, ◌+◌, ◌<◌, Bool, true, false, List, [], ◌∷◌, ◌++◌, length, get_or, take, refl, sym, ap, ◌∙◌, subst, arith}
 use Rattle.std.specs.List.{All, flat_map}
 use Rattle.std.proofs.lemmas.List.Elements.{All-nil, All-cons}
-use Rattle.std.proofs.lemmas.List.{length-append}
+use Rattle.std.proofs.lemmas.List.{append_assoc, append-nil, flat_map_more, length-append, length-take, take_more}
 use Rattle.dex_audit.specs.declared.finding.Finding.{Finding}
 use Rattle.dex_audit.specs.Lists.{numbered, unless}
 
@@ -61,3 +61,31 @@ Among-left x xs ys among = Among-left-at x xs ys among.place among.within among.
 pub Among-right : {X : Type 0} (x : X) (xs ys : List X) → Among x ys → Among x (xs ++ ys)
 Among-right x [] ys among = among
 Among-right x (y ∷ xs) ys among = Among-tail x y (xs ++ ys) (Among-right x xs ys among)
+
+-- ---- findings so far, and one item more
+
+numbered-snoc : {X Y : Type 0} (f : ℕ → X → List Y) (first at : ℕ) (xs : List X) (x : X) → at ≡ first + length xs → numbered f first (xs ++ x ∷ []) ≡ numbered f first xs ++ f at x
+numbered-snoc f first at [] x is =
+    let same : at ≡ first = omega arith in
+    append-nil (f first x) ∙ ap (λ (n : ℕ). f n x) (sym same)
+numbered-snoc f first at (y ∷ xs) x is =
+    ap (λ (l : List _). f first y ++ l) (numbered-snoc f (first + 1) at xs x (omega arith)) ∙ sym (append_assoc (f first y) (numbered f (first + 1) xs) (f at x))
+
+numbered-more : {X Y : Type 0} (f : ℕ → X → List Y) (xs : List X) (i : ℕ) (d : X) → i < length xs
+    → numbered f 0 (take (i + 1) xs) ≡ numbered f 0 (take i xs) ++ f i (get_or xs i d)
+numbered-more f xs i d lt =
+    ap (numbered f 0) (take_more xs i d lt) ∙ numbered-snoc f 0 i (take i xs) (get_or xs i d) (omega (arith, length-take i xs))
+
+pub told-more : {X Y : Type 0} (f : ℕ → X → List Y) (xs : List X) (i : ℕ) (d : X) (before now after : List Y) → i < length xs
+    → now ≡ before ++ numbered f 0 (take i xs) → after ≡ now ++ f i (get_or xs i d) → after ≡ before ++ numbered f 0 (take (i + 1) xs)
+told-more f xs i d before now after lt told one =
+    one ∙ ap (λ (l : List _). l ++ f i (get_or xs i d)) told
+    ∙ append_assoc before (numbered f 0 (take i xs)) (f i (get_or xs i d))
+    ∙ ap (λ (l : List _). before ++ l) (sym (numbered-more f xs i d lt))
+
+pub joined-more : {X Y : Type 0} (f : X → List Y) (xs : List X) (i : ℕ) (d : X) (before now after : List Y) → i < length xs
+    → now ≡ before ++ flat_map f (take i xs) → after ≡ now ++ f (get_or xs i d) → after ≡ before ++ flat_map f (take (i + 1) xs)
+joined-more f xs i d before now after lt told one =
+    one ∙ ap (λ (l : List _). l ++ f (get_or xs i d)) told
+    ∙ flat_map_more f before (take i xs) (get_or xs i d)
+    ∙ ap (λ (l : List _). before ++ flat_map f l) (sym (take_more xs i d lt))

@@ -114,7 +114,7 @@ is_order_at-own order = rw (is_same-refl order.owner, eq-eqb order.slot order.sl
 -- both sides' rules of one order
 module _ (m : Market) (slots : HasSlots m.traders) (side : Side) (resting : List Order) (home : All (λ (order : Order). is_opened (trader_at order.owner m.traders) ≡ true) resting)
     (within : All (λ (order : Order). order.slot < 128) resting)
-    (good : (owner : Address) (slot : ℕ) (held : Option Holding) → misheld m owner slot held ≡ [] → unheld owner slot held side resting ≡ None)
+    (good : (owner : Address) (slot : ℕ) (held : Option Holding) → misheld m.bids m.asks owner slot held ≡ [] → unheld owner slot held side resting ≡ None)
     (none : misheld_in m ≡ []) where
   pub rests-held : All (λ (order : Order). held_at order.owner order.slot m.traders ≡ Some (order_holding side order)) resting
   rests-held k d lt =
@@ -124,10 +124,10 @@ module _ (m : Market) (slots : HasSlots m.traders) (side : Side) (resting : List
       let found : trader_at order.owner m.traders ≡ Some (Open account) = opened.1 in
       let small : order.slot < 128 = within k d lt in
       let many : length account.slots ≡ 128 = slots order.owner account found in
-      let all : numbered (misheld m order.owner) 0 account.slots ≡ [] =
-      open-none (λ owner account. numbered (misheld m owner) 0 account.slots) order.owner account m.traders none found in
-      let one : misheld m order.owner order.slot (get_or account.slots order.slot None) ≡ [] =
-      numbered-none (misheld m order.owner) 0 account.slots order.slot order.slot None all (omega arith) (omega arith) in
+      let all : numbered (misheld m.bids m.asks order.owner) 0 account.slots ≡ [] =
+      open-none (λ owner account. numbered (misheld m.bids m.asks owner) 0 account.slots) order.owner account m.traders none found in
+      let one : misheld m.bids m.asks order.owner order.slot (get_or account.slots order.slot None) ≡ [] =
+      numbered-none (misheld m.bids m.asks order.owner) 0 account.slots order.slot order.slot None all (omega arith) (omega arith) in
       let each = unheld-none order.owner order.slot (get_or account.slots order.slot None) side resting
       (good order.owner order.slot (get_or account.slots order.slot None) one) in
       held-open order.owner order.slot account m.traders found
@@ -187,8 +187,8 @@ taken-each P owner slot held traders here all =
 
 pub taken-ends : (m : Market) → unpaired_in m ≡ [] → (owner : Address) (slot : ℕ) (held : Holding) → held_at owner slot m.traders ≡ Some held → resting_of held m + finals_of held m.events ≡ 1
 taken-ends m none owner slot held here =
-    let all = flat_map-none (unpaired m) (taken_in m.traders) none in
-    let one : unpaired m (listed owner slot held) ≡ [] = taken-each (λ taken. unpaired m taken ≡ []) owner slot held m.traders here all in
+    let all = flat_map-none (unpaired m.bids m.asks m.events) (taken_in m.traders) none in
+    let one : unpaired m.bids m.asks m.events (listed owner slot held) ≡ [] = taken-each (λ taken. unpaired m.bids m.asks m.events taken ≡ []) owner slot held m.traders here all in
     eqb-true (resting_of held m + finals_of held m.events) 1 (unless-none (eqb (resting_of held m + finals_of held m.events) 1) _ one)
 
 pub taken-given : (m : Market) → ungiven_in m ≡ [] → (owner : Address) (slot : ℕ) (held : Holding) → held_at owner slot m.traders ≡ Some held → sequence_of held.side held.id < m.next_sequence

@@ -61,7 +61,7 @@ homes m none Ask =
     (λ place order empty. unless-none (is_opened (trader_at order.owner m.traders)) _ empty) 0 m.asks
     (append-none (numbered (homeless m.traders m.listing.bids) 0 m.bids) (numbered (homeless m.traders m.listing.asks) 0 m.asks) none).1
 
-side-good : (m : Market) (side : Side) (owner : Address) (slot : ℕ) (held : Option Holding) → misheld m owner slot held ≡ [] → unheld owner slot held side (orders side m) ≡ None
+side-good : (m : Market) (side : Side) (owner : Address) (slot : ℕ) (held : Option Holding) → misheld m.bids m.asks owner slot held ≡ [] → unheld owner slot held side (orders side m) ≡ None
 side-good m Bid owner slot held none =
     (or_else-none (unheld owner slot held Bid m.bids) (unheld owner slot held Ask m.asks)
     (unheld_finding-none owner slot held (or_else (unheld owner slot held Bid m.bids) (unheld owner slot held Ask m.asks)) none)).0

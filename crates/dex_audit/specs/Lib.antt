@@ -3,3 +3,4 @@ pub mod Slots
 pub mod Funds
 pub mod Findings
 pub mod Audited
+pub mod Reading

@@ -7,8 +7,9 @@ use Rattle.dex_types.specs.declared.terms.Side.{Side}
 use Rattle.dex_types.specs.declared.terms.Side.TheVariants.{Bid, Ask}
 use Rattle.dex_types.specs.Market.{Market}
 use Rattle.dex_types.specs.QueuedEvent.{QueuedEvent}
-use Rattle.dex_types.specs.Side.{sequence_of}
-use Rattle.dex_types.specs.Soundness.{event_holding, finals_of, held_at, is_one_order, order_holding, resting_of}
+use Rattle.dex_types.specs.Side.{by_side, sequence_of}
+use Rattle.dex_types.specs.Soundness.{counts_order, event_holding, finals_of, held_at, is_one_order, order_holding}
+use Rattle.dex_types.specs.Totals.{total}
 use Rattle.dex_types.specs.Trader.{Account, Holding, Trader, Open, Traders, trader_at}
 use Rattle.dex_laws.specs.Places.{is_order_at}
 use Rattle.dex_audit.specs.declared.finding.Finding.{Finding}
@@ -66,12 +67,13 @@ abbrev pub unheld_finding : Address → ℕ → Option Holding → Option ℕ �
 unheld_finding owner slot held None = []
 unheld_finding owner slot held (Some id) = record { kind = 2; account = owner; place = slot; found = id_held held; wanted = id } ∷ []
 
-abbrev pub misheld : Market → Address → ℕ → Option Holding → List Finding
-misheld m owner slot held = unheld_finding owner slot held (or_else (unheld owner slot held Bid m.bids) (unheld owner slot held Ask m.asks))
+-- of the two sides' orders, bids before asks
+abbrev pub misheld : List Order → List Order → Address → ℕ → Option Holding → List Finding
+misheld bids asks owner slot held = unheld_finding owner slot held (or_else (unheld owner slot held Bid bids) (unheld owner slot held Ask asks))
 
 -- the slots that do not hold an order that rests for them, with the first such order, bids before asks
 abbrev pub misheld_in : Market → List Finding
-misheld_in m = each_slot (misheld m) m.traders
+misheld_in m = each_slot (misheld m.bids m.asks) m.traders
 
 -- ---- taken slots
 
@@ -95,30 +97,34 @@ number_of taken = sequence_of taken.side taken.id
 -- ---- 3: a taken slot's order rests and has no final out pending, or does not rest and has exactly one
 
 -- how many resting orders and pending final outs are the slot's order
-abbrev pub ends_of : Market → Taken → ℕ
-ends_of m taken = resting_of (holding taken) m + finals_of (holding taken) m.events
+abbrev pub ends_of : List Order → List Order → List QueuedEvent → Taken → ℕ
+ends_of bids asks events taken =
+    total (counts_order taken.side (holding taken)) (by_side taken.side bids asks) + finals_of (holding taken) events
 
-abbrev pub unpaired : Market → Taken → List Finding
-unpaired m taken = unless (ends_of m taken == 1) (record { kind = 3; account = taken.owner; place = taken.slot; found = ends_of m taken; wanted = 1 })
+abbrev pub unpaired : List Order → List Order → List QueuedEvent → Taken → List Finding
+unpaired bids asks events taken =
+    unless
+    (ends_of bids asks events taken == 1)
+    (record { kind = 3; account = taken.owner; place = taken.slot; found = ends_of bids asks events taken; wanted = 1 })
 
 abbrev pub unpaired_in : Market → List Finding
-unpaired_in m = flat_map (unpaired m) (taken_in m.traders)
+unpaired_in m = flat_map (unpaired m.bids m.asks m.events) (taken_in m.traders)
 
 -- ---- 4: a pending event's owner is an open account whose slot holds the event's id, side and client id, and no earlier pending
 -- event is a final out of that order
 
-abbrev pub is_placed : Market → ℕ → QueuedEvent → Bool
-is_placed m number event =
-    is_held (held_at event.owner event.slot m.traders) (event_holding event) && (finals_of (event_holding event) (take number m.events) == 0)
+abbrev pub is_placed : Traders → List QueuedEvent → ℕ → QueuedEvent → Bool
+is_placed traders events number event =
+    is_held (held_at event.owner event.slot traders) (event_holding event) && (finals_of (event_holding event) (take number events) == 0)
 
-abbrev pub astray : Market → ℕ → QueuedEvent → List Finding
-astray m number event =
+abbrev pub astray : Traders → List QueuedEvent → Address → ℕ → QueuedEvent → List Finding
+astray traders events queue number event =
     unless
-    (is_placed m number event)
-    (record { kind = 4; account = m.listing.event_queue; place = number; found = id_held (held_at event.owner event.slot m.traders); wanted = event.id })
+    (is_placed traders events number event)
+    (record { kind = 4; account = queue; place = number; found = id_held (held_at event.owner event.slot traders); wanted = event.id })
 
 abbrev pub astray_in : Market → List Finding
-astray_in m = numbered (astray m) 0 m.events
+astray_in m = numbered (astray m.traders m.events m.listing.event_queue) 0 m.events
 
 -- ---- 5: the sequence number of a taken slot's order is below the next one
 

@@ -2,8 +2,11 @@
 #![tactic(auto)]
 
 mod finding;
+mod held;
 mod laws;
+mod resting;
 mod taken;
+mod traders;
 
 pub use finding::Finding;
 pub use laws::{
