@@ -47,7 +47,7 @@ placed-from : (m : Market) (before : List QueuedEvent) (event : QueuedEvent) (re
     → astray m.traders m.events m.listing.event_queue (length before) event ≡ [] → IsPlaced m before event
 placed-from m before event rest are none =
     let held : Bool = is_held (held_at event.owner event.slot m.traders) (event_holding event) in
-    let placed : is_placed m.traders m.events (length before) event ≡ true = unless-none (is_placed m.traders m.events (length before) event) _ none in
+    let placed : is_placed m.traders (take (length before) m.events) event ≡ true = unless-none (is_placed m.traders (take (length before) m.events) event) _ none in
     let parts : (held ≡ true) × (eqb (finals_of (event_holding event) (take (length before) m.events)) 0 ≡ true) =
     and_parts held (eqb (finals_of (event_holding event) (take (length before) m.events)) 0) placed in
     let earlier : take (length before) m.events ≡ before = ap (take (length before)) are ∙ take-front before (event ∷ rest) in

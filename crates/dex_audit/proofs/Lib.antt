@@ -7,3 +7,4 @@ pub mod MarketForm
 pub mod SoundLaw
 pub mod NoneLaw
 pub mod ReadLaws
+pub mod FinalLaws

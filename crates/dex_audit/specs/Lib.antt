@@ -4,3 +4,4 @@ pub mod Funds
 pub mod Findings
 pub mod Audited
 pub mod Reading
+pub mod Tallies

@@ -113,15 +113,18 @@ unpaired_in m = flat_map (unpaired m.bids m.asks m.events) (taken_in m.traders)
 -- ---- 4: a pending event's owner is an open account whose slot holds the event's id, side and client id, and no earlier pending
 -- event is a final out of that order
 
-abbrev pub is_placed : Traders → List QueuedEvent → ℕ → QueuedEvent → Bool
-is_placed traders events number event =
-    is_held (held_at event.owner event.slot traders) (event_holding event) && (finals_of (event_holding event) (take number events) == 0)
+-- the event is held, and none of these earlier ones is a final out of its order
+abbrev pub is_placed : Traders → List QueuedEvent → QueuedEvent → Bool
+is_placed traders earlier event = is_held (held_at event.owner event.slot traders) (event_holding event) && (finals_of (event_holding event) earlier == 0)
+
+abbrev pub astray_behind : Traders → List QueuedEvent → Address → ℕ → QueuedEvent → List Finding
+astray_behind traders earlier queue number event =
+    unless
+    (is_placed traders earlier event)
+    (record { kind = 4; account = queue; place = number; found = id_held (held_at event.owner event.slot traders); wanted = event.id })
 
 abbrev pub astray : Traders → List QueuedEvent → Address → ℕ → QueuedEvent → List Finding
-astray traders events queue number event =
-    unless
-    (is_placed traders events number event)
-    (record { kind = 4; account = queue; place = number; found = id_held (held_at event.owner event.slot traders); wanted = event.id })
+astray traders events queue number event = astray_behind traders (take number events) queue number event
 
 abbrev pub astray_in : Market → List Finding
 astray_in m = numbered (astray m.traders m.events m.listing.event_queue) 0 m.events

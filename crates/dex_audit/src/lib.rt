@@ -1,11 +1,13 @@
 //! What an audit of accounts finds: each place where a rule over several accounts fails.
 #![tactic(auto)]
 
+mod finals;
 mod finding;
 mod held;
 mod laws;
 mod resting;
 mod taken;
+mod tally;
 mod traders;
 
 pub use finding::Finding;
