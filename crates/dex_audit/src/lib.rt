@@ -5,6 +5,7 @@ mod finals;
 mod finding;
 mod held;
 mod laws;
+mod pending;
 mod resting;
 mod taken;
 mod tally;
