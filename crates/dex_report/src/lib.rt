@@ -1,0 +1,8 @@
+//! The texts that a run of the exchange writes: the report of a replay, made scripts, and the summary of a large run.
+#![tactic(auto)]
+
+mod outcome;
+mod report;
+
+pub use outcome::{MarketJournal, Outcome, WalletJournal};
+pub use report::report_text;
