@@ -1,4 +1,8 @@
+pub mod DumpText
 pub mod Lines
 pub mod Outcomes
 pub mod Report
-pub mod DumpText
+pub mod Draws
+pub mod MadeRows
+pub mod MadeSetup
+pub mod Made

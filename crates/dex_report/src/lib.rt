@@ -1,8 +1,12 @@
 //! The texts that a run of the exchange writes: the report of a replay, made scripts, and the summary of a large run.
 #![tactic(auto)]
 
+mod made;
+mod made_rows;
+mod made_setup;
 mod outcome;
 mod report;
 
+pub use made::make_script;
 pub use outcome::{MarketJournal, Outcome, WalletJournal};
 pub use report::report_text;
