@@ -1,5 +1,1 @@
-pub mod MarketLaws
-pub mod PartLaws
-pub mod TokenLaws
-pub mod RequestLaws
-pub mod MadeLaws
+pub mod TextLaws

@@ -1,5 +1,7 @@
-pub mod Derived
-pub mod TokenBytes
-pub mod MarketSet
-pub mod MarketBytes
-pub mod Blanks
+pub mod DumpText
+pub mod Lines
+pub mod Telling
+pub mod Reading
+pub mod Checks
+pub mod Answers
+pub mod Accepted

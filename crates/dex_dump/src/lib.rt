@@ -1,19 +1,15 @@
-//! Accounts as they are made, and which market the accounts of a market stand for.
+//! Dumps: all accounts of the exchange as rows of text, written and read.
 #![tactic(auto)]
 
-mod laws;
-mod market;
-mod market_bytes;
-mod parts;
-mod tokens;
-mod zeros;
+pub mod faults;
+mod lines;
+mod writing;
 
-pub use laws::{
-    a_made_market_is_sound, accounts_with_blank_ones_stand_for_the_market_with_them, parts_have_addresses_of_their_own,
+pub use dex_make::{
+    MarketPart, MarketSet, a_made_market_is_sound,
+    accounts_with_blank_ones_stand_for_the_market_with_them, derived, make_market, make_mint,
+    make_orders, make_wallet, parts_have_addresses_of_their_own,
 };
-pub use market::{MarketSet, make_market, make_orders};
-pub use parts::{MarketPart, derived};
-pub use tokens::{make_mint, make_wallet};
-
-#[cfg(test)]
-mod tests;
+pub use faults::{DumpError, DumpFault};
+pub use lines::{Line, LineError, is_first_row, line_of};
+pub use writing::{append_dump, write_dump};

@@ -1,5 +1,0 @@
-use Rattle.dex_dump.proofs.MadeLaws.{StandsFor-with_blanks}
-use Rattle.dex_dump.proofs.laws.accounts_with_blank_ones_stand_for_the_market_with_them.Goals as goal
-
-pub returns : goal.returns
-returns c = StandsFor-with_blanks

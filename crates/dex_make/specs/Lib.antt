@@ -1,0 +1,5 @@
+pub mod Derived
+pub mod TokenBytes
+pub mod MarketSet
+pub mod MarketBytes
+pub mod Blanks
