@@ -1,4 +1,3 @@
-pub mod DumpText
 pub mod Lines
 pub mod Outcomes
 pub mod Report

@@ -7,7 +7,7 @@ use Rattle.dex_types.specs.declared.movements.Movement.{Movement}
 use Rattle.dex_types.specs.declared.movements.WalletEntry.{WalletEntry}
 use Rattle.dex_types.specs.MovementText.{kind_text, movement_text}
 use Rattle.dex_types.specs.Text.{address_text, reply_text, spaced}
-use Rattle.dex_report.specs.DumpText.{dump_text}
+use Rattle.dex_dump.specs.DumpText.{dump_text}
 use Rattle.dex_report.specs.Lines.{line}
 use Rattle.dex_report.specs.Outcomes.{PlainMarketJournal, PlainOutcome, PlainWalletJournal}
 

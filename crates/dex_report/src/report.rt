@@ -3,13 +3,12 @@
 ghost use Rattle.std.specs.Prelude.{◌≡◌, ◌++◌, IfOk, OnOk, Some, length, map};
 ghost use Rattle.std.specs.List.{flat_map};
 ghost use Rattle.std.specs.String.{string_bytes};
-ghost use Rattle.dex_types.specs.Accounts.{accounts_of};
-ghost use Rattle.dex_report.specs.DumpText.{dump_text};
 ghost use Rattle.dex_report.specs.Outcomes.{market_journal_of, outcome_of, wallet_journal_of};
 ghost use Rattle.dex_report.specs.Report as texts;
 
 use crate::outcome::{MarketJournal, Outcome, WalletJournal};
-use dex_types::{Accounts, Entry, Movement, NoMemory, WalletEntry};
+use dex_dump::append_dump;
+use dex_types::{Entry, Movement, NoMemory, WalletEntry};
 use std::alloc::{AllocError, Global};
 use std::fmt;
 use std::fmt::Write;
@@ -35,15 +34,6 @@ fn report(alloc: Global, outcome: &Outcome, rows: u32) -> Result<String, AllocEr
     append_dump(&mut text, &outcome.accounts)?;
     write!(text, "end\n")?;
     Ok(text)
-}
-
-#[tactic(auto, unfolding(crate::specs::DumpText::dump_text))]
-fn append_dump(text: &mut String, accounts: &Accounts) -> Result<(), AllocError>
-    ensures { OnOk result (string_bytes text.new ≡ string_bytes text.old ++ dump_text (accounts_of accounts.now)) }
-{
-    let _ = accounts;
-    let _ = text;
-    Ok(())
 }
 
 fn write_markets(text: &mut String, journals: &[MarketJournal]) -> Result<(), AllocError>
