@@ -5,3 +5,4 @@ pub mod Draws
 pub mod MadeRows
 pub mod MadeSetup
 pub mod Made
+pub mod Bulk
