@@ -12,3 +12,6 @@ pub use bulk::bulk_text;
 pub use made::make_script;
 pub use outcome::{MarketJournal, Outcome, WalletJournal};
 pub use report::report_text;
+
+#[cfg(test)]
+mod tests;
