@@ -6,3 +6,4 @@ pub mod PopLaw
 pub mod PushLaw
 pub mod RingLaw
 pub mod Verdicts
+pub mod CountLaw
