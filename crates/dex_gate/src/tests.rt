@@ -74,10 +74,12 @@ fn four_take_many<R: Wait + Abort + Threads + Sync>(
     requires third { IsIdle gate.now (number + 2) third }
     requires fourth { IsIdle gate.now (number + 3) fourth }
 {
-    let front = || requires { (number < 8) × IsIdle gate.now number first × IsIdle gate.now (number + 1) second }
+    let front = ||
+        requires { (number < 8) × IsIdle gate.now number first × IsIdle gate.now (number + 1) second }
     { two_take_many(rt, gate, first, second, number) };
     let later = number + 2;
-    let behind = || requires { (later < 8) × IsIdle gate.now later third × IsIdle gate.now (later + 1) fourth }
+    let behind = ||
+        requires { (later < 8) × IsIdle gate.now later third × IsIdle gate.now (later + 1) fourth }
     { two_take_many(rt, gate, third, fourth, later) };
     let _passes = thread::join(rt, front, behind);
 }
@@ -148,9 +150,11 @@ fn eight_threads_wait_parked(rt: HostRuntime) -> Result<(), Fail> {
     let seventh = gate.split(&mut first);
     let eighth = gate.split(&mut first);
     let shared = &gate;
-    let front = || requires { IsIdle shared.now 0 first × IsIdle shared.now 1 second × IsIdle shared.now 2 third × IsIdle shared.now 3 fourth }
+    let front = ||
+        requires { IsIdle shared.now 0 first × IsIdle shared.now 1 second × IsIdle shared.now 2 third × IsIdle shared.now 3 fourth }
     { four_take_many(&rt, shared, first, second, third, fourth, 0) };
-    let behind = || requires { IsIdle shared.now 4 fifth × IsIdle shared.now 5 sixth × IsIdle shared.now 6 seventh × IsIdle shared.now 7 eighth }
+    let behind = ||
+        requires { IsIdle shared.now 4 fifth × IsIdle shared.now 5 sixth × IsIdle shared.now 6 seventh × IsIdle shared.now 7 eighth }
     { four_take_many(&rt, shared, fifth, sixth, seventh, eighth, 4) };
     let _done = thread::join(&rt, front, behind);
     Ok(())
