@@ -1,2 +1,4 @@
 pub mod OneMarket
 pub mod Decoded
+pub mod OwnerLaws
+pub mod PartLaws

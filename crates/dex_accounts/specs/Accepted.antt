@@ -1,5 +1,5 @@
 -- Which accounts of a market are accepted: each by itself, and together.
-use Rattle.std.specs.Prelude.{◌≡◌, List}
+use Rattle.std.specs.Prelude.{◌≡◌}
 use Rattle.std.specs.List.{All}
 use Rattle.dex_types.specs.declared.addresses.Address.{Address}
 use Rattle.dex_types.specs.declared.terms.Side.TheVariants.{Bid, Ask}

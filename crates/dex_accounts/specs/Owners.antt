@@ -3,6 +3,7 @@ use Rattle.std.specs.Prelude.{◌≡◌, ℕ, ◌<◌, true, false, List, [], �
 use Rattle.dex_types.specs.declared.addresses.Address.{Address}
 use Rattle.dex_types.specs.Accounts.{PlainAccount}
 use Rattle.dex_types.specs.Addresses.{is_same}
+use Rattle.dex_orders.specs.OrdersAccount.{market_of}
 
 -- the bytes of the account of an address
 abbrev pub bytes_at : Address → List PlainAccount → Option (List ℕ)
@@ -22,3 +23,7 @@ pub record IsFirst (address : Address) (accounts : List PlainAccount) (place : �
   pub within : place < length accounts
   pub here : (default : PlainAccount) → is_same address (slice_index_or accounts place default).address ≡ true
   pub before : (earlier : ℕ) → earlier < place → (default : PlainAccount) → is_same address (slice_index_or accounts earlier default).address ≡ false
+
+-- an account's address, and the market that stands in it
+abbrev pub named_in : PlainAccount → Address × Address
+named_in account = (account.address, market_of account.bytes)

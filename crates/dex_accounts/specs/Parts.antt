@@ -1,5 +1,5 @@
 -- What the steps of a market read and write of its accounts, and which market these parts are of.
-use Rattle.std.specs.Prelude.{◌≡◌, ℕ, List, Some}
+use Rattle.std.specs.Prelude.{◌≡◌, ℕ, Bool, List, Some}
 use Rattle.dex_types.specs.declared.addresses.Address.{Address}
 use Rattle.dex_types.specs.declared.orders.Order.{Order}
 use Rattle.dex_types.specs.declared.terms.Side.{Side}
@@ -54,6 +54,17 @@ with_side side orders parts = record parts { bids = by_side side orders parts.bi
 -- the parts with other bytes in the account of an address
 abbrev pub with_account : Address → List ℕ → MarketParts → MarketParts
 with_account owner bytes parts = record parts { accounts = changed_at owner (λ old. bytes) parts.accounts }
+
+-- the market with these amounts in its vaults and among its fees and rebates, disabled or not
+abbrev pub with_amounts : ℕ → ℕ → ℕ → ℕ → ℕ → Bool → Market → Market
+with_amounts coin_vault pc_vault coin_fees pc_fees referrer_rebates is_disabled m = record m {
+  coin_vault = coin_vault;
+  pc_vault = pc_vault;
+  coin_fees = coin_fees;
+  pc_fees = pc_fees;
+  referrer_rebates = referrer_rebates;
+  is_disabled = is_disabled;
+}
 
 -- the account of this address is open, with these bytes
 pub record HasOpen (owner : Address) (bytes : List ℕ) (parts : MarketParts) : Type 0 where

@@ -15,9 +15,9 @@ use Rattle.dex_types.specs.Soundness.{IsProper}
 use Rattle.dex_ring.specs.Ring.{Ring}
 use Rattle.dex_ring.specs.StandsFor.{ring_of_market}
 use Rattle.dex_sound.proofs.OrderSoundReasons.{first_of-none, refused_where-none}
-use Rattle.dex_cancel.specs.Cancelling.{decided, why_refused, why_unnamed}
-use Rattle.dex_reasons.specs.Reading.{no_room}
-use Rattle.dex_types.specs.Reasons.{answered}
+use Rattle.dex_cancel.specs.Cancelling.{decided}
+use Rattle.dex_types.specs.Reasons.{answered, no_room}
+use Rattle.dex_types.specs.Why.{why_cancelling, why_unnamed}
 use Rattle.dex_cancel.specs.Leaving.{DoLocksFit, with_outs, without_all}
 use Rattle.dex_cancel.specs.Parts.{ArePartsOf, AreSoundParts}
 use Rattle.dex_cancel.proofs.LeavingLaws.{capacity-with_outs, market-left}
@@ -65,7 +65,7 @@ cancel-parts by owner lots bids asks ring gone bids_then asks_then ring_then is 
 pub decided-within : (by : CancelBy) (owner : Address) (bids asks : List Order) (room : ℕ) → IsOk (decided by owner bids asks room) → length (cancelled by owner bids asks) ≤ room
 decided-within by owner bids asks room ok =
     let gone = cancelled by owner bids asks in
-    let none : why_refused by owner bids asks room ≡ None = accepted (why_refused by owner bids asks room) (length gone) ok in
+    let none : why_cancelling by owner bids asks room ≡ None = accepted (why_cancelling by owner bids asks room) (length gone) ok in
     let parts = first_of-none (why_unnamed by owner bids asks gone ∷ no_room (length gone) room ∷ []) none in
     ltb-false room (length gone) (refused_where-none (ltb room (length gone)) (refusal.EventQueueFull (length gone) room) parts.1.0)
   where

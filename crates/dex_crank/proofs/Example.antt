@@ -27,7 +27,7 @@ use Rattle.dex_types.specs.Steps.{step}
 use Rattle.dex_types.specs.Trader.{Account, Trader, Traders, Open, no_slots}
 use Rattle.dex_crank.specs.PaidBytes.{crank_bytes}
 use Rattle.dex_crank.specs.Parts.{AreAccepted, AreOf}
-use Rattle.dex_crank.proofs.PartLaws.{trader_of-open}
+use Rattle.dex_accounts.proofs.PartLaws.{trader_of-open}
 
 abbrev pub address : ℕ → Address
 address byte = record { 0 = replicate 32 byte }

@@ -1,7 +1,7 @@
 -- The first event of a sound market can be paid to the account of its owner, and what is left is the queue and the accounts of the market behind it.
 use Rattle.std.proofs.Common.{◌≡◌, ℕ, ◌≤◌, Bool, true, false, cond, eqb, List, ◌∷◌, take, drop, get_or, Option, Some, None, IsSome, refl, sym, ap, ◌∙◌, subst, rules, inl, inr}
 use Rattle.std.specs.List.{All}
-use Rattle.std.proofs.lemmas.Bool.{cond-true, eq-eqb, eqb-true}
+use Rattle.std.proofs.lemmas.Bool.{eqb-true}
 use Rattle.std.proofs.lemmas.List.Elements.{All-head}
 use Rattle.dex_fields.specs.declared.open_orders.TheConstants.{ACCOUNT_FLAGS}
 use Rattle.dex_fields.specs.Bytes.{number_in}
@@ -21,9 +21,11 @@ use Rattle.dex_types.specs.QueuedEvent.{QueuedEvent}
 use Rattle.dex_types.specs.Side.{Coin, Pc}
 use Rattle.dex_types.specs.Soundness.{IsSound, event_holding, held_by}
 use Rattle.dex_types.specs.Trader.{Account, Trader, Blank, Closed, Open, trader_at, put_trader}
-use Rattle.dex_crank.specs.PaidBytes.{CanTake, CrankBytes, HasOwner, IsPaid, bytes_at, changed_at, paid_in}
+use Rattle.dex_accounts.specs.Owners.{bytes_at, changed_at}
+use Rattle.dex_crank.specs.PaidBytes.{CanTake, CrankBytes, HasOwner, IsPaid, paid_in}
 use Rattle.dex_crank.specs.Parts.{AreAccepted, AreOf, Keeps}
-use Rattle.dex_crank.proofs.OwnerLaws.{All-bytes_at, All-changed_at, Stands, places-changed_at, stands-of, traders_of-changed_at}
+use Rattle.dex_accounts.proofs.OwnerLaws.{All-bytes_at, All-changed_at, Stands, named_in-changed_at, stands-of, traders_of-changed_at}
+use Rattle.dex_accounts.proofs.PartLaws.{trader_of-open}
 use Rattle.dex_crank.proofs.PaymentLaws.{FitsFunds-from}
 
 -- ---- an account that stands for an open trader
@@ -38,9 +40,6 @@ open-of bytes known is =
     let both : (eqb (number_in bytes ACCOUNT_FLAGS) 5 ≡ true) × (account_of bytes ≡ known) =
     open-by (eqb (number_in bytes ACCOUNT_FLAGS) 5) (eqb (number_in bytes ACCOUNT_FLAGS) 256) (account_of bytes) known is in
     (eqb-true _ _ both.0, both.1)
-
-pub trader_of-open : (bytes : List ℕ) → IsOpen bytes → trader_of bytes ≡ Open (account_of bytes)
-trader_of-open bytes accepted = cond-true _ _ _ (eq-eqb _ _ accepted.flags)
 
 -- ---- the market after its first event
 
@@ -133,7 +132,7 @@ pub Keeps-paid : (event : QueuedEvent) (before : CrankBytes) (queue : List ℕ) 
 Keeps-paid event before queue events ring paid = record {
   capacity = ap (λ (r : Ring). r.capacity) ring;
   appended = ap (λ (r : Ring). r.seq_num) ring;
-  places = places-changed_at event.owner (paid_in event) before.accounts (λ owned found. (paid owned found).market);
+  places = named_in-changed_at event.owner (paid_in event) before.accounts (λ owned found. (paid owned found).market);
 }
 
 pub Keeps-more : (first between last : CrankBytes) → Keeps first between → Keeps between last → Keeps first last

@@ -1,4 +1,3 @@
 pub mod Funds
 pub mod PaidBytes
 pub mod Parts
-pub mod Places

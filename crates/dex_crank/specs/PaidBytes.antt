@@ -1,14 +1,14 @@
 -- What consuming events leaves of the bytes of the event queue and of the open-orders accounts.
-use Rattle.std.specs.Prelude.{◌≡◌, ℕ, zero, suc, List, [], ◌∷◌, Option, Some, None, Bool, false, map, IsSome, slice_index_or, if◌then◌else◌}
+use Rattle.std.specs.Prelude.{◌≡◌, ℕ, zero, suc, List, [], ◌∷◌, Some, None, Bool, false, map, IsSome, slice_index_or, if◌then◌else◌}
 use Rattle.dex_orders.specs.OrdersAccount.{IsOpen, account_of, funded, funds_of, market_of, removed}
 use Rattle.dex_ring.specs.Ring.{event_at, popped}
 use Rattle.dex_types.specs.declared.account_bytes.OrdersAccount.{OrdersAccount}
 use Rattle.dex_types.specs.declared.addresses.Address.{Address}
 use Rattle.dex_types.specs.Accounts.{PlainAccount, orders_account_of}
-use Rattle.dex_types.specs.Addresses.{is_same}
 use Rattle.dex_types.specs.Payment.{is_named, paid_as}
 use Rattle.dex_types.specs.QueuedEvent.{QueuedEvent, decoded_event}
 use Rattle.dex_types.specs.Soundness.{is_final}
+use Rattle.dex_accounts.specs.Owners.{bytes_at, changed_at}
 use Rattle.dex_crank.specs.Funds.{FitsFunds, paid_funds}
 
 -- the bytes that a crank reads and writes: those of the event queue, and each open-orders account's
@@ -43,19 +43,6 @@ pub record IsPaid (event : QueuedEvent) (bytes : List ℕ) : Type 0 where
   pub market : market_of (paid_in event bytes) ≡ market_of bytes
 
 -- ---- the owner's account among others
-
--- the bytes of the account of an address
-abbrev pub bytes_at : Address → List PlainAccount → Option (List ℕ)
-bytes_at address [] = None
-bytes_at address (account ∷ others) = if is_same address account.address then Some account.bytes else bytes_at address others
-
--- the accounts with other bytes in the one of an address
-abbrev pub changed_at : Address → (List ℕ → List ℕ) → List PlainAccount → List PlainAccount
-changed_at address change [] = []
-changed_at address change (account ∷ others) =
-    if is_same address account.address
-    then record { address = account.address; bytes = change account.bytes } ∷ others
-    else account ∷ changed_at address change others
 
 -- the owner's account is among these, and can be paid
 pub record HasOwner (event : QueuedEvent) (accounts : List PlainAccount) : Type 0 where

@@ -6,13 +6,15 @@ ghost use Rattle.dex_types.specs.Accounts.{orders_account_of};
 ghost use Rattle.dex_types.specs.QueuedEvent.{decoded_event};
 ghost use Rattle.dex_orders.specs.OrdersAccount.{IsOpen, account_of, funded, funds_of, market_of, removed, with_funds};
 ghost use Rattle.dex_crank.specs.Funds.{FitsFunds, paid_funds};
-ghost use Rattle.dex_crank.specs.PaidBytes.{CanTake, HasOwner, IsPaid, bytes_at, changed_at, paid_in};
-ghost use Rattle.dex_crank.specs.Places.{IsFirst};
+ghost use Rattle.dex_accounts.specs.Owners.{bytes_at, changed_at};
+ghost use Rattle.dex_crank.specs.PaidBytes.{CanTake, HasOwner, IsPaid, paid_in};
+ghost use Rattle.dex_accounts.specs.Owners.{IsFirst};
 
 use crate::kinds::is_final;
 use crate::payment::paid_funds;
+use dex_accounts::place_of;
 use dex_orders::OrdersView;
-use dex_types::{Address, Event, OrdersAccount, is_same};
+use dex_types::{Event, OrdersAccount};
 
 /// Pays the event into the funds; all other bytes stay.
 fn pay_funds(bytes: &mut [u8], event: &Event)
@@ -58,19 +60,6 @@ fn pay_buffer(bytes: &mut Vec<u8>, event: &Event)
     ensures paid { IsPaid (decoded_event event.now) bytes.old.items }
 {
     pay(bytes, event);
-}
-
-/// The place of the account of an address that is among these.
-fn place_of(accounts: &[OrdersAccount], address: Address) -> usize
-    requires { IsSome (bytes_at address (map orders_account_of accounts.now)) }
-    ensures { IsFirst address (map orders_account_of accounts.now) result }
-{
-    for place in 0..accounts.len() {
-        if is_same(address, accounts[place].address) {
-            return place;
-        }
-    }
-    unreachable!()
 }
 
 /// Pays the event to the account at this place.

@@ -16,7 +16,7 @@ use Rattle.dex_laws.proofs.TraderLaws.{trader_at-put_same}
 use Rattle.dex_market.specs.MarketAccount.{IsMarket, MarketWords, market_words}
 use Rattle.dex_market.specs.RequestQueue.{IsRequestQueue, next_sequence}
 use Rattle.dex_market.specs.StandsFor.{words_of}
-use Rattle.dex_meet.specs.RingEvents.{appended}
+use Rattle.dex_ring.specs.Appended.{appended}
 use Rattle.dex_orders.specs.OrdersAccount.{IsOpen, account_of, market_of}
 use Rattle.dex_orders.specs.StandsFor.{StandsForTrader, trader_of}
 use Rattle.dex_orders.proofs.Verdicts.{open_from_flags}

@@ -20,7 +20,7 @@ use Rattle.dex_types.specs.Side.{by_side, lock, opposite, price_of}
 use Rattle.dex_market.specs.MarketAccount.{MarketWords, market_words}
 use Rattle.dex_market.specs.RequestQueue.{next_sequence}
 use Rattle.dex_meet.specs.Prospects.{FitsSums}
-use Rattle.dex_meet.specs.RingEvents.{HasRoom}
+use Rattle.dex_ring.specs.Appended.{HasRoom}
 use Rattle.dex_orders.specs.declared.amounts.Funds.{Funds}
 use Rattle.dex_orders.specs.OrdersAccount.{account_of, added, funded, funds_of}
 use Rattle.dex_ring.specs.Ring.{Ring}

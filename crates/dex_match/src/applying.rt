@@ -7,7 +7,7 @@ ghost use Rattle.dex_market.specs.MarketAccount.{IsMarket, market_words};
 ghost use Rattle.dex_market.specs.RequestQueue.{IsRequestQueue, next_sequence};
 ghost use Rattle.dex_match.specs.Applying as applying;
 ghost use Rattle.dex_match.specs.OrderTerms.{meeting_with, order_of};
-ghost use Rattle.dex_meet.specs.RingEvents.{appended};
+ghost use Rattle.dex_ring.specs.Appended.{appended};
 ghost use Rattle.dex_orders.specs.OrdersAccount.{HasNoOrder, IsOpen, account_of, added, funded, funds_of, market_of, with_funds};
 ghost use Rattle.dex_ring.specs.Ring.{IsEventQueue, ring_of};
 ghost use Rattle.dex_match.specs.OrderParts.{AreOf, AreSoundParts, given_by, parts_of};

@@ -5,7 +5,7 @@ ghost use Rattle.dex_laws.specs.Locks.{locked};
 ghost use Rattle.dex_match.specs.Applying as applying;
 ghost use Rattle.dex_match.specs.OrderTerms.{meeting_with, order_of};
 ghost use Rattle.dex_meet.specs.Prospects.{FitsSums};
-ghost use Rattle.dex_meet.specs.RingEvents.{appended, HasRoom};
+ghost use Rattle.dex_ring.specs.Appended.{appended, HasRoom};
 ghost use Rattle.dex_ring.specs.Ring.{IsEventQueue, ring_of};
 ghost use Rattle.dex_types.specs.BookSide.{CanRest, IsNewId};
 ghost use Rattle.dex_types.specs.Meeting as meeting;

@@ -1,4 +1,3 @@
 pub mod MeetingSteps
 pub mod PendingLaws
-pub mod RingLaws
 pub mod SideMeetings

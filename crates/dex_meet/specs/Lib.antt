@@ -1,4 +1,3 @@
 pub mod EventKinds
 pub mod Prospects
-pub mod RingEvents
 pub mod Taker

@@ -1,6 +1,9 @@
 use Rattle.dex_meet.specs.declared.wants.Terms.{Terms}
 use Rattle.dex_meet.specs.declared.wants.Want.{Want}
-use Rattle.dex_types.specs.Meeting.{TakerTerms, Demand}
+use Rattle.std.specs.Prelude.{ℕ, ◌*◌}
+use Rattle.dex_meet.specs.declared.fills.Fill.{Fill}
+use Rattle.dex_types.specs.declared.orders.Order.{Order}
+use Rattle.dex_types.specs.Meeting.{TakerTerms, Demand, met_lots, met_pc, met_rebate}
 
 -- what the taker keeps to
 abbrev pub taking : Terms → TakerTerms
@@ -16,3 +19,12 @@ taking taker = record {
 -- what it still wants
 abbrev pub demand : Want → Demand
 demand want = record { lots = want.lots; budget = want.budget; matches = want.matches }
+
+-- what an order that lost these lots moves
+abbrev pub fill_met : Terms → Order → ℕ → Fill
+fill_met taker order lots = record {
+  lots = met_lots (taking taker) order lots;
+  base = met_lots (taking taker) order lots * taker.sizes.coin;
+  pc = met_pc (taking taker) order lots;
+  rebate = met_rebate (taking taker) order lots;
+}

@@ -2,7 +2,7 @@ ghost use Rattle.std.specs.Prelude.{◌≡◌, ◌+◌, ◌*◌, ◌^◌, ◌<�
 ghost use Rattle.dex_types.specs.Fees as fees;
 ghost use Rattle.dex_types.specs.Meeting as meeting;
 ghost use Rattle.dex_types.specs.Side as book;
-ghost use Rattle.dex_meet.specs.Taker.{taking, demand};
+ghost use Rattle.dex_meet.specs.Taker.{taking, demand, fill_met};
 
 use crate::event_kinds::Amounts;
 use crate::prices::price_of;
@@ -13,7 +13,7 @@ use dex_fees::tiers::tier_at;
 use dex_types::{Lots, Order, SelfTrade, Side};
 
 /// The native quote of lots at a price.
-pub fn quote(sizes: Lots, price: u64, lots: u64) -> u64
+fn quote(sizes: Lots, price: u64, lots: u64) -> u64
     requires { price * lots * sizes.pc < 2 ^ 64 }
     ensures { result ≡ price * lots * sizes.pc }
 {
@@ -59,7 +59,7 @@ fn want_after_own(rule: SelfTrade, want: Want, lots: u64) -> Want
 
 /// What a taker still wants after an order lost these lots to it.
 #[tactic(auto, unfolding(dex_types::specs::Meeting::demand_after))]
-pub fn want_after(side: Side, taker: Terms, want: Want, order: Order, lots: u64) -> Want
+pub(crate) fn want_after(side: Side, taker: Terms, want: Want, order: Order, lots: u64) -> Want
     ensures { demand result ≡ meeting.demand_after side (taking taker) (demand want) order lots }
 {
     if is_own(taker.owner, order) {
@@ -82,18 +82,21 @@ fn rebate_of(taker: Terms, order: Order, pc: u64) -> u64
     maker_rebate(taker.program, tier_at(order.tier), pc)
 }
 
-/// What a fill moves: base, quote and the maker's rebate, in native amounts.
+/// What a fill moves: base lots, and in native amounts base, quote and the maker's rebate.
 #[derive(Clone, Copy)]
 pub struct Fill {
+    pub lots: u64,
     pub base: u64,
     pub pc: u64,
     pub rebate: u64,
 }
 
+/// What lots of an order that fill move.
 pub fn fill_of(taker: Terms, order: Order, lots: u64) -> Fill
     requires tier { order.tier < 7 }
     requires base { lots * taker.sizes.coin < 2 ^ 64 }
     requires pc { meeting.fill_pc taker.sizes order lots < 2 ^ 64 }
+    ensures lots { result.lots ≡ lots }
     ensures base { result.base ≡ lots * taker.sizes.coin }
     ensures pc { result.pc ≡ meeting.fill_pc taker.sizes order lots }
     ensures rebate { result.rebate ≡ meeting.fill_rebate (taking taker) order lots }
@@ -101,10 +104,30 @@ pub fn fill_of(taker: Terms, order: Order, lots: u64) -> Fill
 {
     let pc = quote(taker.sizes, price_of(order.id), lots);
     Fill {
+        lots,
         base: lots * taker.sizes.coin,
         pc,
         rebate: rebate_of(taker, order, pc),
     }
+}
+
+/// What an order that was met and lost these lots moves: nothing where it is the taker's own.
+pub(crate) fn fill_met(taker: Terms, order: Order, lots: u64) -> Fill
+    requires tier { order.tier < 7 }
+    requires base { meeting.met_lots (taking taker) order lots * taker.sizes.coin < 2 ^ 64 }
+    requires pc { meeting.met_pc (taking taker) order lots < 2 ^ 64 }
+    ensures fill { result ≡ fill_met taker order lots }
+    ensures small { result.rebate ≤ result.pc }
+{
+    if is_own(taker.owner, order) {
+        return Fill {
+            lots: 0,
+            base: 0,
+            pc: 0,
+            rebate: 0,
+        };
+    }
+    fill_of(taker, order, lots)
 }
 
 /// The amounts of a maker's fill: an ask is owed quote and the rebate, a bid pays quote less the rebate.
@@ -128,23 +151,15 @@ pub fn maker_amounts(side: Side, fill: Fill) -> Amounts
     }
 }
 
-/// The sums after one order that was met lost these lots.
-pub fn sums_after(taker: Terms, sums: Sums, order: Order, lots: u64) -> Sums
-    requires tier { order.tier < 7 }
-    requires lots { sums.lots + meeting.met_lots (taking taker) order lots < 2 ^ 64 }
-    requires pc { sums.pc + meeting.met_pc (taking taker) order lots < 2 ^ 64 }
-    requires base { meeting.met_lots (taking taker) order lots * taker.sizes.coin < 2 ^ 64 }
-    requires rebates { sums.rebates + meeting.met_rebate (taking taker) order lots < 2 ^ 64 }
-    ensures lots { result.lots ≡ sums.lots + meeting.met_lots (taking taker) order lots }
-    ensures pc { result.pc ≡ sums.pc + meeting.met_pc (taking taker) order lots }
-    ensures rebates { result.rebates ≡ sums.rebates + meeting.met_rebate (taking taker) order lots }
+/// The sums with one more fill.
+pub(crate) fn sums_with(sums: Sums, fill: Fill) -> Sums
+    requires lots { sums.lots + fill.lots < 2 ^ 64 }
+    requires pc { sums.pc + fill.pc < 2 ^ 64 }
+    requires rebates { sums.rebates + fill.rebate < 2 ^ 64 }
+    ensures { result ≡ record { lots = sums.lots + fill.lots; pc = sums.pc + fill.pc; rebates = sums.rebates + fill.rebate } }
 {
-    if is_own(taker.owner, order) {
-        return sums;
-    }
-    let fill = fill_of(taker, order, lots);
     Sums {
-        lots: sums.lots + lots,
+        lots: sums.lots + fill.lots,
         pc: sums.pc + fill.pc,
         rebates: sums.rebates + fill.rebate,
     }

@@ -1,17 +1,17 @@
 //! The events of a meeting, appended to an event queue.
 
 ghost use Rattle.std.specs.Prelude.{◌≡◌, ◌+◌, ◌*◌, ◌^◌, ◌<◌, ◌≤◌, ◌∷◌, [], length, ◌-◌, ◌==◌, if◌then◌else◌};
-ghost use Rattle.dex_meet.specs.EventKinds.{kind_on};
-ghost use Rattle.dex_meet.specs.RingEvents.{appended, HasRoom};
-ghost use Rattle.dex_meet.specs.Taker.{taking};
+ghost use Rattle.dex_meet.specs.EventKinds.{filled_events, kind_on};
+ghost use Rattle.dex_ring.specs.Appended.{appended, HasRoom, pushed_all};
+ghost use Rattle.dex_meet.specs.Taker.{fill_met, taking};
 ghost use Rattle.dex_ring.specs.EventBytes.{IsQueued};
 ghost use Rattle.dex_ring.specs.Ring.{IsEventQueue, ring_of};
 ghost use Rattle.dex_types.specs.Meeting as meeting;
-ghost use Rattle.dex_types.specs.QueuedEvent.{decoded_event};
+ghost use Rattle.dex_types.specs.QueuedEvent.{decoded_event, encoded_event};
 ghost use Rattle.dex_types.specs.Side as book;
 
 use crate::event_kinds::{Amounts, Kind, flags};
-use crate::fills::{fill_of, lock, maker_amounts};
+use crate::fills::{Fill, lock, maker_amounts};
 use crate::prices::price_of;
 use crate::taking::is_own;
 use crate::wants::Terms;
@@ -23,6 +23,7 @@ fn event(kind: Kind, side: Side, order: Order, amounts: Amounts) -> Event
     requires slot { order.slot < 128 }
     requires tier { order.tier < 7 }
     ensures event { decoded_event result ≡ meeting.event_of (kind_on kind side) order amounts.released amounts.paid amounts.fee_or_rebate }
+    ensures encoded { result ≡ encoded_event (meeting.event_of (kind_on kind side) order amounts.released amounts.paid amounts.fee_or_rebate) }
     ensures queued { IsQueued result }
 {
     Event {
@@ -47,32 +48,10 @@ pub fn push(ring: &mut RingView<'_>, kind: Kind, side: Side, order: Order, amoun
     ensures place { ring.new.bytes.ghost_name ≡ ring.old.bytes.ghost_name }
     ensures accepted { IsEventQueue ring.new.bytes.now }
     ensures list { ring_of ring.new.bytes.now ≡ appended (meeting.event_of (kind_on kind side) order amounts.released amounts.paid amounts.fee_or_rebate ∷ []) (ring_of ring.old.bytes.now) }
+    ensures bytes { ring.new.bytes.now ≡ pushed_all (meeting.event_of (kind_on kind side) order amounts.released amounts.paid amounts.fee_or_rebate ∷ []) ring.old.bytes.now }
 {
     let event = event(kind, side, order, amounts);
     ring.push(&event);
-}
-
-/// Appends the fill of a resting order of the side.
-fn push_maker_fill(ring: &mut RingView<'_>, side: Side, taker: Terms, order: Order, lots: u64)
-    requires accepted { IsEventQueue ring.old.bytes.now }
-    requires room { HasRoom 1 (ring_of ring.old.bytes.now) }
-    requires slot { order.slot < 128 }
-    requires tier { order.tier < 7 }
-    requires base { lots * taker.sizes.coin < 2 ^ 64 }
-    requires pc { meeting.fill_pc taker.sizes order lots < 2 ^ 64 }
-    requires received { side ≡ Side.Ask → meeting.fill_pc taker.sizes order lots + meeting.fill_rebate (taking taker) order lots < 2 ^ 64 }
-    ensures place { ring.new.bytes.ghost_name ≡ ring.old.bytes.ghost_name }
-    ensures accepted { IsEventQueue ring.new.bytes.now }
-    ensures list { ring_of ring.new.bytes.now ≡ appended (meeting.maker_fill side (taking taker) order lots ∷ []) (ring_of ring.old.bytes.now) }
-{
-    let fill = fill_of(taker, order, lots);
-    push(
-        ring,
-        Kind::MakerFill,
-        side,
-        order,
-        maker_amounts(side, fill),
-    );
 }
 
 /// Appends that an order is gone and releases nothing.
@@ -84,6 +63,7 @@ pub fn push_plain_out(ring: &mut RingView<'_>, side: Side, order: Order)
     ensures place { ring.new.bytes.ghost_name ≡ ring.old.bytes.ghost_name }
     ensures accepted { IsEventQueue ring.new.bytes.now }
     ensures list { ring_of ring.new.bytes.now ≡ appended (meeting.plain_out side order ∷ []) (ring_of ring.old.bytes.now) }
+    ensures bytes { ring.new.bytes.now ≡ pushed_all (meeting.plain_out side order ∷ []) ring.old.bytes.now }
 {
     push(
         ring,
@@ -109,6 +89,7 @@ pub fn push_releasing_out(ring: &mut RingView<'_>, side: Side, sizes: Lots, orde
     ensures place { ring.new.bytes.ghost_name ≡ ring.old.bytes.ghost_name }
     ensures accepted { IsEventQueue ring.new.bytes.now }
     ensures list { ring_of ring.new.bytes.now ≡ appended (meeting.releasing_out side sizes order lots ∷ []) (ring_of ring.old.bytes.now) }
+    ensures bytes { ring.new.bytes.now ≡ pushed_all (meeting.releasing_out side sizes order lots ∷ []) ring.old.bytes.now }
 {
     let price = price_of(order.id);
     let amounts = Amounts {
@@ -119,45 +100,50 @@ pub fn push_releasing_out(ring: &mut RingView<'_>, side: Side, sizes: Lots, orde
     push(ring, Kind::ReleasingOut, side, order, amounts);
 }
 
-/// Appends the fill of an order that was met and, where that emptied it, its out.
-fn push_fill(ring: &mut RingView<'_>, side: Side, taker: Terms, order: Order, lots: u64)
+/// Appends the fill of an order that was met, with these amounts, and, where that emptied it, its out.
+fn push_fill(ring: &mut RingView<'_>, side: Side, order: Order, lots: u64, amounts: Amounts)
     requires accepted { IsEventQueue ring.old.bytes.now }
-    requires room { HasRoom (length (meeting.maker_fill side (taking taker) order lots
-        ∷ (if lots == order.lots then meeting.plain_out side order ∷ [] else []))) (ring_of ring.old.bytes.now) }
+    requires room { HasRoom (length (filled_events side order lots amounts)) (ring_of ring.old.bytes.now) }
     requires slot { order.slot < 128 }
     requires tier { order.tier < 7 }
-    requires base { lots * taker.sizes.coin < 2 ^ 64 }
-    requires pc { meeting.fill_pc taker.sizes order lots < 2 ^ 64 }
-    requires received { side ≡ Side.Ask → meeting.fill_pc taker.sizes order lots + meeting.fill_rebate (taking taker) order lots < 2 ^ 64 }
     ensures place { ring.new.bytes.ghost_name ≡ ring.old.bytes.ghost_name }
     ensures accepted { IsEventQueue ring.new.bytes.now }
-    ensures list { ring_of ring.new.bytes.now ≡ appended (meeting.maker_fill side (taking taker) order lots
-        ∷ (if lots == order.lots then meeting.plain_out side order ∷ [] else [])) (ring_of ring.old.bytes.now) }
+    ensures list { ring_of ring.new.bytes.now ≡ appended (filled_events side order lots amounts) (ring_of ring.old.bytes.now) }
+    ensures bytes { ring.new.bytes.now ≡ pushed_all (filled_events side order lots amounts) ring.old.bytes.now }
 {
-    push_maker_fill(ring, side, taker, order, lots);
+    push(ring, Kind::MakerFill, side, order, amounts);
     if lots == order.lots {
         push_plain_out(ring, side, order);
     }
 }
 
-/// Appends the events of one order that was met and lost these lots.
-pub fn push_met(ring: &mut RingView<'_>, side: Side, taker: Terms, order: Order, lots: u64)
+/// Appends the events of one order that was met and lost these lots by this fill.
+pub(crate) fn push_met(
+    ring: &mut RingView<'_>,
+    side: Side,
+    taker: Terms,
+    order: Order,
+    lots: u64,
+    fill: Fill,
+)
     requires accepted { IsEventQueue ring.old.bytes.now }
     requires room { HasRoom (length (meeting.met_events side (taking taker) order lots)) (ring_of ring.old.bytes.now) }
     requires slot { order.slot < 128 }
     requires tier { order.tier < 7 }
     requires of_order { lots ≤ order.lots }
-    requires base { meeting.met_lots (taking taker) order lots * taker.sizes.coin < 2 ^ 64 }
-    requires pc { meeting.met_pc (taking taker) order lots < 2 ^ 64 }
-    requires received { side ≡ Side.Bid → meeting.met_pc (taking taker) order lots + meeting.met_rebate (taking taker) order lots < 2 ^ 64 }
+    requires fill { fill ≡ fill_met taker order lots }
+    requires small { fill.rebate ≤ fill.pc }
+    requires received { side ≡ Side.Bid → fill.pc + fill.rebate < 2 ^ 64 }
     requires locks { book.lock (book.opposite side) taker.sizes (book.price_of order.id) order.lots < 2 ^ 64 }
     ensures place { ring.new.bytes.ghost_name ≡ ring.old.bytes.ghost_name }
     ensures accepted { IsEventQueue ring.new.bytes.now }
     ensures list { ring_of ring.new.bytes.now ≡ appended (meeting.met_events side (taking taker) order lots) (ring_of ring.old.bytes.now) }
+    ensures bytes { ring.new.bytes.now ≡ pushed_all (meeting.met_events side (taking taker) order lots) ring.old.bytes.now }
 {
+    let maker = side.opposite();
     if is_own(taker.owner, order) {
-        push_releasing_out(ring, side.opposite(), taker.sizes, order, lots);
+        push_releasing_out(ring, maker, taker.sizes, order, lots);
     } else {
-        push_fill(ring, side.opposite(), taker, order, lots);
+        push_fill(ring, maker, order, lots, maker_amounts(maker, fill));
     }
 }

@@ -3,13 +3,14 @@
 ghost use Rattle.std.specs.Prelude.{◌≡◌, ◌<◌, ◌^◌, length};
 ghost use Rattle.dex_laws.specs.Locks.{locked};
 ghost use Rattle.dex_meet.specs.Prospects.{FitsSums, IsMet};
-ghost use Rattle.dex_meet.specs.RingEvents.{appended, HasRoom};
+ghost use Rattle.dex_ring.specs.Appended.{appended, HasRoom, pushed_all};
 ghost use Rattle.dex_meet.specs.Taker.{taking, demand};
 ghost use Rattle.dex_ring.specs.Ring.{IsEventQueue, ring_of};
 ghost use Rattle.dex_types.specs.Meeting as meeting;
 ghost use Rattle.dex_types.specs.Side.{opposite};
 
-use crate::met::{Met, met_after};
+use crate::fills::fill_met;
+use crate::met::{Met, met_with};
 use crate::ring_events::push_met;
 use crate::side_walk::unmet;
 use crate::taking::taken;
@@ -39,6 +40,7 @@ pub fn meet_side<B: SideBook>(
     ensures same_room { B.room opposing.new ≡ B.room opposing.old }
     ensures same_place { B.same_place opposing.old opposing.new }
     ensures list { ring_of ring.new.bytes.now ≡ appended (meeting.meet side (taking taker) (demand want) (B.orders opposing.old)).events (ring_of ring.old.bytes.now) }
+    ensures bytes { ring.new.bytes.now ≡ pushed_all (meeting.meet side (taking taker) (demand want) (B.orders opposing.old)).events ring.old.bytes.now }
     ensures accepted { IsEventQueue ring.new.bytes.now }
     ensures place { ring.new.bytes.ghost_name ≡ ring.old.bytes.ghost_name }
 {
@@ -48,8 +50,9 @@ pub fn meet_side<B: SideBook>(
         if lots == 0 {
             return met;
         }
-        push_met(ring, side, taker, order, lots);
-        met = met_after(side, taker, met, order, lots);
+        let fill = fill_met(taker, order, lots);
+        push_met(ring, side, taker, order, lots, fill);
+        met = met_with(side, taker, met, order, lots, fill);
         if lots < order.lots {
             opposing.set_lots(order.id, order.lots - lots);
             return met;

@@ -26,7 +26,7 @@ fn is_post_only(order_type: OrderType) -> bool
 }
 
 /// The taker meets the best opposite order.
-pub fn reaches(side: Side, taker: Terms, want: Want, order: Order) -> bool
+pub(crate) fn reaches(side: Side, taker: Terms, want: Want, order: Order) -> bool
     ensures { result ≡ meeting.reaches side (taking taker) (demand want) order }
 {
     0 < want.matches

@@ -9,3 +9,4 @@ pub mod SlotLaw
 pub mod SlotWrites
 pub mod TakenLaw
 pub mod Verdicts
+pub mod WriteLaws

@@ -84,6 +84,14 @@ with_funds funds account = record account {
   referrer = funds.referrer;
 }
 
+-- the funds are in order, and fit words of 64 bits
+pub record FundsFit (funds : Funds) : Type 0 where
+  pub coin : funds.coin_free ≤ funds.coin_total
+  pub pc : funds.pc_free ≤ funds.pc_total
+  pub coin_total : funds.coin_total < 2 ^ 64
+  pub pc_total : funds.pc_total < 2 ^ 64
+  pub referrer : funds.referrer < 2 ^ 64
+
 -- ---- slots
 
 -- the slot holds the order of this id and side

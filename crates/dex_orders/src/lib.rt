@@ -3,6 +3,7 @@
 
 mod amounts;
 mod bits;
+pub mod laws;
 mod lifecycle;
 mod orders_check;
 mod orders_ref;

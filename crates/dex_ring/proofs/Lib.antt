@@ -1,3 +1,4 @@
+pub mod AppendLaws
 pub mod BlankLaw
 pub mod EventLaw
 pub mod Parts

@@ -3,3 +3,4 @@ pub mod Ring
 pub mod Faults
 pub mod StandsFor
 pub mod Blank
+pub mod Appended

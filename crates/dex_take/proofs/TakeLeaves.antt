@@ -19,7 +19,7 @@ use Rattle.dex_market.specs.StandsFor.{words_of}
 use Rattle.dex_match.specs.declared.order_terms.Taker.{Taker}
 use Rattle.dex_market.specs.MarketAccount.{sizes_of}
 use Rattle.dex_ring.specs.Ring.{room_of}
-use Rattle.dex_meet.specs.RingEvents.{HasRoom, appended}
+use Rattle.dex_ring.specs.Appended.{HasRoom, appended}
 use Rattle.dex_ring.specs.Ring.{IsEventQueue, ring_of}
 use Rattle.dex_reasons.specs.Reading.{no_room}
 use Rattle.dex_sound.proofs.OrderSoundReasons.{first_of-none, queue_full-none, refused_where-none}

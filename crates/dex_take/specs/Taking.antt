@@ -17,7 +17,7 @@ use Rattle.dex_match.specs.declared.order_terms.Taker.{Taker}
 use Rattle.dex_market.specs.MarketAccount.{sizes_of}
 use Rattle.dex_ring.specs.Ring.{room_of}
 use Rattle.dex_market.specs.MarketAccount.{vault_of}
-use Rattle.dex_meet.specs.RingEvents.{HasRoom}
+use Rattle.dex_ring.specs.Appended.{HasRoom}
 use Rattle.dex_reasons.specs.Reading.{beyond, no_room}
 use Rattle.dex_take.specs.declared.plan.TakePlan.{TakePlan}
 use Rattle.dex_take.specs.Leaving.{CanExchange, kept_of}

@@ -4,7 +4,7 @@ ghost use Rattle.std.specs.Prelude.{◌≡◌, ℕ, ◌<◌, ◌^◌};
 ghost use Rattle.dex_laws.specs.Locks.{locked};
 ghost use Rattle.dex_market.specs.MarketAccount.{IsMarket, market_words};
 ghost use Rattle.dex_market.specs.MarketAccount.{sizes_of};
-ghost use Rattle.dex_meet.specs.RingEvents.{appended};
+ghost use Rattle.dex_ring.specs.Appended.{appended};
 ghost use Rattle.dex_ring.specs.Ring.{IsEventQueue, ring_of};
 ghost use Rattle.dex_take.specs.Leaving as leaving;
 ghost use Rattle.dex_take.specs.TakeParts.{AreOf, AreSoundParts, given, parts_of};

@@ -3,7 +3,7 @@ use Rattle.std.proofs.lemmas.List.{map-set}
 use Rattle.dex_types.specs.Accounts.{orders_account_of}
 use Rattle.dex_types.specs.QueuedEvent.{decoded_event}
 use Rattle.dex_crank.specs.PaidBytes.{paid_in}
-use Rattle.dex_crank.proofs.OwnerLaws.{set_plain}
+use Rattle.dex_accounts.proofs.OwnerLaws.{set_plain}
 use Rattle.dex_crank.proofs.accounts.pay_at.Goals as goal
 
 pub returns-clause-accounts : goal.returns-clause-accounts

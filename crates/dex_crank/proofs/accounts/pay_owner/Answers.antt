@@ -2,8 +2,9 @@ use Rattle.std.proofs.Common.{◌≡◌, ◌<◌, length, map, set, sym, ap, ◌
 use Rattle.std.proofs.lemmas.List.{get_or-map, length-map}
 use Rattle.dex_types.specs.Accounts.{PlainAccount, orders_account_of}
 use Rattle.dex_types.specs.QueuedEvent.{decoded_event}
-use Rattle.dex_crank.specs.PaidBytes.{CanTake, IsPaid, changed_at, paid_in}
-use Rattle.dex_crank.proofs.OwnerLaws.{changed_at-first, owned_here, with_change, with_some}
+use Rattle.dex_accounts.specs.Owners.{changed_at}
+use Rattle.dex_crank.specs.PaidBytes.{CanTake, IsPaid, paid_in}
+use Rattle.dex_accounts.proofs.OwnerLaws.{changed_at-first, owned_here, with_change, with_some}
 use Rattle.dex_crank.proofs.accounts.pay_owner.Goals as goal
 
 pub pay_at-requires-clause-can_take : goal.pay_at-requires-clause-can_take

@@ -7,7 +7,8 @@ use Rattle.dex_ring.proofs.RingLaw.{length-events_of}
 use Rattle.dex_types.specs.Accounts.{PlainAccount, orders_account_of}
 use Rattle.dex_types.specs.Payment.{after_crank}
 use Rattle.dex_types.specs.QueuedEvent.{QueuedEvent, decoded_event}
-use Rattle.dex_crank.specs.PaidBytes.{CrankBytes, changed_at, crank_bytes, paid_first, paid_in}
+use Rattle.dex_accounts.specs.Owners.{changed_at}
+use Rattle.dex_crank.specs.PaidBytes.{CrankBytes, crank_bytes, paid_first, paid_in}
 use Rattle.dex_crank.specs.Parts.{AreAccepted, AreOf, Keeps}
 use Rattle.dex_crank.proofs.PartLaws.{AreAccepted-after, AreOf-after, Keeps-paid, has_owner}
 use Rattle.dex_crank.proofs.crank.pay_first.Goals as goal

@@ -6,7 +6,7 @@ use Rattle.dex_types.specs.QueuedEvent.{QueuedEvent}
 use Rattle.dex_types.specs.Soundness.{IsSound}
 use Rattle.dex_types.specs.Trader.{Account}
 use Rattle.dex_market.specs.MarketAccount.{market_words}
-use Rattle.dex_meet.specs.RingEvents.{appended}
+use Rattle.dex_ring.specs.Appended.{appended}
 use Rattle.dex_orders.specs.declared.amounts.Funds.{Funds}
 use Rattle.dex_orders.specs.OrdersAccount.{account_of, added, funded, funds_of, with_funds}
 use Rattle.dex_ring.specs.Ring.{ring_of}

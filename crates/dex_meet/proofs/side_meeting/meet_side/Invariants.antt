@@ -3,7 +3,7 @@ use Rattle.dex_laws.specs.Locks.{locked}
 use Rattle.dex_ring.specs.Ring.{IsEventQueue, ring_of}
 use Rattle.dex_types.specs.Meeting.{meet}
 use Rattle.dex_types.specs.Side.{opposite}
-use Rattle.dex_meet.specs.RingEvents.{appended}
+use Rattle.dex_ring.specs.Appended.{appended, pushed_all}
 use Rattle.dex_meet.specs.Taker.{taking, demand}
 use Rattle.dex_meet.proofs.SideMeetings.{IsCarried}
 use Rattle.dex_meet.proofs.side_meeting.meet_side.Given as goal
@@ -14,6 +14,8 @@ invariant-orders g l = record {
       (meet l.side (taking l.taker) (demand l.met.want) (g.B.SideRead.orders l.opposing)) l.met.sums;
   joined : appended (meet l.side (taking l.taker) (demand l.met.want) (g.B.SideRead.orders l.opposing)).events (ring_of l.ring.bytes.now)
       ≡ appended (meet l.side (taking l.taker) (demand l.fn.want) (g.B.SideRead.orders l.initial.opposing)).events (ring_of l.initial.ring.bytes.now);
+  written : pushed_all (meet l.side (taking l.taker) (demand l.met.want) (g.B.SideRead.orders l.opposing)).events l.ring.bytes.now
+      ≡ pushed_all (meet l.side (taking l.taker) (demand l.fn.want) (g.B.SideRead.orders l.initial.opposing)).events l.initial.ring.bytes.now;
   counted : (ring_of l.ring.bytes.now).seq_num < 2 ^ 64;
   accepted : IsEventQueue l.ring.bytes.now;
   place : l.ring.bytes.ghost_name ≡ l.initial.ring.bytes.ghost_name;

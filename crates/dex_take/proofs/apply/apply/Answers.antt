@@ -1,7 +1,7 @@
 use Rattle.std.proofs.Common.{◌≡◌, ◌∙◌, ◌-◌, ℕ, ap, arith}
 use Rattle.dex_market.specs.MarketAccount.{market_words}
 use Rattle.dex_market.specs.MarketAccount.{sizes_of}
-use Rattle.dex_meet.specs.RingEvents.{appended}
+use Rattle.dex_ring.specs.Appended.{appended}
 use Rattle.dex_meet.specs.Taker.{demand, taking}
 use Rattle.dex_ring.specs.Ring.{ring_of}
 use Rattle.dex_types.specs.declared.terms.Lots.{Lots}
