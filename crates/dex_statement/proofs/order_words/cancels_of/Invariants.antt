@@ -1,4 +1,4 @@
-use Rattle.std.proofs.Common.{◌≡◌, ◌≤◌, ◌×◌, ◌-◌, [], drop, length, take}
+use Rattle.std.proofs.Common.{◌≡◌, ◌≤◌, ◌-◌, [], drop, length, take}
 use Rattle.dex_statement.specs.OrderWords as order
 use Rattle.dex_statement.specs.Words.{texts}
 use Rattle.dex_statement.proofs.order_words.cancels_of.Given as goal
