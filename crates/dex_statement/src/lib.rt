@@ -20,3 +20,5 @@ pub use parties::Parties;
 pub use setup::MarketWords;
 pub use statement::{Statement, statement_of};
 
+#[cfg(test)]
+mod tests;

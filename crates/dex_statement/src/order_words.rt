@@ -108,9 +108,15 @@ fn ix_of(verb: Verb, words: &[&[u8]]) -> Result<Ix, FaultKind>
         Verb::Settle => bare_ix(Ix::SettleFunds, words),
         Verb::Disable => bare_ix(Ix::DisableMarket, words),
         Verb::Sweep => bare_ix(Ix::SweepFees, words),
-        Verb::Match => Ok(Ix::MatchOrders { limit: limit_of(words)? }),
-        Verb::Consume => Ok(Ix::ConsumeEvents { limit: limit_of(words)? }),
-        Verb::Prune => Ok(Ix::Prune { limit: limit_of(words)? }),
+        Verb::Match => Ok(Ix::MatchOrders {
+            limit: limit_of(words)?,
+        }),
+        Verb::Consume => Ok(Ix::ConsumeEvents {
+            limit: limit_of(words)?,
+        }),
+        Verb::Prune => Ok(Ix::Prune {
+            limit: limit_of(words)?,
+        }),
         Verb::New => order_of(words),
         Verb::Take => take_of(words),
         Verb::Cancel => cancel_of(words),

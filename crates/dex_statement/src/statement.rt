@@ -7,7 +7,9 @@ ghost use Rattle.dex_statement.specs.Telling.{Tells};
 use crate::faults::{FaultKind, RowError};
 use crate::forms::{Form, form_of};
 use crate::instruction::{InstructionWords, bytes_row, words_row};
-use crate::setup::{MarketWords, clock_of, discount_of, market_of, mint_of, orders_of, program_of, wallet_of};
+use crate::setup::{
+    MarketWords, clock_of, discount_of, market_of, mint_of, orders_of, program_of, wallet_of,
+};
 use crate::words::field_at;
 use csv::ByteRecord;
 use dex_rows::printable::row_is_printable;
@@ -22,7 +24,10 @@ pub enum Statement {
     /// The clock of the instruction rows that follow.
     Clock(i64),
     /// A mint, and how many decimals it shows.
-    Mint { address: Address, decimals: u8 },
+    Mint {
+        address: Address,
+        decimals: u8,
+    },
     /// The mint of SRM.
     Srm(Address),
     /// The mint of MSRM.
@@ -37,7 +42,10 @@ pub enum Statement {
     /// A market.
     Market(MarketWords),
     /// An open-orders account that is reserved on a market.
-    Orders { market: Address, address: Address },
+    Orders {
+        market: Address,
+        address: Address,
+    },
     /// An instruction.
     Instruction(InstructionWords),
 }
