@@ -1,3 +1,4 @@
 pub mod TextLaws
 pub mod ReadingLaws
 pub mod AnswerLaws
+pub mod FieldLaws
