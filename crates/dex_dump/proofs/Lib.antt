@@ -2,3 +2,4 @@ pub mod TextLaws
 pub mod ReadingLaws
 pub mod AnswerLaws
 pub mod FieldLaws
+pub mod RowLaws
