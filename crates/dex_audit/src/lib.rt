@@ -7,6 +7,7 @@ mod held;
 mod laws;
 mod pending;
 mod resting;
+mod slots;
 mod taken;
 mod tally;
 mod traders;
