@@ -264,11 +264,11 @@ is_number_of-snoc number (first ∷ all) taken =
     ap (cond (eqb (number_of first) number) true) (is_number_of-snoc number all taken)
     ∙ swapped (eqb (number_of first) number) (eqb (number_of taken) number) (is_number_of number all)
   where
-  swapped : (one other rest : Bool) → cond one true (cond other true rest) ≡ cond other true (cond one true rest)
-  swapped true true rest = refl
-  swapped true false rest = refl
-  swapped false true rest = refl
-  swapped false false rest = refl
+    swapped : (one other rest : Bool) → cond one true (cond other true rest) ≡ cond other true (cond one true rest)
+    swapped true true rest = refl
+    swapped true false rest = refl
+    swapped false true rest = refl
+    swapped false false rest = refl
 
 pub is_number_of-more : (number : ℕ) (all : List Taken) (i : ℕ) (d : Taken) → i < length all
     → is_number_of number (take (i + 1) all) ≡ cond (eqb (number_of (get_or all i d)) number) true (is_number_of number (take i all))
@@ -280,11 +280,11 @@ pub met-more : (number last before after : ℕ) (met : Bool) → not met ≡ eqb
 met-more number last before after met so is =
     by-test (eqb number last) (eqb last number) (eqb-same number last) is
   where
-  eqb-same : (a b : ℕ) → eqb a b ≡ eqb b a
-  eqb-same a b = elim (cases_eq a b) [ inl e ↦ eq-eqb a b e ∙ sym (eq-eqb b a (sym e)) | inr ne ↦ ne_eqb a b ne ∙ sym (ne_eqb b a (λ e. ne (sym e))) ]
+    eqb-same : (a b : ℕ) → eqb a b ≡ eqb b a
+    eqb-same a b = elim (cases_eq a b) [ inl e ↦ eq-eqb a b e ∙ sym (eq-eqb b a (sym e)) | inr ne ↦ ne_eqb a b ne ∙ sym (ne_eqb b a (λ e. ne (sym e))) ]
 
-  by-test : (here there : Bool) → here ≡ there → after ≡ cond here 1 before → not (cond there true met) ≡ eqb after 0
-  by-test true true same one = sym (ap (λ (n : ℕ). eqb n 0) one)
-  by-test false false same one = so ∙ sym (ap (λ (n : ℕ). eqb n 0) one)
-  by-test true false same one = absurd (false≢true (sym same))
-  by-test false true same one = absurd (false≢true same)
+    by-test : (here there : Bool) → here ≡ there → after ≡ cond here 1 before → not (cond there true met) ≡ eqb after 0
+    by-test true true same one = sym (ap (λ (n : ℕ). eqb n 0) one)
+    by-test false false same one = so ∙ sym (ap (λ (n : ℕ). eqb n 0) one)
+    by-test true false same one = absurd (false≢true (sym same))
+    by-test false true same one = absurd (false≢true same)

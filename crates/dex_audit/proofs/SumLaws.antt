@@ -37,3 +37,6 @@ pub capped-total : {X : Type 0} (weight : X → ℕ) (xs : List X) (i : ℕ) (d 
 capped-total weight xs i d before after amount lt told one is =
     is ∙ ap (λ (n : ℕ). capped (n + amount)) told ∙ ap (λ (n : ℕ). capped (capped (total weight (take i xs)) + n)) one
     ∙ capped-both (total weight (take i xs)) (weight (get_or xs i d)) ∙ ap capped (sym (total-more weight xs i d lt))
+
+pub capped-exact : (amount sum : ℕ) → amount ≡ sum → amount < 2 ^ 65 → amount ≡ capped sum
+capped-exact amount sum is small = omega arith

@@ -87,11 +87,7 @@ pub fn tell_unpaired(
 }
 
 /// Tells each taken slot whose order has a sequence number that was not given out.
-pub fn tell_ungiven(
-    found: &mut Vec<Finding>,
-    next: u64,
-    taken: &[Taken],
-) -> Result<(), NoMemory>
+pub fn tell_ungiven(found: &mut Vec<Finding>, next: u64, taken: &[Taken]) -> Result<(), NoMemory>
     ensures { OnOk result (found.new.items ≡ found.old.items ++ flat_map (rules.ungiven next) taken.now) }
 {
     for place in 0..taken.len() {

@@ -17,13 +17,23 @@ loop-place-preserved c =
       | then-orders-place w ↦ record {
         small = omega (arith, w.count-is, c.loop-place.invariant.small);
         counts = λ client.
-            omega (arith, w.count-is, c.loop-place.invariant.counts client, total-more (counts_order c.args.side (held client)) orders at d c.loop-place-test.true,
-              counts-one c.args.side (held client) (get_or orders at d) refl w.if-orders-place.true);
+            omega (
+              arith,
+              w.count-is,
+              c.loop-place.invariant.counts client,
+              total-more (counts_order c.args.side (held client)) orders at d c.loop-place-test.true,
+              counts-one c.args.side (held client) (get_or orders at d) refl w.if-orders-place.true,
+            );
       }
       | else-orders-place w ↦ record {
         small = omega (arith, w.count-is, c.loop-place.invariant.small);
         counts = λ client.
-            omega (arith, w.count-is, c.loop-place.invariant.counts client, total-more (counts_order c.args.side (held client)) orders at d c.loop-place-test.true,
-              counts-none c.args.side (held client) (get_or orders at d) w.if-orders-place.false);
+            omega (
+              arith,
+              w.count-is,
+              c.loop-place.invariant.counts client,
+              total-more (counts_order c.args.side (held client)) orders at d c.loop-place-test.true,
+              counts-none c.args.side (held client) (get_or orders at d) w.if-orders-place.false,
+            );
       }
     ]
