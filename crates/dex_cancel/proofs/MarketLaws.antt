@@ -17,9 +17,9 @@ use Rattle.dex_ring.specs.Ring.{IsEventQueue, Ring, ring_of, room_of}
 use Rattle.dex_ring.proofs.RingLaw.{length-events_of}
 use Rattle.dex_ring.specs.StandsFor.{ring_of_market}
 use Rattle.dex_sound.proofs.OrderSoundReasons.{first_of-none, refused_where-none}
-use Rattle.dex_cancel.specs.Cancelling.{decided, why_refused, why_unnamed}
-use Rattle.dex_reasons.specs.Reading.{no_room}
-use Rattle.dex_types.specs.Reasons.{answered}
+use Rattle.dex_cancel.specs.Cancelling.{decided}
+use Rattle.dex_types.specs.Reasons.{answered, no_room}
+use Rattle.dex_types.specs.Why.{why_cancelling, why_unnamed}
 use Rattle.dex_market.specs.MarketAccount.{market_words, sizes_of}
 use Rattle.dex_accounts.specs.Parts.{AreOf, MarketParts}
 use Rattle.dex_accounts.proofs.PartLaws.{AreOf-events, sizes_in-parts}
@@ -86,7 +86,7 @@ named-parts by owner parts m are = ap (λ os. cancelled by owner os parts.asks) 
 pub decided-within : (by : CancelBy) (owner : Address) (bids asks : List Order) (room : ℕ) → IsOk (decided by owner bids asks room) → length (cancelled by owner bids asks) ≤ room
 decided-within by owner bids asks room ok =
     let gone = cancelled by owner bids asks in
-    let none : why_refused by owner bids asks room ≡ None = accepted (why_refused by owner bids asks room) (length gone) ok in
+    let none : why_cancelling by owner bids asks room ≡ None = accepted (why_cancelling by owner bids asks room) (length gone) ok in
     let parts = first_of-none (why_unnamed by owner bids asks gone ∷ no_room (length gone) room ∷ []) none in
     ltb-false room (length gone) (refused_where-none (ltb room (length gone)) (refusal.EventQueueFull (length gone) room) parts.1.0)
   where

@@ -2,9 +2,8 @@
 
 ghost use Rattle.std.specs.Prelude.{◌≡◌};
 ghost use Rattle.dex_types.specs.Cancel as cancel;
-ghost use Rattle.dex_types.specs.Reasons.{answered};
+ghost use Rattle.dex_types.specs.Reasons.{answered, no_room};
 ghost use Rattle.dex_cancel.specs.Cancelling.{decided, named_by};
-ghost use Rattle.dex_reasons.specs.Reading.{no_room};
 
 use crate::counting::{count_listed, count_own};
 use crate::finding::{find_oldest, find_on};

@@ -10,6 +10,7 @@ mod payment;
 mod queue;
 
 pub use crank::{Consumed, consume, consume_with_leaving};
+pub use kinds::{Kind, is_final, kind_of};
 
 #[cfg(test)]
 mod tests;

@@ -22,14 +22,14 @@ use Rattle.dex_types.specs.Side.{Token, Coin, Pc, by_side, opposite}
 use Rattle.dex_types.specs.Soundness.{IsSound}
 use Rattle.dex_types.specs.Steps.{Step, cancelled_all, act_cancel}
 use Rattle.dex_types.specs.Totals.{weighed_where}
-use Rattle.dex_types.specs.Why.{why_not_named, why_cancelled}
+use Rattle.dex_types.specs.Why.{why_unnamed, why_cancelled}
 use Rattle.dex_laws.proofs.TotalLaws.{total-append}
 use Rattle.dex_sound.proofs.CancelledLaws.{cancelled-rests, cancelled-apart, rests-after}
 use Rattle.dex_sound.proofs.OrderSoundReasons.{first_of-none}
 use Rattle.dex_sound.proofs.WithoutLaws.{total-without}
 use Rattle.dex_sound.specs.Cancels.{Rests, AreApart}
 use Rattle.dex_sound.specs.Kept.{addresses}
-use Rattle.dex_eager.specs.Eager.{Eager, eager_at, orders_on, with_orders, without_all, why_none, cancel_by, eager_cancel}
+use Rattle.dex_eager.specs.Eager.{Eager, eager_at, orders_on, with_orders, without_all, cancel_by, eager_cancel}
 use Rattle.dex_eager.specs.Histories.{IsPaidAs}
 use Rattle.dex_eager.specs.Slots.{without_slots, maker_fills}
 use Rattle.dex_eager.specs.Worth.{Worth, Ledger, with_step, for_account, deposit_in, settled_in, swept_in, referred_in, held_for, worth_of}
@@ -167,7 +167,7 @@ found-slots : (side : Side) (id : ℕ) (m : Market) (ledger : Ledger) → order_
 found-slots side id m ledger = ap (order_with id) (orders_on-slots side m ledger) ∙ order_with-slots id (orders side m)
 
 why-slots : (by : CancelBy) (owner : Address) (m : Market) (ledger : Ledger) (gone : List RestingOrder)
-    → why_none by owner (eager_at m ledger) (map gone_without_slot gone) ≡ why_not_named by owner m gone
+    → why_unnamed by owner (eager_at m ledger).bids (eager_at m ledger).asks (map gone_without_slot gone) ≡ why_unnamed by owner m.bids m.asks gone
 why-slots (ById side id) owner m ledger gone =
     let reasons : Option Refusal → Option Refusal → Option Refusal = λ first second. first_of (first ∷ second ∷ []) in
     let there : Option Order = order_with id (orders side m) in
@@ -187,7 +187,7 @@ cancelled-paid by m ledger named party sound none =
     let e : Eager = eager_at m ledger in
     let gone : List RestingOrder = cancelled by party.address m.bids m.asks in
     let s : Step = cancelled_all gone m in
-    let parts = first_of-none (why_not_named by party.address m gone ∷ queue_full (length gone) m ∷ []) none in
+    let parts = first_of-none (why_unnamed by party.address m.bids m.asks gone ∷ queue_full (length gone) m ∷ []) none in
     let paid : eager_cancel by e party.address ≡ record { market = without_all (map gone_without_slot gone) e; fills = [] } =
     ap (cancel_by by party.address e) (cancelled-slots by party.address m.bids m.asks)
     ∙ cond-false _ _ _ (ap is_some (why-slots by party.address m ledger gone ∙ parts.0)) in

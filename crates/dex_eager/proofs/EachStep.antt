@@ -19,7 +19,7 @@ use Rattle.dex_types.specs.Steps.{Step, step, by_party, act_order, act_cancel, a
 use Rattle.dex_types.specs.Terms.{terms_order, terms_take}
 use Rattle.dex_types.specs.Trader.{Trader, Open, Blank, Closed, Traders, trader_at}
 use Rattle.dex_types.specs.Upkeep.{taken_slots, all_funds}
-use Rattle.dex_types.specs.Why.{of_party, why_blank, why_close, why_order, why_cancelled, why_cancel, why_prune, why_settle, why_decoded, why_instruction, why}
+use Rattle.dex_types.specs.Why.{named_first, of_party, why_close, why_order, why_cancelled, why_cancel, why_prune, why_settle, why_decoded, why_instruction, why}
 use Rattle.dex_laws.proofs.TraderLaws.{traders-induction, trader_at-there}
 use Rattle.dex_sound.proofs.KeepLaws.{step-keeps}
 use Rattle.dex_sound.proofs.OrderSoundReasons.{first_of-none, refused_where-none}
@@ -117,7 +117,7 @@ opens-blank (Some Blank) none = refl
 opens-blank (Some Closed) none = absurd cc
 opens-blank (Some (Open account)) none = absurd cc
 
-init-paid : (named : List Address) (signer : Address) (m : Market) (ledger : Ledger) → why_blank named m ≡ None → KeepsMarket m (act_init named signer m)
+init-paid : (named : List Address) (signer : Address) (m : Market) (ledger : Ledger) → not_blank (named_first named m.traders) ≡ None → KeepsMarket m (act_init named signer m)
     → IsPaidAs m ledger named (act_init named signer m) (unchanged (eager_at m ledger))
 init-paid [] signer m ledger none keeps = absurd cc
 init-paid (address ∷ others) signer m ledger none keeps =
@@ -146,7 +146,7 @@ act-paid CloseOpenOrders request seen m ledger sound none keeps =
     party-paid m ledger request.named (why_close request) (act_close m) _ (party_of request.named m.traders) refl none keeps
     (λ party is why kept. closed-still m ledger request.named party sound (party-is request.named m.traders party is) (closes-empty request party why) kept)
 act-paid InitOpenOrders request seen m ledger sound none keeps =
-    let parts = first_of-none (disabled m ∷ why_blank request.named m ∷ []) none in
+    let parts = first_of-none (disabled m ∷ not_blank (named_first request.named m.traders) ∷ []) none in
     init-paid request.named request.signer m ledger parts.1.0 keeps
 act-paid (Prune limit) request seen m ledger sound none keeps =
     cancel-paid (First limit) (why_prune (First limit) request m) request m ledger sound (authority-cancels (First limit) request m) none keeps

@@ -1,5 +1,5 @@
 -- a new order moves worth as its fills do
-use Rattle.std.proofs.Common.{ℕ, ◌+◌, ◌-◌, ◌^◌, ◌≡◌, ◌≤◌, ◌<◌, ◌||◌, Bool, true, false, cond, eqb, List, [], ◌∷◌, ◌++◌, Option, Some, None, is_some, length, map, refl, sym, ap, ◌∙◌, subst, arith, append-nil}
+use Rattle.std.proofs.Common.{ℕ, ◌+◌, ◌-◌, ◌^◌, ◌≡◌, ◌≤◌, ◌<◌, ◌||◌, Bool, true, false, cond, eqb, List, [], ◌++◌, Option, Some, None, is_some, map, refl, sym, ap, ◌∙◌, subst, arith, append-nil}
 use Rattle.std.proofs.lemmas.Bool.{cond-false, cond_both}
 use Rattle.dex_types.specs.declared.addresses.Address.{Address}
 use Rattle.dex_types.specs.declared.orders.Order.{Order}
@@ -14,7 +14,7 @@ use Rattle.dex_types.specs.NewOrder.{NewOrder, Ordering, terms_of, demand_of, fe
 use Rattle.dex_types.specs.Owed.{order_lock, owed, kept, is_order_of, is_event_of}
 use Rattle.dex_types.specs.Posting.{post}
 use Rattle.dex_types.specs.QueuedEvent.{QueuedEvent}
-use Rattle.dex_types.specs.Reasons.{missing, not_owner, other_mint, other_discount_mint, not_signed, no_slot, ask_too_large, no_sequence, time_past, would_self_trade, queue_full, short_of, past_bound}
+use Rattle.dex_types.specs.Reasons.{ask_too_large, would_self_trade}
 use Rattle.dex_types.specs.Requests.{Request, Party}
 use Rattle.dex_types.specs.Side.{Token, Coin, Pc, by_side, by_token, opposite, locked_token, gained_token, lock}
 use Rattle.dex_types.specs.Solvency.{free_of, own_locked, own_kept}
@@ -22,14 +22,14 @@ use Rattle.dex_types.specs.Soundness.{IsSound}
 use Rattle.dex_types.specs.Steps.{Step, ordered}
 use Rattle.dex_types.specs.Totals.{weighed_where}
 use Rattle.dex_types.specs.Trader.{Account, Open, trader_at}
-use Rattle.dex_types.specs.Why.{payer, payer_mint, why_order_early, why_ordering, why_order_of}
+use Rattle.dex_types.specs.Why.{why_order_of}
 use Rattle.dex_laws.proofs.MovedLaws.{IsTestOfOrder-owner}
 use Rattle.dex_laws.proofs.SpendLaws.{rested-paid}
 use Rattle.dex_laws.proofs.TotalLaws.{total-append}
 use Rattle.dex_sound.proofs.FillLaws.{fees-shared}
 use Rattle.dex_sound.proofs.MeetSums.{met-locked, met-own, posted-locked, last-other, taker-kept}
 use Rattle.dex_sound.proofs.OrderSoundFunds.{rested-lock}
-use Rattle.dex_sound.proofs.OrderSoundReasons.{first_of-none, refused_where-none}
+use Rattle.dex_sound.proofs.OrderSoundReasons.{order-none, refused_where-none}
 use Rattle.dex_sound.specs.Exchange.{taker_gets, taker_pays}
 use Rattle.dex_sound.specs.Kept.{addresses, KeepsMarket}
 use Rattle.dex_eager.specs.Eager.{Eager, eager_at, orders_on, with_change, with_fills, order_posting, after_new_order, order_by, eager_order}
@@ -270,30 +270,8 @@ allowed side n request seen m party none =
     let account : Account = party.account in
     let o : Ordering = order_on side m account n in
     let after : Market = after_order side account n o m in
-    let parts = first_of-none (why_order_early side n request seen m party ∷ why_ordering side seen m o after ∷ []) none in
-    let early = first_of-none (
-    missing (payer side seen)
-    ∷ not_owner request account
-    ∷ other_mint (payer_mint side m) (payer side seen)
-    ∷ other_discount_mint seen seen.discount
-    ∷ not_signed request (payer side seen)
-    ∷ not_signed request seen.discount
-    ∷ no_slot account
-    ∷ ask_too_large side m.listing.sizes n.lots
-    ∷ no_sequence m
-    ∷ time_past n.now n.latest
-    ∷ []
-    ) parts.0 in
-    let acting = first_of-none (
-    would_self_trade o.met.aborts
-    ∷ queue_full (length o.events) m
-    ∷ short_of o.deposit (payer side seen)
-    ∷ past_bound Coin after
-    ∷ past_bound Pc after
-    ∷ []
-    ) parts.1.0 in
-    let late = early.1.1.1.1.1.1.1 in
-    record { small = late.0; sequence = refused_where-none _ _ late.1.0; stays = none-aborts o.met.aborts acting.0 }
+    let parts = (order-none side n request seen m party none).rest in
+    record { small = parts.standing.1.0; sequence = refused_where-none _ _ parts.standing.1.1.0; stays = none-aborts o.met.aborts parts.ordering.0 }
   where
     none-aborts : (aborts : Option ℕ) → would_self_trade aborts ≡ None → is_some aborts ≡ false
     none-aborts None none = refl

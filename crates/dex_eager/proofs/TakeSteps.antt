@@ -1,5 +1,5 @@
 -- a take moves worth as its fills do
-use Rattle.std.proofs.Common.{ℕ, ◌+◌, ◌-◌, ◌^◌, ◌≡◌, ◌<◌, ◌||◌, Bool, false, List, [], ◌∷◌, None, map, refl, sym, ap, ◌∙◌, subst, arith}
+use Rattle.std.proofs.Common.{ℕ, ◌+◌, ◌-◌, ◌^◌, ◌≡◌, ◌<◌, ◌||◌, Bool, false, List, None, map, refl, sym, ap, ◌∙◌, subst, arith}
 use Rattle.std.proofs.lemmas.Bool.{cond-false, lt-leb}
 use Rattle.dex_types.specs.declared.addresses.Address.{Address}
 use Rattle.dex_types.specs.declared.orders.Order.{Order}
@@ -10,19 +10,19 @@ use Rattle.dex_types.specs.Market.{Market, orders}
 use Rattle.dex_types.specs.Meeting.{TakerTerms, Demand, Meeting, meet}
 use Rattle.dex_types.specs.Owed.{order_lock, owed, is_order_of, is_event_of}
 use Rattle.dex_types.specs.QueuedEvent.{QueuedEvent}
-use Rattle.dex_types.specs.Reasons.{disabled, missing, other_mint, other_discount_mint, not_signed, ask_too_large}
+use Rattle.dex_types.specs.Reasons.{ask_too_large}
 use Rattle.dex_types.specs.Requests.{Request}
 use Rattle.dex_types.specs.Side.{Token, Coin, Pc, by_side, opposite}
 use Rattle.dex_types.specs.Solvency.{all_locked}
 use Rattle.dex_types.specs.Soundness.{IsSound}
 use Rattle.dex_types.specs.Steps.{Step, took}
-use Rattle.dex_types.specs.Take.{Take, take_terms, take_demand, take_meeting, take_fee, take_transfers, after_take}
+use Rattle.dex_types.specs.Take.{Take, take_terms, take_demand, take_meeting, take_fee}
 use Rattle.dex_types.specs.Totals.{total, weighed_where}
-use Rattle.dex_types.specs.Why.{payer, why_take_early, why_taking, why_take}
+use Rattle.dex_types.specs.Why.{why_take}
 use Rattle.dex_laws.proofs.MovedLaws.{IsTestOfOrder-owner, meet-moved_le}
 use Rattle.dex_laws.proofs.TotalLaws.{total-append}
 use Rattle.dex_sound.proofs.MeetSums.{met-locked, met-own}
-use Rattle.dex_sound.proofs.OrderSoundReasons.{first_of-none, refused_where-none}
+use Rattle.dex_sound.proofs.OrderSoundReasons.{refused_where-none, take-none}
 use Rattle.dex_sound.specs.Kept.{addresses, KeepsMarket}
 use Rattle.dex_eager.specs.Eager.{Eager, eager_at, orders_on, with_fills, after_meeting, is_too_large, take_by, eager_take}
 use Rattle.dex_eager.specs.Histories.{IsPaidAs}
@@ -126,24 +126,7 @@ not-large Ask lots t w m sizes sound none =
 
 take-not_large : (side : Side) (t : Take) (request : Request) (seen : Seen) (m : Market) → why_take side t request seen m ≡ None
     → ask_too_large side m.listing.sizes t.lots ≡ None
-take-not_large side t request seen m none =
-    let met : Meeting = take_meeting side m.listing.sizes t (orders (opposite side) m) in
-    let parts = first_of-none (
-    why_take_early side t request seen m ∷ why_taking side t seen m met (take_transfers side m.listing.sizes t met) (after_take side t met m) ∷ []
-    ) none in
-    let early = first_of-none (
-    disabled m
-    ∷ missing seen.coin
-    ∷ missing seen.pc
-    ∷ other_mint m.listing.coin_mint seen.coin
-    ∷ other_mint m.listing.pc_mint seen.pc
-    ∷ other_discount_mint seen seen.discount
-    ∷ not_signed request (payer side seen)
-    ∷ not_signed request seen.discount
-    ∷ ask_too_large side m.listing.sizes t.lots
-    ∷ []
-    ) parts.0 in
-    early.1.1.1.1.1.1.1.1.0
+take-not_large side t request seen m none = (take-none side t request seen m none).rest.size
 
 -- a take does what it does on the eager market
 pub taken-paid : (side : Side) (t : Take) (request : Request) (seen : Seen) (m : Market) (ledger : Ledger) (named : List Address)

@@ -1,29 +1,28 @@
 -- A market that pays at once: fills alone move worth. It has no events, slots, free funds or wallets.
-use Rattle.std.specs.Prelude.{ℕ, ◌+◌, ◌-◌, ◌*◌, ◌^◌, List, [], ◌∷◌, Option, Some, None, Bool, false, ◌||◌, nat_le, ◌==◌, is_some, length, map, take, if◌then◌else◌, Result, Ok, Err}
+use Rattle.std.specs.Prelude.{ℕ, ◌+◌, ◌-◌, ◌*◌, ◌^◌, List, [], ◌∷◌, Option, Some, None, Bool, false, ◌||◌, nat_le, ◌==◌, is_some, map, take, if◌then◌else◌, Result, Ok, Err}
 use Rattle.dex_types.specs.declared.addresses.Address.{Address}
 use Rattle.dex_types.specs.declared.instructions.BadData.{BadData}
 use Rattle.dex_types.specs.declared.instructions.Ix.{Ix}
 use Rattle.dex_types.specs.declared.instructions.Ix.TheVariants.{NewOrderV3, CancelOrderV2, CancelOrderByClientIdV2, SendTake, Prune, CancelOrdersByClientIds}
 use Rattle.dex_types.specs.declared.orders.Order.{Order}
-use Rattle.dex_types.specs.declared.refusals.Refusal.{Refusal}
 use Rattle.dex_types.specs.declared.rows.Seen.{Seen}
 use Rattle.dex_types.specs.declared.terms.Lots.{Lots}
 use Rattle.dex_types.specs.declared.terms.Side.{Side}
 use Rattle.dex_types.specs.declared.terms.Side.TheVariants.{Bid, Ask}
 use Rattle.dex_types.specs.Addresses.{is_same}
-use Rattle.dex_types.specs.Cancel.{RestingOrder, CancelBy, ById, ByClient, ByClients, First, cancelled, order_with, without_order}
+use Rattle.dex_types.specs.Cancel.{RestingOrder, CancelBy, ById, ByClient, ByClients, First, cancelled, without_order}
 use Rattle.dex_types.specs.Market.{Market}
 use Rattle.dex_types.specs.Meeting.{Meeting, meet}
 use Rattle.dex_types.specs.NewOrder.{NewOrder, terms_of, demand_of, fee_of, rested, resting}
 use Rattle.dex_types.specs.Owed.{leaving}
 use Rattle.dex_types.specs.Posting.{Posting, post}
 use Rattle.dex_types.specs.QueuedEvent.{QueuedEvent}
-use Rattle.dex_types.specs.Reasons.{first_of, not_resting, not_yours, zero_client, no_order}
 use Rattle.dex_types.specs.Requests.{Request}
 use Rattle.dex_types.specs.Side.{by_side, opposite}
 use Rattle.dex_types.specs.Take.{Take, take_meeting, take_fee}
 use Rattle.dex_types.specs.Terms.{terms_order, terms_take}
 use Rattle.dex_types.specs.Trader.{Trader}
+use Rattle.dex_types.specs.Why.{why_unnamed}
 use Rattle.dex_sound.specs.Exchange.{gained, taker_gets, taker_pays}
 use Rattle.dex_eager.specs.Slots.{without_slots, maker_fills}
 use Rattle.dex_eager.specs.Worth.{Worth, Ledger, net, plus, worth_of, takings_of}
@@ -156,19 +155,9 @@ without_all [] e = e
 without_all (gone ∷ others) e =
     without_all others (with_orders gone.side (without_order gone.order.id (orders_on gone.side e)) (orders_on (opposite gone.side) e) e)
 
--- why a cancel names no order of the account on these sides
-abbrev pub why_none : CancelBy → Address → Eager → List RestingOrder → Option Refusal
-why_none (ById side id) owner e gone = first_of (
-    not_resting (order_with id (orders_on side e)) (order_with id (orders_on (opposite side) e))
-    ∷ not_yours owner (order_with id (orders_on side e))
-    ∷ []
-    )
-why_none (ByClient client) owner e gone = first_of (zero_client client ∷ no_order (length gone) ∷ [])
-why_none (ByClients clients) owner e gone = None
-why_none (First count) owner e gone = None
-
+-- a cancel that takes these orders, unless it names no order of the account
 abbrev pub cancel_by : CancelBy → Address → Eager → List RestingOrder → EagerStep
-cancel_by by owner e gone = if is_some (why_none by owner e gone) then unchanged e else record { market = without_all gone e; fills = [] }
+cancel_by by owner e gone = if is_some (why_unnamed by owner e.bids e.asks gone) then unchanged e else record { market = without_all gone e; fills = [] }
 
 -- a cancel of an account's orders
 abbrev pub eager_cancel : CancelBy → Eager → Address → EagerStep

@@ -16,22 +16,22 @@ use Rattle.dex_types.specs.Market.{Market, orders}
 use Rattle.dex_types.specs.Cancel.{CancelBy, ById, ByClient, ByClients, First}
 use Rattle.dex_types.specs.Meeting.{Meeting}
 use Rattle.dex_types.specs.NewOrder.{NewOrder, Ordering, order_on, after_order}
-use Rattle.dex_types.specs.Reasons.{disabled, missing, not_owner, not_authority, other_mint, other_discount_mint, not_signed, ask_too_large, would_self_trade, below_minimum, queue_full, short_of, too_full, past_bound}
+use Rattle.dex_types.specs.Reasons.{ask_too_large, disabled, first_of, other_mint, too_full}
 use Rattle.dex_types.specs.Requests.{Request, Party, party_of}
 use Rattle.dex_types.specs.Settle.{settlement, settle_transfers, sweep_transfers}
 use Rattle.dex_types.specs.Side.{Token, Coin, Pc, opposite}
 use Rattle.dex_types.specs.Solvency.{vault}
 use Rattle.dex_types.specs.Soundness.{IsSound}
-use Rattle.dex_types.specs.Take.{Take, take_meeting, take_transfers, take_paid, take_terms, take_demand, too_little, after_take}
+use Rattle.dex_types.specs.Take.{Take, take_meeting, take_transfers, take_paid, take_terms, take_demand, too_little}
 use Rattle.dex_types.specs.Terms.{terms_order, terms_take}
 use Rattle.dex_types.specs.Trader.{Account, Open, trader_at}
 use Rattle.dex_types.specs.Transfers.{Transfers}
 use Rattle.dex_types.specs.Wallets.{amount_at, brought_to}
-use Rattle.dex_types.specs.Why.{payer, of_party, why_order_early, why_ordering, why_order, why_take_early, why_taking, why_take, why_cancel, why_prune, why_close, why_settle, why_sweep, why_instruction, why_decoded, why}
+use Rattle.dex_types.specs.Why.{Limits, TakeReading, limits_of, order_reading, ordering_reasons, settling_reasons, standing_reasons, sweeping_reasons, take_asking_reasons, take_reading, taking_reasons, payer, of_party, why_order_early, why_ordering, why_order, why_take_early, why_taking, why_take, why_cancel, why_prune, why_close, why_settle, why_sweep, why_instruction, why_decoded, why}
 use Rattle.dex_laws.proofs.MovedLaws.{meet-moved_le}
 use Rattle.dex_laws.proofs.TraderLaws.{is_same-true, is_same-refl, is_same-sym}
 use Rattle.dex_sound.proofs.FieldLaws.{pays-out}
-use Rattle.dex_sound.proofs.GivenLaws.{is_plain, Gives, IsPlain, first_of-gives, plain-gives, none-gives, some-gives, where-gives, disabled-plain, missing-plain, not_owner-plain, not_authority-plain, other_mint-plain, would_self_trade-plain, below_minimum-plain, queue_full-plain, short_of-plain, why_init-plain, why_close-plain, why_disable-plain, why_order_early-plain, why_take_early-plain, why_cancel-plain, why_prune-plain}
+use Rattle.dex_sound.proofs.GivenLaws.{is_plain, Gives, IsPlain, first_of-gives, plain-gives, none-gives, some-gives, where-gives, disabled-plain, missing-plain, not_owner-plain, not_authority-plain, other_mint-plain, would_self_trade-plain, below_minimum-plain, queue_full-plain, short_of-plain, why_init-plain, why_close-plain, why_disable-plain, why_order_early-plain, why_take_early-plain, standing-plain, ask_too_large-plain, why_cancel-plain, why_prune-plain}
 use Rattle.dex_sound.proofs.OrderSoundReasons.{first_of-none, refused_where-none}
 use Rattle.dex_sound.proofs.StepSound.{party-found}
 use Rattle.dex_history.specs.Balances.{mint_of, FitsVault, FitVaults}
@@ -188,18 +188,7 @@ settle-balances row request seen m party sound sees fit found =
     let t : Transfers = settle_transfers (settlement (is_some seen.referrer) party.account) in
     let roles : other_mint m.listing.coin_mint seen.coin ≡ None → other_mint m.listing.pc_mint seen.pc ≡ None → Roles seen t m =
     λ coin pc. record { mints = sound.form.mints; coin = coin; pc = pc; paid = settle-paid m party.address party.account (is_some seen.referrer) sound found } in
-    first_of-gives NotBalance (
-    missing seen.coin
-    ∷ missing seen.pc
-    ∷ not_owner request party.account
-    ∷ other_mint m.listing.coin_mint seen.coin
-    ∷ other_mint m.listing.pc_mint seen.pc
-    ∷ other_mint m.listing.pc_mint seen.referrer
-    ∷ too_full seen t seen.coin
-    ∷ too_full seen t seen.pc
-    ∷ too_full seen t seen.referrer
-    ∷ []
-    ) (
+    first_of-gives NotBalance (settling_reasons seen request.signer m.listing.coin_mint m.listing.pc_mint party.account) (
       plainly _ (missing-plain seen.coin),
       λ has_coin. (
         plainly _ (missing-plain seen.pc),
@@ -228,7 +217,7 @@ settle-balances row request seen m party sound sees fit found =
 sweep-balances : (request : Request) (seen : Seen) (m : Market) → IsSound m → FitVaults seen m → Gives NotBalance (why_sweep request seen m)
 sweep-balances request seen m sound fit =
     let t : Transfers = sweep_transfers m in
-    first_of-gives NotBalance (missing seen.pc ∷ not_authority request m ∷ other_mint m.listing.pc_mint seen.pc ∷ too_full seen t seen.pc ∷ []) (
+    first_of-gives NotBalance (sweeping_reasons seen request.signer m.listing.authority m.listing.pc_mint m.pc_fees) (
       plainly _ (missing-plain seen.pc),
       λ pc. (
         plainly _ (not_authority-plain request m),
@@ -248,92 +237,74 @@ sweep-balances request seen m sound fit =
 
 -- a take
 taking-balances : (row : Asked) (side : Side) (t : Take) (seen : Seen) (m : Market) → IsSound m → Sees row seen → FitVaults seen m
-    → other_mint m.listing.coin_mint seen.coin ≡ None → other_mint m.listing.pc_mint seen.pc ≡ None → (after : Market)
-    → let met = take_meeting side m.listing.sizes t (orders (opposite side) m) in Gives NotBalance (why_taking side t seen m met (take_transfers side m.listing.sizes t met) after)
-taking-balances row side t seen m sound sees fit coin pc after =
+    → other_mint m.listing.coin_mint seen.coin ≡ None → other_mint m.listing.pc_mint seen.pc ≡ None → Gives NotBalance (why_taking side t seen (take_reading side t seen m))
+taking-balances row side t seen m sound sees fit coin pc =
     let met : Meeting = take_meeting side m.listing.sizes t (orders (opposite side) m) in
     let transfers : Transfers = take_transfers side m.listing.sizes t met in
     let roles : Roles seen transfers m = record { mints = sound.form.mints; coin = coin; pc = pc; paid = take-paid side t m sound } in
-    first_of-gives NotBalance (
-    below_minimum (too_little side t met)
-    ∷ queue_full (length met.events) m
-    ∷ short_of (take_paid side m.listing.sizes t met) (payer side seen)
-    ∷ too_full seen transfers seen.coin
-    ∷ too_full seen transfers seen.pc
-    ∷ past_bound Coin after
-    ∷ past_bound Pc after
-    ∷ []
-    ) (
-      plainly _ (below_minimum-plain (too_little side t met)),
-      λ enough. (
-        plainly _ (queue_full-plain (length met.events) m),
-        λ room. (
-          plainly _ (short_of-plain (take_paid side m.listing.sizes t met) (payer side seen)),
-          λ pays. (
-            coin-full row seen transfers m sees fit roles (λ wallet is mint. omega (arith, amount-le wallet.address seen.referrer 0)),
-            λ coin_fits. (
-              pc-full row seen transfers m sees fit roles,
-              λ pc_fits. (where-gives NotBalance _ _ (λ beyond. tt), λ coin_sum. (where-gives NotBalance _ _ (λ beyond. tt), λ pc_sum. tt)),
+    let reading : TakeReading = take_reading side t seen m in
+    first_of-gives NotBalance (ask_too_large side m.listing.sizes t.lots ∷ first_of (taking_reasons side t seen reading) ∷ []) (
+      plainly _ (ask_too_large-plain side m.listing.sizes t.lots),
+      λ size. (
+        first_of-gives NotBalance (taking_reasons side t seen reading) (
+          plainly _ (below_minimum-plain (too_little side t met)),
+          λ enough. (
+            plainly _ (queue_full-plain (length met.events) m),
+            λ room. (
+              plainly _ (short_of-plain (take_paid side m.listing.sizes t met) (payer side seen)),
+              λ pays. (
+                coin-full row seen transfers m sees fit roles (λ wallet is mint. omega (arith, amount-le wallet.address seen.referrer 0)),
+                λ coin_fits. (
+                  pc-full row seen transfers m sees fit roles,
+                  λ pc_fits. (where-gives NotBalance _ _ (λ beyond. tt), λ coin_sum. (where-gives NotBalance _ _ (λ beyond. tt), λ pc_sum. tt)),
+                ),
+              ),
             ),
           ),
         ),
+        λ then. tt,
       ),
     )
 
 take-balances : (row : Asked) (side : Side) (t : Take) (request : Request) (seen : Seen) (m : Market) → IsSound m → Sees row seen → FitVaults seen m
     → Gives NotBalance (why_take side t request seen m)
 take-balances row side t request seen m sound sees fit =
-    let met : Meeting = take_meeting side m.listing.sizes t (orders (opposite side) m) in
-    let after : Market = after_take side t met m in
-    let transfers : Transfers = take_transfers side m.listing.sizes t met in
-    first_of-gives NotBalance (why_take_early side t request seen m ∷ why_taking side t seen m met transfers after ∷ []) (
-      plainly _ (why_take_early-plain side t request seen m),
+    first_of-gives NotBalance (why_take_early side request seen m ∷ why_taking side t seen (take_reading side t seen m) ∷ []) (
+      plainly _ (why_take_early-plain side request seen m),
       λ early. (
-        let parts = first_of-none (
-            disabled m
-            ∷ missing seen.coin
-            ∷ missing seen.pc
-            ∷ other_mint m.listing.coin_mint seen.coin
-            ∷ other_mint m.listing.pc_mint seen.pc
-            ∷ other_discount_mint seen seen.discount
-            ∷ not_signed request (payer side seen)
-            ∷ not_signed request seen.discount
-            ∷ ask_too_large side m.listing.sizes t.lots
-            ∷ []
-            ) early in taking-balances row side t seen m sound sees fit parts.1.1.1.0 parts.1.1.1.1.0 after,
+        let parts = first_of-none (take_asking_reasons side seen request.signer m.is_disabled m.listing.coin_mint m.listing.pc_mint) early in
+            taking-balances row side t seen m sound sees fit parts.1.1.1.0 parts.1.1.1.1.0,
         λ then. tt,
       ),
     )
 
 -- a new order brings nothing to a wallet
-order-balances : (side : Side) (order : Address → NewOrder) (request : Request) (seen : Seen) (m : Market) (party : Party) → Gives NotBalance (why_order side order request seen m party)
-order-balances side order request seen m party =
-    let n : NewOrder = order party.address in
-    let ordering : Ordering = order_on side m party.account n in
-    let after : Market = after_order side party.account n ordering m in
-    first_of-gives NotBalance (why_order_early side n request seen m party ∷ why_ordering side seen m ordering after ∷ []) (
-      plainly _ (why_order_early-plain side n request seen m party),
-      λ early. (
-        first_of-gives NotBalance (
-            would_self_trade ordering.met.aborts
-            ∷ queue_full (length ordering.events) m
-            ∷ short_of ordering.deposit (payer side seen)
-            ∷ past_bound Coin after
-            ∷ past_bound Pc after
-            ∷ []
-            ) (
-              plainly _ (would_self_trade-plain ordering.met.aborts),
-              λ aborts. (
-                plainly _ (queue_full-plain (length ordering.events) m),
-                λ room. (
-                  plainly _ (short_of-plain ordering.deposit (payer side seen)),
-                  λ pays. (where-gives NotBalance _ _ (λ beyond. tt), λ coin. (where-gives NotBalance _ _ (λ beyond. tt), λ pc. tt)),
-                ),
-              ),
+ordering-balances : (side : Side) (n : NewOrder) (seen : Seen) (m : Market) (account : Account) → Gives NotBalance (why_ordering side n (order_reading side n seen m account))
+ordering-balances side n seen m account =
+    let ordering : Ordering = order_on side m account n in
+    let limits : Limits = limits_of side seen m (after_order side account n ordering m) in
+    first_of-gives NotBalance (first_of (standing_reasons side n m.listing.sizes m.next_sequence account) ∷ first_of (ordering_reasons ordering limits) ∷ []) (
+      plainly _ (standing-plain side n m.listing.sizes m.next_sequence account),
+      λ standing. (
+        first_of-gives NotBalance (ordering_reasons ordering limits) (
+          plainly _ (would_self_trade-plain ordering.met.aborts),
+          λ aborts. (
+            plainly _ (queue_full-plain (length ordering.events) m),
+            λ room. (
+              plainly _ (short_of-plain ordering.deposit (payer side seen)),
+              λ pays. (where-gives NotBalance _ _ (λ beyond. tt), λ coin. (where-gives NotBalance _ _ (λ beyond. tt), λ pc. tt)),
             ),
+          ),
+        ),
         λ then. tt,
       ),
     )
+
+order-balances : (side : Side) (order : Address → NewOrder) (request : Request) (seen : Seen) (m : Market) (party : Party) → Gives NotBalance (why_order side order request seen m party)
+order-balances side order request seen m party =
+    let n : NewOrder = order party.address in
+    first_of-gives NotBalance (why_order_early side request seen m party ∷ why_ordering side n (order_reading side n seen m party.account) ∷ [])
+    (plainly _ (why_order_early-plain side request seen m party), λ early. (ordering-balances side n seen m party.account, λ then. tt))
 
 -- what an open account asks
 party-balances : (why : Party → Option Refusal) (party : Option Party) → ((found : Party) → party ≡ Some found → Gives NotBalance (why found)) → Gives NotBalance (of_party why party)

@@ -12,20 +12,20 @@ use Rattle.dex_types.specs.declared.terms.Side.TheVariants.{Bid, Ask}
 use Rattle.dex_types.specs.Cancel.{ById, ByClient, ByClients, First}
 use Rattle.dex_types.specs.Market.{Market, orders}
 use Rattle.dex_types.specs.Meeting.{Meeting}
-use Rattle.dex_types.specs.NewOrder.{NewOrder, Ordering, order_on, after_order}
-use Rattle.dex_types.specs.Reasons.{disabled, missing, not_owner, not_authority, other_mint, other_discount_mint, not_signed, no_slot, ask_too_large, no_sequence, time_past, too_full}
+use Rattle.dex_types.specs.NewOrder.{NewOrder, Ordering, order_on}
+use Rattle.dex_types.specs.Reasons.{disabled, missing, other_mint}
 use Rattle.dex_types.specs.Requests.{Request, Party, party_of}
 use Rattle.dex_types.specs.Settle.{settlement, settle_transfers, sweep_transfers}
 use Rattle.dex_types.specs.Side.{opposite, locked_token}
 use Rattle.dex_types.specs.Steps.{Step, by_party, act_order, act_cancel, act_settle, act_init, act_close, act, act_decoded, unless_refused}
 use Rattle.dex_types.specs.Soundness.{IsSound}
-use Rattle.dex_types.specs.Take.{Take, take_meeting, take_transfers, after_take}
+use Rattle.dex_types.specs.Take.{Take, take_meeting, take_transfers}
 use Rattle.dex_types.specs.Terms.{terms_order, terms_take}
 use Rattle.dex_types.specs.Transfers.{Transfers, no_transfers, deposit}
 use Rattle.dex_types.specs.Wallets.{movements}
 use Rattle.dex_types.specs.Trader.{Account}
-use Rattle.dex_types.specs.Why.{payer, payer_mint, of_party, why_order_early, why_ordering, why_order, why_take_early, why_taking, why_take, why_settle, why_sweep, why_instruction, why_decoded, why}
-use Rattle.dex_sound.proofs.OrderSoundReasons.{first_of-none}
+use Rattle.dex_types.specs.Why.{payer, payer_mint, of_party, settling_reasons, sweeping_reasons, why_order, why_take, why_settle, why_sweep, why_instruction, why_decoded, why}
+use Rattle.dex_sound.proofs.OrderSoundReasons.{first_of-none, order-none, take-none}
 use Rattle.dex_history.specs.Journal.{Asked, Sees, asked_step}
 use Rattle.dex_history.proofs.BalanceLaws.{right-mint}
 use Rattle.dex_history.specs.Mints.{MeetVaults}
@@ -47,20 +47,7 @@ order-of : (side : Side) (order : Address → NewOrder) (request : Request) (see
 order-of side order request seen m party none =
     let n : NewOrder = order party.address in
     let ordering : Ordering = order_on side m party.account n in
-    let parts = first_of-none (why_order_early side n request seen m party ∷ why_ordering side seen m ordering (after_order side party.account n ordering m) ∷ []) none in
-    let early = first_of-none (
-    missing (payer side seen)
-    ∷ not_owner request party.account
-    ∷ other_mint (payer_mint side m) (payer side seen)
-    ∷ other_discount_mint seen seen.discount
-    ∷ not_signed request (payer side seen)
-    ∷ not_signed request seen.discount
-    ∷ no_slot party.account
-    ∷ ask_too_large side m.listing.sizes n.lots
-    ∷ no_sequence m
-    ∷ time_past n.now n.latest
-    ∷ []
-    ) parts.0 in
+    let early = (order-none side n request seen m party none).asking in
     deposit-of side seen m ordering.deposit early.0 early.1.1.0
   where
     deposit-of : (side : Side) (seen : Seen) (m : Market) (amount : ℕ) → missing (payer side seen) ≡ None → other_mint (payer_mint side m) (payer side seen) ≡ None
@@ -76,19 +63,7 @@ take-of : (side : Side) (t : Take) (request : Request) (seen : Seen) (m : Market
 take-of side t request seen m none =
     let met : Meeting = take_meeting side m.listing.sizes t (orders (opposite side) m) in
     let transfers : Transfers = take_transfers side m.listing.sizes t met in
-    let parts = first_of-none (why_take_early side t request seen m ∷ why_taking side t seen m met transfers (after_take side t met m) ∷ []) none in
-    let early = first_of-none (
-    disabled m
-    ∷ missing seen.coin
-    ∷ missing seen.pc
-    ∷ other_mint m.listing.coin_mint seen.coin
-    ∷ other_mint m.listing.pc_mint seen.pc
-    ∷ other_discount_mint seen seen.discount
-    ∷ not_signed request (payer side seen)
-    ∷ not_signed request seen.discount
-    ∷ ask_too_large side m.listing.sizes t.lots
-    ∷ []
-    ) parts.0 in
+    let early = (take-none side t request seen m none).asking in
     record {
       coin_in = named-of m.listing.coin_mint seen.coin transfers.coin_in early.1.0 early.1.1.1.0;
       pc_in = named-of m.listing.pc_mint seen.pc transfers.pc_in early.1.1.0 early.1.1.1.1.0;
@@ -106,18 +81,7 @@ referrer-of m (Some wallet) account right = inr (wallet, refl, right-mint m.list
 settle-of : (request : Request) (seen : Seen) (m : Market) (party : Party) → why_settle request seen m party ≡ None → AreOfMints seen m (act_settle seen m party).transfers
 settle-of request seen m party none =
     let t : Transfers = settle_transfers (settlement (is_some seen.referrer) party.account) in
-    let parts = first_of-none (
-    missing seen.coin
-    ∷ missing seen.pc
-    ∷ not_owner request party.account
-    ∷ other_mint m.listing.coin_mint seen.coin
-    ∷ other_mint m.listing.pc_mint seen.pc
-    ∷ other_mint m.listing.pc_mint seen.referrer
-    ∷ too_full seen t seen.coin
-    ∷ too_full seen t seen.pc
-    ∷ too_full seen t seen.referrer
-    ∷ []
-    ) none in
+    let parts = first_of-none (settling_reasons seen request.signer m.listing.coin_mint m.listing.pc_mint party.account) none in
     record {
       coin_in = inl refl;
       pc_in = inl refl;
@@ -129,7 +93,7 @@ settle-of request seen m party none =
 sweep-of : (request : Request) (seen : Seen) (m : Market) → why_sweep request seen m ≡ None → AreOfMints seen m (sweep_transfers m)
 sweep-of request seen m none =
     let t : Transfers = sweep_transfers m in
-    let parts = first_of-none (missing seen.pc ∷ not_authority request m ∷ other_mint m.listing.pc_mint seen.pc ∷ too_full seen t seen.pc ∷ []) none in
+    let parts = first_of-none (sweeping_reasons seen request.signer m.listing.authority m.listing.pc_mint m.pc_fees) none in
     record { coin_in = inl refl; pc_in = inl refl; coin_out = inl refl; pc_out = named-of m.listing.pc_mint seen.pc t.pc_out parts.0 parts.1.1.0; referrer_out = inl refl }
 
 -- what an open account asks

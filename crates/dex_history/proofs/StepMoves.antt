@@ -1,5 +1,5 @@
 -- each row makes transfers that its wallets can make
-use Rattle.std.proofs.Common.{ℕ, ◌+◌, ◌<◌, ◌≡◌, ◌^◌, ◌⊎◌, inl, inr, ⊎_elim, true, false, List, [], ◌∷◌, map, Option, Some, None, Result, Ok, Err, is_some, length, take, refl, ap, ◌∙◌, subst, arith}
+use Rattle.std.proofs.Common.{ℕ, ◌+◌, ◌<◌, ◌≡◌, ◌^◌, ◌⊎◌, inl, inr, ⊎_elim, true, false, List, [], ◌∷◌, map, Option, Some, None, Result, Ok, Err, is_some, take, refl, ap, ◌∙◌, subst, arith}
 use Rattle.std.specs.List.{All}
 use Rattle.std.proofs.lemmas.Bool.{cases_Bool, cond-false, ltb-false, leb-false}
 use Rattle.std.proofs.lemmas.List.Elements.{All-nil, All-cons}
@@ -18,20 +18,20 @@ use Rattle.dex_types.specs.Cancel.{ById, ByClient, ByClients, First}
 use Rattle.dex_types.specs.Market.{Market, orders}
 use Rattle.dex_types.specs.Meeting.{Meeting}
 use Rattle.dex_types.specs.NewOrder.{NewOrder, Ordering, order_on, after_order}
-use Rattle.dex_types.specs.Reasons.{disabled, missing, not_owner, not_authority, other_mint, other_discount_mint, not_signed, ask_too_large, would_self_trade, below_minimum, queue_full, short_of, too_full, past_bound}
+use Rattle.dex_types.specs.Reasons.{disabled, other_mint, short_of, too_full}
 use Rattle.dex_types.specs.Requests.{Request, Party, party_of}
 use Rattle.dex_types.specs.Settle.{settlement, settle_transfers, sweep_transfers}
 use Rattle.dex_types.specs.Side.{Coin, Pc, opposite, locked_token}
 use Rattle.dex_types.specs.Steps.{Step, by_party, act_order, act_cancel, act_settle, act_init, act_close, act, act_decoded, unless_refused}
 use Rattle.dex_types.specs.Soundness.{IsSound}
-use Rattle.dex_types.specs.Take.{Take, take_meeting, take_transfers, take_paid, take_got, too_little, after_take}
+use Rattle.dex_types.specs.Take.{Take, take_meeting, take_transfers, take_paid, take_got, after_take}
 use Rattle.dex_types.specs.Terms.{terms_order, terms_take}
 use Rattle.dex_types.specs.Transfers.{Transfers, no_transfers, deposit}
 use Rattle.dex_types.specs.Wallets.{amount_at, brought_to, taken_from, movement_of, movements, seen_wallets}
 use Rattle.dex_types.specs.WalletJournal.{CanMove}
-use Rattle.dex_types.specs.Why.{payer, of_party, why_order_early, why_ordering, why_order, why_take_early, why_taking, why_take, why_settle, why_sweep, why_instruction, why_decoded, why}
+use Rattle.dex_types.specs.Why.{payer, of_party, settling_reasons, sweeping_reasons, why_order, why_take, why_settle, why_sweep, why_instruction, why_decoded, why}
 use Rattle.dex_laws.proofs.TraderLaws.{is_same-true}
-use Rattle.dex_sound.proofs.OrderSoundReasons.{first_of-none, refused_where-none}
+use Rattle.dex_sound.proofs.OrderSoundReasons.{first_of-none, order-none, refused_where-none, take-none}
 use Rattle.dex_history.specs.Journal.{Agree, Asked, Sees, asked_step}
 use Rattle.dex_history.specs.Moves.{Moves}
 use Rattle.dex_history.proofs.BalanceLaws.{agree-one, amount-le, apart-amount, right-mint}
@@ -175,29 +175,9 @@ send_take-can row side t request seen m sound sees none =
     let met : Meeting = take_meeting side m.listing.sizes t (orders (opposite side) m) in
     let after : Market = after_take side t met m in
     let transfers : Transfers = take_transfers side m.listing.sizes t met in
-    let parts = first_of-none (why_take_early side t request seen m ∷ why_taking side t seen m met transfers after ∷ []) none in
-    let early = first_of-none (
-    disabled m
-    ∷ missing seen.coin
-    ∷ missing seen.pc
-    ∷ other_mint m.listing.coin_mint seen.coin
-    ∷ other_mint m.listing.pc_mint seen.pc
-    ∷ other_discount_mint seen seen.discount
-    ∷ not_signed request (payer side seen)
-    ∷ not_signed request seen.discount
-    ∷ ask_too_large side m.listing.sizes t.lots
-    ∷ []
-    ) parts.0 in
-    let taking = first_of-none (
-    below_minimum (too_little side t met)
-    ∷ queue_full (length met.events) m
-    ∷ short_of (take_paid side m.listing.sizes t met) (payer side seen)
-    ∷ too_full seen transfers seen.coin
-    ∷ too_full seen transfers seen.pc
-    ∷ past_bound Coin after
-    ∷ past_bound Pc after
-    ∷ []
-    ) parts.1.0 in
+    let none_holds = take-none side t request seen m none in
+    let early = none_holds.asking in
+    let taking = none_holds.rest.taking in
     take-can row side t seen m met sound sees early.1.1.1.0 early.1.1.1.1.0 taking.1.1.0 taking.1.1.1.0 taking.1.1.1.1.0
 
 -- a new order deposits
@@ -207,40 +187,21 @@ order-can side order request seen m party none =
     let n : NewOrder = order party.address in
     let ordering : Ordering = order_on side m party.account n in
     let after : Market = after_order side party.account n ordering m in
-    let parts = first_of-none (why_order_early side n request seen m party ∷ why_ordering side seen m ordering after ∷ []) none in
-    let acts = first_of-none (
-    would_self_trade ordering.met.aborts
-    ∷ queue_full (length ordering.events) m
-    ∷ short_of ordering.deposit (payer side seen)
-    ∷ past_bound Coin after
-    ∷ past_bound Pc after
-    ∷ []
-    ) parts.1.0 in
+    let acts = (order-none side n request seen m party none).rest.ordering in
     deposit-can side seen ordering.deposit acts.1.1.0
 
 -- settling and sweeping pay out
 settle-can : (request : Request) (seen : Seen) (m : Market) (party : Party) → why_settle request seen m party ≡ None → CanTransfer seen (act_settle seen m party).transfers
 settle-can request seen m party none =
     let t : Transfers = settle_transfers (settlement (is_some seen.referrer) party.account) in
-    let parts = first_of-none (
-    missing seen.coin
-    ∷ missing seen.pc
-    ∷ not_owner request party.account
-    ∷ other_mint m.listing.coin_mint seen.coin
-    ∷ other_mint m.listing.pc_mint seen.pc
-    ∷ other_mint m.listing.pc_mint seen.referrer
-    ∷ too_full seen t seen.coin
-    ∷ too_full seen t seen.pc
-    ∷ too_full seen t seen.referrer
-    ∷ []
-    ) none in
+    let parts = first_of-none (settling_reasons seen request.signer m.listing.coin_mint m.listing.pc_mint party.account) none in
     payout-can seen t refl refl (too_full-none seen t seen.coin t.coin_out parts.1.1.1.1.1.1.0) (too_full-none seen t seen.pc t.pc_out parts.1.1.1.1.1.1.1.0)
     (too_full-none seen t seen.referrer t.referrer_out parts.1.1.1.1.1.1.1.1.0)
 
 sweep-can : (request : Request) (seen : Seen) (m : Market) → why_sweep request seen m ≡ None → CanTransfer seen (sweep_transfers m)
 sweep-can request seen m none =
     let t : Transfers = sweep_transfers m in
-    let parts = first_of-none (missing seen.pc ∷ not_authority request m ∷ other_mint m.listing.pc_mint seen.pc ∷ too_full seen t seen.pc ∷ []) none in
+    let parts = first_of-none (sweeping_reasons seen request.signer m.listing.authority m.listing.pc_mint m.pc_fees) none in
     payout-can seen t refl refl (room-none seen t seen.coin) (too_full-none seen t seen.pc t.pc_out parts.1.1.1.0) (room-none seen t seen.referrer)
 
 -- what an open account asks

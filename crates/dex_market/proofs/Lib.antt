@@ -1,3 +1,4 @@
+pub mod FundsWrites
 pub mod Addresses
 pub mod QueueWrites
 pub mod Verdicts

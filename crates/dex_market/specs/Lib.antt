@@ -2,3 +2,4 @@ pub mod MarketAccount
 pub mod RequestQueue
 pub mod Faults
 pub mod StandsFor
+pub mod MarketFunds

@@ -2,12 +2,14 @@
 #![tactic(auto)]
 
 mod faults;
+mod funds;
 mod market_check;
 mod market_ref;
 mod market_view;
 mod request_check;
 mod requests;
 
+pub use funds::{MarketFunds, Vaults};
 pub use market_check::check_market;
 pub use market_ref::MarketRef;
 pub use market_view::MarketView;

@@ -5,10 +5,9 @@ use Rattle.dex_types.specs.declared.terms.Lots.{Lots}
 use Rattle.dex_types.specs.declared.terms.Side.{Side}
 use Rattle.dex_types.specs.Meeting.{Meeting}
 use Rattle.dex_types.specs.NewOrder.{NewOrder, Ordering, Standing, meeting_of}
-use Rattle.dex_types.specs.Reasons.{answered, ask_too_large, first_of, no_slot, time_past, would_self_trade}
+use Rattle.dex_types.specs.Reasons.{answered, ask_too_large, beyond, first_of, no_room, no_slot, short_by, time_past, used_up, would_self_trade}
 use Rattle.dex_types.specs.Side.{Coin, Pc, by_side}
 use Rattle.dex_types.specs.Solvency.{all_leaving}
-use Rattle.dex_reasons.specs.Reading.{beyond, no_room, short_by, used_up}
 use Rattle.dex_match.specs.declared.foreseeing.Foreseen.{Foreseen}
 use Rattle.dex_match.specs.declared.order_plan.OrderPlan.{OrderPlan}
 use Rattle.dex_match.specs.declared.order_terms.Taker.{Taker}
@@ -54,7 +53,7 @@ late-same : (side : Side) (parts : OrderParts) (o : Ordering) (balance : ℕ) (a
     → aborts ≡ o.met.aborts → needed ≡ length o.events → room ≡ room_of parts.ring → deposit ≡ o.deposit
     → coin_vault ≡ vault_after Coin side parts o → coin_leaving ≡ leaving_after Coin parts o
     → pc_vault ≡ vault_after Pc side parts o → pc_leaving ≡ leaving_after Pc parts o
-    → first_of (would_self_trade aborts ∷ no_room needed room ∷ short_by deposit balance ∷ beyond coin_vault coin_leaving ∷ beyond pc_vault pc_leaving ∷ [])
+    → first_of (would_self_trade aborts ∷ no_room needed room ∷ short_by deposit (Some balance) ∷ beyond coin_vault coin_leaving ∷ beyond pc_vault pc_leaving ∷ [])
     ≡ first_of (late_reasons side parts o balance)
 late-same side parts o balance aborts needed room deposit coin_vault coin_leaving pc_vault pc_leaving a n r d cv cl pv pl = rw (a, n, r, d, cv, cl, pv, pl) refl
 
@@ -73,7 +72,7 @@ pub answers : (parts : OrderParts) (taker : Taker) (balance sequence : ℕ) (for
     → Foretells foreseen (standing_at sizes sequence parts.own parts.own_room parts.opposing) parts.account taker
     → early ≡ first_of (no_slot parts.account ∷ ask_too_large taker.id_side sizes taker.lots ∷ used_up parts.next_sequence ∷ time_past taker.now taker.max_ts ∷ [])
     → early ≡ None
-    → late ≡ first_of (would_self_trade foreseen.aborts ∷ no_room foreseen.plan.needed room ∷ short_by foreseen.plan.deposit balance ∷ beyond coin_vault coin_leaving ∷ beyond pc_vault pc_leaving ∷ [])
+    → late ≡ first_of (would_self_trade foreseen.aborts ∷ no_room foreseen.plan.needed room ∷ short_by foreseen.plan.deposit (Some balance) ∷ beyond coin_vault coin_leaving ∷ beyond pc_vault pc_leaving ∷ [])
     → answered late foreseen.plan ≡ order_answer taker.id_side (order_of taker) parts balance
 answers parts taker balance sequence foreseen sizes room coin_vault coin_leaving pc_vault pc_leaving early late read next foretold early_is none late_is =
     let side : Side = taker.id_side in

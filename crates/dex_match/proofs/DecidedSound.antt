@@ -1,18 +1,19 @@
 -- what was decided of a new order on a sound market can be done there
-use Rattle.std.proofs.Common.{◌≡◌, ℕ, ◌≤◌, [], ◌∷◌, Some, None, Ok, refl, sym, ap, ◌∙◌}
+use Rattle.std.proofs.Common.{◌≡◌, ℕ, ◌≤◌, [], ◌∷◌, Option, Some, None, Ok, refl, sym, ◌∙◌}
 use Rattle.dex_types.specs.declared.addresses.Address.{Address}
 use Rattle.dex_types.specs.declared.instructions.Ix.TheVariants.{ConsumeEvents}
+use Rattle.dex_types.specs.declared.refusals.Refusal.{Refusal}
 use Rattle.dex_types.specs.declared.rows.Seen.{Seen}
 use Rattle.dex_types.specs.declared.rows.WalletSeen.{WalletSeen}
 use Rattle.dex_types.specs.declared.terms.Side.{Side}
 use Rattle.dex_types.specs.declared.terms.Side.TheVariants.{Bid, Ask}
 use Rattle.dex_types.specs.Market.{Market}
-use Rattle.dex_types.specs.NewOrder.{NewOrder, Ordering, after_order, order_on}
-use Rattle.dex_types.specs.Reasons.{first_of, no_slot, ask_too_large, no_sequence, time_past}
+use Rattle.dex_types.specs.NewOrder.{NewOrder, after_order, order_on}
+use Rattle.dex_types.specs.Reasons.{first_of}
 use Rattle.dex_types.specs.Requests.{Request, Party}
 use Rattle.dex_types.specs.Soundness.{IsSound}
 use Rattle.dex_types.specs.Trader.{Account}
-use Rattle.dex_types.specs.Why.{payer, payer_mint, why_order_early, why_order_of, why_ordering}
+use Rattle.dex_types.specs.Why.{payer, payer_mint, why_order_early, why_order_of}
 use Rattle.dex_laws.proofs.TraderLaws.{is_same-refl}
 use Rattle.dex_orders.specs.OrdersAccount.{account_of}
 use Rattle.dex_sound.proofs.OrderSound.{order-sound}
@@ -43,10 +44,9 @@ request_of account n = record { instruction = Ok (ConsumeEvents 0); signer = acc
 abbrev party_with : Address → Account → Party
 party_with owner account = record { address = owner; account = account }
 
--- it is refused for no wallet, so for what the account and the market tell alone
+-- it is refused for no wallet
 early-are : (side : Side) (m : Market) (account : Account) (n : NewOrder) (balance : ℕ)
-    → why_order_early side n (request_of account n) (seen_of side m account n balance) m (party_with n.owner account)
-    ≡ first_of (no_slot account ∷ ask_too_large side m.listing.sizes n.lots ∷ no_sequence m ∷ time_past n.now n.latest ∷ [])
+    → why_order_early side (request_of account n) (seen_of side m account n balance) m (party_with n.owner account) ≡ None
 early-are Bid m account n balance = rw (is_same-refl account.person, is_same-refl m.listing.pc_mint) refl
 early-are Ask m account n balance = rw (is_same-refl account.person, is_same-refl m.listing.coin_mint) refl
 
@@ -55,6 +55,9 @@ payer-is : (side : Side) (m : Market) (account : Account) (n : NewOrder) (balanc
 payer-is Bid m account n balance = refl
 payer-is Ask m account n balance = refl
 
+none-of : (early late : Option Refusal) → early ≡ None → late ≡ None → first_of (early ∷ late ∷ []) ≡ None
+none-of early late first second = rw (first, second) refl
+
 -- an order that is not refused leaves the market sound
 pub decided-sound : (side : Side) (n : NewOrder) (given : OrderGiven) (m : Market) (balance : ℕ) → IsSound m → AreOf side n.owner given m → 1 ≤ n.price
     → order_reason side n (parts_of given) balance ≡ None
@@ -62,9 +65,7 @@ pub decided-sound : (side : Side) (n : NewOrder) (given : OrderGiven) (m : Marke
 decided-sound side n given m balance sound are priced accepted =
     let account : Account = account_of given.account in
     let seen : Seen = seen_of side m account n balance in
-    let o : Ordering = order_on side m account n in
-    let late = why_ordering side seen m o (after_order side account n o m) in
     let why = reason-is side n given m balance seen (wallet_of side m account balance) sound are (payer-is side m account n balance) refl in
     let none : why_order_of side n (request_of account n) seen m (party_with n.owner account) ≡ None =
-    ap (λ early. first_of (early ∷ late ∷ [])) (early-are side m account n balance) ∙ sym why ∙ accepted in
+    none-of _ _ (early-are side m account n balance) (sym why ∙ accepted) in
     order-sound side n (request_of account n) seen m (party_with n.owner account) sound are.known refl priced none

@@ -1,29 +1,27 @@
 -- what is given of a market is read as the market is
-use Rattle.std.proofs.Common.{◌≡◌, ℕ, ◌+◌, ◌≤◌, List, ◌∷◌, [], Option, Some, length, sym, ap, ◌∙◌, arith}
+use Rattle.std.proofs.Common.{◌≡◌, ℕ, ◌+◌, ◌≤◌, List, Option, Some, sym, ap, ◌∙◌, arith}
 use Rattle.dex_types.specs.declared.addresses.Address.{Address}
 use Rattle.dex_types.specs.declared.orders.Order.{Order}
-use Rattle.dex_types.specs.declared.refusals.Refusal.{Refusal}
 use Rattle.dex_types.specs.declared.rows.Seen.{Seen}
 use Rattle.dex_types.specs.declared.rows.WalletSeen.{WalletSeen}
 use Rattle.dex_types.specs.declared.terms.Side.{Side}
 use Rattle.dex_types.specs.declared.terms.Side.TheVariants.{Bid, Ask}
 use Rattle.dex_types.specs.Market.{Market, capacity, orders}
 use Rattle.dex_types.specs.NewOrder.{NewOrder, Ordering, after_order, order_on}
-use Rattle.dex_types.specs.Reasons.{first_of, no_slot, ask_too_large, no_sequence, time_past, would_self_trade, queue_full, short_of, past_bound}
+use Rattle.dex_types.specs.Reasons.{balance_of, event_room}
 use Rattle.dex_types.specs.Side.{Token, Coin, Pc, opposite}
 use Rattle.dex_types.specs.Solvency.{vault, all_leaving}
 use Rattle.dex_types.specs.Soundness.{IsSound}
 use Rattle.dex_types.specs.Trader.{Account}
-use Rattle.dex_types.specs.Why.{payer, why_ordering}
+use Rattle.dex_types.specs.Why.{OrderReading, order_reading, payer, why_ordering}
 use Rattle.dex_market.specs.MarketAccount.{MarketWords}
 use Rattle.dex_market.specs.RequestQueue.{next_sequence}
 use Rattle.dex_market.specs.StandsFor.{words_of}
 use Rattle.dex_orders.specs.OrdersAccount.{account_of}
-use Rattle.dex_reasons.specs.Reading.{beyond, short_by}
 use Rattle.dex_ring.specs.Ring.{Ring, ring_of}
 use Rattle.dex_ring.specs.StandsFor.{ring_of_market}
 use Rattle.dex_match.specs.OrderParts.{AreOf, OrderGiven, OrderParts, parts_of}
-use Rattle.dex_match.specs.Ordering.{early_reasons, late_reasons, order_reason, ordering_in, vault_after}
+use Rattle.dex_match.specs.Ordering.{order_reason, ordering_in, reading_in, vault_after}
 
 abbrev parts_by : MarketWords → ℕ → Ring → Account → List Order → ℕ → List Order → OrderParts
 parts_by words next ring account own room opposing =
@@ -58,35 +56,37 @@ vault-is Coin Ask m account n o coin pc = omega arith
 vault-is Pc Bid m account n o coin pc = omega arith
 vault-is Pc Ask m account n o coin pc = omega arith
 
--- the reasons that ask for what the order would do
-late-are : (side : Side) (m : Market) (account : Account) (n : NewOrder) (o : Ordering) (balance : ℕ) (seen : Seen) (wallet : WalletSeen) → m.coin_fees ≤ m.coin_vault
+-- what the reasons read of the parts is what they read of the market
+reading-is : (side : Side) (n : NewOrder) (m : Market) (account : Account) (balance : ℕ) (seen : Seen) (wallet : WalletSeen) → m.coin_fees ≤ m.coin_vault
     → m.pc_fees + m.referrer_rebates ≤ m.pc_vault → payer side seen ≡ Some wallet → wallet.balance ≡ balance
-    → first_of (late_reasons side (parts_in side m account) o balance) ≡ why_ordering side seen m o (after_order side account n o m)
-late-are side m account n o balance seen wallet coin pc pays has =
+    → reading_in side n (parts_in side m account) balance ≡ order_reading side n seen m account
+reading-is side n m account balance seen wallet coin pc pays has =
+    let o : Ordering = order_on side m account n in
     let after : Market = after_order side account n o m in
-    let reasons = λ (short beyond_coin beyond_pc : Option Refusal).
-    first_of (would_self_trade o.met.aborts ∷ queue_full (length o.events) m ∷ short ∷ beyond_coin ∷ beyond_pc ∷ []) in
-    let first = beyond (vault_after Coin side (parts_in side m account) o) (all_leaving Coin after.events) in
-    let second = beyond (vault_after Pc side (parts_in side m account) o) (all_leaving Pc after.events) in
-    let short : short_by o.deposit balance ≡ short_of o.deposit (payer side seen) =
-    ap (short_by o.deposit) (sym has) ∙ ap (short_of o.deposit) (sym pays) in
-    ap (λ s. reasons s first second) short
-    ∙ ap (λ v. reasons (short_of o.deposit (payer side seen)) (beyond v (all_leaving Coin after.events)) second) (vault-is Coin side m account n o coin pc)
-    ∙ ap (λ v. reasons (short_of o.deposit (payer side seen)) (past_bound Coin after) (beyond v (all_leaving Pc after.events))) (vault-is Pc side m account n o coin pc)
+    let reading : Option ℕ → ℕ → ℕ → OrderReading = λ balance coin_vault pc_vault. record {
+      sizes = m.listing.sizes;
+      next_sequence = m.next_sequence;
+      account = account;
+      ordering = o;
+      limits = record {
+        room = event_room m;
+        balance = balance;
+        coin = record { vault = coin_vault; leaving = all_leaving Coin after.events };
+        pc = record { vault = pc_vault; leaving = all_leaving Pc after.events };
+      };
+    } in
+    let first : ℕ = vault_after Coin side (parts_in side m account) o in
+    let second : ℕ = vault_after Pc side (parts_in side m account) o in
+    ap (λ b. reading b first second) (ap Some (sym has) ∙ ap balance_of (sym pays))
+    ∙ ap (λ v. reading (balance_of (payer side seen)) v second) (vault-is Coin side m account n o coin pc)
+    ∙ ap (λ v. reading (balance_of (payer side seen)) (vault Coin after) v) (vault-is Pc side m account n o coin pc)
 
 -- why an order is refused over what is given is why the market refuses it
 pub reason-is : (side : Side) (n : NewOrder) (given : OrderGiven) (m : Market) (balance : ℕ) (seen : Seen) (wallet : WalletSeen) → IsSound m → AreOf side n.owner given m
     → payer side seen ≡ Some wallet → wallet.balance ≡ balance
-    → order_reason side n (parts_of given) balance
-    ≡ first_of (
-    first_of (no_slot (account_of given.account) ∷ ask_too_large side m.listing.sizes n.lots ∷ no_sequence m ∷ time_past n.now n.latest ∷ [])
-    ∷ why_ordering side seen m (order_on side m (account_of given.account) n) (after_order side (account_of given.account) n (order_on side m (account_of given.account) n) m)
-    ∷ []
-    )
+    → order_reason side n (parts_of given) balance ≡ why_ordering side n (order_reading side n seen m (account_of given.account))
 reason-is side n given m balance seen wallet sound are pays has =
-    let account = account_of given.account in
     let coin : m.coin_fees ≤ m.coin_vault = omega (arith, sound.funds.solvent.vaults Coin) in
     let pc : m.pc_fees + m.referrer_rebates ≤ m.pc_vault = omega (arith, sound.funds.solvent.vaults Pc) in
     ap (λ (p : OrderParts). order_reason side n p balance) (parts-are side n.owner given m are)
-    ∙ ap (λ late. first_of (first_of (early_reasons side n (parts_in side m account)) ∷ late ∷ []))
-    (late-are side m account n (order_on side m account n) balance seen wallet coin pc pays has)
+    ∙ ap (why_ordering side n) (reading-is side n m (account_of given.account) balance seen wallet coin pc pays has)

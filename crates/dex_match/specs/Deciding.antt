@@ -7,7 +7,6 @@ use Rattle.dex_types.specs.Trader.{Account}
 use Rattle.dex_match.specs.declared.foreseeing.Foreseen.{Foreseen}
 use Rattle.dex_match.specs.declared.order_terms.Taker.{Taker}
 use Rattle.dex_match.specs.Ordering.{plan_by}
-use Rattle.dex_match.specs.OrderParts.{OrderGiven}
 use Rattle.dex_match.specs.OrderTerms.{order_of}
 
 -- where a new order with this sequence number stands

@@ -1,13 +1,13 @@
 -- Why a new order is refused, and what it does else, by what it is given alone.
-use Rattle.std.specs.Prelude.{◌≡◌, ℕ, ◌+◌, List, [], ◌∷◌, ◌++◌, Option, None, Result, length}
+use Rattle.std.specs.Prelude.{◌≡◌, ℕ, ◌+◌, List, ◌++◌, Option, Some, None, Result, length}
 use Rattle.dex_types.specs.declared.refusals.Refusal.{Refusal}
 use Rattle.dex_types.specs.declared.terms.Side.{Side}
 use Rattle.dex_types.specs.NewOrder.{NewOrder, Ordering, fee_of, meeting_of, ordering_of}
-use Rattle.dex_types.specs.Reasons.{answered, ask_too_large, first_of, no_slot, time_past, would_self_trade}
+use Rattle.dex_types.specs.Reasons.{answered}
 use Rattle.dex_types.specs.Side.{Token, Coin, Pc, by_side, by_token}
 use Rattle.dex_types.specs.Solvency.{all_leaving}
+use Rattle.dex_types.specs.Why.{Limits, OrderReading, ordering_reasons, standing_reasons, why_ordering}
 use Rattle.dex_market.specs.MarketAccount.{sizes_of, vault_of}
-use Rattle.dex_reasons.specs.Reading.{beyond, no_room, short_by, used_up}
 use Rattle.dex_ring.specs.Ring.{room_of}
 use Rattle.dex_match.specs.declared.order_plan.OrderPlan.{OrderPlan}
 use Rattle.dex_match.specs.OrderParts.{OrderParts, standing_in}
@@ -37,29 +37,36 @@ vault_after token side parts o = vault_of token parts.words + by_token token (by
 abbrev pub leaving_after : Token → OrderParts → Ordering → ℕ
 leaving_after token parts o = all_leaving token (parts.ring.events ++ o.events)
 
+-- the limits of what an order would do, by the balance of the wallet that pays, a native amount
+abbrev pub limits_in : Side → OrderParts → Ordering → ℕ → Limits
+limits_in side parts o balance = record {
+  room = room_of parts.ring;
+  balance = Some balance;
+  coin = record { vault = vault_after Coin side parts o; leaving = leaving_after Coin parts o };
+  pc = record { vault = vault_after Pc side parts o; leaving = leaving_after Pc parts o };
+}
+
+-- what the reasons read of the parts
+abbrev pub reading_in : Side → NewOrder → OrderParts → ℕ → OrderReading
+reading_in side n parts balance = record {
+  sizes = sizes_of parts.words;
+  next_sequence = parts.next_sequence;
+  account = parts.account;
+  ordering = ordering_in side n parts;
+  limits = limits_in side parts (ordering_in side n parts) balance;
+}
+
 -- the reasons that ask for nothing of the book
 abbrev pub early_reasons : Side → NewOrder → OrderParts → List (Option Refusal)
-early_reasons side n parts =
-    no_slot parts.account
-    ∷ ask_too_large side (sizes_of parts.words) n.lots
-    ∷ used_up parts.next_sequence
-    ∷ time_past n.now n.latest
-    ∷ []
+early_reasons side n parts = standing_reasons side n (sizes_of parts.words) parts.next_sequence parts.account
 
--- the reasons that ask for what the order would do; the payer's balance is a native amount
+-- the reasons that ask for what the order would do
 abbrev pub late_reasons : Side → OrderParts → Ordering → ℕ → List (Option Refusal)
-late_reasons side parts o balance =
-    would_self_trade o.met.aborts
-    ∷ no_room (length o.events) (room_of parts.ring)
-    ∷ short_by o.deposit balance
-    ∷ beyond (vault_after Coin side parts o) (leaving_after Coin parts o)
-    ∷ beyond (vault_after Pc side parts o) (leaving_after Pc parts o)
-    ∷ []
+late_reasons side parts o balance = ordering_reasons o (limits_in side parts o balance)
 
 -- why the order is refused
 abbrev pub order_reason : Side → NewOrder → OrderParts → ℕ → Option Refusal
-order_reason side n parts balance =
-    first_of (first_of (early_reasons side n parts) ∷ first_of (late_reasons side parts (ordering_in side n parts) balance) ∷ [])
+order_reason side n parts balance = why_ordering side n (reading_in side n parts balance)
 
 -- what deciding answers
 abbrev pub order_answer : Side → NewOrder → OrderParts → ℕ → Result OrderPlan Refusal

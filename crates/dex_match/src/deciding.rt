@@ -1,6 +1,6 @@
 //! What a new order does, or why it is refused, before anything is changed.
 
-ghost use Rattle.std.specs.Prelude.{◌≡◌, ◌+◌, ◌^◌, ◌<◌, ◌≤◌, [], ◌∷◌};
+ghost use Rattle.std.specs.Prelude.{◌≡◌, ◌+◌, ◌^◌, ◌<◌, ◌≤◌, [], ◌∷◌, Some};
 ghost use Rattle.dex_laws.specs.Locks.{locked};
 ghost use Rattle.dex_market.specs.MarketAccount.{IsMarket, market_words};
 ghost use Rattle.dex_market.specs.RequestQueue.{IsRequestQueue};
@@ -11,7 +11,6 @@ ghost use Rattle.dex_ring.specs.Ring.{room_of};
 ghost use Rattle.dex_market.specs.MarketAccount.{vault_of};
 ghost use Rattle.dex_match.specs.OrderTerms.{order_of};
 ghost use Rattle.dex_orders.specs.OrdersAccount.{IsOpen};
-ghost use Rattle.dex_reasons.specs.Reading as reading;
 ghost use Rattle.dex_ring.specs.Ring.{IsEventQueue, ring_of};
 ghost use Rattle.dex_types.specs.Reasons as reasons;
 ghost use Rattle.dex_types.specs.Side as book;
@@ -80,8 +79,8 @@ fn refused_late(
 ) -> Option<Refusal>
     requires coin { vaults.coin + leaving.coin < 2 ^ 128 }
     requires pc { vaults.pc + leaving.pc < 2 ^ 128 }
-    ensures { result ≡ reasons.first_of (reasons.would_self_trade foreseen.now.aborts ∷ reading.no_room foreseen.now.plan.needed room
-        ∷ reading.short_by foreseen.now.plan.deposit balance ∷ reading.beyond vaults.coin leaving.coin ∷ reading.beyond vaults.pc leaving.pc ∷ []) }
+    ensures { result ≡ reasons.first_of (reasons.would_self_trade foreseen.now.aborts ∷ reasons.no_room foreseen.now.plan.needed room
+        ∷ reasons.short_by foreseen.now.plan.deposit (Some balance) ∷ reasons.beyond vaults.coin leaving.coin ∷ reasons.beyond vaults.pc leaving.pc ∷ []) }
 {
     would_self_trade(foreseen.aborts)
         .or(no_room(foreseen.plan.needed, room))

@@ -3,7 +3,6 @@
 ghost use Rattle.std.specs.Prelude.{◌≡◌, [], ◌∷◌};
 ghost use Rattle.dex_market.specs.RequestQueue.{IsRequestQueue, next_sequence};
 ghost use Rattle.dex_orders.specs.OrdersAccount.{IsOpen, account_of};
-ghost use Rattle.dex_reasons.specs.Reading.{used_up as is_used_up};
 ghost use Rattle.dex_types.specs.Reasons as reasons;
 ghost use Rattle.dex_types.specs.Trader as trader;
 
@@ -66,7 +65,7 @@ pub(crate) fn refused_early(
     requires requests { IsRequestQueue requests.now.bytes.now }
     requires account { IsOpen orders.now.bytes.now }
     ensures { result ≡ reasons.first_of (reasons.no_slot (account_of orders.now.bytes.now) ∷ reasons.ask_too_large taker.id_side sizes taker.lots
-        ∷ is_used_up (next_sequence requests.now.bytes.now) ∷ reasons.time_past taker.now taker.max_ts ∷ []) }
+        ∷ reasons.used_up (next_sequence requests.now.bytes.now) ∷ reasons.time_past taker.now taker.max_ts ∷ []) }
 {
     no_slot(orders)
         .or(ask_too_large(taker.id_side, sizes, taker.lots))

@@ -1,8 +1,7 @@
 //! Reasons that ask for amounts, free places and the clock.
 
-ghost use Rattle.std.specs.Prelude.{◌≡◌, ◌+◌, ◌<◌, ◌^◌};
+ghost use Rattle.std.specs.Prelude.{◌≡◌, ◌+◌, ◌<◌, ◌^◌, Some};
 ghost use Rattle.dex_types.specs.Reasons as reasons;
-ghost use Rattle.dex_reasons.specs.Reading as reading;
 
 use dex_types::{Lots, Refusal, Side};
 
@@ -21,7 +20,7 @@ pub fn ask_too_large(side: Side, sizes: Lots, lots: u64) -> Option<Refusal>
 
 /// The market has given out all sequence numbers before this one, and this one is the last, which is never used.
 pub fn used_up(next_sequence: u64) -> Option<Refusal>
-    ensures { result ≡ reading.used_up next_sequence }
+    ensures { result ≡ reasons.used_up next_sequence }
 {
     if next_sequence == u64::MAX {
         Some(Refusal::SequenceExhausted)
@@ -44,7 +43,7 @@ pub fn time_past(now: i64, max_ts: Option<i64>) -> Option<Refusal>
 
 /// An instruction's events are more than the free places of the event queue.
 pub fn no_room(needed: u32, room: u32) -> Option<Refusal>
-    ensures { result ≡ reading.no_room needed room }
+    ensures { result ≡ reasons.no_room needed room }
 {
     if room < needed {
         Some(Refusal::EventQueueFull { needed, room })
@@ -55,7 +54,7 @@ pub fn no_room(needed: u32, room: u32) -> Option<Refusal>
 
 /// A deposit is more than the balance of the wallet that pays it, in native amounts.
 pub fn short_by(deposit: u64, balance: u64) -> Option<Refusal>
-    ensures { result ≡ reading.short_by deposit balance }
+    ensures { result ≡ reasons.short_by deposit (Some balance) }
 {
     if balance < deposit {
         Some(Refusal::InsufficientFunds {
@@ -70,7 +69,7 @@ pub fn short_by(deposit: u64, balance: u64) -> Option<Refusal>
 /// A vault, with what pending makers' fills are still to take off totals, is 2^64 or more, in native amounts.
 pub fn beyond(vault: u128, pending: u128) -> Option<Refusal>
     requires { vault + pending < 2 ^ 128 }
-    ensures { result ≡ reading.beyond vault pending }
+    ensures { result ≡ reasons.beyond vault pending }
 {
     if u128::from(u64::MAX) < vault + pending {
         Some(Refusal::SumTooLarge { vault, pending })

@@ -1,7 +1,7 @@
 //! Reasons that ask for the market's flags and for who signs.
 
-ghost use Rattle.std.specs.Prelude.{◌≡◌};
-ghost use Rattle.dex_reasons.specs.Reading as reading;
+ghost use Rattle.std.specs.Prelude.{◌≡◌, ◌==◌};
+ghost use Rattle.dex_types.specs.Reasons as reasons;
 
 use dex_types::{Address, Refusal, is_same};
 
@@ -10,7 +10,7 @@ pub const DISABLED_FLAGS: u64 = 131;
 
 /// The market is disabled.
 pub fn disabled(flags: u64) -> Option<Refusal>
-    ensures { result ≡ reading.flagged_disabled flags }
+    ensures { result ≡ reasons.when_disabled (flags == 131) }
 {
     if flags == DISABLED_FLAGS {
         Some(Refusal::MarketDisabled)
@@ -21,7 +21,7 @@ pub fn disabled(flags: u64) -> Option<Refusal>
 
 /// The signer is not the account's owning person.
 pub fn not_owner(owner: Address, signer: Address) -> Option<Refusal>
-    ensures { result ≡ reading.not_person owner signer }
+    ensures { result ≡ reasons.not_person owner signer }
 {
     if is_same(owner, signer) {
         None
@@ -32,7 +32,7 @@ pub fn not_owner(owner: Address, signer: Address) -> Option<Refusal>
 
 /// The signer is not the market's authority.
 pub fn not_authority(authority: Address, signer: Address) -> Option<Refusal>
-    ensures { result ≡ reading.not_this_authority authority signer }
+    ensures { result ≡ reasons.not_this_authority authority signer }
 {
     if is_same(authority, signer) {
         None

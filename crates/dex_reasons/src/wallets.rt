@@ -27,7 +27,7 @@ pub fn missing(role: Option<WalletSeen>) -> Option<Refusal>
 }
 
 fn wrong_mint(wanted: Address, mint: Address) -> Option<Refusal>
-    ensures { result ≡ reading.wrong_mint wanted mint }
+    ensures { result ≡ reasons.wrong_mint wanted mint }
 {
     if is_same(wanted, mint) {
         None
@@ -70,7 +70,7 @@ pub fn other_discount_mint(seen: &Seen, role: Option<WalletSeen>) -> Option<Refu
 
 /// A wallet, where one is named, is another person's than the signer.
 pub fn not_signed(signer: Address, role: Option<WalletSeen>) -> Option<Refusal>
-    ensures { result ≡ reading.not_signed_by signer role }
+    ensures { result ≡ reasons.not_signed_by signer role }
 {
     let wallet = role?;
     if is_same(wallet.owner, signer) {
@@ -110,7 +110,7 @@ fn brought_to(seen: &Seen, paid: Payout, address: Address) -> u64
 
 /// A balance does not take this amount more.
 fn overfull(balance: u64, amount: u64) -> Option<Refusal>
-    ensures { result ≡ reading.overfull balance amount }
+    ensures { result ≡ reasons.overfull balance amount }
 {
     if u64::MAX - balance < amount {
         Some(Refusal::BalanceTooLarge { balance, amount })

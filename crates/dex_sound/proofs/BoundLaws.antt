@@ -14,7 +14,7 @@ use Rattle.dex_types.specs.Cancel.{CancelBy, ById, ByClient, ByClients, First}
 use Rattle.dex_types.specs.Market.{Market, orders}
 use Rattle.dex_types.specs.Meeting.{Meeting}
 use Rattle.dex_types.specs.NewOrder.{NewOrder, Ordering, order_on, after_order}
-use Rattle.dex_types.specs.Reasons.{disabled, missing, not_owner, not_authority, other_mint, would_self_trade, below_minimum, queue_full, short_of, too_full, past_bound}
+use Rattle.dex_types.specs.Reasons.{ask_too_large, disabled, first_of, too_full, past_bound}
 use Rattle.dex_types.specs.Requests.{Request, Party, HasPrice, party_of}
 use Rattle.dex_types.specs.Settle.{settlement, settle_transfers, sweep_transfers}
 use Rattle.dex_types.specs.Side.{Token, Coin, Pc, opposite}
@@ -24,9 +24,10 @@ use Rattle.dex_types.specs.Steps.{Step, by_party, act_order, act_cancel, act_set
 use Rattle.dex_types.specs.Take.{Take, take_meeting, take_transfers, take_paid, too_little, after_take}
 use Rattle.dex_types.specs.Terms.{terms_order, terms_take}
 use Rattle.dex_types.specs.Transfers.{Transfers}
-use Rattle.dex_types.specs.Why.{payer, of_party, why_order_early, why_ordering, why_order, why_take_early, why_taking, why_take, why_cancel, why_prune, why_close, why_settle, why_sweep, why_instruction, why_decoded, why}
+use Rattle.dex_types.specs.Trader.{Account}
+use Rattle.dex_types.specs.Why.{Limits, TakeReading, limits_of, order_reading, ordering_reasons, settling_reasons, standing_reasons, sweeping_reasons, take_reading, taking_reasons, payer, of_party, why_order_early, why_ordering, why_order, why_take_early, why_taking, why_take, why_cancel, why_prune, why_close, why_settle, why_sweep, why_instruction, why_decoded, why}
 use Rattle.dex_sound.specs.Bounds.{IsBeyond, BreaksBound, IsRefusedForSum, HasNoOtherReason, is_for_sum, would_leave}
-use Rattle.dex_sound.proofs.GivenLaws.{is_plain, Gives, IsPlain, first_of-gives, plain-gives, none-gives, some-gives, where-gives, disabled-plain, missing-plain, not_owner-plain, not_authority-plain, other_mint-plain, would_self_trade-plain, below_minimum-plain, queue_full-plain, short_of-plain, why_init-plain, why_close-plain, why_disable-plain, why_order_early-plain, why_take_early-plain, why_cancel-plain, why_prune-plain}
+use Rattle.dex_sound.proofs.GivenLaws.{is_plain, Gives, IsPlain, first_of-gives, plain-gives, none-gives, some-gives, where-gives, disabled-plain, missing-plain, not_owner-plain, not_authority-plain, other_mint-plain, would_self_trade-plain, below_minimum-plain, queue_full-plain, short_of-plain, why_init-plain, why_close-plain, why_disable-plain, why_order_early-plain, why_take_early-plain, standing-plain, ask_too_large-plain, why_cancel-plain, why_prune-plain}
 use Rattle.dex_sound.proofs.StepSound.{step-sound}
 
 -- a refusal for a sum tells of one of this market that passes the bound
@@ -56,23 +57,26 @@ past_bound-tells token after =
     })
 
 -- orders and takes
-ordering-tells : (side : Side) (seen : Seen) (m : Market) (ordering : Ordering) (after : Market) → Gives (TellsSum after) (why_ordering side seen m ordering after)
-ordering-tells side seen m ordering after =
-    first_of-gives (TellsSum after) (
-    would_self_trade ordering.met.aborts
-    ∷ queue_full (length ordering.events) m
-    ∷ short_of ordering.deposit (payer side seen)
-    ∷ past_bound Coin after
-    ∷ past_bound Pc after
-    ∷ []
-    ) (
-      tells after _ (would_self_trade-plain ordering.met.aborts),
-      λ aborts. (
-        tells after _ (queue_full-plain (length ordering.events) m),
-        λ room. (
-          tells after _ (short_of-plain ordering.deposit (payer side seen)),
-          λ pays. (past_bound-tells Coin after, λ coin. (past_bound-tells Pc after, λ pc. tt)),
+ordering-tells : (side : Side) (n : NewOrder) (seen : Seen) (m : Market) (account : Account)
+    → Gives (TellsSum (after_order side account n (order_on side m account n) m)) (why_ordering side n (order_reading side n seen m account))
+ordering-tells side n seen m account =
+    let ordering : Ordering = order_on side m account n in
+    let after : Market = after_order side account n ordering m in
+    let limits : Limits = limits_of side seen m after in
+    first_of-gives (TellsSum after) (first_of (standing_reasons side n m.listing.sizes m.next_sequence account) ∷ first_of (ordering_reasons ordering limits) ∷ []) (
+      tells after _ (standing-plain side n m.listing.sizes m.next_sequence account),
+      λ standing. (
+        first_of-gives (TellsSum after) (ordering_reasons ordering limits) (
+          tells after _ (would_self_trade-plain ordering.met.aborts),
+          λ aborts. (
+            tells after _ (queue_full-plain (length ordering.events) m),
+            λ room. (
+              tells after _ (short_of-plain ordering.deposit (payer side seen)),
+              λ pays. (past_bound-tells Coin after, λ coin. (past_bound-tells Pc after, λ pc. tt)),
+            ),
+          ),
         ),
+        λ then. tt,
       ),
     )
 
@@ -80,48 +84,46 @@ order-tells : (side : Side) (order : Address → NewOrder) (request : Request) (
     → Gives (TellsSum (act_order side order m party).market) (why_order side order request seen m party)
 order-tells side order request seen m party =
     let n : NewOrder = order party.address in
-    let ordering : Ordering = order_on side m party.account n in
-    let after : Market = after_order side party.account n ordering m in
-    first_of-gives (TellsSum after) (why_order_early side n request seen m party ∷ why_ordering side seen m ordering after ∷ [])
-    (tells after _ (why_order_early-plain side n request seen m party), λ early. (ordering-tells side seen m ordering after, λ then. tt))
+    let after : Market = after_order side party.account n (order_on side m party.account n) m in
+    first_of-gives (TellsSum after) (why_order_early side request seen m party ∷ why_ordering side n (order_reading side n seen m party.account) ∷ [])
+    (tells after _ (why_order_early-plain side request seen m party), λ early. (ordering-tells side n seen m party.account, λ then. tt))
 
-taking-tells : (side : Side) (t : Take) (seen : Seen) (m : Market) (met : Meeting) (transfers : Transfers) (after : Market)
-    → Gives (TellsSum after) (why_taking side t seen m met transfers after)
-taking-tells side t seen m met transfers after =
-    first_of-gives (TellsSum after) (
-    below_minimum (too_little side t met)
-    ∷ queue_full (length met.events) m
-    ∷ short_of (take_paid side m.listing.sizes t met) (payer side seen)
-    ∷ too_full seen transfers seen.coin
-    ∷ too_full seen transfers seen.pc
-    ∷ past_bound Coin after
-    ∷ past_bound Pc after
-    ∷ []
-    ) (
-      tells after _ (below_minimum-plain (too_little side t met)),
-      λ enough. (
-        tells after _ (queue_full-plain (length met.events) m),
-        λ room. (
-          tells after _ (short_of-plain (take_paid side m.listing.sizes t met) (payer side seen)),
-          λ pays. (
-            too_full-tells after seen transfers seen.coin,
-            λ coin_fits. (
-              too_full-tells after seen transfers seen.pc,
-              λ pc_fits. (past_bound-tells Coin after, λ coin. (past_bound-tells Pc after, λ pc. tt)),
+taking-tells : (side : Side) (t : Take) (seen : Seen) (m : Market)
+    → Gives (TellsSum (after_take side t (take_meeting side m.listing.sizes t (orders (opposite side) m)) m)) (why_taking side t seen (take_reading side t seen m))
+taking-tells side t seen m =
+    let met : Meeting = take_meeting side m.listing.sizes t (orders (opposite side) m) in
+    let after : Market = after_take side t met m in
+    let transfers : Transfers = take_transfers side m.listing.sizes t met in
+    let reading : TakeReading = take_reading side t seen m in
+    first_of-gives (TellsSum after) (ask_too_large side m.listing.sizes t.lots ∷ first_of (taking_reasons side t seen reading) ∷ []) (
+      tells after _ (ask_too_large-plain side m.listing.sizes t.lots),
+      λ size. (
+        first_of-gives (TellsSum after) (taking_reasons side t seen reading) (
+          tells after _ (below_minimum-plain (too_little side t met)),
+          λ enough. (
+            tells after _ (queue_full-plain (length met.events) m),
+            λ room. (
+              tells after _ (short_of-plain (take_paid side m.listing.sizes t met) (payer side seen)),
+              λ pays. (
+                too_full-tells after seen transfers seen.coin,
+                λ coin_fits. (
+                  too_full-tells after seen transfers seen.pc,
+                  λ pc_fits. (past_bound-tells Coin after, λ coin. (past_bound-tells Pc after, λ pc. tt)),
+                ),
+              ),
             ),
           ),
         ),
+        λ then. tt,
       ),
     )
 
 take-tells : (side : Side) (t : Take) (request : Request) (seen : Seen) (m : Market)
     → Gives (TellsSum (after_take side t (take_meeting side m.listing.sizes t (orders (opposite side) m)) m)) (why_take side t request seen m)
 take-tells side t request seen m =
-    let met : Meeting = take_meeting side m.listing.sizes t (orders (opposite side) m) in
-    let after : Market = after_take side t met m in
-    let transfers : Transfers = take_transfers side m.listing.sizes t met in
-    first_of-gives (TellsSum after) (why_take_early side t request seen m ∷ why_taking side t seen m met transfers after ∷ [])
-    (tells after _ (why_take_early-plain side t request seen m), λ early. (taking-tells side t seen m met transfers after, λ then. tt))
+    let after : Market = after_take side t (take_meeting side m.listing.sizes t (orders (opposite side) m)) m in
+    first_of-gives (TellsSum after) (why_take_early side request seen m ∷ why_taking side t seen (take_reading side t seen m) ∷ [])
+    (tells after _ (why_take_early-plain side request seen m), λ early. (taking-tells side t seen m, λ then. tt))
 
 -- what an open account asks
 party-tells : (why : Party → Option Refusal) (acts : Party → Step) (m : Market) (party : Option Party)
@@ -132,18 +134,7 @@ party-tells why acts m (Some found) each = each found
 settle-tells : (after : Market) (request : Request) (seen : Seen) (m : Market) (party : Party) → Gives (TellsSum after) (why_settle request seen m party)
 settle-tells after request seen m party =
     let transfers : Transfers = settle_transfers (settlement (is_some seen.referrer) party.account) in
-    first_of-gives (TellsSum after) (
-    missing seen.coin
-    ∷ missing seen.pc
-    ∷ not_owner request party.account
-    ∷ other_mint m.listing.coin_mint seen.coin
-    ∷ other_mint m.listing.pc_mint seen.pc
-    ∷ other_mint m.listing.pc_mint seen.referrer
-    ∷ too_full seen transfers seen.coin
-    ∷ too_full seen transfers seen.pc
-    ∷ too_full seen transfers seen.referrer
-    ∷ []
-    ) (
+    first_of-gives (TellsSum after) (settling_reasons seen request.signer m.listing.coin_mint m.listing.pc_mint party.account) (
       tells after _ (missing-plain seen.coin),
       λ coin. (
         tells after _ (missing-plain seen.pc),
@@ -168,7 +159,7 @@ settle-tells after request seen m party =
 
 sweep-tells : (after : Market) (request : Request) (seen : Seen) (m : Market) → Gives (TellsSum after) (why_sweep request seen m)
 sweep-tells after request seen m =
-    first_of-gives (TellsSum after) (missing seen.pc ∷ not_authority request m ∷ other_mint m.listing.pc_mint seen.pc ∷ too_full seen (sweep_transfers m) seen.pc ∷ []) (
+    first_of-gives (TellsSum after) (sweeping_reasons seen request.signer m.listing.authority m.listing.pc_mint m.pc_fees) (
       tells after _ (missing-plain seen.pc),
       λ pc. (
         tells after _ (not_authority-plain request m),

@@ -16,7 +16,7 @@ use Rattle.dex_types.specs.Side.{opposite, precedes}
 use Rattle.dex_types.specs.Reasons.{not_resting, not_yours, queue_full}
 use Rattle.dex_types.specs.Soundness.{IsSound}
 use Rattle.dex_types.specs.Tokens.{is_same_side}
-use Rattle.dex_types.specs.Why.{why_not_named, why_cancelled}
+use Rattle.dex_types.specs.Why.{why_unnamed, why_cancelled}
 use Rattle.dex_types.specs.declared.refusals.Refusal.TheVariants as refusal
 use Rattle.dex_laws.proofs.BestFirstLaws.{All-PrecedesAll}
 use Rattle.dex_laws.proofs.IdLaws.{precedes-apart}
@@ -279,7 +279,7 @@ not_yours-none owner (Some other) order none is =
     let same : other ≡ order = cc in
     subst (λ (o : Order). is_same owner o.owner ≡ true) same (not-false (is_same owner other.owner) (refused_where-none (not (is_same owner other.owner)) (refusal.OrderNotYours other.owner) none))
 
-pub cancelled-own : (by : CancelBy) (owner : Address) (m : Market) → ((side : Side) → InBookOrder side (orders side m)) → why_not_named by owner m (cancelled by owner m.bids m.asks) ≡ None
+pub cancelled-own : (by : CancelBy) (owner : Address) (m : Market) → ((side : Side) → InBookOrder side (orders side m)) → why_unnamed by owner m.bids m.asks (cancelled by owner m.bids m.asks) ≡ None
     → All (λ (gone : RestingOrder). is_same owner gone.order.owner ≡ true) (cancelled by owner m.bids m.asks)
 cancelled-own (ById side id) owner m sorted none =
     let parts = first_of-none (not_resting (order_with id (orders side m)) (order_with id (orders (opposite side) m)) ∷ not_yours owner (order_with id (orders side m)) ∷ []) none in
@@ -297,7 +297,7 @@ cancelled-own (First count) owner m sorted none =
 pub cancelled-taken : (by : CancelBy) (owner : Address) (m : Market) → IsSound m → why_cancelled by owner m ≡ None → AreOwnResting owner m (cancelled by owner m.bids m.asks)
 cancelled-taken by owner m sound none =
     let gone = cancelled by owner m.bids m.asks in
-    let parts = first_of-none (why_not_named by owner m gone ∷ queue_full (length gone) m ∷ []) none in
+    let parts = first_of-none (why_unnamed by owner m.bids m.asks gone ∷ queue_full (length gone) m ∷ []) none in
     record {
       resting = cancelled-rests by owner m sound.form.in_order;
       own = cancelled-own by owner m sound.form.in_order parts.0;

@@ -13,12 +13,11 @@ use Rattle.dex_types.specs.declared.terms.Side.TheVariants.{Bid, Ask}
 use Rattle.dex_types.specs.Cancel.{CancelBy, ById, ByClient, ByClients, First, RestingOrder, order_with, cancelled}
 use Rattle.dex_types.specs.Market.{Market, orders}
 use Rattle.dex_types.specs.NewOrder.{NewOrder}
-use Rattle.dex_types.specs.Reasons.{first_of, refused_where, disabled, missing, not_blank, not_owner, not_authority, other_mint, other_discount_mint, not_signed, not_empty, no_slot, ask_too_large, no_sequence, time_past, not_resting, not_yours, zero_client, no_order, would_self_trade, below_minimum, queue_full, short_of}
+use Rattle.dex_types.specs.Reasons.{first_of, refused_where, disabled, missing, not_blank, not_owner, not_authority, other_mint, other_discount_mint, not_signed, not_empty, ask_too_large, time_past, not_resting, not_yours, zero_client, no_order, would_self_trade, below_minimum, queue_full, short_of}
 use Rattle.dex_types.specs.Requests.{Request, Party}
 use Rattle.dex_types.specs.Side.{opposite}
-use Rattle.dex_types.specs.Take.{Take}
 use Rattle.dex_types.specs.Trader.{Account, Trader, Open, Closed, Blank}
-use Rattle.dex_types.specs.Why.{payer, payer_mint, why_blank, why_init, why_close, why_order_early, why_take_early, why_not_named, why_cancelled, why_cancel, why_prune, why_disable}
+use Rattle.dex_types.specs.Why.{asking_reasons, named_first, payer, payer_mint, standing_reasons, take_asking_reasons, why_init, why_close, why_order_early, why_take_early, why_unnamed, why_cancelled, why_cancel, why_prune, why_disable}
 
 -- the refusal tells of no balance and no sum that would be too large
 abbrev pub is_plain : Refusal → Bool
@@ -145,12 +144,9 @@ first_of-plain : (reasons : List (Option Refusal)) → ArePlain reasons → IsPl
 first_of-plain reasons plain = first_of-gives (λ refusal. is_plain refusal ≡ true) reasons (each-plain reasons plain)
 
 -- the whys that give plain refusals alone
-why_blank-plain : (named : List Address) (m : Market) → IsPlain (why_blank named m)
-why_blank-plain [] m = some-plain _ refl
-why_blank-plain (address ∷ others) m = not_blank-plain _
-
 pub why_init-plain : (request : Request) (m : Market) → IsPlain (why_init request m)
-why_init-plain request m = first_of-plain (disabled m ∷ why_blank request.named m ∷ []) (disabled-plain m, (why_blank-plain request.named m, tt))
+why_init-plain request m =
+    first_of-plain (disabled m ∷ not_blank (named_first request.named m.traders) ∷ []) (disabled-plain m, (not_blank-plain (named_first request.named m.traders), tt))
 
 pub why_close-plain : (request : Request) (party : Party) → IsPlain (why_close request party)
 why_close-plain request party =
@@ -159,54 +155,27 @@ why_close-plain request party =
 pub why_disable-plain : (request : Request) (m : Market) → IsPlain (why_disable request m)
 why_disable-plain request m = first_of-plain (disabled m ∷ not_authority request m ∷ []) (disabled-plain m, (not_authority-plain request m, tt))
 
-pub why_order_early-plain : (side : Side) (n : NewOrder) (request : Request) (seen : Seen) (m : Market) (party : Party) → IsPlain (why_order_early side n request seen m party)
-why_order_early-plain side n request seen m party =
-    first_of-plain (
-    missing (payer side seen)
-    ∷ not_owner request party.account
-    ∷ other_mint (payer_mint side m) (payer side seen)
-    ∷ other_discount_mint seen seen.discount
-    ∷ not_signed request (payer side seen)
-    ∷ not_signed request seen.discount
-    ∷ no_slot party.account
-    ∷ ask_too_large side m.listing.sizes n.lots
-    ∷ no_sequence m
-    ∷ time_past n.now n.latest
-    ∷ []
-    ) (
+pub why_order_early-plain : (side : Side) (request : Request) (seen : Seen) (m : Market) (party : Party) → IsPlain (why_order_early side request seen m party)
+why_order_early-plain side request seen m party =
+    first_of-plain (asking_reasons side seen request.signer (payer_mint side m) party.account.person) (
       missing-plain (payer side seen),
       (
         not_owner-plain request party.account,
         (
           other_mint-plain (payer_mint side m) (payer side seen),
-          (
-            other_discount_mint-plain seen seen.discount,
-            (
-              not_signed-plain request (payer side seen),
-              (
-                not_signed-plain request seen.discount,
-                (where-plain _ _ refl, (ask_too_large-plain side m.listing.sizes n.lots, (where-plain _ _ refl, (time_past-plain n.now n.latest, tt)))),
-              ),
-            ),
-          ),
+          (other_discount_mint-plain seen seen.discount, (not_signed-plain request (payer side seen), (not_signed-plain request seen.discount, tt))),
         ),
       ),
     )
 
-pub why_take_early-plain : (side : Side) (t : Take) (request : Request) (seen : Seen) (m : Market) → IsPlain (why_take_early side t request seen m)
-why_take_early-plain side t request seen m =
-    first_of-plain (
-    disabled m
-    ∷ missing seen.coin
-    ∷ missing seen.pc
-    ∷ other_mint m.listing.coin_mint seen.coin
-    ∷ other_mint m.listing.pc_mint seen.pc
-    ∷ other_discount_mint seen seen.discount
-    ∷ not_signed request (payer side seen)
-    ∷ not_signed request seen.discount
-    ∷ ask_too_large side m.listing.sizes t.lots
-    ∷ []
-    ) (
+pub standing-plain : (side : Side) (n : NewOrder) (sizes : Lots) (next_sequence : ℕ) (account : Account) → IsPlain (first_of (standing_reasons side n sizes next_sequence account))
+standing-plain side n sizes next_sequence account =
+    first_of-plain (standing_reasons side n sizes next_sequence account)
+    (where-plain _ _ refl, (ask_too_large-plain side sizes n.lots, (where-plain _ _ refl, (time_past-plain n.now n.latest, tt))))
+
+pub why_take_early-plain : (side : Side) (request : Request) (seen : Seen) (m : Market) → IsPlain (why_take_early side request seen m)
+why_take_early-plain side request seen m =
+    first_of-plain (take_asking_reasons side seen request.signer m.is_disabled m.listing.coin_mint m.listing.pc_mint) (
       disabled-plain m,
       (
         missing-plain seen.coin,
@@ -216,28 +185,25 @@ why_take_early-plain side t request seen m =
             other_mint-plain m.listing.coin_mint seen.coin,
             (
               other_mint-plain m.listing.pc_mint seen.pc,
-              (
-                other_discount_mint-plain seen seen.discount,
-                (not_signed-plain request (payer side seen), (not_signed-plain request seen.discount, (ask_too_large-plain side m.listing.sizes t.lots, tt))),
-              ),
+              (other_discount_mint-plain seen seen.discount, (not_signed-plain request (payer side seen), (not_signed-plain request seen.discount, tt))),
             ),
           ),
         ),
       ),
     )
 
-why_not_named-plain : (by : CancelBy) (owner : Address) (m : Market) (gone : List RestingOrder) → IsPlain (why_not_named by owner m gone)
-why_not_named-plain (ById side id) owner m gone =
+why_unnamed-plain : (by : CancelBy) (owner : Address) (m : Market) (gone : List RestingOrder) → IsPlain (why_unnamed by owner m.bids m.asks gone)
+why_unnamed-plain (ById side id) owner m gone =
     first_of-plain (not_resting (order_with id (orders side m)) (order_with id (orders (opposite side) m)) ∷ not_yours owner (order_with id (orders side m)) ∷ [])
     (not_resting-plain _ _, (not_yours-plain owner _, tt))
-why_not_named-plain (ByClient client) owner m gone = first_of-plain (zero_client client ∷ no_order (length gone) ∷ []) (where-plain _ _ refl, (where-plain _ _ refl, tt))
-why_not_named-plain (ByClients clients) owner m gone = none-plain
-why_not_named-plain (First count) owner m gone = none-plain
+why_unnamed-plain (ByClient client) owner m gone = first_of-plain (zero_client client ∷ no_order (length gone) ∷ []) (where-plain _ _ refl, (where-plain _ _ refl, tt))
+why_unnamed-plain (ByClients clients) owner m gone = none-plain
+why_unnamed-plain (First count) owner m gone = none-plain
 
 why_cancelled-plain : (by : CancelBy) (owner : Address) (m : Market) → IsPlain (why_cancelled by owner m)
 why_cancelled-plain by owner m =
     let gone = cancelled by owner m.bids m.asks in
-    first_of-plain (why_not_named by owner m gone ∷ queue_full (length gone) m ∷ []) (why_not_named-plain by owner m gone, (queue_full-plain (length gone) m, tt))
+    first_of-plain (why_unnamed by owner m.bids m.asks gone ∷ queue_full (length gone) m ∷ []) (why_unnamed-plain by owner m gone, (queue_full-plain (length gone) m, tt))
 
 pub why_cancel-plain : (by : CancelBy) (request : Request) (m : Market) (party : Party) → IsPlain (why_cancel by request m party)
 why_cancel-plain by request m party =

@@ -1,5 +1,5 @@
 -- a new order leaves a sound market
-use Rattle.std.proofs.Common.{◌+◌, ◌-◌, ◌^◌, ◌≤◌, ◌<◌, ◌≡◌, ◌≢◌, List, [], ◌∷◌, ◌++◌, Some, None, length, length-append, length-set, refl, ap, ◌∙◌, subst, arith}
+use Rattle.std.proofs.Common.{◌+◌, ◌-◌, ◌^◌, ◌≤◌, ◌<◌, ◌≡◌, ◌≢◌, List, ◌++◌, Some, None, length, length-append, length-set, refl, ap, ◌∙◌, subst, arith}
 use Rattle.std.specs.List.{All}
 use Rattle.std.proofs.lemmas.Bool.{eqb-false}
 use Rattle.std.proofs.lemmas.List.Elements.{All-append, All-weaker}
@@ -18,14 +18,13 @@ use Rattle.dex_types.specs.NewOrder.{NewOrder, Ordering, order_on, after_order, 
 use Rattle.dex_types.specs.Owed.{order_lock}
 use Rattle.dex_types.specs.Posting.{InBookOrder}
 use Rattle.dex_types.specs.QueuedEvent.{QueuedEvent}
-use Rattle.dex_types.specs.Reasons.{missing, not_owner, other_mint, other_discount_mint, not_signed, no_slot, ask_too_large, no_sequence, time_past, would_self_trade, queue_full, short_of, past_bound}
 use Rattle.dex_types.specs.Requests.{Request, Party}
 use Rattle.dex_types.specs.Side.{Coin, Pc, opposite, price_of, sequence_of, id_of}
 use Rattle.dex_types.specs.Solvency.{IsBounded}
 use Rattle.dex_types.specs.Soundness.{IsSound, IsWellFormed, FundsAgree, IsProper, held_at, order_holding}
 use Rattle.dex_types.specs.Totals.{total}
 use Rattle.dex_types.specs.Trader.{Account, Open, trader_at, free_slot}
-use Rattle.dex_types.specs.Why.{payer, payer_mint, why_order_of, why_order_early, why_ordering}
+use Rattle.dex_types.specs.Why.{why_order_of}
 use Rattle.dex_laws.proofs.BookLaws.{All-post}
 use Rattle.dex_laws.proofs.IdLaws.{price_of-id_of, sequence_of-id_of}
 use Rattle.dex_laws.proofs.LeftLaws.{meet-left, length-left, InBookOrder-left}
@@ -37,7 +36,7 @@ use Rattle.dex_sound.proofs.MeetSides.{proper-left, tiers-met}
 use Rattle.dex_sound.proofs.MeetSums.{last-each, taker-each}
 use Rattle.dex_sound.proofs.OrderSoundFunds.{ordered_market, order-funds}
 use Rattle.dex_sound.proofs.OrderSoundPlaces.{HasRoom, All-booted, order-places}
-use Rattle.dex_sound.proofs.OrderSoundReasons.{first_of-none, refused_where-none, queue_full-none, IsBounded-none}
+use Rattle.dex_sound.proofs.OrderSoundReasons.{refused_where-none, queue_full-none, IsBounded-none, order-none}
 use Rattle.dex_sound.proofs.PlaceLaws.{SlotsAgree-places}
 use Rattle.dex_sound.proofs.PlaceParts.{sides-hold}
 use Rattle.dex_sound.proofs.TraderSums.{AreDistinct-put, HasSlots-put}
@@ -55,34 +54,12 @@ allowed side n request seen m party form none =
     let account : Account = party.account in
     let o : Ordering = order_on side m account n in
     let after : Market = ordered_market side m account n in
-    let parts = first_of-none (why_order_early side n request seen m party ∷ why_ordering side seen m o after ∷ []) none in
-    let early = first_of-none (
-    missing (payer side seen)
-    ∷ not_owner request account
-    ∷ other_mint (payer_mint side m) (payer side seen)
-    ∷ other_discount_mint seen seen.discount
-    ∷ not_signed request (payer side seen)
-    ∷ not_signed request seen.discount
-    ∷ no_slot account
-    ∷ ask_too_large side m.listing.sizes n.lots
-    ∷ no_sequence m
-    ∷ time_past n.now n.latest
-    ∷ []
-    ) parts.0 in
-    let acting = first_of-none (
-    would_self_trade o.met.aborts
-    ∷ queue_full (length o.events) m
-    ∷ short_of o.deposit (payer side seen)
-    ∷ past_bound Coin after
-    ∷ past_bound Pc after
-    ∷ []
-    ) parts.1.0 in
-    let late = early.1.1.1.1.1.1 in
+    let parts = (order-none side n request seen m party none).rest in
     record {
-      slot = eqb-false _ _ (refused_where-none _ _ late.0);
-      sequence = eqb-false _ _ (refused_where-none _ _ late.1.1.0);
-      room = queue_full-none (length o.events) m acting.1.0 form.events_within;
-      bounded = IsBounded-none after acting.1.1.1.0 acting.1.1.1.1.0;
+      slot = eqb-false _ _ (refused_where-none _ _ parts.standing.0);
+      sequence = eqb-false _ _ (refused_where-none _ _ parts.standing.1.1.0);
+      room = queue_full-none (length o.events) m parts.ordering.1.0 form.events_within;
+      bounded = IsBounded-none after parts.ordering.1.1.1.0 parts.ordering.1.1.1.1.0;
     }
 
 -- each order on a side locks no more than the vault of its token holds

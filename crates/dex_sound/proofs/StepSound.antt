@@ -18,7 +18,7 @@ use Rattle.dex_types.specs.Steps.{Step, step, by_party, act_order, act_cancel, a
 use Rattle.dex_types.specs.Terms.{terms_order, terms_take}
 use Rattle.dex_types.specs.Trader.{Trader, Open, Closed, Blank, Traders, trader_at}
 use Rattle.dex_types.specs.Upkeep.{taken_slots, all_funds}
-use Rattle.dex_types.specs.Why.{of_party, why_blank, why_close, why_order, why_not_named, why_cancelled, why_cancel, why_prune, why_instruction, why_decoded, why}
+use Rattle.dex_types.specs.Why.{named_first, of_party, why_close, why_order, why_unnamed, why_cancelled, why_cancel, why_prune, why_instruction, why_decoded, why}
 use Rattle.dex_sound.proofs.CancelledLaws.{cancelled-rests, cancelled-apart, cancels-sound}
 use Rattle.dex_sound.proofs.CrankSound.{crank-sound}
 use Rattle.dex_sound.proofs.OrderSoundReasons.{first_of-none, refused_where-none, queue_full-none}
@@ -53,7 +53,7 @@ party-sound why acts m (Some found) each none = each found refl none
 cancel-sound : (by : CancelBy) (owner : Address) (m : Market) → IsSound m → why_cancelled by owner m ≡ None → IsSound (after_cancels (cancelled by owner m.bids m.asks) m)
 cancel-sound by owner m sound none =
     let gone = cancelled by owner m.bids m.asks in
-    let parts = first_of-none (why_not_named by owner m gone ∷ queue_full (length gone) m ∷ []) none in
+    let parts = first_of-none (why_unnamed by owner m.bids m.asks gone ∷ queue_full (length gone) m ∷ []) none in
     from-place (after_cancels gone m)
     (cancels-sound gone m (cancelled-rests by owner m sound.form.in_order) (cancelled-apart by owner m sound.form.in_order)
     (queue_full-none (length gone) m parts.1.0 sound.form.events_within) (to-place m sound))
@@ -76,7 +76,7 @@ not_blank-none (Some Blank) none = refl
 not_blank-none (Some Closed) none = absurd (cc)
 not_blank-none (Some (Open account)) none = absurd (cc)
 
-act_init-sound : (named : List Address) (signer : Address) (m : Market) → IsSound m → why_blank named m ≡ None → IsSound (act_init named signer m).market
+act_init-sound : (named : List Address) (signer : Address) (m : Market) → IsSound m → not_blank (named_first named m.traders) ≡ None → IsSound (act_init named signer m).market
 act_init-sound [] signer m sound none = sound
 act_init-sound (address ∷ others) signer m sound none =
     from-place (act_init (address ∷ others) signer m).market (init-sound m address signer (not_blank-none (trader_at address m.traders) none) (to-place m sound))
@@ -115,7 +115,7 @@ act-sound (SendTake side price lots max_pc min_lots min_pc limit) request seen m
 act-sound CloseOpenOrders request seen m sound priced none =
     party-sound (why_close request) (act_close m) m (party_of request.named m.traders) (λ party found why_not. act_close-sound request m party sound found why_not) none
 act-sound InitOpenOrders request seen m sound priced none =
-    act_init-sound request.named request.signer m sound (first_of-none (disabled m ∷ why_blank request.named m ∷ []) none).1.0
+    act_init-sound request.named request.signer m sound (first_of-none (disabled m ∷ not_blank (named_first request.named m.traders) ∷ []) none).1.0
 act-sound (Prune limit) request seen m sound priced none =
     party-sound (why_prune (First limit) request m) (act_cancel (First limit) m) m (party_of request.named m.traders)
     (λ party found why_not. cancel-sound (First limit) party.address m sound (first_of-none (not_authority request m ∷ why_cancelled (First limit) party.address m ∷ []) why_not).1.0) none

@@ -1,5 +1,5 @@
 -- a take leaves a sound market
-use Rattle.std.proofs.Common.{ℕ, ◌+◌, ◌^◌, ◌≤◌, ◌<◌, ◌≡◌, List, [], ◌∷◌, None, length, length-append, arith}
+use Rattle.std.proofs.Common.{ℕ, ◌+◌, ◌^◌, ◌≤◌, ◌<◌, ◌≡◌, List, None, length, length-append, arith}
 use Rattle.std.specs.List.{All}
 use Rattle.std.proofs.lemmas.List.Elements.{All-append, All-weaker}
 use Rattle.std.proofs.lemmas.Nat.{mod_below}
@@ -14,15 +14,13 @@ use Rattle.dex_types.specs.Meeting.{TakerTerms, Demand, Meeting}
 use Rattle.dex_types.specs.Owed.{owed, kept, referred, is_order_of, is_event_of}
 use Rattle.dex_types.specs.Posting.{InBookOrder}
 use Rattle.dex_types.specs.QueuedEvent.{QueuedEvent}
-use Rattle.dex_types.specs.Reasons.{below_minimum, queue_full, short_of, too_full, past_bound}
 use Rattle.dex_types.specs.Requests.{Request}
 use Rattle.dex_types.specs.Side.{Token, Coin, Pc, opposite}
 use Rattle.dex_types.specs.Solvency.{IsSolvent, IsBounded, vault, all_free, all_locked, all_owed, earned, own_locked, own_kept}
 use Rattle.dex_types.specs.Soundness.{IsSound, IsWellFormed, FundsAgree, IsProper, held_at}
-use Rattle.dex_types.specs.Take.{Take, take_terms, take_demand, take_meeting, take_transfers, take_paid, too_little, take_fee, after_take}
+use Rattle.dex_types.specs.Take.{Take, take_terms, take_demand, take_meeting, take_fee, after_take}
 use Rattle.dex_types.specs.Totals.{weighed_where}
-use Rattle.dex_types.specs.Transfers.{Transfers}
-use Rattle.dex_types.specs.Why.{payer, why_take, why_take_early, why_taking}
+use Rattle.dex_types.specs.Why.{take_reading, why_take, why_taking}
 use Rattle.dex_laws.proofs.LeftLaws.{meet-left, length-left, InBookOrder-left}
 use Rattle.dex_laws.proofs.LockLaws.{meet-places}
 use Rattle.dex_laws.proofs.MovedLaws.{IsTestOfOrder-owner}
@@ -32,7 +30,7 @@ use Rattle.dex_sound.proofs.FillLaws.{take-balanced}
 use Rattle.dex_sound.proofs.MeetPlaces.{counts-sides, is_taken-le, NoneEnds, EndLast-behind, ends-freed, meet-rested, meet-ends_last}
 use Rattle.dex_sound.proofs.MeetSides.{IsResting, IsPending, proper-left, priced, resting-left, pending-met, tiers-met}
 use Rattle.dex_sound.proofs.MeetSums.{balanced-owed, met-locked, met-own, met-locked_all, met-own_all, met-referred}
-use Rattle.dex_sound.proofs.OrderSoundReasons.{first_of-none, queue_full-none, IsBounded-none}
+use Rattle.dex_sound.proofs.OrderSoundReasons.{queue_full-none, IsBounded-none, take-none, taking-none}
 use Rattle.dex_sound.proofs.PlaceLaws.{SlotsAgree-places}
 use Rattle.dex_sound.proofs.PlaceParts.{sides-hold, put-sides-sum}
 
@@ -48,23 +46,12 @@ record IsAllowed (side : Side) (t : Take) (m : Market) : Type 0 where
   room : length m.events + length (met_of side t m).events ≤ m.listing.event_capacity
   bounded : IsBounded (taken_market side t m)
 
--- where nothing that a take would do is a reason to refuse it
-allowed : (side : Side) (t : Take) (seen : Seen) (m : Market) → IsWellFormed m
-    → why_taking side t seen m (met_of side t m) (take_transfers side m.listing.sizes t (met_of side t m)) (taken_market side t m) ≡ None → IsAllowed side t m
+-- where a take is not refused once it may be asked for
+allowed : (side : Side) (t : Take) (seen : Seen) (m : Market) → IsWellFormed m → why_taking side t seen (take_reading side t seen m) ≡ None → IsAllowed side t m
 allowed side t seen m form none =
     let met : Meeting = met_of side t m in
     let after : Market = taken_market side t m in
-    let transfers : Transfers = take_transfers side m.listing.sizes t met in
-    let taking = first_of-none (
-    below_minimum (too_little side t met)
-    ∷ queue_full (length met.events) m
-    ∷ short_of (take_paid side m.listing.sizes t met) (payer side seen)
-    ∷ too_full seen transfers seen.coin
-    ∷ too_full seen transfers seen.pc
-    ∷ past_bound Coin after
-    ∷ past_bound Pc after
-    ∷ []
-    ) none in
+    let taking = (taking-none side t seen (take_reading side t seen m) none).taking in
     record {
       room = queue_full-none (length met.events) m taking.1.0 form.events_within;
       bounded = IsBounded-none after taking.1.1.1.1.1.0 taking.1.1.1.1.1.1.0;
@@ -207,9 +194,8 @@ take-funds side t m funds allowed =
       bounded = allowed.bounded;
     }
 
--- a take that is not refused for what it would do leaves a sound market
-pub taking-sound : (side : Side) (t : Take) (seen : Seen) (m : Market) → IsSound m
-    → why_taking side t seen m (met_of side t m) (take_transfers side m.listing.sizes t (met_of side t m)) (taken_market side t m) ≡ None → IsSound (taken_market side t m)
+-- a take that is not refused for its size and what it would do leaves a sound market
+pub taking-sound : (side : Side) (t : Take) (seen : Seen) (m : Market) → IsSound m → why_taking side t seen (take_reading side t seen m) ≡ None → IsSound (taken_market side t m)
 taking-sound side t seen m sound none =
     let may : IsAllowed side t m = allowed side t seen m sound.form none in
     record {
@@ -221,10 +207,4 @@ taking-sound side t seen m sound none =
 -- and so does one that is not refused at all
 pub take-sound : (side : Side) (t : Take) (request : Request) (seen : Seen) (m : Market) → IsSound m → why_take side t request seen m ≡ None
     → IsSound (after_take side t (take_meeting side m.listing.sizes t (orders (opposite side) m)) m)
-take-sound side t request seen m sound none =
-    let parts = first_of-none (
-    why_take_early side t request seen m
-    ∷ why_taking side t seen m (met_of side t m) (take_transfers side m.listing.sizes t (met_of side t m)) (taken_market side t m)
-    ∷ []
-    ) none in
-    taking-sound side t seen m sound parts.1.0
+take-sound side t request seen m sound none = taking-sound side t seen m sound (take-none side t request seen m none).accepted

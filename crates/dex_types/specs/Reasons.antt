@@ -1,4 +1,4 @@
--- What an instruction can be refused for, each reason by itself.
+-- What an instruction can be refused for, each reason by itself: over what it reads, and of a market over what it reads there.
 use Rattle.std.specs.Prelude.{ℕ, ℤ, ◌+◌, ◌-◌, ◌*◌, ◌^◌, List, [], ◌∷◌, Option, Some, None, Result, Ok, Err, Bool, false, not, ◌||◌, nat_lt, nat_le, int_lt, ◌==◌, length, if◌then◌else◌}
 use Rattle.dex_types.specs.declared.addresses.Address.{Address}
 use Rattle.dex_types.specs.declared.orders.Order.{Order}
@@ -12,7 +12,7 @@ use Rattle.dex_types.specs.declared.terms.Side.TheVariants.{Bid, Ask}
 use Rattle.dex_types.specs.Addresses.{is_same}
 use Rattle.dex_types.specs.Market.{Market}
 use Rattle.dex_types.specs.Side.{Token}
-use Rattle.dex_types.specs.Solvency.{vault, all_leaving, is_beyond}
+use Rattle.dex_types.specs.Solvency.{vault, all_leaving}
 use Rattle.dex_types.specs.Trader.{Account, Trader, Open, Closed, Blank, free_slot}
 use Rattle.dex_types.specs.Transfers.{Transfers}
 use Rattle.dex_types.specs.Upkeep.{taken_slots, all_funds}
@@ -34,9 +34,13 @@ answered (Some why) x = Err why
 abbrev pub refused_where : Bool → Refusal → Option Refusal
 refused_where test why = if test then Some why else None
 
+-- the market is disabled, where this says so
+abbrev pub when_disabled : Bool → Option Refusal
+when_disabled is_disabled = refused_where is_disabled refusal.MarketDisabled
+
 -- the market is disabled
 abbrev pub disabled : Market → Option Refusal
-disabled m = refused_where m.is_disabled refusal.MarketDisabled
+disabled m = when_disabled m.is_disabled
 
 -- the row names no wallet in a role that the instruction uses
 abbrev pub missing : Option WalletSeen → Option Refusal
@@ -50,18 +54,30 @@ not_blank (Some Blank) = None
 not_blank (Some Closed) = Some refusal.AccountExists
 not_blank (Some (Open account)) = Some refusal.AccountExists
 
+-- the signer is not this person
+abbrev pub not_person : Address → Address → Option Refusal
+not_person person signer = refused_where (not (is_same person signer)) (refusal.NotOwner person)
+
 -- the signer is not the account's owning person
 abbrev pub not_owner : Request → Account → Option Refusal
-not_owner request account = refused_where (not (is_same account.person request.signer)) (refusal.NotOwner account.person)
+not_owner request account = not_person account.person request.signer
+
+-- the signer is not this authority
+abbrev pub not_this_authority : Address → Address → Option Refusal
+not_this_authority authority signer = refused_where (not (is_same authority signer)) (refusal.NotAuthority authority)
 
 -- the signer is not the market's authority
 abbrev pub not_authority : Request → Market → Option Refusal
-not_authority request m = refused_where (not (is_same m.listing.authority request.signer)) (refusal.NotAuthority m.listing.authority)
+not_authority request m = not_this_authority m.listing.authority request.signer
+
+-- a mint is another than the one that is wanted
+abbrev pub wrong_mint : Address → Address → Option Refusal
+wrong_mint wanted mint = refused_where (not (is_same wanted mint)) (refusal.WrongMint mint)
 
 -- a wallet, where one is named, is of another token than this mint's
 abbrev pub other_mint : Address → Option WalletSeen → Option Refusal
 other_mint mint None = None
-other_mint mint (Some wallet) = refused_where (not (is_same mint wallet.mint)) (refusal.WrongMint wallet.mint)
+other_mint mint (Some wallet) = wrong_mint mint wallet.mint
 
 -- the mint is this one, where there is one
 abbrev pub is_mint : Option Address → Address → Bool
@@ -74,10 +90,14 @@ other_discount_mint seen None = None
 other_discount_mint seen (Some wallet) =
     refused_where (not (is_mint seen.srm wallet.mint || is_mint seen.msrm wallet.mint)) (refusal.WrongMint wallet.mint)
 
--- a wallet, where one is named, is another person's than the signer
+-- a wallet, where one is named, is another person's than this signer
+abbrev pub not_signed_by : Address → Option WalletSeen → Option Refusal
+not_signed_by signer None = None
+not_signed_by signer (Some wallet) = refused_where (not (is_same wallet.owner signer)) (refusal.WalletNotSigned wallet.owner)
+
+-- the same of the signer of a row
 abbrev pub not_signed : Request → Option WalletSeen → Option Refusal
-not_signed request None = None
-not_signed request (Some wallet) = refused_where (not (is_same wallet.owner request.signer)) (refusal.WalletNotSigned wallet.owner)
+not_signed request wallet = not_signed_by request.signer wallet
 
 -- the account holds orders or funds
 abbrev pub not_empty : Account → Option Refusal
@@ -93,9 +113,13 @@ abbrev pub ask_too_large : Side → Lots → ℕ → Option Refusal
 ask_too_large Bid sizes lots = None
 ask_too_large Ask sizes lots = refused_where (nat_le (2 ^ 64) (lots * sizes.coin)) refusal.AskTooLarge
 
+-- the next sequence number is the one after all that can be given out
+abbrev pub used_up : ℕ → Option Refusal
+used_up next = refused_where (next == 2 ^ 64 - 1) refusal.SequenceExhausted
+
 -- the market has given out all sequence numbers
 abbrev pub no_sequence : Market → Option Refusal
-no_sequence m = refused_where (m.next_sequence == 2 ^ 64 - 1) refusal.SequenceExhausted
+no_sequence m = used_up m.next_sequence
 
 -- the clock is past the latest time of an order that has one
 abbrev pub time_past : ℤ → Option ℤ → Option Refusal
@@ -135,21 +159,41 @@ below_minimum (Some got) = Some (refusal.BelowMinimum got)
 abbrev pub event_room : Market → ℕ
 event_room m = m.listing.event_capacity - length m.events
 
--- so many events are more than the free places
+-- so many events are more than this room of the event queue
+abbrev pub no_room : ℕ → ℕ → Option Refusal
+no_room needed room = refused_where (nat_lt room needed) (refusal.EventQueueFull needed room)
+
+-- so many events are more than the free places of the market's queue
 abbrev pub queue_full : ℕ → Market → Option Refusal
-queue_full needed m = refused_where (nat_lt (event_room m) needed) (refusal.EventQueueFull needed (event_room m))
+queue_full needed m = no_room needed (event_room m)
+
+-- a deposit is more than the balance that pays it, where there is one
+abbrev pub short_by : ℕ → Option ℕ → Option Refusal
+short_by deposit None = None
+short_by deposit (Some balance) = refused_where (nat_lt balance deposit) (refusal.InsufficientFunds deposit balance)
+
+-- the native amount in a wallet, where one is named
+abbrev pub balance_of : Option WalletSeen → Option ℕ
+balance_of None = None
+balance_of (Some wallet) = Some wallet.balance
 
 -- the wallet that pays has less than the deposit
 abbrev pub short_of : ℕ → Option WalletSeen → Option Refusal
-short_of deposit None = None
-short_of deposit (Some wallet) = refused_where (nat_lt wallet.balance deposit) (refusal.InsufficientFunds deposit wallet.balance)
+short_of deposit wallet = short_by deposit (balance_of wallet)
+
+-- a balance would be 2^64 or more with this amount more
+abbrev pub overfull : ℕ → ℕ → Option Refusal
+overfull balance amount = refused_where (nat_le (2 ^ 64) (balance + amount)) (refusal.BalanceTooLarge balance amount)
 
 -- with all that the row credits to it, a wallet would hold 2^64 or more
 abbrev pub too_full : Seen → Transfers → Option WalletSeen → Option Refusal
 too_full seen t None = None
-too_full seen t (Some wallet) =
-    refused_where (nat_le (2 ^ 64) (wallet.balance + brought_to seen t wallet.address)) (refusal.BalanceTooLarge wallet.balance (brought_to seen t wallet.address))
+too_full seen t (Some wallet) = overfull wallet.balance (brought_to seen t wallet.address)
+
+-- a vault, with what pending makers' fills are still to take off totals, is 2^64 or more
+abbrev pub beyond : ℕ → ℕ → Option Refusal
+beyond vault pending = refused_where (nat_le (2 ^ 64) (vault + pending)) (refusal.SumTooLarge vault pending)
 
 -- the market that the row would leave passes the bound of a token
 abbrev pub past_bound : Token → Market → Option Refusal
-past_bound token m = refused_where (is_beyond token m) (refusal.SumTooLarge (vault token m) (all_leaving token m.events))
+past_bound token m = beyond (vault token m) (all_leaving token m.events)

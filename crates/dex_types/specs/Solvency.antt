@@ -1,5 +1,5 @@
 -- When vaults cover what the market owes, and accounts add up.
-use Rattle.std.specs.Prelude.{ℕ, ◌+◌, ◌≡◌, ◌<◌, ◌^◌, List, Some, Bool, nat_le}
+use Rattle.std.specs.Prelude.{ℕ, ◌+◌, ◌≡◌, ◌<◌, ◌^◌, List, Some}
 use Rattle.dex_types.specs.declared.addresses.Address.{Address}
 use Rattle.dex_types.specs.Market.{Market, orders}
 use Rattle.dex_types.specs.Owed.{order_lock, owed, leaving, kept, referred, is_order_of, is_event_of}
@@ -56,10 +56,6 @@ all_leaving token events = total (leaving token) events
 -- for each token the vault, with what pending makers' fills are still to take off totals, is below 2^64
 abbrev pub IsBounded : Market → Type 0
 IsBounded m = (token : Token) → vault token m + all_leaving token m.events < 2 ^ 64
-
--- the bound does not hold for a token
-abbrev pub is_beyond : Token → Market → Bool
-is_beyond token m = nat_le (2 ^ 64) (vault token m + all_leaving token m.events)
 
 -- what the resting orders of an owner lock of a token
 abbrev pub own_locked : Token → Address → Market → ℕ

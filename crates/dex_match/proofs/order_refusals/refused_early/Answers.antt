@@ -1,6 +1,6 @@
 use Rattle.std.proofs.Common.{◌∙◌, ◌≡◌, ◌∷◌, [], ap}
 use Rattle.std.specs.Option.{option_or}
-use Rattle.dex_reasons.specs.Reading.{used_up}
+use Rattle.dex_types.specs.Reasons.{used_up}
 use Rattle.dex_reasons.proofs.FirstReasons.{first_of-same, joined, joined-first}
 use Rattle.dex_match.proofs.order_refusals.refused_early.Goals as goal
 
