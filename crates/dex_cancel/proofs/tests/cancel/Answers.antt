@@ -1,4 +1,4 @@
-use Rattle.std.proofs.Common.{◌≤◌, IsOk, length, subst, sym, arith, rules}
+use Rattle.std.proofs.Common.{◌≤◌, IsOk, length, refl, subst, arith}
 use Rattle.dex_types.specs.declared.terms.Side.TheVariants.{Bid, Ask}
 use Rattle.dex_types.specs.Cancel.{cancelled}
 use Rattle.dex_ring.specs.Ring.{ring_of}
@@ -25,6 +25,6 @@ cancel_all-requires-clause-can c =
     let asks = c.args.asks.now.orders in
     let ring = ring_of c.args.bytes.now in
     let by = named_by c.args.what in
-    let ok : IsOk (decided by c.args.account bids asks c.room.result) = subst IsOk c.in_ok-decide_cancel.ensures (search rules) in
-    let within : length (cancelled by c.args.account bids asks) ≤ c.room.result = decided-within by c.args.account bids asks c.room.result ok in
-    record { accepted = c.requires.accepted; locks = (c.requires.bids_fit.0, c.requires.asks_fit.1); room = omega (arith, within, c.room.ensures) }
+    let ok : IsOk (decided by c.args.account bids asks c.room-room.result) = subst IsOk c.in_ok-decide_cancel.ensures refl in
+    let within : length (cancelled by c.args.account bids asks) ≤ c.room-room.result = decided-within by c.args.account bids asks c.room-room.result ok in
+    record { accepted = c.requires.accepted; locks = (c.requires.bids_fit.0, c.requires.asks_fit.1); room = omega (arith, within, c.room-room.ensures) }
