@@ -22,7 +22,8 @@ use Rattle.dex_orders.specs.StandsFor.{StandsForTrader, trader_of}
 use Rattle.dex_orders.proofs.Verdicts.{open_from_flags}
 use Rattle.dex_ring.specs.Ring.{IsEventQueue, ring_of}
 use Rattle.dex_match.specs.Applying.{intake_of, words_with}
-use Rattle.dex_match.specs.OrderParts.{AreOf, OrderGiven}
+use Rattle.dex_match.specs.OrderParts.{OrderGiven}
+use Rattle.dex_match.proofs.PartsLaws.{GivenOf}
 use Rattle.dex_market.specs.MarketAccount.{sizes_of}
 
 -- the accounts, the sides and the queues are what an order leaves of them
@@ -69,8 +70,8 @@ opposing-after Ask m account n o = refl
 stands-open : (bytes : List ℕ) → IsOpen bytes → trader_of bytes ≡ Open (account_of bytes)
 stands-open bytes accepted = rw accepted.flags refl
 
-pub done-are : (side : Side) (n : NewOrder) (o : Ordering) (given new : OrderGiven) (m : Market) → IsSound m → AreOf side n.owner given m → IsDone side n o given new
-    → AreOf side n.owner new (after_order side (account_of given.account) n o m)
+pub done-are : (side : Side) (n : NewOrder) (o : Ordering) (given new : OrderGiven) (m : Market) → IsSound m → GivenOf side n.owner given m → IsDone side n o given new
+    → GivenOf side n.owner new (after_order side (account_of given.account) n o m)
 done-are side n o given new m sound are done =
     let account : Account = account_of given.account in
     let sizes : sizes_of (market_words given.market) ≡ m.listing.sizes = ap (λ (w : MarketWords). sizes_of w) are.market.words in
@@ -83,6 +84,7 @@ done-are side n o given new m sound are done =
       };
       requests = record { accepted = done.requests; next = done.raised ∙ ap (λ s. s + 1) are.requests.next };
       events = record { accepted = done.events; ring = done.list ∙ ap (appended o.events) are.events.ring };
+      opened = done.account;
       account = record {
         accepted = inr (inl done.account);
         stands = stands-open new.account done.account;

@@ -4,7 +4,8 @@ ghost use Rattle.std.specs.Prelude.{◌≡◌, ◌+◌, ◌^◌, ◌<◌, ◌≤
 ghost use Rattle.dex_laws.specs.Locks.{locked};
 ghost use Rattle.dex_market.specs.MarketAccount.{IsMarket, market_words};
 ghost use Rattle.dex_market.specs.RequestQueue.{IsRequestQueue};
-ghost use Rattle.dex_match.specs.OrderParts.{AreSoundParts, given_by, parts_of};
+ghost use Rattle.dex_match.specs.Handed.{decided_in, shown};
+ghost use Rattle.dex_match.specs.OrderParts.{IsGiven, given_by, parts_of};
 ghost use Rattle.dex_market.specs.MarketAccount.{sizes_of};
 ghost use Rattle.dex_match.specs.Ordering.{order_answer};
 ghost use Rattle.dex_ring.specs.Ring.{room_of};
@@ -162,10 +163,10 @@ pub fn decide_order<B: SideRead>(
 ) -> Result<OrderPlan, Refusal>
     requires own { B.holds own.now }
     requires opposite { B.holds opposite.now }
-    requires parts { AreSoundParts taker.now.id_side taker.now.account (given_by market.now.bytes.now requests.now.bytes.now
-        ring.now.bytes.now orders.now.bytes.now (B.orders own.now) (B.room own.now) (B.orders opposite.now)) }
-    ensures { result ≡ order_answer taker.entry.now.id_side (order_of taker.entry.now) (parts_of (given_by market.now.bytes.now requests.now.bytes.now
-        ring.now.bytes.now orders.now.bytes.now (B.orders own.now) (B.room own.now) (B.orders opposite.now))) balance }
+    requires given { IsGiven taker.now.id_side taker.now.account
+        (shown B.orders B.room B.orders market.now requests.now ring.now orders.now own.now opposite.now) }
+    ensures { result ≡ decided_in taker.entry.now
+        (shown B.orders B.room B.orders market.now requests.now ring.now orders.now own.now opposite.now) balance }
 {
     decide(
         market, requests, own, opposite, ring, orders, taker, balance,

@@ -5,7 +5,7 @@ ghost use Rattle.dex_laws.specs.Locks.{locked};
 ghost use Rattle.dex_match.specs.Applying as applying;
 ghost use Rattle.dex_match.specs.OrderTerms.{meeting_with, order_of};
 ghost use Rattle.dex_meet.specs.Prospects.{FitsSums};
-ghost use Rattle.dex_ring.specs.Appended.{appended, HasRoom};
+ghost use Rattle.dex_ring.specs.Appended.{appended, HasRoom, pushed_all};
 ghost use Rattle.dex_ring.specs.Ring.{IsEventQueue, ring_of};
 ghost use Rattle.dex_types.specs.BookSide.{CanRest, IsNewId};
 ghost use Rattle.dex_types.specs.Meeting as meeting;
@@ -45,6 +45,7 @@ fn meet_opposite<A: SideBook>(
     ensures same_room { A.room opposite.new ≡ A.room opposite.old }
     ensures same_place { A.same_place opposite.old opposite.new }
     ensures list { ring_of ring.new.bytes.now ≡ appended (meeting_with sizes taker (A.orders opposite.old)).events (ring_of ring.old.bytes.now) }
+    ensures bytes { ring.new.bytes.now ≡ pushed_all (meeting_with sizes taker (A.orders opposite.old)).events ring.old.bytes.now }
     ensures accepted { IsEventQueue ring.new.bytes.now }
     ensures place { ring.new.bytes.ghost_name ≡ ring.old.bytes.ghost_name }
 {
@@ -80,6 +81,8 @@ fn push_fills(ring: &mut RingView<'_>, side: Side, order: Order, pc: u64, amount
     ensures accepted { IsEventQueue ring.new.bytes.now }
     ensures list { ring_of ring.new.bytes.now ≡ appended (if pc == 0 then []
         else meeting.event_of (events.TakerFill side) order amounts.released amounts.paid amounts.fee_or_rebate ∷ []) (ring_of ring.old.bytes.now) }
+    ensures bytes { ring.new.bytes.now ≡ pushed_all (if pc == 0 then []
+        else meeting.event_of (events.TakerFill side) order amounts.released amounts.paid amounts.fee_or_rebate ∷ []) ring.old.bytes.now }
 {
     if pc != 0 {
         push(ring, Kind::TakerFill, side, order, amounts);
@@ -116,6 +119,7 @@ fn push_last(ring: &mut RingView<'_>, side: Side, sizes: Lots, order: Order, boo
     ensures place { ring.new.bytes.ghost_name ≡ ring.old.bytes.ghost_name }
     ensures accepted { IsEventQueue ring.new.bytes.now }
     ensures list { ring_of ring.new.bytes.now ≡ appended (orders.last_events side sizes order booted) (ring_of ring.old.bytes.now) }
+    ensures bytes { ring.new.bytes.now ≡ pushed_all (orders.last_events side sizes order booted) ring.old.bytes.now }
 {
     match booted {
         Some(gone) => push_releasing_out(ring, side, sizes, gone, gone.lots),
@@ -147,6 +151,7 @@ fn rest_or_end<B: SideBook>(
     ensures same_room { B.room own.new ≡ B.room own.old }
     ensures same_place { B.same_place own.old own.new }
     ensures list { ring_of ring.new.bytes.now ≡ appended (orders.last_events side sizes order (posting.post side (B.room own.old) order (B.orders own.old)).booted) (ring_of ring.old.bytes.now) }
+    ensures bytes { ring.new.bytes.now ≡ pushed_all (orders.last_events side sizes order (posting.post side (B.room own.old) order (B.orders own.old)).booted) ring.old.bytes.now }
     ensures accepted { IsEventQueue ring.new.bytes.now }
     ensures place { ring.new.bytes.ghost_name ≡ ring.old.bytes.ghost_name }
 {
@@ -182,6 +187,8 @@ pub(crate) fn trade<B: SideBook, A: SideBook>(
     ensures opposite_place { A.same_place opposite.old opposite.new }
     ensures list { ring_of ring.new.bytes.now ≡ appended (applying.events_by taker.id_side sizes (order_of taker) plan.now (meeting_with sizes taker (A.orders opposite.old))
         (applying.posted_by taker.id_side (order_of taker) plan.now (B.room own.old) (B.orders own.old))) (ring_of ring.old.bytes.now) }
+    ensures bytes { ring.new.bytes.now ≡ pushed_all (applying.events_by taker.id_side sizes (order_of taker) plan.now (meeting_with sizes taker (A.orders opposite.old))
+        (applying.posted_by taker.id_side (order_of taker) plan.now (B.room own.old) (B.orders own.old))) ring.old.bytes.now }
     ensures accepted { IsEventQueue ring.new.bytes.now }
     ensures place { ring.new.bytes.ghost_name ≡ ring.old.bytes.ghost_name }
 {
