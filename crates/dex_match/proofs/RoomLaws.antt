@@ -16,6 +16,7 @@ use Rattle.dex_types.specs.Owed.{order_lock}
 use Rattle.dex_types.specs.Reasons.{ask_too_large, first_of}
 use Rattle.dex_types.specs.Side.{Coin, Pc, id_of, opposite, sequence_of}
 use Rattle.dex_types.specs.Soundness.{IsProper, IsSound, held_at, held_by, order_holding}
+use Rattle.dex_types.specs.Why.{ordering_reasons, standing_reasons}
 use Rattle.dex_types.specs.Tokens.{is_same_side}
 use Rattle.dex_types.specs.Trader.{Account, Holding, Open, Trader, free_slot, trader_at}
 use Rattle.dex_laws.proofs.BookSideLaws.{IsApart, order_with-none}
@@ -34,7 +35,7 @@ use Rattle.dex_match.specs.Applying.{AreFunds, CanMove, CanPay, CanPost, CanTake
 use Rattle.dex_match.specs.OrderParts.{OrderGiven, OrderParts, parts_of}
 use Rattle.dex_match.proofs.PartsLaws.{GivenOf, SoundGiven}
 use Rattle.dex_market.specs.MarketAccount.{sizes_of}
-use Rattle.dex_match.specs.Ordering.{IsDecided, early_reasons, late_reasons, order_reason, ordering_in, plan_by}
+use Rattle.dex_match.specs.Ordering.{IsDecided, limits_in, order_reason, ordering_in, plan_by}
 use Rattle.dex_match.proofs.DecidedSound.{decided-sound}
 use Rattle.dex_match.proofs.FittingLaws.{locks-fit, meeting-fits}
 use Rattle.dex_match.proofs.PartsLaws.{parts_in, parts-are}
@@ -68,9 +69,9 @@ allowed side n given m balance sound are priced small accepted =
     let parts : OrderParts = parts_in side m account in
     let o : Ordering = order_on side m account n in
     let none : order_reason side n parts balance ≡ None = subst (λ (p : OrderParts). order_reason side n p balance ≡ None) (parts-are side n.owner given m are) accepted in
-    let both = first_of-none (first_of (early_reasons side n parts) ∷ first_of (late_reasons side parts o balance) ∷ []) none in
-    let early = first_of-none (early_reasons side n parts) both.0 in
-    let late = first_of-none (late_reasons side parts o balance) both.1.0 in
+    let both = first_of-none (first_of (standing_reasons side n (sizes_of parts.words) parts.next_sequence parts.account) ∷ first_of (ordering_reasons o (limits_in side parts o balance)) ∷ []) none in
+    let early = first_of-none (standing_reasons side n (sizes_of parts.words) parts.next_sequence parts.account) both.0 in
+    let late = first_of-none (ordering_reasons o (limits_in side parts o balance)) both.1.0 in
     let slots : length account.slots ≡ 128 = sound.form.slots n.owner account are.known in
     record {
       slot = omega (arith, slots, free_slot-le account.slots, eqb-false (free_slot account.slots) 128 (refused_where-none _ _ early.0));

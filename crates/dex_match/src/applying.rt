@@ -16,7 +16,7 @@ ghost use Rattle.dex_match.specs.OrderParts.{IsGiven, parts_of};
 ghost use Rattle.dex_market.specs.MarketAccount.{sizes_of};
 ghost use Rattle.dex_match.specs.Ordering.{IsDecided};
 
-use crate::intake::{intake_by, sizes_in, take_in};
+use crate::intake::{intake_by, take_in};
 use crate::order_plan::OrderPlan;
 use crate::order_terms::Taker;
 use crate::payment::{moves_by, pay};
@@ -120,7 +120,7 @@ pub(crate) fn apply<B: SideBook, A: SideBook>(
         }) }
     ensures orders_accepted { IsOpen orders.new.bytes.now }
 {
-    let sizes = sizes_in(market);
+    let sizes = market.sizes();
     let rebates = trade(plan, sizes, taker, own, opposite, ring);
     requests.advance();
     take_in(intake_by(taker.id_side, plan, rebates), market);

@@ -1,14 +1,11 @@
-use Rattle.std.proofs.Common.{List, Some, slice_set, sym, ap, ◌∙◌, subst}
+use Rattle.std.proofs.Common.{List, ap, ◌∙◌}
 use Rattle.dex_types.specs.declared.terms.Lots.{Lots}
-use Rattle.dex_types.specs.declared.terms.Side.{Side}
-use Rattle.dex_types.specs.NewOrder.{NewOrder, Ordering, account_after, after_order}
+use Rattle.dex_types.specs.NewOrder.{Ordering, account_after}
 use Rattle.dex_types.specs.QueuedEvent.{QueuedEvent}
-use Rattle.dex_types.specs.Soundness.{IsSound}
-use Rattle.dex_types.specs.Trader.{Account}
 use Rattle.dex_market.specs.MarketAccount.{market_words}
 use Rattle.dex_ring.specs.Appended.{appended, pushed_all}
 use Rattle.dex_orders.specs.declared.amounts.Funds.{Funds}
-use Rattle.dex_orders.specs.OrdersAccount.{account_of, added, funded, funds_of, with_funds}
+use Rattle.dex_orders.specs.OrdersAccount.{account_of, added, funded, funds_of}
 use Rattle.dex_ring.specs.Ring.{ring_of}
 use Rattle.dex_match.specs.declared.order_plan.OrderPlan.{OrderPlan}
 use Rattle.dex_match.specs.Applying.{bytes_with, events_by, intake_by, ordering_over, posted_by}
