@@ -10,6 +10,7 @@ mod payment;
 mod queue;
 
 pub use crank::consume;
+pub use kinds::{Kind, is_final, kind_of};
 
 #[cfg(test)]
 mod tests;

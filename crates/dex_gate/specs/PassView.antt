@@ -31,3 +31,7 @@ module _ {E O : Type 0} where
   -- each number below the count is that of one of these passes, or one of them may still hand it out
   abbrev pub AreAll : ℕ → List (PassView E O) → Type 0
   AreAll count passes = (k : ℕ) → k < count → Any (Accounts k) passes
+
+-- a pass of this gate, with this number, that holds no ticket
+abbrev pub IsIdle : {E O : Type 0} → GateView E O → ℕ → PassView E O → Type 0
+IsIdle gate number pass = (pass.gate ≡ Some gate) × (pass.number ≡ number) × (pass.stage ≡ Idle)

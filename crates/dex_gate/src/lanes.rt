@@ -8,6 +8,7 @@ use crate::journaled::Journaled;
 use crate::pass::Pass;
 use crate::turn::Turn;
 use std::sync::Wait;
+use std::thread;
 
 /// A list of lanes. Each entry is its own lane.
 #[derive(Drop)]
@@ -31,7 +32,7 @@ impl Journaled for Lanes {
     }
 }
 
-/// Draws a ticket, waits for its turn, adds the pass's number and leaves. Where memory runs out, the turn comes back with nothing
+/// Draws a ticket, waits for its turn, gives way in it, adds the pass's number and leaves. Where memory runs out, the turn comes back with nothing
 /// added, and is still out.
 pub fn take_turn<R: Wait>(
     rt: &R,
@@ -49,6 +50,7 @@ pub fn take_turn<R: Wait>(
 {
     gate.draw(pass);
     let mut turn = gate.wait_turn(rt, pass);
+    thread::yield_now();
     if turn.value().lanes.push(number).is_err() {
         return Err(turn);
     }

@@ -8,7 +8,8 @@
 mod board;
 mod gate;
 mod journaled;
-pub mod lanes;
+#[cfg(test)]
+mod lanes;
 mod no_memory;
 mod pass;
 mod plays;

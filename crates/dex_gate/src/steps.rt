@@ -1,5 +1,5 @@
 //! What the gate does at its end, and with a word.
-ghost use Rattle.std.specs.Prelude.{◌≡◌, ℕ, ◌<◌, IfOk, OnErr};
+ghost use Rattle.std.specs.Prelude.{◌≡◌, ℕ, ◌<◌, IfOk, OnErr, IfErr, ◌≢◌, ◌%◌, ◌^◌};
 ghost use Rattle.dex_gate.specs.declared.stage.Stage.TheVariants.{Idle};
 ghost use Rattle.dex_gate.specs.Rule.{claims, IsEnd};
 ghost use Rattle.dex_gate.specs.Seats.{IsBoard, IsWaiting, TakesTurn, MayPassOn, PassesTurn};
@@ -9,7 +9,9 @@ use crate::journaled::Journaled;
 use crate::plays::{Look, PassOn};
 
 /// The half of a word that a thread parks on.
-pub(crate) fn low_half(word: u64) -> u32 {
+pub(crate) fn low_half(word: u64) -> u32
+    ensures { result ≡ word % 2 ^ 32 }
+{
     (word & 0xffff_ffff) as u32
 }
 
@@ -20,6 +22,7 @@ pub(crate) fn look<V: Journaled>(top: &Top<V>, seat: &mut Place<V>, ticket: u64)
     ensures table { seat.new.table_id ≡ seat.old.table_id }
     ensures took { IfOk result (TakesTurn V.entries V.lane V.origin ticket seat.old.me seat.new.me) }
     ensures kept { OnErr result (seat.new.me ≡ seat.old.me) }
+    ensures other { IfErr result (λ served. served ≢ ticket) }
 {
     let served = top.load::<Look<V>>(seat, SERVED);
     if served != ticket {

@@ -79,11 +79,11 @@ fn each_job_runs_once(rt: HostRuntime) -> Result<(), Fail> {
 }
 
 #[test]
-fn sixteen_jobs_are_inside_at_once(rt: HostRuntime) -> Result<(), Fail> {
+fn seventeen_jobs_are_inside_at_once(rt: HostRuntime) -> Result<(), Fail> {
     let inside = AtomicU64::new(0);
-    let mut jobs = [false; 16].map(|met| Meets {
+    let mut jobs = [false; 17].map(|met| Meets {
         inside: &inside,
-        jobs: 16,
+        jobs: 17,
         met,
     });
     run_jobs(&rt, &mut jobs);

@@ -119,10 +119,13 @@ fn mints_and_wallets_have_their_bytes(rt: HostRuntime) -> Result<(), Fail> {
     let mint = make_mint(rt.alloc(), 258, 6)?;
     assert_eq!(rt; mint.len(), 82);
     check_mint(&mint)?;
+    let fine = make_mint(rt.alloc(), 1, 255)?;
+    check_mint(&fine)?;
     let wallet = make_wallet(rt.alloc(), address(b'b'), address(b'u'), 1_000)?;
     assert_eq!(rt; wallet.len(), 165);
     check_wallet(&wallet)?;
     for (bytes, place, byte) in [
+        (&fine, 44, 255),
         (&mint, 35, 0),
         (&mint, 36, 2),
         (&mint, 37, 1),

@@ -39,6 +39,17 @@ fn cell(rt: &impl Abort, alloc: Global, room: usize) -> Result<(WalletCell, Parc
 }
 
 #[test]
+fn a_cell_without_room_takes_no_movement(rt: HostRuntime) -> Result<(), Fail> {
+    let (cell, rest) = cell(&rt, rt.alloc(), 0)?;
+    assert_eq!(rt; cell.spare(), 0);
+    let (bytes, entries) = cell.into_parts();
+    assert_eq!(rt; bytes.as_slice(), account().as_slice());
+    assert!(rt; entries.is_empty());
+    rest.give_up();
+    Ok(())
+}
+
+#[test]
 fn amounts_move_as_parcels(rt: HostRuntime) -> Result<(), Fail> {
     let (mut cell, rest) = cell(&rt, rt.alloc(), 2)?;
     assert!(rt; cell.spare() == 2);

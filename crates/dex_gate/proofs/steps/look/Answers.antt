@@ -7,7 +7,7 @@ pub load-served-requires : goal.load-served-requires
 load-served-requires g c = (search rules, search rules, looks_at _ _ _ _ _ _ _ _ _ _ c.requires.waiting.1)
 
 pub returns-then-served-ticket : goal.returns-then-served-ticket
-returns-then-served-ticket g c = record { table = c.load-served.ensures.0; took = tt; kept = (c.load-served.ensures.2 _ _ c.requires.waiting.1).1 c.if-served-ticket.true }
+returns-then-served-ticket g c = record { table = c.load-served.ensures.0; took = tt; kept = (c.load-served.ensures.2 _ _ c.requires.waiting.1).1 c.if-served-ticket.true; other = c.if-served-ticket.true }
 
 pub exchange-requires : goal.exchange-requires
 exchange-requires g c = let took = (c.load-served.ensures.2 _ _ c.requires.waiting.1).0 c.if-served-ticket.false in (search rules, in_hand _ _ _ took.1)

@@ -1,0 +1,10 @@
+pub mod ListLaws
+pub mod SlotLaws
+pub mod EventLaws
+pub mod FundLaws
+pub mod TraderFrom
+pub mod MarketForm
+pub mod SoundLaw
+pub mod NoneLaw
+pub mod ReadLaws
+pub mod FinalLaws

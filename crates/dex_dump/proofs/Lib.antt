@@ -1,0 +1,3 @@
+pub mod TextLaws
+pub mod ReadingLaws
+pub mod AnswerLaws

@@ -1,0 +1,38 @@
+-- The text of rows, one after the other.
+use Rattle.std.proofs.Common.{◌≡◌, ◌<◌, ◌+◌, [], ◌∷◌, ◌++◌, ◌∙◌, ℕ, List, append_assoc, append-nil, refl, sym, ap, map, take, get_or, length}
+use Rattle.std.specs.List.{flat_map}
+use Rattle.std.proofs.lemmas.List.{map-append, map_more}
+use Rattle.std.proofs.lemmas.Grind.{flat_map-append}
+use Rattle.dex_dump.specs.DumpText.{Fields, line_text, lines_text}
+
+-- the text of rows is that of a front and of the rest
+pub lines_text-append : (rows others : List Fields) → lines_text (rows ++ others) ≡ lines_text rows ++ lines_text others
+unfolding lines_text
+lines_text-append [] others = refl
+lines_text-append (row ∷ rows) others =
+    ap (λ (t : List ℕ). line_text row ++ t) (lines_text-append rows others) ∙ sym (append_assoc (line_text row) (lines_text rows) (lines_text others))
+
+-- the text of one row
+pub lines_text-one : (row : Fields) → lines_text (row ∷ []) ≡ line_text row
+unfolding lines_text
+lines_text-one row = append-nil (line_text row)
+
+-- a text with the row of one element more
+pub lines_more : {A B : Type 0} (row : B → Fields) (plain : A → B) (text before : List ℕ) (xs : List A) (i : ℕ) (x : A) → i < length xs
+    → x ≡ get_or xs i x → before ≡ text ++ lines_text (map row (map plain (take i xs)))
+    → before ++ line_text (row (plain x)) ≡ text ++ lines_text (map row (map plain (take (i + 1) xs)))
+lines_more row plain text before xs i x h here e =
+    rw (e, map_more plain xs i x, ← here, map-append row, lines_text-append, lines_text-one) (append_assoc text _ _)
+
+-- the same where an element has several rows
+pub rows_more : {A B : Type 0} (rows : B → List Fields) (plain : A → B) (text before : List ℕ) (xs : List A) (i : ℕ) (x : A) → i < length xs
+    → x ≡ get_or xs i x → before ≡ text ++ lines_text (flat_map rows (map plain (take i xs)))
+    → before ++ lines_text (rows (plain x)) ≡ text ++ lines_text (flat_map rows (map plain (take (i + 1) xs)))
+rows_more rows plain text before xs i x h here e =
+    rw (e, map_more plain xs i x, ← here, flat_map-append rows, lines_text-append) (rw append-nil (append_assoc text _ _))
+
+-- pieces that are written one behind the other
+pub pieces : (t a b c d e f g h : List ℕ)
+    → (((((((t ++ a) ++ b) ++ c) ++ d) ++ e) ++ f) ++ g) ++ h ≡ t ++ (a ++ (b ++ (c ++ (d ++ (e ++ (f ++ (g ++ h)))))))
+pieces t a b c d e f g h =
+    append_assoc _ g h ∙ append_assoc _ f (g ++ h) ∙ append_assoc _ e _ ∙ append_assoc _ d _ ∙ append_assoc _ c _ ∙ append_assoc _ b _ ∙ append_assoc t a _

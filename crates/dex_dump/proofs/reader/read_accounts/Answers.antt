@@ -1,0 +1,7 @@
+use Rattle.dex_dump.proofs.AnswerLaws.{stops}
+use Rattle.dex_dump.proofs.reader.read_accounts.Goals as goal
+
+pub returns-in-Err : goal.returns-in-Err
+returns-in-Err c =
+    stops c.in-Err.error c.rows.number _ _ _ c.args.rows.now c.rows.rows c.next_row.new.self c.next_row.new.self
+    c.in-Err.ensures (rw c.in-Some.is at c.in_ok-row.ensures.next) c.rows.invariant

@@ -1,0 +1,30 @@
+use Rattle.std.proofs.Common.{[], ◌∷◌}
+use Rattle.std.specs.String.{string_bytes}
+use Rattle.dex_dump.specs.DumpText.{base64_text, behind_first}
+use Rattle.dex_dump.proofs.TextLaws.{pieces}
+use Rattle.dex_dump.proofs.writing.write_market_fields.Goals as goal
+
+pub returns : goal.returns
+unfolding behind_first
+returns c =
+    let m = c.args.market.now in
+    rw (
+      c.in_ok-end_row.ensures,
+      c.in_ok-write_bytes-7.ensures,
+      c.in_ok-write_bytes-6.ensures,
+      c.in_ok-write_bytes-5.ensures,
+      c.in_ok-write_bytes-4.ensures,
+      c.in_ok-write_bytes-3.ensures,
+      c.in_ok-write_bytes-2.ensures,
+      c.in_ok-write_bytes.ensures,
+      c.deref.ensures.value,
+      c.deref-2.ensures.value,
+      c.deref-3.ensures.value,
+      c.deref-4.ensures.value,
+      c.deref-5.ensures.value,
+      c.deref-6.ensures.value,
+      c.deref-7.ensures.value,
+    )
+    (pieces (string_bytes c.args.text.now) (44 ∷ base64_text m.market.items) (44 ∷ base64_text m.coin_vault.items)
+    (44 ∷ base64_text m.pc_vault.items) (44 ∷ base64_text m.requests.items) (44 ∷ base64_text m.events.items)
+    (44 ∷ base64_text m.bids.items) (44 ∷ base64_text m.asks.items) (10 ∷ []))

@@ -1,0 +1,86 @@
+-- What the answer of a call about a row tells, without its buffers.
+use Rattle.std.specs.Prelude.{◌≡◌, ℕ, Bool, true, false, List, Option, Some, None, Result, Ok, Err}
+use Rattle.dex_types.specs.declared.account_bytes.Accounts.{Accounts}
+use Rattle.dex_types.specs.declared.account_bytes.Named.{Named}
+use Rattle.dex_types.specs.Accounts.{PlainAccount, accounts_of, market_accounts_of, named_of, orders_account_of}
+use Rattle.dex_dump.specs.declared.lines.Line.{Line}
+use Rattle.dex_dump.specs.declared.lines.Line.TheVariants as row
+use Rattle.dex_dump.specs.declared.lines.LineError.{LineError}
+use Rattle.dex_dump.specs.declared.lines.LineError.TheVariants.{Grammar, NoMemory}
+use Rattle.dex_dump.specs.declared.reading.Reading.{Reading}
+use Rattle.dex_dump.specs.declared.checks.Failed.{Failed}
+use Rattle.dex_dump.specs.declared.reading.Stop.{Stop}
+use Rattle.dex_dump.specs.declared.reading.Stop.TheVariants as stop
+use Rattle.dex_dump.specs.declared.faults.DumpError.{DumpError}
+use Rattle.dex_dump.specs.declared.faults.DumpError.TheVariants as dump
+use Rattle.dex_dump.specs.declared.reader.DumpRead.{DumpRead}
+use Rattle.dex_dump.specs.Answers.{Adds, Answers, AnswersDump, AnswersText, Ends, PlainDump, stated}
+use Rattle.dex_dump.specs.DumpText.{Fields}
+use Rattle.dex_dump.specs.Checks.{AccountCheck, AllHold, FirstFails, checks}
+use Rattle.dex_dump.specs.Lines.{PlainLine}
+use Rattle.dex_dump.specs.Lines.PlainLine.{Mint, Srm, Msrm, Wallet, Market, Orders, End}
+use Rattle.dex_dump.specs.Reading.{PlainReading, after_line, start}
+
+-- a line without its buffers
+abbrev pub plain_line : Line → PlainLine
+plain_line (row.Mint mint) = Mint (named_of mint)
+plain_line (row.Srm mint) = Srm mint
+plain_line (row.Msrm mint) = Msrm mint
+plain_line (row.Wallet wallet) = Wallet (named_of wallet)
+plain_line (row.Market market) = Market (market_accounts_of market)
+plain_line (row.Orders market account) = Orders market (orders_account_of account)
+plain_line row.End = End
+
+-- The answer is what is meant: a line, or that the row has none of the forms. Want of memory tells nothing.
+abbrev pub TellsLine : Result Line LineError → Option PlainLine → Type 0
+TellsLine (Ok line) meant = meant ≡ Some (plain_line line)
+TellsLine (Err Grammar) meant = meant ≡ None
+TellsLine (Err NoMemory) meant = Unit {0}
+
+-- the same of an account
+abbrev pub TellsAccount : Result Named LineError → Option PlainAccount → Type 0
+TellsAccount (Ok account) meant = meant ≡ Some (named_of account)
+TellsAccount (Err Grammar) meant = meant ≡ None
+TellsAccount (Err NoMemory) meant = Unit {0}
+
+-- what was read
+abbrev pub plain_reading : Reading → PlainReading
+plain_reading reading = record { accounts = accounts_of reading.accounts; taken = reading.taken.items }
+
+-- all checks hold, or the first that fails is told
+abbrev pub TellsChecks : Result (Unit {0}) Failed → List AccountCheck → Type 0
+TellsChecks (Ok _) checks = AllHold checks
+TellsChecks (Err failed) checks = FirstFails checks failed.account failed.fault
+
+-- the checks of a line hold and it is added, or the first that fails is told. Want of memory tells nothing
+abbrev pub TakesLine : Result (Unit {0}) Stop → PlainReading → PlainReading → PlainLine → Type 0
+TakesLine (Ok _) old new line = AllHold (checks old line) × (new ≡ after_line old line)
+TakesLine (Err (stop.Failed failed)) old new line = FirstFails (checks old line) failed.account failed.fault
+TakesLine (Err stop.NoMemory) old new line = Unit {0}
+
+-- a row is added, or it is the last, or it is the first faulty one. Want of memory tells nothing
+abbrev pub TellsRow : Result Bool DumpError → ℕ → PlainReading → PlainReading → Fields → Type 0
+TellsRow (Ok true) number old new row = (stated old row ≡ Some End) × (new ≡ old)
+TellsRow (Ok false) number old new row = Adds old row new
+TellsRow (Err (dump.Refused fault)) number old new row = (behind : List Fields) → Ends number old row behind (Err fault)
+TellsRow (Err dump.NoMemory) number old new row = Unit {0}
+
+-- what was read of a dump, with the rows that are left
+abbrev pub plain_dump : DumpRead → List Fields → PlainDump
+plain_dump read left = record { accounts = accounts_of read.accounts; count = read.count; behind = left }
+
+-- the answer to the rows behind the first, to the rows of a dump, and to a text. Want of memory tells nothing
+abbrev pub TellsAccounts : Result DumpRead DumpError → List Fields → List Fields → Type 0
+TellsAccounts (Ok read) rows left = Answers 2 start rows (Ok (plain_dump read left))
+TellsAccounts (Err (dump.Refused fault)) rows left = Answers 2 start rows (Err fault)
+TellsAccounts (Err dump.NoMemory) rows left = Unit {0}
+
+abbrev pub TellsDump : Result DumpRead DumpError → List Fields → List Fields → Type 0
+TellsDump (Ok read) rows left = AnswersDump rows (Ok (plain_dump read left))
+TellsDump (Err (dump.Refused fault)) rows left = AnswersDump rows (Err fault)
+TellsDump (Err dump.NoMemory) rows left = Unit {0}
+
+abbrev pub TellsText : Result Accounts DumpError → List ℕ → Type 0
+TellsText (Ok accounts) text = AnswersText text (Ok (accounts_of accounts))
+TellsText (Err (dump.Refused fault)) text = AnswersText text (Err fault)
+TellsText (Err dump.NoMemory) text = Unit {0}

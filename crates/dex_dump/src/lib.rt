@@ -1,0 +1,19 @@
+//! Dumps: all accounts of the exchange as rows of text, written and read.
+#![tactic(auto)]
+
+mod checks;
+pub mod faults;
+mod lines;
+mod reader;
+mod reading;
+mod writing;
+
+pub use dex_make::{
+    MarketPart, MarketSet, a_made_market_is_sound,
+    accounts_with_blank_ones_stand_for_the_market_with_them, derived, make_market, make_mint,
+    make_orders, make_wallet, parts_have_addresses_of_their_own,
+};
+pub use faults::{DumpError, DumpFault};
+pub use lines::is_first_row;
+pub use reader::{DumpRead, read_dump, read_rows};
+pub use writing::{append_dump, write_dump};

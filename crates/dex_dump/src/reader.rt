@@ -1,0 +1,131 @@
+//! Reading a dump.
+
+ghost use Rattle.std.specs.Prelude.{◌≡◌};
+ghost use Rattle.csv.specs.Records.{fields_of};
+ghost use Rattle.dex_dump.specs.Answers as spec;
+ghost use Rattle.dex_dump.specs.Telling.{TellsAccounts, TellsDump, TellsRow, TellsText, plain_reading};
+
+use crate::checks::Failed;
+use crate::faults::{DumpError, DumpFault};
+use crate::lines::{Line, LineError, is_first_row, line_of};
+use crate::reading::{Reading, Stop};
+use csv::ByteRecord;
+use dex_rows::records::Rows;
+use dex_types::{AccountFault, Accounts};
+use std::alloc::Global;
+use std::marker::Model;
+
+/// What the rows of a dump say: the accounts, and how many rows they are, with the first and the last.
+#[derive(Drop)]
+pub struct DumpRead {
+    pub accounts: Accounts,
+    pub count: u32,
+}
+
+/// The accounts of a dump, or its first faulty row.
+pub fn read_dump(alloc: Global, bytes: &[u8]) -> Result<Accounts, DumpError>
+    ensures { TellsText result bytes.now }
+{
+    let mut rows = Rows::new(alloc, bytes);
+    let dump = read_rows(alloc, &mut rows)?;
+    if rows.next_row()?.is_some() {
+        return Err(grammar_fault(next_number(dump.count)).into());
+    }
+    Ok(dump.accounts)
+}
+
+/// The accounts of a dump that the next rows of a text are, up to the row `enddump`, or its first faulty row. What stands
+/// behind it is not looked at.
+pub fn read_rows(alloc: Global, rows: &mut Rows<'_>) -> Result<DumpRead, DumpError>
+    ensures { TellsDump result rows.old rows.new }
+{
+    let Some(first) = rows.next_row()? else {
+        return Err(grammar_fault(1).into());
+    };
+    if !is_first_row(&first) {
+        return Err(grammar_fault(1).into());
+    }
+    read_accounts(alloc, rows)
+}
+
+// The accounts of the rows behind the first.
+fn read_accounts(alloc: Global, rows: &mut Rows<'_>) -> Result<DumpRead, DumpError>
+    ensures { TellsAccounts result rows.old rows.new }
+{
+    let mut reading = Reading::new(alloc);
+    let mut number = 2;
+    'rows: while let Some(row) = rows.next_row()? {
+        match read_row(alloc, &mut reading, number, &row) {
+            Ok(true) => {
+                return Ok(DumpRead {
+                    accounts: reading.accounts,
+                    count: number,
+                });
+            }
+            Ok(false) => number = next_number(number),
+            Err(error) => return Err(error),
+        }
+    }
+    Err(grammar_fault(number).into())
+}
+
+// Adds what a row states, or answers that it is the last.
+fn read_row(
+    alloc: Global,
+    reading: &mut Reading,
+    number: u32,
+    row: &ByteRecord,
+) -> Result<bool, DumpError>
+    ensures { TellsRow result number (plain_reading reading.old) (plain_reading reading.new) (fields_of row.now) }
+{
+    let line = match line_of(alloc, row) {
+        Ok(line) => line,
+        Err(LineError::Grammar) => return Err(DumpError::Refused(grammar_fault(number))),
+        Err(LineError::NoMemory) => return Err(DumpError::NoMemory),
+    };
+    if !reading.is_allowed(&line) {
+        return Err(DumpError::Refused(grammar_fault(number)));
+    }
+    if let Line::End = line {
+        return Ok(true);
+    }
+    match reading.take(line) {
+        Ok(()) => Ok(false),
+        Err(Stop::Failed(failed)) => Err(DumpError::Refused(fault_in(number, failed))),
+        Err(Stop::NoMemory) => Err(DumpError::NoMemory),
+    }
+}
+
+// The number of the row behind one. No dump has so many rows that it is not told.
+fn next_number(number: u32) -> u32
+    ensures { result ≡ spec.next_number number }
+{
+    number.saturating_add(1)
+}
+
+// A row that is none of a dump.
+fn grammar_fault(row: u32) -> DumpFault
+    ensures { result ≡ spec.grammar_fault row }
+{
+    DumpFault {
+        row,
+        account: None,
+        fault: AccountFault {
+            kind: 1,
+            place: 0,
+            found: 0,
+            wanted: 0,
+        },
+    }
+}
+
+// A fault of an account of a row.
+fn fault_in(row: u32, failed: Failed) -> DumpFault
+    ensures { result ≡ spec.fault_in row failed.account failed.fault }
+{
+    DumpFault {
+        row,
+        account: Some(failed.account),
+        fault: failed.fault,
+    }
+}

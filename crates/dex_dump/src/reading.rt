@@ -1,0 +1,271 @@
+//! What the rows of a dump have declared, and what one more row adds.
+
+ghost use Rattle.std.specs.Prelude.{◌≡◌, ◌<◌, [], ◌∷◌, ◌++◌, ◌&&◌, IfSome, OnOk, length, map, nat_lt};
+ghost use Rattle.std.specs.List.{list_any};
+ghost use Rattle.dex_types.specs.Accounts.{accounts_of, market_accounts_of, named_of, orders_account_of};
+ghost use Rattle.dex_types.specs.Addresses as addresses;
+ghost use Rattle.dex_market.specs.MarketAccount.{market_terms};
+ghost use Rattle.dex_dump.specs.Reading as spec;
+ghost use Rattle.dex_dump.specs.Lines.PlainLine.{Market, Mint, Orders, Wallet};
+ghost use Rattle.dex_dump.specs.Telling.{TakesLine, plain_line, plain_reading};
+ghost use Rattle.dex_dump.specs.declared.reading.Stop.TheVariants as stop;
+
+use crate::checks::{
+    Failed, address_in, by_rules, check_parts, market_rule, orders_rule, wallet_rule,
+};
+use crate::lines::Line;
+use dex_fields::market;
+use dex_token::check_mint;
+use dex_types::{Accounts, Address, MarketAccounts, Named, NoMemory, OrdersAccount, is_same};
+use std::alloc::{AllocFailed, Global};
+
+/// The accounts that rows have declared, and every address that is taken: those of these accounts, and those of each
+/// market's vaults, queues and sides.
+#[derive(Drop)]
+pub struct Reading {
+    pub(crate) accounts: Accounts,
+    pub(crate) taken: Vec<Address>,
+}
+
+/// Why a row was not added.
+#[derive(Clone, Copy, Debug, PartialEq, Eq)]
+pub enum Stop {
+    /// A check of one of its accounts fails.
+    Failed(Failed),
+    /// Memory was wanting.
+    NoMemory,
+}
+
+impl From<Failed> for Stop {
+    ghost from_gives = { λ failed e. e ≡ stop.Failed failed };
+
+    fn from(failed: Failed) -> Stop {
+        Stop::Failed(failed)
+    }
+}
+
+impl From<NoMemory> for Stop {
+    ghost from_gives = { λ _ e. e ≡ stop.NoMemory };
+
+    fn from(_error: NoMemory) -> Stop {
+        Stop::NoMemory
+    }
+}
+
+impl<T: Drop> From<AllocFailed<T>> for Stop {
+    ghost from_gives = { λ _ e. e ≡ stop.NoMemory };
+
+    fn from(_error: AllocFailed<T>) -> Stop {
+        Stop::NoMemory
+    }
+}
+
+/// Whether an address is one of these.
+pub fn is_among(address: Address, taken: &[Address]) -> bool
+    ensures { result ≡ spec.is_among address taken.now }
+{
+    taken.iter().any(|other| is_same(address, *other))
+}
+
+/// Whether a mint has this address.
+#[tactic(auto, using(crate::proofs::ReadingLaws::list_any_map))]
+pub fn is_mint(accounts: &Accounts, address: Address) -> bool
+    ensures { result ≡ spec.is_mint (accounts_of accounts.now) address }
+{
+    is_named(&accounts.mints, address)
+}
+
+fn is_named(accounts: &[Named], address: Address) -> bool
+    ensures { result ≡ list_any (λ account. addresses.is_same address account.address) accounts.now }
+{
+    accounts
+        .iter()
+        .any(|account| is_same(address, account.address))
+}
+
+impl Reading {
+    /// Before the first account.
+    pub fn new(alloc: Global) -> Reading
+        ensures { plain_reading result ≡ spec.start }
+    {
+        Reading {
+            accounts: Accounts {
+                mints: Vec::new(alloc),
+                srm: None,
+                msrm: None,
+                wallets: Vec::new(alloc),
+                markets: Vec::new(alloc),
+            },
+            taken: Vec::new(alloc),
+        }
+    }
+
+    /// Whether a row may state this behind what was read: it declares no address twice, names what earlier rows declare,
+    /// and passes no limit.
+    pub fn is_allowed(&self, line: &Line) -> bool
+        ensures { result ≡ spec.is_allowed (plain_reading self.now) (plain_line line.now) }
+    {
+        let accounts = &self.accounts;
+        match line {
+            Line::Mint(mint) => self.is_new(mint.address, accounts.mints.len(), 16),
+            Line::Srm(mint) => is_name(accounts, *mint, accounts.srm, accounts.msrm),
+            Line::Msrm(mint) => is_name(accounts, *mint, accounts.msrm, accounts.srm),
+            Line::Wallet(wallet) => self.is_new(wallet.address, accounts.wallets.len(), 256),
+            Line::Market(market) => self.is_new(market.address, accounts.markets.len(), 16),
+            Line::Orders(market, account) => {
+                !is_among(account.address, &self.taken) && has_room(*market, &accounts.markets)
+            }
+            Line::End => true,
+        }
+    }
+
+    fn is_new(&self, address: Address, count: usize, limit: usize) -> bool
+        ensures { result ≡ spec.is_new (plain_reading self.now) address count limit }
+    {
+        !is_among(address, &self.taken) && count < limit
+    }
+
+    /// Checks the accounts that a row states, and adds what it states.
+    #[tactic(auto, unfolding(crate::specs::Checks::checks))]
+    pub fn take(&mut self, line: Line) -> Result<(), Stop>
+        ensures { TakesLine result (plain_reading self.old) (plain_reading self.new) (plain_line line) }
+    {
+        match line {
+            Line::Mint(mint) => self.take_mint(mint),
+            Line::Srm(mint) => {
+                self.accounts.srm = Some(mint);
+                Ok(())
+            }
+            Line::Msrm(mint) => {
+                self.accounts.msrm = Some(mint);
+                Ok(())
+            }
+            Line::Wallet(wallet) => self.take_wallet(wallet),
+            Line::Market(market) => self.take_market(market),
+            Line::Orders(market, account) => self.take_orders(market, account),
+            Line::End => Ok(()),
+        }
+    }
+
+    #[tactic(auto, unfolding(crate::specs::Checks::checks))]
+    fn take_mint(&mut self, mint: Named) -> Result<(), Stop>
+        ensures { TakesLine result (plain_reading self.old) (plain_reading self.new) (Mint (named_of mint)) }
+    {
+        by_rules(mint.address, check_mint(&mint.bytes).err())?;
+        self.taken.push(mint.address)?;
+        self.accounts.mints.push(mint)?;
+        Ok(())
+    }
+
+    #[tactic(auto, unfolding(crate::specs::Checks::checks))]
+    fn take_wallet(&mut self, wallet: Named) -> Result<(), Stop>
+        ensures { TakesLine result (plain_reading self.old) (plain_reading self.new) (Wallet (named_of wallet)) }
+    {
+        by_rules(wallet.address, wallet_rule(&self.accounts, &wallet.bytes))?;
+        self.taken.push(wallet.address)?;
+        self.accounts.wallets.push(wallet)?;
+        Ok(())
+    }
+
+    #[tactic(auto, unfolding(crate::specs::Checks::checks))]
+    fn take_market(&mut self, market: MarketAccounts) -> Result<(), Stop>
+        ensures { TakesLine result (plain_reading self.old) (plain_reading self.new) (Market (market_accounts_of market)) }
+    {
+        let fault = market_rule(self, market.address, &market.market);
+        by_rules(market.address, fault)?;
+        check_parts(&market)?;
+        self.taken.push(market.address)?;
+        take_parts(&mut self.taken, &market.market)?;
+        self.accounts.markets.push(market)?;
+        Ok(())
+    }
+
+    #[tactic(auto, unfolding(crate::specs::Checks::checks))]
+    fn take_orders(&mut self, market: Address, account: OrdersAccount) -> Result<(), Stop>
+        ensures { TakesLine result (plain_reading self.old) (plain_reading self.new) (Orders market (orders_account_of account)) }
+    {
+        by_rules(account.address, orders_rule(market, &account.bytes))?;
+        self.taken.push(account.address)?;
+        add_orders(&mut self.accounts.markets, market, account)?;
+        Ok(())
+    }
+}
+
+/// Whether a row may give a name to a mint: the mint is declared and has not the other name, and no mint has this one.
+fn is_name(
+    accounts: &Accounts,
+    mint: Address,
+    named: Option<Address>,
+    other: Option<Address>,
+) -> bool
+    ensures { result ≡ spec.is_name (accounts_of accounts.now) mint named other }
+{
+    match (named, other) {
+        (Some(_), _) => false,
+        (None, None) => is_mint(accounts, mint),
+        (None, Some(other)) => is_mint(accounts, mint) && !is_same(mint, other),
+    }
+}
+
+/// Whether the first market of an address has room for one more open-orders account.
+fn has_room(address: Address, markets: &[MarketAccounts]) -> bool
+    ensures { result ≡ spec.has_room address (map market_accounts_of markets.now) }
+{
+    for market in markets {
+        if is_same(address, market.address) {
+            return market.orders.len() < 64;
+        }
+    }
+    false
+}
+
+/// Adds an open-orders account to the first market of an address.
+fn add_orders(
+    markets: &mut [MarketAccounts],
+    address: Address,
+    account: OrdersAccount,
+) -> Result<(), NoMemory>
+    ensures { OnOk result (map market_accounts_of markets.new
+        ≡ spec.with_orders address (orders_account_of account) (map market_accounts_of markets.old)) }
+{
+    for place in 0..markets.len() {
+        if is_same(address, markets[place].address) {
+            let market = &mut markets[place];
+            add_account(&mut market.orders, account)?;
+            return Ok(());
+        }
+    }
+    Ok(())
+}
+
+fn add_account(orders: &mut Vec<OrdersAccount>, account: OrdersAccount) -> Result<(), NoMemory>
+    ensures { OnOk result (orders.new.items ≡ orders.old.items ++ (account ∷ [])) }
+{
+    match orders.push(account) {
+        Ok(()) => Ok(()),
+        Err(_) => Err(NoMemory),
+    }
+}
+
+/// The addresses of a market's vaults, queues and sides are taken.
+fn take_parts(taken: &mut Vec<Address>, bytes: &[u8]) -> Result<(), NoMemory>
+    requires { length bytes.now ≡ 388 }
+    ensures { OnOk result (taken.new.items ≡ taken.old.items ++ spec.parts_of (market_terms bytes.now)) }
+{
+    take_address(taken, address_in(bytes, market::COIN_VAULT))?;
+    take_address(taken, address_in(bytes, market::PC_VAULT))?;
+    take_address(taken, address_in(bytes, market::REQ_Q))?;
+    take_address(taken, address_in(bytes, market::EVENT_Q))?;
+    take_address(taken, address_in(bytes, market::BIDS))?;
+    take_address(taken, address_in(bytes, market::ASKS))?;
+    Ok(())
+}
+
+fn take_address(taken: &mut Vec<Address>, address: Address) -> Result<(), NoMemory>
+    ensures { OnOk result (taken.new.items ≡ taken.old.items ++ (address ∷ [])) }
+{
+    match taken.push(address) {
+        Ok(()) => Ok(()),
+        Err(_) => Err(NoMemory),
+    }
+}

@@ -1,0 +1,183 @@
+//! Writing a dump.
+
+ghost use Rattle.std.specs.Prelude.{◌≡◌, [], ◌∷◌, ◌++◌, IfOk, OnOk, codes, map};
+ghost use Rattle.std.specs.List.{flat_map};
+ghost use Rattle.std.specs.String.{string_bytes};
+ghost use Rattle.dex_types.specs.Accounts.{accounts_of, market_accounts_of, named_of, orders_account_of};
+ghost use Rattle.dex_types.specs.Text.{address_text};
+ghost use Rattle.dex_dump.specs.DumpText.{base64_text, behind_first, dump_text, line_text, lines_text, market_fields, market_row, market_rows, mint_row, named_rows, orders_row, wallet_row};
+
+use base64::engine::general_purpose::STANDARD;
+use dex_types::{Accounts, Address, MarketAccounts, Named, NoMemory, OrdersAccount};
+use std::alloc::{AllocError, Global};
+use std::fmt::Write;
+
+/// The dump of all accounts: a row for each, in declared order, between the rows `dump` and `enddump`.
+///
+/// A mint, a wallet or an open-orders account is one field of base64, with the standard alphabet and padding; the row of
+/// a market has one for each of its seven accounts, and its open-orders accounts have rows behind it. The rows `srm` and
+/// `msrm` stand behind the mints, where such a mint is named.
+pub fn write_dump(alloc: Global, accounts: &Accounts) -> Result<Vec<u8>, NoMemory>
+    ensures { IfOk result (λ text. text.items ≡ dump_text (accounts_of accounts.now)) }
+{
+    let mut text = String::new(alloc);
+    match append_dump(&mut text, accounts) {
+        Ok(()) => Ok(text.into_bytes()),
+        Err(_) => Err(NoMemory),
+    }
+}
+
+/// Writes the dump of all accounts behind a text. Where memory is wanting, a part of it may have been written.
+pub fn append_dump(text: &mut String, accounts: &Accounts) -> Result<(), AllocError>
+    ensures { OnOk result (string_bytes text.new ≡ string_bytes text.old ++ dump_text (accounts_of accounts.now)) }
+{
+    write_word(text, "dump\n")?;
+    write_mints(text, &accounts.mints)?;
+    write_name(text, "srm", accounts.srm)?;
+    write_name(text, "msrm", accounts.msrm)?;
+    write_wallets(text, &accounts.wallets)?;
+    write_markets(text, &accounts.markets)?;
+    write_word(text, "enddump\n")?;
+    Ok(())
+}
+
+fn write_mints(text: &mut String, mints: &[Named]) -> Result<(), AllocError>
+    ensures { OnOk result (string_bytes text.new ≡ string_bytes text.old ++ lines_text (map mint_row (map named_of mints.now))) }
+{
+    for mint in mints {
+        write_account(text, "mint", mint)?;
+    }
+    Ok(())
+}
+
+fn write_wallets(text: &mut String, wallets: &[Named]) -> Result<(), AllocError>
+    ensures { OnOk result (string_bytes text.new ≡ string_bytes text.old ++ lines_text (map wallet_row (map named_of wallets.now))) }
+{
+    for wallet in wallets {
+        write_account(text, "wallet", wallet)?;
+    }
+    Ok(())
+}
+
+fn write_markets(text: &mut String, markets: &[MarketAccounts]) -> Result<(), AllocError>
+    ensures { OnOk result (string_bytes text.new
+        ≡ string_bytes text.old ++ lines_text (flat_map market_rows (map market_accounts_of markets.now))) }
+{
+    for market in markets {
+        write_market(text, market)?;
+        write_orders(text, market.address, &market.orders)?;
+    }
+    Ok(())
+}
+
+fn write_orders(
+    text: &mut String,
+    market: Address,
+    accounts: &[OrdersAccount],
+) -> Result<(), AllocError>
+    ensures { OnOk result (string_bytes text.new
+        ≡ string_bytes text.old ++ lines_text (map (orders_row market) (map orders_account_of accounts.now))) }
+{
+    for account in accounts {
+        write_orders_account(text, market, account)?;
+    }
+    Ok(())
+}
+
+/// The row of a mint that has a name, if there is one.
+fn write_name(text: &mut String, word: &str, mint: Option<Address>) -> Result<(), AllocError>
+    ensures { OnOk result (string_bytes text.new ≡ string_bytes text.old ++ lines_text (named_rows word.now mint)) }
+{
+    let Some(mint) = mint else {
+        return Ok(());
+    };
+    write_word(text, word)?;
+    write_address(text, mint)?;
+    end_row(text)?;
+    Ok(())
+}
+
+/// The row of a mint or a wallet.
+fn write_account(text: &mut String, word: &str, account: &Named) -> Result<(), AllocError>
+    ensures { OnOk result (string_bytes text.new ≡ string_bytes text.old
+        ++ line_text (word.now ∷ address_text account.now.address ∷ base64_text account.now.bytes.items ∷ [])) }
+{
+    write_word(text, word)?;
+    write_address(text, account.address)?;
+    write_bytes(text, &account.bytes)?;
+    end_row(text)?;
+    Ok(())
+}
+
+/// The row of an open-orders account.
+fn write_orders_account(
+    text: &mut String,
+    market: Address,
+    account: &OrdersAccount,
+) -> Result<(), AllocError>
+    ensures { OnOk result (string_bytes text.new
+        ≡ string_bytes text.old ++ line_text (orders_row market (orders_account_of account.now))) }
+{
+    write_word(text, "orders")?;
+    write_address(text, market)?;
+    write_address(text, account.address)?;
+    write_bytes(text, &account.bytes)?;
+    end_row(text)?;
+    Ok(())
+}
+
+/// The row of a market, without its open-orders accounts.
+fn write_market(text: &mut String, market: &MarketAccounts) -> Result<(), AllocError>
+    ensures { OnOk result (string_bytes text.new
+        ≡ string_bytes text.old ++ line_text (market_row (market_accounts_of market.now))) }
+{
+    write_word(text, "market")?;
+    write_address(text, market.address)?;
+    write_address(text, market.authority)?;
+    write_market_fields(text, market)?;
+    Ok(())
+}
+
+/// The accounts of a market's row, and its end.
+fn write_market_fields(text: &mut String, market: &MarketAccounts) -> Result<(), AllocError>
+    ensures { OnOk result (string_bytes text.new
+        ≡ string_bytes text.old ++ behind_first (market_fields (market_accounts_of market.now))) }
+{
+    write_bytes(text, &market.market)?;
+    write_bytes(text, &market.coin_vault)?;
+    write_bytes(text, &market.pc_vault)?;
+    write_bytes(text, &market.requests)?;
+    write_bytes(text, &market.events)?;
+    write_bytes(text, &market.bids)?;
+    write_bytes(text, &market.asks)?;
+    end_row(text)?;
+    Ok(())
+}
+
+fn write_word(text: &mut String, word: &str) -> Result<(), AllocError>
+    ensures { OnOk result (string_bytes text.new ≡ string_bytes text.old ++ word.now) }
+{
+    text.push_str(word)
+}
+
+/// A comma, and an address.
+fn write_address(text: &mut String, address: Address) -> Result<(), AllocError>
+    ensures { OnOk result (string_bytes text.new ≡ string_bytes text.old ++ (44 ∷ address_text address)) }
+{
+    write!(text, ",{address}")
+}
+
+/// A comma, and the bytes of an account.
+#[tactic(auto, unfolding(crate::specs::DumpText::base64_text))]
+fn write_bytes(text: &mut String, bytes: &[u8]) -> Result<(), AllocError>
+    ensures { OnOk result (string_bytes text.new ≡ string_bytes text.old ++ (44 ∷ base64_text bytes.now)) }
+{
+    text.push(',')?;
+    STANDARD.encode_string(bytes, text)
+}
+
+fn end_row(text: &mut String) -> Result<(), AllocError>
+    ensures { OnOk result (string_bytes text.new ≡ string_bytes text.old ++ (10 ∷ [])) }
+{
+    text.push('\n')
+}

@@ -1,0 +1,9 @@
+use Rattle.std.proofs.Common.{◌≡◌, ◌++◌, map, take}
+use Rattle.std.specs.List.{flat_map}
+use Rattle.std.specs.String.{string_bytes}
+use Rattle.dex_report.specs.Outcomes.{market_journal_of, wallet_journal_of}
+use Rattle.dex_report.specs.Report.{entry_line, market_lines, move_line, wallet_lines}
+use Rattle.dex_report.proofs.report.write_wallets.Given as goal
+
+abbrev pub invariant-wallets : goal.invariant-wallets
+invariant-wallets l = string_bytes l.text ≡ string_bytes l.initial.text ++ flat_map wallet_lines (map wallet_journal_of (take l.journal-index l.journals))

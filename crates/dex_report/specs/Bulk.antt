@@ -1,0 +1,78 @@
+-- The summary of a large run.
+use Rattle.std.specs.Prelude.{◌≡◌, ℕ, Bool, true, false, not, List, [], ◌∷◌, ◌++◌, length, map, codes, count_by}
+use Rattle.std.specs.Fmt.{decimal}
+use Rattle.std.specs.List.{All, flat_map, sum_by}
+use Rattle.dex_types.specs.declared.addresses.Address.{Address}
+use Rattle.dex_types.specs.declared.movements.Entry.{Entry}
+use Rattle.dex_types.specs.declared.replies.Reply.{Reply}
+use Rattle.dex_types.specs.declared.replies.Reply.TheVariants.{Ordered, Took, Cancelled, Consumed, Settled, Swept, Done, Refused}
+use Rattle.dex_types.specs.Accounts.{PlainMarketAccounts}
+use Rattle.dex_types.specs.Market.{Market}
+use Rattle.dex_types.specs.Text.{address_text, label_address, spaced}
+use Rattle.dex_accounts.specs.Accepted.{IsAccepted}
+use Rattle.dex_accounts.specs.Decoded.{market_in}
+use Rattle.dex_report.specs.declared.bulk.BookCounts.{BookCounts}
+use Rattle.dex_report.specs.declared.bulk.MarketFunds.{MarketFunds}
+use Rattle.dex_report.specs.declared.bulk.MarketSummary.{MarketSummary}
+use Rattle.dex_report.specs.Lines.{line}
+use Rattle.dex_report.specs.Outcomes.{PlainMarketJournal, PlainOutcome}
+
+-- a reply is a refusal
+abbrev pub is_refusal : Reply → Bool
+is_refusal (Refused why) = true
+is_refusal (Ordered id slot lots pc fee rested) = false
+is_refusal (Took lots pc fee) = false
+is_refusal (Cancelled count) = false
+is_refusal (Consumed count) = false
+is_refusal (Settled coin pc referrer) = false
+is_refusal (Swept pc) = false
+is_refusal Done = false
+
+-- how many rows of a journal were refused, and how many were not
+abbrev pub refused_in : PlainMarketJournal → ℕ
+refused_in journal = count_by (λ (entry : Entry). is_refusal entry.reply) journal.entries
+
+abbrev pub accepted_in : PlainMarketJournal → ℕ
+accepted_in journal = count_by (λ (entry : Entry). not (is_refusal entry.reply)) journal.entries
+
+-- what the summary tells of a market
+abbrev pub summary_of : Market → MarketSummary
+summary_of m = record {
+  address = m.listing.address;
+  counts = record { bids = length m.bids; asks = length m.asks; events = length m.events };
+  funds = record { coin = m.coin_vault; pc = m.pc_vault; fees = m.pc_fees };
+}
+
+-- the resting bids and asks, and the pending events
+unfoldable pub counts_text : BookCounts → List ℕ
+counts_text counts = codes "bids" ++ spaced (decimal counts.bids) ++ codes " asks" ++ spaced (decimal counts.asks) ++ codes " events" ++ spaced (decimal counts.events)
+
+-- the two vaults, and the fees
+unfoldable pub funds_text : MarketFunds → List ℕ
+funds_text funds = codes "coin" ++ spaced (decimal funds.coin) ++ codes " pc" ++ spaced (decimal funds.pc) ++ codes " fees" ++ spaced (decimal funds.fees)
+
+-- the line of a market
+abbrev pub summary_line : MarketSummary → List ℕ
+summary_line s = line (codes "market" ++ spaced (address_text s.address) ++ spaced (counts_text s.counts) ++ spaced (funds_text s.funds))
+
+-- the market that these accounts tell
+abbrev pub market_line : PlainMarketAccounts → List ℕ
+market_line accounts = summary_line (summary_of (market_in accounts))
+
+-- the summary of an outcome: the number and the rows of the script, how many instructions were accepted and refused, and each market
+abbrev pub bulk_text : ℕ → ℕ → PlainOutcome → List ℕ
+bulk_text number rows outcome =
+    line (codes "bulk" ++ spaced (decimal number) ++ spaced (decimal rows))
+    ++ line (codes "accepted" ++ spaced (decimal (sum_by accepted_in outcome.markets)))
+    ++ line (codes "refused" ++ spaced (decimal (sum_by refused_in outcome.markets)))
+    ++ flat_map market_line outcome.accounts.markets
+
+-- the addresses of a made script's markets
+abbrev pub made_markets : List Address
+made_markets = label_address (codes "m0") ∷ label_address (codes "m1") ∷ []
+
+-- an outcome of a made script: its markets are the script's two, and their accounts are accepted
+pub record IsOfMade (outcome : PlainOutcome) : Type 0 where
+  pub journals : map (λ (journal : PlainMarketJournal). journal.address) outcome.markets ≡ made_markets
+  pub markets : map (λ (accounts : PlainMarketAccounts). accounts.address) outcome.accounts.markets ≡ made_markets
+  pub accepted : All IsAccepted outcome.accounts.markets

@@ -1,0 +1,17 @@
+//! The texts that a run of the exchange writes: the report of a replay, made scripts, and the summary of a large run.
+#![tactic(auto)]
+
+mod bulk;
+mod made;
+mod made_rows;
+mod made_setup;
+mod outcome;
+mod report;
+
+pub use bulk::bulk_text;
+pub use made::make_script;
+pub use outcome::{MarketJournal, Outcome, WalletJournal};
+pub use report::report_text;
+
+#[cfg(test)]
+mod tests;

@@ -1,0 +1,143 @@
+//! The report of a replay.
+
+ghost use Rattle.std.specs.Prelude.{◌≡◌, ◌++◌, IfOk, OnOk, Some, length, map};
+ghost use Rattle.std.specs.List.{flat_map};
+ghost use Rattle.std.specs.String.{string_bytes};
+ghost use Rattle.dex_report.specs.Outcomes.{market_journal_of, outcome_of, wallet_journal_of};
+ghost use Rattle.dex_report.specs.Report as texts;
+
+use crate::outcome::{MarketJournal, Outcome, WalletJournal};
+use dex_dump::append_dump;
+use dex_types::{Entry, Movement, NoMemory, WalletEntry};
+use std::alloc::{AllocError, Global};
+use std::fmt;
+use std::fmt::Write;
+
+/// The report of an outcome of so many rows, in one buffer: the number of rows, each market's journal, each wallet's,
+/// the dump of the last accounts, and the end.
+pub fn report_text(alloc: Global, outcome: &Outcome, rows: u32) -> Result<Vec<u8>, NoMemory>
+    ensures { IfOk result (λ text. text.items ≡ texts.report_text (outcome_of outcome.now) rows) }
+{
+    match report(alloc, outcome, rows) {
+        Ok(text) => Ok(text.into_bytes()),
+        Err(_) => Err(NoMemory),
+    }
+}
+
+fn report(alloc: Global, outcome: &Outcome, rows: u32) -> Result<String, AllocError>
+    ensures { IfOk result (λ text. string_bytes text ≡ texts.report_text (outcome_of outcome.now) rows) }
+{
+    let mut text = String::new(alloc);
+    write!(text, "report {rows}\n")?;
+    write_markets(&mut text, &outcome.markets)?;
+    write_wallets(&mut text, &outcome.wallets)?;
+    append_dump(&mut text, &outcome.accounts)?;
+    write!(text, "end\n")?;
+    Ok(text)
+}
+
+fn write_markets(text: &mut String, journals: &[MarketJournal]) -> Result<(), AllocError>
+    ensures { let lines = flat_map texts.market_lines (map market_journal_of journals.now) in
+        OnOk result (string_bytes text.new ≡ string_bytes text.old ++ lines) }
+{
+    'markets: for journal in journals {
+        write_market(text, journal)?;
+    }
+    Ok(())
+}
+
+fn write_market(text: &mut String, journal: &MarketJournal) -> Result<(), AllocError>
+    ensures { let lines = texts.market_lines (market_journal_of journal.now) in
+        OnOk result (string_bytes text.new ≡ string_bytes text.old ++ lines) }
+{
+    let market = journal.address;
+    let count = journal.entries.len();
+    write!(text, "market {market} {count}\n")?;
+    'entries: for entry in &journal.entries {
+        write!(text, "{}", EntryLine(*entry))?;
+    }
+    Ok(())
+}
+
+fn write_wallets(text: &mut String, journals: &[WalletJournal]) -> Result<(), AllocError>
+    ensures { let lines = flat_map texts.wallet_lines (map wallet_journal_of journals.now) in
+        OnOk result (string_bytes text.new ≡ string_bytes text.old ++ lines) }
+{
+    'wallets: for journal in journals {
+        write_wallet(text, journal)?;
+    }
+    Ok(())
+}
+
+fn write_wallet(text: &mut String, journal: &WalletJournal) -> Result<(), AllocError>
+    ensures { let lines = texts.wallet_lines (wallet_journal_of journal.now) in
+        OnOk result (string_bytes text.new ≡ string_bytes text.old ++ lines) }
+{
+    let wallet = journal.address;
+    let count = journal.entries.len();
+    write!(text, "wallet {wallet} {count}\n")?;
+    'moves: for entry in &journal.entries {
+        write!(text, "{}", MoveLine(*entry))?;
+    }
+    Ok(())
+}
+
+/// A movement behind a space, or nothing.
+#[derive(Clone, Copy)]
+struct MoveWords(Option<Movement>);
+
+impl fmt::Display for MoveWords {
+    ghost output = { λ words. Some (texts.move_text words.0) };
+
+    fn fmt<W: fmt::Write>(&self, f: &mut fmt::Formatter<W>) -> fmt::Result {
+        match self.0 {
+            Some(movement) => write!(f, " {movement}"),
+            None => Ok(()),
+        }
+    }
+}
+
+/// The line of an entry of a market's journal.
+#[derive(Clone, Copy)]
+struct EntryLine(Entry);
+
+impl fmt::Display for EntryLine {
+    ghost output = { λ l. Some (texts.entry_line l.0) };
+
+    fn fmt<W: fmt::Write>(&self, f: &mut fmt::Formatter<W>) -> fmt::Result {
+        let Entry {
+            lane,
+            row,
+            reply,
+            moves: [first, second, third, fourth],
+        } = self.0;
+        let first = MoveWords(first);
+        let second = MoveWords(second);
+        let third = MoveWords(third);
+        let fourth = MoveWords(fourth);
+        write!(
+            f,
+            "entry {lane} {row} {reply}{first}{second}{third}{fourth}\n"
+        )
+    }
+}
+
+/// The line of an entry of a wallet's journal.
+#[derive(Clone, Copy)]
+struct MoveLine(WalletEntry);
+
+impl fmt::Display for MoveLine {
+    ghost output = { λ l. Some (texts.move_line l.0) };
+
+    fn fmt<W: fmt::Write>(&self, f: &mut fmt::Formatter<W>) -> fmt::Result {
+        let WalletEntry {
+            market,
+            lane,
+            row,
+            kind,
+            amount,
+            before,
+        } = self.0;
+        write!(f, "move {market} {lane} {row} {kind} {amount} {before}\n")
+    }
+}
