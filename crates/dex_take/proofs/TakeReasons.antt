@@ -24,9 +24,12 @@ use Rattle.dex_ring.specs.Ring.{room_of}
 use Rattle.dex_reasons.proofs.FirstReasons.{first_of-early, first_of-late, first_of-one}
 use Rattle.dex_sound.proofs.FillLaws.{meet-leaving}
 use Rattle.dex_take.specs.declared.outlook.TakeOutlook.{TakeOutlook}
+use Rattle.dex_ring.specs.declared.leaving.Leaving.{Leaving}
+use Rattle.dex_ring.specs.Leaving.{leaving_of}
+use Rattle.dex_take.specs.declared.plan.DecidedTake.{DecidedTake}
 use Rattle.dex_take.specs.declared.plan.TakePlan.{TakePlan}
 use Rattle.dex_take.specs.TakeGiven.{TakeGiven, TakeRead, read_of}
-use Rattle.dex_take.specs.Taking.{IsForeseen, IsPending, IsWithin, at_bound, before_bound, leaving_after, meeting_in, plan_by, plan_in, reading_in, take_answer, take_reason, too_little_by, transfers_by, vault_after}
+use Rattle.dex_take.specs.Taking.{IsForeseen, IsWithin, at_bound, before_bound, leaving_after, left_in, meeting_in, plan_by, plan_in, reading_in, take_outcome, take_reason, too_little_by, transfers_by, vault_after}
 use Rattle.dex_take.specs.TakeTerms.{bare_take, take_of}
 use Rattle.dex_take.proofs.TakeAmounts.{IsGivenOf, bare-meeting, bare-plan, of_market, read-of}
 
@@ -97,11 +100,10 @@ too_full-paid side plan seen moved role is none =
 -- the reasons by a plan and by what was read are those of the take
 reasons-in : (side : Side) (t : Take) (parts : TakeRead) (seen : Seen)
     → before_bound side (plan_in side t parts) t.min_lots t.min_pc (length (meeting_in side t parts).events) (room_of parts.ring) seen
-    ++ at_bound side (plan_in side t parts) parts.words (all_leaving Coin parts.ring.events) (all_leaving Pc parts.ring.events)
-    ((meeting_in side t parts).lots * (sizes_of parts.words).coin) ((meeting_in side t parts).pc - (meeting_in side t parts).rebates)
+    ++ at_bound side (plan_in side t parts) parts.words (left_in side t parts)
     ≡ taking_reasons side t seen (reading_in side t seen parts)
 reasons-in side t parts seen =
-    rw (← (too_little-by side (sizes_of parts.words) t (meeting_in side t parts)), ← (leaving-base side t parts), ← (leaving-quote side t parts)) refl
+    rw (← (too_little-by side (sizes_of parts.words) t (meeting_in side t parts))) refl
 
 -- a take of too much base is refused for that
 pub answer-size : (side : Side) (t : Take) (parts : TakeRead) (seen : Seen) (why : Refusal) → ask_too_large side (sizes_of parts.words) t.lots ≡ Some why
@@ -115,25 +117,44 @@ pub answer-early : (side : Side) (t : Take) (parts : TakeRead) (seen : Seen) (wh
     → take_reason side t parts seen ≡ Some why
 answer-early side t parts seen why size is =
     let early : List (Option Refusal) = before_bound side (plan_in side t parts) t.min_lots t.min_pc (length (meeting_in side t parts).events) (room_of parts.ring) seen in
-    let late : List (Option Refusal) = at_bound side (plan_in side t parts) parts.words (all_leaving Coin parts.ring.events) (all_leaving Pc parts.ring.events)
-    ((meeting_in side t parts).lots * (sizes_of parts.words).coin) ((meeting_in side t parts).pc - (meeting_in side t parts).rebates) in
+    let late : List (Option Refusal) = at_bound side (plan_in side t parts) parts.words (left_in side t parts) in
     ap (λ (r : Option Refusal). first_of (r ∷ first_of (taking_reasons side t seen (reading_in side t seen parts)) ∷ [])) size
     ∙ first_of-one (first_of (taking_reasons side t seen (reading_in side t seen parts)))
     ∙ ap first_of (sym (reasons-in side t parts seen)) ∙ first_of-early early late why is
 
+abbrev the_sums : ℕ → ℕ → Leaving
+the_sums coin pc = record { coin = coin; pc = pc }
+
+abbrev pub decided_as : TakePlan → Leaving → DecidedTake
+decided_as plan left = record { plan = plan; leaving = left }
+
+-- what is pending with the take's own fills
+pub left-is : (side : Side) (t : Take) (parts : TakeRead) (now left : Leaving) (base quote : ℕ) → now ≡ leaving_of parts.ring.events
+    → base ≡ (meeting_in side t parts).lots * (sizes_of parts.words).coin → quote ≡ (meeting_in side t parts).pc - (meeting_in side t parts).rebates
+    → left.coin ≡ now.coin + by_side side base 0 → left.pc ≡ now.pc + by_side side 0 quote → left ≡ left_in side t parts
+left-is side t parts now left base quote is base_is quote_is coin pc =
+    let coin_is : left.coin ≡ all_leaving Coin parts.ring.events + by_side side ((meeting_in side t parts).lots * (sizes_of parts.words).coin) 0 =
+    coin ∙ ap (λ (l : Leaving). l.coin + by_side side base 0) is ∙ ap (λ k. all_leaving Coin parts.ring.events + by_side side k 0) base_is in
+    let pc_is : left.pc ≡ all_leaving Pc parts.ring.events + by_side side 0 ((meeting_in side t parts).pc - (meeting_in side t parts).rebates) =
+    pc ∙ ap (λ (l : Leaving). l.pc + by_side side 0 quote) is ∙ ap (λ k. all_leaving Pc parts.ring.events + by_side side 0 k) quote_is in
+    both left.coin left.pc (coin_is ∙ sym (leaving-base side t parts)) (pc_is ∙ sym (leaving-quote side t parts))
+  where
+    both : (x y : ℕ) → x ≡ leaving_after Coin parts (meeting_in side t parts) → y ≡ leaving_after Pc parts (meeting_in side t parts)
+        → the_sums x y ≡ left_in side t parts
+    both x y one two = rw (one, two) refl
+
 -- and else for the bound alone
-pub answer-late : (side : Side) (t : Take) (parts : TakeRead) (seen : Seen) (outlook : TakeOutlook) (coin pc base : ℕ)
-    → IsWithin side t parts seen → IsForeseen side t parts outlook → IsPending coin pc parts → base ≡ (meeting_in side t parts).lots * (sizes_of parts.words).coin
-    → answered (first_of (at_bound side outlook.plan parts.words coin pc base (outlook.sums.pc - outlook.sums.rebates))) outlook.plan ≡ take_answer side t parts seen
-answer-late side t parts seen outlook coin pc base within is pending base_is =
+pub outcome-late : (side : Side) (t : Take) (parts : TakeRead) (seen : Seen) (outlook : TakeOutlook) (left : Leaving)
+    → IsWithin side t parts seen → IsForeseen side t parts outlook → left ≡ left_in side t parts
+    → answered (first_of (at_bound side outlook.plan parts.words left)) (decided_as outlook.plan left) ≡ take_outcome side t parts seen
+outcome-late side t parts seen outlook left within is left_is =
     let early : List (Option Refusal) = before_bound side (plan_in side t parts) t.min_lots t.min_pc (length (meeting_in side t parts).events) (room_of parts.ring) seen in
-    let late : List (Option Refusal) = at_bound side (plan_in side t parts) parts.words (all_leaving Coin parts.ring.events) (all_leaving Pc parts.ring.events)
-    ((meeting_in side t parts).lots * (sizes_of parts.words).coin) ((meeting_in side t parts).pc - (meeting_in side t parts).rebates) in
+    let late : List (Option Refusal) = at_bound side (plan_in side t parts) parts.words (left_in side t parts) in
     let reasons : Option Refusal = first_of (taking_reasons side t seen (reading_in side t seen parts)) in
     let same : first_of late ≡ take_reason side t parts seen =
     sym (first_of-late early late within.rest) ∙ ap first_of (reasons-in side t parts seen) ∙ sym (first_of-one reasons)
     ∙ ap (λ (r : Option Refusal). first_of (r ∷ reasons ∷ [])) (sym within.size) in
-    rw (is.plan, is.pc, is.rebates, pending.coin_sum, pending.pc_sum, base_is) (ap (λ (r : Option Refusal). answered r (plan_in side t parts)) same)
+    rw (is.plan, left_is) (ap (λ (r : Option Refusal). answered r (decided_as (plan_in side t parts) (left_in side t parts))) same)
 
 -- what is foreseen of a taker's take without a least fill is foreseen of each one
 pub foreseen-bare : (taker : Taker) (min_lots min_pc : ℕ) (parts : TakeRead) (outlook : TakeOutlook) → IsForeseen taker.id_side (bare_take taker) parts outlook

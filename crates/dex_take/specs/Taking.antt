@@ -15,8 +15,11 @@ use Rattle.dex_laws.specs.Locks.{locked}
 use Rattle.dex_market.specs.MarketAccount.{MarketWords, sizes_of, vault_of}
 use Rattle.dex_match.specs.declared.order_terms.Taker.{Taker}
 use Rattle.dex_ring.specs.Appended.{HasRoom}
+use Rattle.dex_ring.specs.declared.leaving.Leaving.{Leaving}
+use Rattle.dex_ring.specs.Leaving.{leaving_of}
 use Rattle.dex_ring.specs.Ring.{room_of}
 use Rattle.dex_take.specs.declared.outlook.TakeOutlook.{TakeOutlook}
+use Rattle.dex_take.specs.declared.plan.DecidedTake.{DecidedTake}
 use Rattle.dex_take.specs.declared.plan.TakePlan.{TakePlan}
 use Rattle.dex_take.specs.Leaving.{CanExchange, kept_of}
 use Rattle.dex_take.specs.TakeGiven.{TakeRead}
@@ -87,6 +90,13 @@ take_reason side t read seen = why_taking side t seen (reading_in side t seen re
 abbrev pub take_answer : Side → Take → TakeRead → Seen → Result TakePlan Refusal
 take_answer side t read seen = answered (take_reason side t read seen) (plan_in side t read)
 
+-- the same with what pending makers' fills are still to take off totals once those of the take are pending too
+abbrev pub left_in : Side → Take → TakeRead → Leaving
+left_in side t read = leaving_of (read.ring.events ++ (meeting_in side t read).events)
+
+abbrev pub take_outcome : Side → Take → TakeRead → Seen → Result DecidedTake Refusal
+take_outcome side t read seen = answered (take_reason side t read seen) (record { plan = plan_in side t read; leaving = left_in side t read })
+
 -- what the side that is met locks fits 64 bits, and is in its vault
 pub record IsBacked (side : Side) (read : TakeRead) : Type 0 where
   pub fits : locked (opposite side) (sizes_in read) read.opposing < 2 ^ 64
@@ -109,11 +119,6 @@ pub record IsDecided (plan : TakePlan) (taker : Taker) (read : TakeRead) : Type 
   pub accepted : take_reason taker.id_side (take_of taker min_lots min_pc) read seen ≡ None
   pub planned : plan ≡ plan_in taker.id_side (take_of taker min_lots min_pc) read
 
--- the two sums are what pending makers' fills are still to take off totals
-pub record IsPending (coin pc : ℕ) (read : TakeRead) : Type 0 where
-  pub coin_sum : coin ≡ all_leaving Coin read.ring.events
-  pub pc_sum : pc ≡ all_leaving Pc read.ring.events
-
 -- what was foreseen of a take is what it does with what is read
 pub record IsForeseen (side : Side) (t : Take) (read : TakeRead) (outlook : TakeOutlook) : Type 0 where
   pub plan : outlook.plan ≡ plan_in side t read
@@ -132,10 +137,10 @@ before_bound side plan min_lots min_pc events room seen =
     ∷ too_full seen (transfers_by side plan) seen.pc
     ∷ []
 
-abbrev pub at_bound : Side → TakePlan → MarketWords → ℕ → ℕ → ℕ → ℕ → List (Option Refusal)
-at_bound side plan words coin pc base quote =
-    beyond (vault_after Coin (transfers_by side plan) words) (coin + by_side side base 0)
-    ∷ beyond (vault_after Pc (transfers_by side plan) words) (pc + by_side side 0 quote)
+abbrev pub at_bound : Side → TakePlan → MarketWords → Leaving → List (Option Refusal)
+at_bound side plan words leaving =
+    beyond (vault_after Coin (transfers_by side plan) words) leaving.coin
+    ∷ beyond (vault_after Pc (transfers_by side plan) words) leaving.pc
     ∷ []
 
 -- no reason before the bound holds against a take

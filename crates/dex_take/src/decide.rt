@@ -1,20 +1,24 @@
 //! Whether a take is accepted, and what it does then.
 
-ghost use Rattle.std.specs.Prelude.{◌≡◌, ◌<◌, ◌^◌, IfErr, IfOk, Some};
+ghost use Rattle.std.specs.Prelude.{◌≡◌, ◌<◌, ◌^◌, IfErr, IfOk, Option, Some};
 ghost use Rattle.dex_market.specs.MarketAccount.{IsMarket};
-ghost use Rattle.dex_ring.specs.Ring.{IsEventQueue};
+ghost use Rattle.dex_ring.specs.Leaving.{leaving_of};
+ghost use Rattle.dex_ring.specs.Ring.{IsEventQueue, ring_of};
+ghost use Rattle.dex_types.specs.declared.refusals.Refusal.{Refusal};
+ghost use Rattle.dex_types.specs.Reasons.{answered};
+ghost use Rattle.dex_take.specs.declared.plan.DecidedTake.{DecidedTake};
 ghost use Rattle.dex_take.specs.TakeGiven.{IsOfSound, read_of, shown};
 ghost use Rattle.dex_take.specs.TakeTerms.{take_of};
-ghost use Rattle.dex_take.specs.Taking.{IsBacked, IsForeseen, IsPending, IsWithin, sizes_in, take_answer, take_reason};
+ghost use Rattle.dex_take.specs.Taking.{IsBacked, IsForeseen, IsWithin, take_answer, take_outcome, take_reason};
 
 use crate::outlook::{TakeOutlook, outlook};
-use crate::plan::TakePlan;
+use crate::plan::{DecidedTake, TakePlan};
 use crate::reasons::{LeastFill, bound_reason, fill_reason};
 use dex_market::MarketRef;
 use dex_match::Taker;
-use dex_meet::{Leaving, pending_leaving};
+use dex_meet::{pending_leaving, with_fills};
 use dex_reasons::ask_too_large;
-use dex_ring::RingRef;
+use dex_ring::{Leaving, RingRef};
 use dex_types::{Refusal, Seen, SideRead};
 
 /// What becomes of a take, where no reason before the bound is against it.
@@ -46,8 +50,8 @@ fn foreseen<B: SideRead>(
     }
 }
 
-/// The plan of a take against which no reason before the bound holds, or the sum that would be too large; pending makers'
-/// fills are to take these two sums off totals.
+/// What is decided of a take against which no reason before the bound holds, or the sum that would be too large; these are
+/// the sums that pending makers' fills are still to take off totals.
 fn bounded<B: SideRead>(
     market: &MarketRef<'_>,
     opposite: &B,
@@ -57,19 +61,33 @@ fn bounded<B: SideRead>(
     seen: &Seen,
     outlook: &TakeOutlook,
     leaving: Leaving,
-) -> Result<TakePlan, Refusal>
+) -> Result<DecidedTake, Refusal>
     requires market { IsMarket market.now.bytes.now }
     requires backed { IsBacked taker.id_side (read_of (shown B.orders market.now opposite.now ring.now)) }
     requires foreseen { IsForeseen taker.id_side (take_of taker least.lots least.pc) (read_of (shown B.orders market.now opposite.now ring.now)) outlook.now }
     requires within { IsWithin taker.id_side (take_of taker least.lots least.pc) (read_of (shown B.orders market.now opposite.now ring.now)) seen.now }
-    requires pending { IsPending leaving.coin leaving.pc (read_of (shown B.orders market.now opposite.now ring.now)) }
+    requires pending { leaving ≡ leaving_of (ring_of ring.now.bytes.now).events }
     requires coin_small { leaving.coin < 2 ^ 80 }
     requires pc_small { leaving.pc < 2 ^ 80 }
-    ensures { result ≡ take_answer taker.id_side (take_of taker least.lots least.pc) (read_of (shown B.orders market.now opposite.now ring.now)) seen.now }
+    ensures { result ≡ take_outcome taker.id_side (take_of taker least.lots least.pc) (read_of (shown B.orders market.now opposite.now ring.now)) seen.now }
 {
-    match bound_reason(market, taker.id_side, market.sizes(), outlook, leaving) {
+    let left = with_fills(leaving, taker.id_side, market.sizes(), outlook.sums);
+    match bound_reason(market, taker.id_side, &outlook.plan, left) {
         Some(why) => Err(why),
-        None => Ok(outlook.plan),
+        None => Ok(DecidedTake {
+            plan: outlook.plan,
+            leaving: left,
+        }),
+    }
+}
+
+/// The plan alone.
+fn plan_of(decided: Result<DecidedTake, Refusal>) -> Result<TakePlan, Refusal>
+    ensures { (reason : Option Refusal) (d : DecidedTake) → decided ≡ answered reason d → result ≡ answered reason d.plan }
+{
+    match decided {
+        Ok(decided) => Ok(decided.plan),
+        Err(why) => Err(why),
     }
 }
 
@@ -90,7 +108,7 @@ pub(crate) fn decide<B: SideRead>(
 {
     match foreseen(market, opposite, ring, taker, least, seen) {
         Err(why) => Err(why),
-        Ok(outlook) => bounded(
+        Ok(outlook) => plan_of(bounded(
             market,
             opposite,
             ring,
@@ -99,7 +117,7 @@ pub(crate) fn decide<B: SideRead>(
             seen,
             &outlook,
             pending_leaving(ring),
-        ),
+        )),
     }
 }
 
@@ -135,7 +153,7 @@ pub fn decide_take<B: SideRead>(
 }
 
 /// The same where it is known what pending makers' fills are still to take off totals, in native base and in native quote:
-/// no pending event is read.
+/// no pending event is read, and what they are to take once the take is done is answered beside the plan.
 pub fn decide_take_with_leaving<B: SideRead>(
     market: &MarketRef<'_>,
     opposite: &B,
@@ -145,11 +163,11 @@ pub fn decide_take_with_leaving<B: SideRead>(
     min_pc: u64,
     seen: &Seen,
     leaving: &Leaving,
-) -> Result<TakePlan, Refusal>
+) -> Result<DecidedTake, Refusal>
     requires holds { B.holds opposite.now }
     requires parts { IsOfSound taker.now.id_side (shown B.orders market.now opposite.now ring.now) }
-    requires pending { IsPending leaving.now.coin leaving.now.pc (read_of (shown B.orders market.now opposite.now ring.now)) }
-    ensures { result ≡ take_answer taker.entry.now.id_side (take_of taker.entry.now min_lots min_pc)
+    requires leaving { leaving.now ≡ leaving_of (ring_of ring.now.bytes.now).events }
+    ensures { result ≡ take_outcome taker.entry.now.id_side (take_of taker.entry.now min_lots min_pc)
         (read_of (shown B.orders market.now opposite.now ring.now)) seen.now }
 {
     let least = LeastFill {

@@ -1,6 +1,6 @@
 //! Why a take is refused by what it would do.
 
-ghost use Rattle.std.specs.Prelude.{◌≡◌, ◌+◌, ◌-◌, ◌*◌, ◌<◌, ◌≤◌, ◌^◌};
+ghost use Rattle.std.specs.Prelude.{◌≡◌, ◌<◌, ◌≤◌, ◌^◌};
 ghost use Rattle.dex_market.specs.MarketAccount.{IsMarket, market_words, vault_of};
 ghost use Rattle.dex_take.specs.Taking.{at_bound, before_bound, too_little_by, transfers_by};
 ghost use Rattle.dex_types.specs.Reasons as reasons;
@@ -9,9 +9,9 @@ ghost use Rattle.dex_types.specs.Side.{Coin, Pc};
 use crate::outlook::TakeOutlook;
 use crate::plan::{TakePlan, exchange_of};
 use dex_market::MarketRef;
-use dex_meet::{Leaving, with_fills};
 use dex_reasons::{Payout, beyond, no_room, payer, short_of, too_full};
-use dex_types::{Lots, Refusal, Seen, Side};
+use dex_ring::Leaving;
+use dex_types::{Refusal, Seen, Side};
 
 /// What a take has to fill at least, in base lots and in native quote with its fee.
 #[derive(Clone, Copy)]
@@ -62,28 +62,23 @@ pub(crate) fn fill_reason(
 }
 
 /// The first vault, base before quote, that would be 2^64 or more with what pending makers' fills are then still to take
-/// off totals, where they are to take these two sums now.
+/// off totals, which are these two sums.
 pub(crate) fn bound_reason(
     market: &MarketRef<'_>,
     side: Side,
-    sizes: Lots,
-    outlook: &TakeOutlook,
+    plan: &TakePlan,
     leaving: Leaving,
 ) -> Option<Refusal>
     requires market { IsMarket market.now.bytes.now }
-    requires base { outlook.now.sums.lots * sizes.coin < 2 ^ 64 }
-    requires rebates { outlook.now.sums.rebates ≤ outlook.now.sums.pc }
-    requires coin { (transfers_by side outlook.now.plan).coin_out ≤ vault_of Coin (market_words market.now.bytes.now) }
-    requires pc { (transfers_by side outlook.now.plan).pc_out ≤ vault_of Pc (market_words market.now.bytes.now) }
-    requires coin_small { leaving.coin < 2 ^ 80 }
-    requires pc_small { leaving.pc < 2 ^ 80 }
-    ensures { result ≡ reasons.first_of (at_bound side outlook.now.plan (market_words market.now.bytes.now) leaving.coin leaving.pc
-        (outlook.now.sums.lots * sizes.coin) (outlook.now.sums.pc - outlook.now.sums.rebates)) }
+    requires coin { (transfers_by side plan.now).coin_out ≤ vault_of Coin (market_words market.now.bytes.now) }
+    requires pc { (transfers_by side plan.now).pc_out ≤ vault_of Pc (market_words market.now.bytes.now) }
+    requires coin_small { leaving.coin < 2 ^ 81 }
+    requires pc_small { leaving.pc < 2 ^ 81 }
+    ensures { result ≡ reasons.first_of (at_bound side plan.now (market_words market.now.bytes.now) leaving) }
 {
-    let moved = exchange_of(side, &outlook.plan);
+    let moved = exchange_of(side, plan);
     let vaults = market.vaults();
     let coin = vaults.coin + u128::from(moved.coin_in) - u128::from(moved.coin_out);
     let pc = vaults.pc + u128::from(moved.pc_in) - u128::from(moved.pc_out);
-    let left = with_fills(leaving, side, sizes, outlook.sums);
-    beyond(coin, left.coin).or(beyond(pc, left.pc))
+    beyond(coin, leaving.coin).or(beyond(pc, leaving.pc))
 }

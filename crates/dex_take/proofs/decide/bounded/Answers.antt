@@ -1,4 +1,4 @@
-use Rattle.std.proofs.Common.{◌≡◌, ◌∙◌, ◌*◌, Option, sym, ap, arith}
+use Rattle.std.proofs.Common.{◌≡◌, ◌∙◌, ◌*◌, ◌-◌, Option, sym, ap, arith}
 use Rattle.dex_types.specs.declared.refusals.Refusal.{Refusal}
 use Rattle.dex_types.specs.declared.terms.Lots.{Lots}
 use Rattle.dex_types.specs.Reasons.{answered}
@@ -7,11 +7,11 @@ use Rattle.dex_take.specs.TakeGiven.{given, read_of}
 use Rattle.dex_take.specs.TakeTerms.{take_of}
 use Rattle.dex_take.specs.Taking.{meeting_in, sizes_in, transfers_by}
 use Rattle.dex_take.proofs.TakeAmounts.{fits-take, lock-fits, paid-out, take-covers, take_fee-part}
-use Rattle.dex_take.proofs.TakeReasons.{answer-late}
+use Rattle.dex_take.proofs.TakeReasons.{decided_as, left-is, outcome-late}
 use Rattle.dex_take.proofs.decide.bounded.Goals as goal
 
-pub bound_reason-requires-clause-base : goal.bound_reason-requires-clause-base
-bound_reason-requires-clause-base g c =
+pub with_fills-left-requires-clause-base : goal.with_fills-left-requires-clause-base
+with_fills-left-requires-clause-base g c =
     let taker = c.args.taker in
     let t = take_of taker c.args.least.lots c.args.least.pc in
     let read = read_of (given c.args.market.now.bytes.now c.args.ring.now.bytes.now (g.B.SideRead.orders c.args.opposite.now)) in
@@ -20,8 +20,8 @@ bound_reason-requires-clause-base g c =
     ap (λ k. k * c.sizes.result.coin) c.requires.foreseen.lots ∙ ap (λ (s : Lots). (meeting_in taker.id_side t read).lots * s.coin) c.sizes.ensures in
     omega (arith, base, fits.base)
 
-pub bound_reason-requires-clause-rebates : goal.bound_reason-requires-clause-rebates
-bound_reason-requires-clause-rebates g c =
+pub with_fills-left-requires-clause-rebates : goal.with_fills-left-requires-clause-rebates
+with_fills-left-requires-clause-rebates g c =
     let taker = c.args.taker in
     let t = take_of taker c.args.least.lots c.args.least.pc in
     let read = read_of (given c.args.market.now.bytes.now c.args.ring.now.bytes.now (g.B.SideRead.orders c.args.opposite.now)) in
@@ -47,10 +47,15 @@ returns-in-Some g c =
     let t = take_of taker c.args.least.lots c.args.least.pc in
     let read = read_of (given c.args.market.now.bytes.now c.args.ring.now.bytes.now (g.B.SideRead.orders c.args.opposite.now)) in
     let o = c.args.outlook.now in
+    let left = c.with_fills-left.result in
     let base : o.sums.lots * c.sizes.result.coin ≡ (meeting_in taker.id_side t read).lots * (sizes_in read).coin =
     ap (λ k. k * c.sizes.result.coin) c.requires.foreseen.lots ∙ ap (λ (s : Lots). (meeting_in taker.id_side t read).lots * s.coin) c.sizes.ensures in
-    ap (λ (r : Option Refusal). answered r o.plan) (sym c.in-Some.is ∙ c.bound_reason.ensures)
-    ∙ answer-late taker.id_side t read c.args.seen.now o c.args.leaving.coin c.args.leaving.pc (o.sums.lots * c.sizes.result.coin) c.requires.within c.requires.foreseen c.requires.pending base
+    let quote : o.sums.pc - o.sums.rebates ≡ (meeting_in taker.id_side t read).pc - (meeting_in taker.id_side t read).rebates =
+    ap (λ k. k - o.sums.rebates) c.requires.foreseen.pc ∙ ap (λ k. (meeting_in taker.id_side t read).pc - k) c.requires.foreseen.rebates in
+    let is = left-is taker.id_side t read c.args.leaving left (o.sums.lots * c.sizes.result.coin) (o.sums.pc - o.sums.rebates) c.requires.pending base quote
+    c.with_fills-left.ensures.coin c.with_fills-left.ensures.pc in
+    ap (λ (r : Option Refusal). answered r (decided_as o.plan left)) (sym c.in-Some.is ∙ c.bound_reason.ensures)
+    ∙ outcome-late taker.id_side t read c.args.seen.now o left c.requires.within c.requires.foreseen is
 
 pub returns-in-None : goal.returns-in-None
 returns-in-None g c =
@@ -58,7 +63,12 @@ returns-in-None g c =
     let t = take_of taker c.args.least.lots c.args.least.pc in
     let read = read_of (given c.args.market.now.bytes.now c.args.ring.now.bytes.now (g.B.SideRead.orders c.args.opposite.now)) in
     let o = c.args.outlook.now in
+    let left = c.with_fills-left.result in
     let base : o.sums.lots * c.sizes.result.coin ≡ (meeting_in taker.id_side t read).lots * (sizes_in read).coin =
     ap (λ k. k * c.sizes.result.coin) c.requires.foreseen.lots ∙ ap (λ (s : Lots). (meeting_in taker.id_side t read).lots * s.coin) c.sizes.ensures in
-    ap (λ (r : Option Refusal). answered r o.plan) (sym c.in-None.is ∙ c.bound_reason.ensures)
-    ∙ answer-late taker.id_side t read c.args.seen.now o c.args.leaving.coin c.args.leaving.pc (o.sums.lots * c.sizes.result.coin) c.requires.within c.requires.foreseen c.requires.pending base
+    let quote : o.sums.pc - o.sums.rebates ≡ (meeting_in taker.id_side t read).pc - (meeting_in taker.id_side t read).rebates =
+    ap (λ k. k - o.sums.rebates) c.requires.foreseen.pc ∙ ap (λ k. (meeting_in taker.id_side t read).pc - k) c.requires.foreseen.rebates in
+    let is = left-is taker.id_side t read c.args.leaving left (o.sums.lots * c.sizes.result.coin) (o.sums.pc - o.sums.rebates) c.requires.pending base quote
+    c.with_fills-left.ensures.coin c.with_fills-left.ensures.pc in
+    ap (λ (r : Option Refusal). answered r (decided_as o.plan left)) (sym c.in-None.is ∙ c.bound_reason.ensures)
+    ∙ outcome-late taker.id_side t read c.args.seen.now o left c.requires.within c.requires.foreseen is
