@@ -17,7 +17,8 @@ use Rattle.dex_types.specs.Why.{payer, payer_mint, why_order_early, why_order_of
 use Rattle.dex_laws.proofs.TraderLaws.{is_same-refl}
 use Rattle.dex_orders.specs.OrdersAccount.{account_of}
 use Rattle.dex_sound.proofs.OrderSound.{order-sound}
-use Rattle.dex_match.specs.OrderParts.{AreOf, OrderGiven, parts_of}
+use Rattle.dex_match.specs.OrderParts.{OrderGiven, parts_of}
+use Rattle.dex_match.proofs.PartsLaws.{GivenOf}
 use Rattle.dex_match.specs.Ordering.{order_reason}
 use Rattle.dex_match.proofs.PartsLaws.{reason-is}
 
@@ -59,7 +60,7 @@ none-of : (early late : Option Refusal) → early ≡ None → late ≡ None →
 none-of early late first second = rw (first, second) refl
 
 -- an order that is not refused leaves the market sound
-pub decided-sound : (side : Side) (n : NewOrder) (given : OrderGiven) (m : Market) (balance : ℕ) → IsSound m → AreOf side n.owner given m → 1 ≤ n.price
+pub decided-sound : (side : Side) (n : NewOrder) (given : OrderGiven) (m : Market) (balance : ℕ) → IsSound m → GivenOf side n.owner given m → 1 ≤ n.price
     → order_reason side n (parts_of given) balance ≡ None
     → IsSound (after_order side (account_of given.account) n (order_on side m (account_of given.account) n) m)
 decided-sound side n given m balance sound are priced accepted =

@@ -14,7 +14,8 @@ use Rattle.dex_types.specs.declared.terms.Lots.{Lots}
 use Rattle.dex_types.specs.declared.terms.Side.{Side}
 use Rattle.dex_types.specs.Side.{opposite}
 use Rattle.dex_types.specs.Trader.{Account, Blank, Closed, Open}
-use Rattle.dex_match.specs.OrderParts.{AreSoundParts, OrderGiven}
+use Rattle.dex_match.specs.OrderParts.{OrderGiven}
+use Rattle.dex_match.proofs.PartsLaws.{SoundGiven}
 use Rattle.dex_market.specs.MarketAccount.{sizes_of}
 use Rattle.dex_match.proofs.FittingLaws.{locks-fit}
 
@@ -30,7 +31,7 @@ is-open bytes market account stands =
     (eqb-true _ _ (open-by (eqb (number_in bytes ACCOUNT_FLAGS) 5) (eqb (number_in bytes ACCOUNT_FLAGS) 256) (account_of bytes) account stands.stands))
 
 -- what the other side locks fits
-pub locks-given : (side : Side) (owner : Address) (given : OrderGiven) → AreSoundParts side owner given
+pub locks-given : (side : Side) (owner : Address) (given : OrderGiven) → SoundGiven side owner given
     → locked (opposite side) (sizes_of (market_words given.market)) given.opposing < 2 ^ 64
 locks-given side owner given whole =
     let sizes : sizes_of (market_words given.market) ≡ whole.market.listing.sizes = ap sizes_of whole.parts.market.words in

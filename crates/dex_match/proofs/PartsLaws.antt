@@ -1,5 +1,5 @@
 -- what is given of a market is read as the market is
-use Rattle.std.proofs.Common.{◌≡◌, ℕ, ◌+◌, ◌≤◌, List, Option, Some, sym, ap, ◌∙◌, arith}
+use Rattle.std.proofs.Common.{subst, refl, ◌≡◌, ℕ, ◌+◌, ◌≤◌, List, Option, Some, sym, ap, ◌∙◌, arith}
 use Rattle.dex_types.specs.declared.addresses.Address.{Address}
 use Rattle.dex_types.specs.declared.orders.Order.{Order}
 use Rattle.dex_types.specs.declared.rows.Seen.{Seen}
@@ -20,8 +20,60 @@ use Rattle.dex_market.specs.StandsFor.{words_of}
 use Rattle.dex_orders.specs.OrdersAccount.{account_of}
 use Rattle.dex_ring.specs.Ring.{Ring, ring_of}
 use Rattle.dex_ring.specs.StandsFor.{ring_of_market}
-use Rattle.dex_match.specs.OrderParts.{AreOf, OrderGiven, OrderParts, parts_of}
+use Rattle.dex_match.specs.OrderParts.{IsGiven, OrderGiven, OrderParts, given_by, order_given, parts_of}
+use Rattle.dex_accounts.specs.Parts.{AreOf, HasOpen, MarketParts}
+use Rattle.dex_accounts.proofs.PartLaws.{StandsForTrader-open, side_orders-parts, side_room-parts, trader_at-open}
+use Rattle.dex_market.specs.StandsFor.{StandsForMarket, StandsForRequests}
+use Rattle.dex_orders.specs.OrdersAccount.{IsOpen}
+use Rattle.dex_orders.specs.StandsFor.{StandsForTrader}
+use Rattle.dex_ring.specs.StandsFor.{StandsForEvents}
+use Rattle.dex_types.specs.Trader.{Open, trader_at}
 use Rattle.dex_match.specs.Ordering.{order_reason, ordering_in, reading_in, vault_after}
+
+-- what is handed is of this market, for an order of this side and owner
+pub record GivenOf (side : Side) (owner : Address) (given : OrderGiven) (m : Market) : Type 0 where
+  pub market : StandsForMarket given.market m
+  pub requests : StandsForRequests given.requests m
+  pub events : StandsForEvents given.events m
+  pub account : StandsForTrader given.account m.listing.address (Open (account_of given.account))
+  pub known : trader_at owner m.traders ≡ Some (Open (account_of given.account))
+  pub opened : IsOpen given.account
+  pub own : orders side m ≡ given.own
+  pub own_room : capacity side m ≡ given.own_room
+  pub opposing : orders (opposite side) m ≡ given.opposing
+
+-- of a sound one
+pub record SoundGiven (side : Side) (owner : Address) (given : OrderGiven) : Type 0 where
+  pub market : Market
+  pub sound : IsSound market
+  pub parts : GivenOf side owner given market
+
+pub given-of : (side : Side) (owner : Address) (bytes : List ℕ) (parts : MarketParts) (m : Market) → AreOf parts m → HasOpen owner bytes parts
+    → GivenOf side owner (order_given side bytes parts) m
+given-of side owner bytes parts m are has = record {
+  market = are.market;
+  requests = are.requests;
+  events = are.events;
+  account = StandsForTrader-open parts m are owner bytes has;
+  known = trader_at-open parts m are owner bytes has;
+  opened = has.accepted;
+  own = sym (side_orders-parts parts m are side);
+  own_room = sym (side_room-parts parts m are side);
+  opposing = sym (side_orders-parts parts m are (opposite side));
+}
+
+pub sound-given : (side : Side) (owner : Address) (given : OrderGiven) → IsGiven side owner given → SoundGiven side owner given
+sound-given side owner given is = record {
+  market = is.sound.market;
+  sound = is.sound.sound;
+  parts = subst (λ (g : OrderGiven). GivenOf side owner g is.sound.market) is.is (given-of side owner given.account is.whole is.sound.market is.sound.are is.has);
+}
+
+-- two that are the same part by part
+pub same-given : (market market' requests requests' events events' account account' : List ℕ) (own own' : List Order) (room room' : ℕ) (opposing opposing' : List Order)
+    → market ≡ market' → requests ≡ requests' → events ≡ events' → account ≡ account' → own ≡ own' → room ≡ room' → opposing ≡ opposing'
+    → given_by market requests events account own room opposing ≡ given_by market' requests' events' account' own' room' opposing'
+same-given market market' requests requests' events events' account account' own own' room room' opposing opposing' a b c d e f g = rw (a, b, c, d, e, f, g) refl
 
 abbrev parts_by : MarketWords → ℕ → Ring → Account → List Order → ℕ → List Order → OrderParts
 parts_by words next ring account own room opposing =
@@ -32,7 +84,7 @@ abbrev pub parts_in : Side → Market → Account → OrderParts
 parts_in side m account =
     parts_by (words_of m) m.next_sequence (ring_of_market m) account (orders side m) (capacity side m) (orders (opposite side) m)
 
-pub parts-are : (side : Side) (owner : Address) (given : OrderGiven) (m : Market) → AreOf side owner given m
+pub parts-are : (side : Side) (owner : Address) (given : OrderGiven) (m : Market) → GivenOf side owner given m
     → parts_of given ≡ parts_in side m (account_of given.account)
 parts-are side owner given m are =
     let account = account_of given.account in
@@ -44,7 +96,7 @@ parts-are side owner given m are =
     ∙ ap (λ o. parts_by (words_of m) m.next_sequence (ring_of_market m) account (orders side m) (capacity side m) o) (sym are.opposing)
 
 -- what is decided over what is given is what is decided on the market
-pub ordering-is : (side : Side) (n : NewOrder) (given : OrderGiven) (m : Market) → AreOf side n.owner given m
+pub ordering-is : (side : Side) (n : NewOrder) (given : OrderGiven) (m : Market) → GivenOf side n.owner given m
     → ordering_in side n (parts_of given) ≡ order_on side m (account_of given.account) n
 ordering-is side n given m are = ap (ordering_in side n) (parts-are side n.owner given m are)
 
@@ -82,7 +134,7 @@ reading-is side n m account balance seen wallet coin pc pays has =
     ∙ ap (λ v. reading (balance_of (payer side seen)) (vault Coin after) v) (vault-is Pc side m account n o coin pc)
 
 -- why an order is refused over what is given is why the market refuses it
-pub reason-is : (side : Side) (n : NewOrder) (given : OrderGiven) (m : Market) (balance : ℕ) (seen : Seen) (wallet : WalletSeen) → IsSound m → AreOf side n.owner given m
+pub reason-is : (side : Side) (n : NewOrder) (given : OrderGiven) (m : Market) (balance : ℕ) (seen : Seen) (wallet : WalletSeen) → IsSound m → GivenOf side n.owner given m
     → payer side seen ≡ Some wallet → wallet.balance ≡ balance
     → order_reason side n (parts_of given) balance ≡ why_ordering side n (order_reading side n seen m (account_of given.account))
 reason-is side n given m balance seen wallet sound are pays has =

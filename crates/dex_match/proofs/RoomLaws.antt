@@ -16,6 +16,7 @@ use Rattle.dex_types.specs.Owed.{order_lock}
 use Rattle.dex_types.specs.Reasons.{ask_too_large, first_of}
 use Rattle.dex_types.specs.Side.{Coin, Pc, id_of, opposite, sequence_of}
 use Rattle.dex_types.specs.Soundness.{IsProper, IsSound, held_at, held_by, order_holding}
+use Rattle.dex_types.specs.Why.{ordering_reasons, standing_reasons}
 use Rattle.dex_types.specs.Tokens.{is_same_side}
 use Rattle.dex_types.specs.Trader.{Account, Holding, Open, Trader, free_slot, trader_at}
 use Rattle.dex_laws.proofs.BookSideLaws.{IsApart, order_with-none}
@@ -31,9 +32,10 @@ use Rattle.dex_sound.proofs.OrderSoundReasons.{first_of-none, refused_where-none
 use Rattle.dex_sound.proofs.PlaceLaws.{is_same_side-true}
 use Rattle.dex_match.specs.declared.order_plan.OrderPlan.{OrderPlan}
 use Rattle.dex_match.specs.Applying.{AreFunds, CanMove, CanPay, CanPost, CanTakeIn, CanTrade, events_by, funds_with, got_by, intake_by, met_with, moves_by, spent_by}
-use Rattle.dex_match.specs.OrderParts.{AreOf, AreSoundParts, OrderGiven, OrderParts, parts_of}
+use Rattle.dex_match.specs.OrderParts.{OrderGiven, OrderParts, parts_of}
+use Rattle.dex_match.proofs.PartsLaws.{GivenOf, SoundGiven}
 use Rattle.dex_market.specs.MarketAccount.{sizes_of}
-use Rattle.dex_match.specs.Ordering.{IsDecided, early_reasons, late_reasons, order_reason, ordering_in, plan_by}
+use Rattle.dex_match.specs.Ordering.{IsDecided, limits_in, order_reason, ordering_in, plan_by}
 use Rattle.dex_match.proofs.DecidedSound.{decided-sound}
 use Rattle.dex_match.proofs.FittingLaws.{locks-fit, meeting-fits}
 use Rattle.dex_match.proofs.PartsLaws.{parts_in, parts-are}
@@ -60,16 +62,16 @@ lock-allowed : (side : Side) (sizes : Lots) (n : NewOrder) → n.max_pc < 2 ^ 64
 lock-allowed Bid sizes n small none = small
 lock-allowed Ask sizes n small none = leb-false (2 ^ 64) (n.lots * sizes.coin) (refused_where-none _ _ none)
 
-pub allowed : (side : Side) (n : NewOrder) (given : OrderGiven) (m : Market) (balance : ℕ) → IsSound m → AreOf side n.owner given m → 1 ≤ n.price → n.max_pc < 2 ^ 64
+pub allowed : (side : Side) (n : NewOrder) (given : OrderGiven) (m : Market) (balance : ℕ) → IsSound m → GivenOf side n.owner given m → 1 ≤ n.price → n.max_pc < 2 ^ 64
     → order_reason side n (parts_of given) balance ≡ None → IsAllowed side m (account_of given.account) n
 allowed side n given m balance sound are priced small accepted =
     let account : Account = account_of given.account in
     let parts : OrderParts = parts_in side m account in
     let o : Ordering = order_on side m account n in
     let none : order_reason side n parts balance ≡ None = subst (λ (p : OrderParts). order_reason side n p balance ≡ None) (parts-are side n.owner given m are) accepted in
-    let both = first_of-none (first_of (early_reasons side n parts) ∷ first_of (late_reasons side parts o balance) ∷ []) none in
-    let early = first_of-none (early_reasons side n parts) both.0 in
-    let late = first_of-none (late_reasons side parts o balance) both.1.0 in
+    let both = first_of-none (first_of (standing_reasons side n (sizes_of parts.words) parts.next_sequence parts.account) ∷ first_of (ordering_reasons o (limits_in side parts o balance)) ∷ []) none in
+    let early = first_of-none (standing_reasons side n (sizes_of parts.words) parts.next_sequence parts.account) both.0 in
+    let late = first_of-none (ordering_reasons o (limits_in side parts o balance)) both.1.0 in
     let slots : length account.slots ≡ 128 = sound.form.slots n.owner account are.known in
     record {
       slot = omega (arith, slots, free_slot-le account.slots, eqb-false (free_slot account.slots) 128 (refused_where-none _ _ early.0));
@@ -256,19 +258,19 @@ can-apply side m account n priced few sound known may = record {
 }
 
 -- and by what is given of the market
-pub given-apply : (side : Side) (n : NewOrder) (given : OrderGiven) (plan : OrderPlan) → 1 ≤ n.price → n.lots < 2 ^ 64 → n.max_pc < 2 ^ 64 → AreSoundParts side n.owner given
+pub given-apply : (side : Side) (n : NewOrder) (given : OrderGiven) (plan : OrderPlan) → 1 ≤ n.price → n.lots < 2 ^ 64 → n.max_pc < 2 ^ 64 → SoundGiven side n.owner given
     → IsDecided plan side n (parts_of given) → CanApply side n plan (parts_of given)
 given-apply side n given plan priced few small parts decided =
     let m : Market = parts.market in
     let account : Account = account_of given.account in
-    let are : AreOf side n.owner given m = parts.parts in
+    let are : GivenOf side n.owner given m = parts.parts in
     let may : IsAllowed side m account n = allowed side n given m decided.balance parts.sound are priced small decided.accepted in
     subst (λ (p : OrderPlan). CanApply side n p (parts_of given)) (sym decided.planned)
     (subst (λ (p : OrderParts). CanApply side n (plan_by n (ordering_in side n p)) p) (sym (parts-are side n.owner given m are))
     (can-apply side m account n priced few parts.sound are.known may))
 
 -- the funds by what is given
-pub given-funds : (side : Side) (n : NewOrder) (given : OrderGiven) (plan : OrderPlan) → AreSoundParts side n.owner given → IsDecided plan side n (parts_of given)
+pub given-funds : (side : Side) (n : NewOrder) (given : OrderGiven) (plan : OrderPlan) → SoundGiven side n.owner given → IsDecided plan side n (parts_of given)
     → funds_with side (moves_by side (sizes_of (parts_of given).words) n plan) (funds_of (account_of given.account))
     ≡ funds_of (account_after side (sizes_of (parts_of given).words) n (ordering_in side n (parts_of given)) (account_of given.account))
 given-funds side n given plan parts decided =

@@ -1,7 +1,6 @@
 -- What a new order leaves of the accounts: the market's words, the trader's funds, and the bytes that say so.
 use Rattle.std.specs.Prelude.{ℕ, ◌+◌, ◌-◌, ◌*◌, ◌^◌, ◌<◌, ◌≤◌, ◌==◌, List, [], ◌∷◌, ◌++◌, length, if◌then◌else◌}
 use Rattle.std.specs.List.{All}
-use Rattle.dex_fields.specs.declared.market.TheConstants.{COIN_DEPOSITS_TOTAL, PC_DEPOSITS_TOTAL, PC_FEES_ACCRUED, REFERRER_REBATES_ACCRUED}
 use Rattle.dex_fields.specs.declared.request_queue.TheConstants.{NEXT_SEQ_NUM}
 use Rattle.dex_fields.specs.Bytes.{with_number}
 use Rattle.dex_laws.specs.Locks.{locked}
@@ -17,7 +16,9 @@ use Rattle.dex_types.specs.Owed.{order_lock}
 use Rattle.dex_types.specs.Posting.{Posting, post}
 use Rattle.dex_types.specs.QueuedEvent.{QueuedEvent, TakerFill}
 use Rattle.dex_types.specs.Side.{by_side, lock, opposite, price_of}
+use Rattle.dex_market.specs.declared.funds.MarketFunds.{MarketFunds}
 use Rattle.dex_market.specs.MarketAccount.{MarketWords, market_words}
+use Rattle.dex_market.specs.MarketFunds.{with_funds, words_with_funds}
 use Rattle.dex_market.specs.RequestQueue.{next_sequence}
 use Rattle.dex_meet.specs.Prospects.{FitsSums}
 use Rattle.dex_ring.specs.Appended.{HasRoom}
@@ -49,28 +50,21 @@ intake_by side deposit fee rebates = record {
 abbrev pub intake_of : Side → NewOrder → Ordering → Intake
 intake_of side n o = intake_by side o.deposit (fee_of n o.met) o.met.rebates
 
--- the words of a market with an intake: what it earns of the fee leaves the deposits
-abbrev pub words_with : Intake → MarketWords → MarketWords
-words_with intake words = record words {
-  coin_deposits_total = words.coin_deposits_total + intake.coin;
-  pc_deposits_total = words.pc_deposits_total + intake.pc - (intake.fees + intake.referrer);
-  pc_fees_accrued = words.pc_fees_accrued + intake.fees;
-  referrer_rebates_accrued = words.referrer_rebates_accrued + intake.referrer;
+-- the market's funds with an intake: what it earns of the fee leaves the deposits
+abbrev pub funds_by : Intake → MarketWords → MarketFunds
+funds_by intake words = record {
+  coin_deposits = words.coin_deposits_total + intake.coin;
+  pc_deposits = words.pc_deposits_total + intake.pc - (intake.fees + intake.referrer);
+  pc_fees = words.pc_fees_accrued + intake.fees;
+  referrer_rebates = words.referrer_rebates_accrued + intake.referrer;
 }
 
--- its bytes, of which four words are written
+-- the words of a market with an intake, and its bytes
+abbrev pub words_with : Intake → MarketWords → MarketWords
+words_with intake words = words_with_funds (funds_by intake words) words
+
 abbrev pub bytes_with : Intake → List ℕ → List ℕ
-bytes_with intake bytes =
-    with_number
-    (with_number
-    (with_number
-    (with_number bytes COIN_DEPOSITS_TOTAL ((market_words bytes).coin_deposits_total + intake.coin))
-    PC_DEPOSITS_TOTAL
-    ((market_words bytes).pc_deposits_total + intake.pc - (intake.fees + intake.referrer)))
-    PC_FEES_ACCRUED
-    ((market_words bytes).pc_fees_accrued + intake.fees))
-    REFERRER_REBATES_ACCRUED
-    ((market_words bytes).referrer_rebates_accrued + intake.referrer)
+bytes_with intake bytes = with_funds (funds_by intake (market_words bytes)) bytes
 
 -- the words have room for an intake, and what is earned is in the deposits
 pub record CanTakeIn (intake : Intake) (words : MarketWords) : Type 0 where

@@ -3,6 +3,10 @@ use Rattle.std.specs.Prelude.{ℕ, ◌≡◌, ◌*◌, ◌^◌, ◌<◌, ◌≤�
 use Rattle.dex_types.specs.declared.orders.Order.{Order}
 use Rattle.dex_types.specs.declared.terms.Lots.{Lots}
 use Rattle.dex_types.specs.NewOrder.{Ordering, Standing, meeting_of, ordering_of}
+use Rattle.dex_ring.specs.declared.leaving.Leaving.{Leaving}
+use Rattle.dex_types.specs.QueuedEvent.{QueuedEvent}
+use Rattle.dex_types.specs.Side.{Coin, Pc}
+use Rattle.dex_types.specs.Solvency.{all_leaving}
 use Rattle.dex_types.specs.Trader.{Account}
 use Rattle.dex_match.specs.declared.foreseeing.Foreseen.{Foreseen}
 use Rattle.dex_match.specs.declared.order_terms.Taker.{Taker}
@@ -33,3 +37,10 @@ pub record Foretells (foreseen : Foreseen) (s : Standing) (account : Account) (t
   pub rebates : foreseen.sums.rebates ≡ (meeting_of taker.id_side s (order_of taker)).rebates
   pub base_fits : foreseen.sums.lots * s.sizes.coin < 2 ^ 64
   pub rebates_within : foreseen.sums.rebates ≤ foreseen.sums.pc
+
+-- the sums are what makers' fills among these events are to take off totals, and leave room for more
+pub record IsKnown (sums : Leaving) (events : List QueuedEvent) : Type 0 where
+  pub coin : sums.coin ≡ all_leaving Coin events
+  pub pc : sums.pc ≡ all_leaving Pc events
+  pub coin_small : sums.coin < 2 ^ 80
+  pub pc_small : sums.pc < 2 ^ 80

@@ -1,20 +1,16 @@
--- What a new order is given of a market, and which market that is of.
-use Rattle.std.specs.Prelude.{◌≡◌, ℕ, List, Some}
+-- What a new order is handed of a market, and what it reads of that.
+use Rattle.std.specs.Prelude.{◌≡◌, ℕ, List}
 use Rattle.dex_types.specs.declared.addresses.Address.{Address}
 use Rattle.dex_types.specs.declared.orders.Order.{Order}
 use Rattle.dex_types.specs.declared.terms.Side.{Side}
-use Rattle.dex_types.specs.Market.{Market, capacity, orders}
 use Rattle.dex_types.specs.NewOrder.{Standing}
 use Rattle.dex_types.specs.Side.{opposite}
-use Rattle.dex_types.specs.Soundness.{IsSound}
-use Rattle.dex_types.specs.Trader.{Account, Open, trader_at}
+use Rattle.dex_types.specs.Trader.{Account}
+use Rattle.dex_accounts.specs.Parts.{AreSoundParts, HasOpen, MarketParts, side_orders, side_room}
 use Rattle.dex_market.specs.MarketAccount.{MarketWords, market_words, sizes_of}
 use Rattle.dex_market.specs.RequestQueue.{next_sequence}
-use Rattle.dex_market.specs.StandsFor.{StandsForMarket, StandsForRequests}
 use Rattle.dex_orders.specs.OrdersAccount.{account_of}
-use Rattle.dex_orders.specs.StandsFor.{StandsForTrader}
 use Rattle.dex_ring.specs.Ring.{Ring, ring_of}
-use Rattle.dex_ring.specs.StandsFor.{StandsForEvents}
 
 -- the accounts' bytes, the orders of both sides, and the room of the order's own side
 pub record OrderGiven : Type 0 where
@@ -69,19 +65,21 @@ standing_in parts = record {
   opposing = parts.opposing;
 }
 
--- what is given is of this market, for an order of this side and owner
-pub record AreOf (side : Side) (owner : Address) (given : OrderGiven) (m : Market) : Type 0 where
-  pub market : StandsForMarket given.market m
-  pub requests : StandsForRequests given.requests m
-  pub events : StandsForEvents given.events m
-  pub account : StandsForTrader given.account m.listing.address (Open (account_of given.account))
-  pub known : trader_at owner m.traders ≡ Some (Open (account_of given.account))
-  pub own : orders side m ≡ given.own
-  pub own_room : capacity side m ≡ given.own_room
-  pub opposing : orders (opposite side) m ≡ given.opposing
+-- what an order of the side is handed of a market's parts, with these bytes of its account
+abbrev pub order_given : Side → List ℕ → MarketParts → OrderGiven
+order_given side account parts = record {
+  market = parts.market;
+  requests = parts.requests;
+  events = parts.events;
+  account = account;
+  own = side_orders side parts;
+  own_room = side_room side parts;
+  opposing = side_orders (opposite side) parts;
+}
 
--- the same of one sound market
-pub record AreSoundParts (side : Side) (owner : Address) (given : OrderGiven) : Type 0 where
-  pub market : Market
-  pub sound : IsSound market
-  pub parts : AreOf side owner given market
+-- what is handed is of one sound market, whose open account of the owner is among it
+pub record IsGiven (side : Side) (owner : Address) (given : OrderGiven) : Type 0 where
+  pub whole : MarketParts
+  pub sound : AreSoundParts whole
+  pub has : HasOpen owner given.account whole
+  pub is : order_given side given.account whole ≡ given

@@ -1,14 +1,17 @@
 -- Why a new order is refused, and what it does else, by what it is given alone.
-use Rattle.std.specs.Prelude.{◌≡◌, ℕ, ◌+◌, List, ◌++◌, Option, Some, None, Result, length}
+use Rattle.std.specs.Prelude.{◌≡◌, ℕ, ◌+◌, ◌++◌, Option, Some, None, Result, length}
 use Rattle.dex_types.specs.declared.refusals.Refusal.{Refusal}
 use Rattle.dex_types.specs.declared.terms.Side.{Side}
 use Rattle.dex_types.specs.NewOrder.{NewOrder, Ordering, fee_of, meeting_of, ordering_of}
 use Rattle.dex_types.specs.Reasons.{answered}
 use Rattle.dex_types.specs.Side.{Token, Coin, Pc, by_side, by_token}
 use Rattle.dex_types.specs.Solvency.{all_leaving}
-use Rattle.dex_types.specs.Why.{Limits, OrderReading, ordering_reasons, standing_reasons, why_ordering}
+use Rattle.dex_types.specs.Why.{Limits, OrderReading, why_ordering}
 use Rattle.dex_market.specs.MarketAccount.{sizes_of, vault_of}
 use Rattle.dex_ring.specs.Ring.{room_of}
+use Rattle.dex_ring.specs.declared.leaving.Leaving.{Leaving}
+use Rattle.dex_ring.specs.Leaving.{leaving_of}
+use Rattle.dex_match.specs.declared.order_plan.Decided.{Decided}
 use Rattle.dex_match.specs.declared.order_plan.OrderPlan.{OrderPlan}
 use Rattle.dex_match.specs.OrderParts.{OrderParts, standing_in}
 
@@ -56,14 +59,6 @@ reading_in side n parts balance = record {
   limits = limits_in side parts (ordering_in side n parts) balance;
 }
 
--- the reasons that ask for nothing of the book
-abbrev pub early_reasons : Side → NewOrder → OrderParts → List (Option Refusal)
-early_reasons side n parts = standing_reasons side n (sizes_of parts.words) parts.next_sequence parts.account
-
--- the reasons that ask for what the order would do
-abbrev pub late_reasons : Side → OrderParts → Ordering → ℕ → List (Option Refusal)
-late_reasons side parts o balance = ordering_reasons o (limits_in side parts o balance)
-
 -- why the order is refused
 abbrev pub order_reason : Side → NewOrder → OrderParts → ℕ → Option Refusal
 order_reason side n parts balance = why_ordering side n (reading_in side n parts balance)
@@ -71,6 +66,16 @@ order_reason side n parts balance = why_ordering side n (reading_in side n parts
 -- what deciding answers
 abbrev pub order_answer : Side → NewOrder → OrderParts → ℕ → Result OrderPlan Refusal
 order_answer side n parts balance = answered (order_reason side n parts balance) (plan_by n (ordering_in side n parts))
+
+-- what pending makers' fills are to take off totals after it
+abbrev pub sums_after : OrderParts → Ordering → Leaving
+sums_after parts o = leaving_of (parts.ring.events ++ o.events)
+
+-- the same, with these sums
+abbrev pub order_outcome : Side → NewOrder → OrderParts → ℕ → Result Decided Refusal
+order_outcome side n parts balance =
+    let o = ordering_in side n parts in
+    answered (order_reason side n parts balance) (record { plan = plan_by n o; leaving = sums_after parts o })
 
 -- the plan was decided on these parts, with some balance
 pub record IsDecided (plan : OrderPlan) (side : Side) (n : NewOrder) (parts : OrderParts) : Type 0 where

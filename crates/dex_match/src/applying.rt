@@ -7,17 +7,16 @@ ghost use Rattle.dex_market.specs.MarketAccount.{IsMarket, market_words};
 ghost use Rattle.dex_market.specs.RequestQueue.{IsRequestQueue, next_sequence};
 ghost use Rattle.dex_match.specs.Applying as applying;
 ghost use Rattle.dex_match.specs.OrderTerms.{meeting_with, order_of};
-ghost use Rattle.dex_ring.specs.Appended.{appended};
+ghost use Rattle.dex_ring.specs.Appended.{appended, pushed_all};
 ghost use Rattle.dex_orders.specs.OrdersAccount.{HasNoOrder, IsOpen, account_of, added, funded, funds_of, market_of, with_funds};
 ghost use Rattle.dex_ring.specs.Ring.{IsEventQueue, ring_of};
-ghost use Rattle.dex_match.specs.OrderParts.{AreOf, AreSoundParts, given_by, parts_of};
+ghost use Rattle.dex_accounts.specs.Keeps.{KeepsEvents, KeepsMarket, KeepsOpen, KeepsRequests, KeepsSide};
+ghost use Rattle.dex_match.specs.Handed.{events_in, handed, ordered, reply_in};
+ghost use Rattle.dex_match.specs.OrderParts.{IsGiven, parts_of};
 ghost use Rattle.dex_market.specs.MarketAccount.{sizes_of};
 ghost use Rattle.dex_match.specs.Ordering.{IsDecided};
-ghost use Rattle.dex_types.specs.Market.{Market};
-ghost use Rattle.dex_types.specs.NewOrder.{after_order, order_reply};
-ghost use Rattle.dex_types.specs.Soundness.{IsSound};
 
-use crate::intake::{intake_by, sizes_in, take_in};
+use crate::intake::{intake_by, take_in};
 use crate::order_plan::OrderPlan;
 use crate::order_terms::Taker;
 use crate::payment::{moves_by, pay};
@@ -103,6 +102,9 @@ pub(crate) fn apply<B: SideBook, A: SideBook>(
     ensures ring_list { ring_of ring.new.bytes.now ≡ appended (applying.events_by taker.id_side (sizes_of (market_words market.old.bytes.now)) (order_of taker) plan.now
         (meeting_with (sizes_of (market_words market.old.bytes.now)) taker (A.orders opposite.old))
         (applying.posted_by taker.id_side (order_of taker) plan.now (B.room own.old) (B.orders own.old))) (ring_of ring.old.bytes.now) }
+    ensures ring_bytes { ring.new.bytes.now ≡ pushed_all (applying.events_by taker.id_side (sizes_of (market_words market.old.bytes.now)) (order_of taker) plan.now
+        (meeting_with (sizes_of (market_words market.old.bytes.now)) taker (A.orders opposite.old))
+        (applying.posted_by taker.id_side (order_of taker) plan.now (B.room own.old) (B.orders own.old))) ring.old.bytes.now }
     ensures ring_accepted { IsEventQueue ring.new.bytes.now }
     ensures orders_place { orders.new.bytes.ghost_name ≡ orders.old.bytes.ghost_name }
     ensures orders_bytes { orders.new.bytes.now ≡ funded (added orders.old.bytes.now plan.now.slot plan.now.id taker.id_side taker.client)
@@ -118,7 +120,7 @@ pub(crate) fn apply<B: SideBook, A: SideBook>(
         }) }
     ensures orders_accepted { IsOpen orders.new.bytes.now }
 {
-    let sizes = sizes_in(market);
+    let sizes = market.sizes();
     let rebates = trade(plan, sizes, taker, own, opposite, ring);
     requests.advance();
     take_in(intake_by(taker.id_side, plan, rebates), market);
@@ -146,37 +148,24 @@ pub fn apply_order<B: SideBook, A: SideBook>(
     requires opposite { A.holds opposite.old }
     requires side { B.side own.old ≡ taker.now.id_side }
     requires price { 1 ≤ taker.now.price }
-    requires parts { AreSoundParts taker.now.id_side taker.now.account (given_by market.old.bytes.now requests.old.bytes.now ring.old.bytes.now orders.old.bytes.now (B.orders own.old) (B.room own.old) (A.orders opposite.old)) }
-    requires decided { IsDecided plan.now taker.now.id_side (order_of taker.now) (parts_of (given_by market.old.bytes.now requests.old.bytes.now ring.old.bytes.now orders.old.bytes.now (B.orders own.old) (B.room own.old) (A.orders opposite.old))) }
-    ensures reply { result ≡ order_reply (order_of taker.entry.now) (applying.ordering_over taker.entry.now.id_side (order_of taker.entry.now) (given_by market.old.bytes.now requests.old.bytes.now ring.old.bytes.now orders.old.bytes.now (B.orders own.old) (B.room own.old) (A.orders opposite.old))) }
-    ensures after { (m : Market) → IsSound m → AreOf taker.entry.now.id_side taker.entry.now.account (given_by market.old.bytes.now requests.old.bytes.now ring.old.bytes.now orders.old.bytes.now (B.orders own.old) (B.room own.old) (A.orders opposite.old)) m →
-        AreOf taker.entry.now.id_side taker.entry.now.account (given_by market.new.bytes.now requests.new.bytes.now ring.new.bytes.now orders.new.bytes.now (B.orders own.new) (B.room own.new) (A.orders opposite.new))
-        (after_order taker.entry.now.id_side (account_of orders.old.bytes.now) (order_of taker.entry.now) (applying.ordering_over taker.entry.now.id_side (order_of taker.entry.now) (given_by market.old.bytes.now requests.old.bytes.now ring.old.bytes.now orders.old.bytes.now (B.orders own.old) (B.room own.old) (A.orders opposite.old))) m) }
-    ensures sound { (m : Market) → IsSound m → AreOf taker.entry.now.id_side taker.entry.now.account (given_by market.old.bytes.now requests.old.bytes.now ring.old.bytes.now orders.old.bytes.now (B.orders own.old) (B.room own.old) (A.orders opposite.old)) m →
-        IsSound (after_order taker.entry.now.id_side (account_of orders.old.bytes.now) (order_of taker.entry.now) (applying.ordering_over taker.entry.now.id_side (order_of taker.entry.now) (given_by market.old.bytes.now requests.old.bytes.now ring.old.bytes.now orders.old.bytes.now (B.orders own.old) (B.room own.old) (A.orders opposite.old))) m) }
-    ensures market_place { market.new.bytes.ghost_name ≡ market.old.bytes.ghost_name }
-    ensures market_bytes { market.new.bytes.now ≡ applying.bytes_with (applying.intake_of taker.entry.now.id_side (order_of taker.entry.now) (applying.ordering_over taker.entry.now.id_side (order_of taker.entry.now) (given_by market.old.bytes.now requests.old.bytes.now ring.old.bytes.now orders.old.bytes.now (B.orders own.old) (B.room own.old) (A.orders opposite.old)))) market.old.bytes.now }
-    ensures market_accepted { IsMarket market.new.bytes.now }
-    ensures requests_place { requests.new.bytes.ghost_name ≡ requests.old.bytes.ghost_name }
-    ensures requests_bytes { requests.new.bytes.now ≡ applying.requests_after requests.old.bytes.now }
-    ensures requests_accepted { IsRequestQueue requests.new.bytes.now }
-    ensures own_orders { B.orders own.new ≡ (applying.ordering_over taker.entry.now.id_side (order_of taker.entry.now) (given_by market.old.bytes.now requests.old.bytes.now ring.old.bytes.now orders.old.bytes.now (B.orders own.old) (B.room own.old) (A.orders opposite.old))).posting.side }
-    ensures own_holds { B.holds own.new }
-    ensures own_side { B.side own.new ≡ B.side own.old }
-    ensures own_room { B.room own.new ≡ B.room own.old }
-    ensures own_place { B.same_place own.old own.new }
-    ensures opposite_orders { A.orders opposite.new ≡ (applying.ordering_over taker.entry.now.id_side (order_of taker.entry.now) (given_by market.old.bytes.now requests.old.bytes.now ring.old.bytes.now orders.old.bytes.now (B.orders own.old) (B.room own.old) (A.orders opposite.old))).met.left }
-    ensures opposite_holds { A.holds opposite.new }
-    ensures opposite_side { A.side opposite.new ≡ A.side opposite.old }
-    ensures opposite_room { A.room opposite.new ≡ A.room opposite.old }
-    ensures opposite_place { A.same_place opposite.old opposite.new }
-    ensures ring_place { ring.new.bytes.ghost_name ≡ ring.old.bytes.ghost_name }
-    ensures ring_list { ring_of ring.new.bytes.now ≡ appended (applying.ordering_over taker.entry.now.id_side (order_of taker.entry.now) (given_by market.old.bytes.now requests.old.bytes.now ring.old.bytes.now orders.old.bytes.now (B.orders own.old) (B.room own.old) (A.orders opposite.old))).events (ring_of ring.old.bytes.now) }
-    ensures ring_accepted { IsEventQueue ring.new.bytes.now }
-    ensures orders_place { orders.new.bytes.ghost_name ≡ orders.old.bytes.ghost_name }
-    ensures orders_bytes { orders.new.bytes.now ≡ applying.account_bytes_after taker.entry.now.id_side (sizes_of (market_words market.old.bytes.now)) (order_of taker.entry.now) (applying.ordering_over taker.entry.now.id_side (order_of taker.entry.now) (given_by market.old.bytes.now requests.old.bytes.now ring.old.bytes.now orders.old.bytes.now (B.orders own.old) (B.room own.old) (A.orders opposite.old)))
-        orders.old.bytes.now }
-    ensures orders_accepted { IsOpen orders.new.bytes.now }
+    requires given { IsGiven taker.now.id_side taker.now.account
+        (handed B.orders B.room A.orders market.old requests.old ring.old orders.old own.old opposite.old) }
+    requires decided { IsDecided plan.now taker.now.id_side (order_of taker.now)
+        (parts_of (handed B.orders B.room A.orders market.old requests.old ring.old orders.old own.old opposite.old)) }
+    ensures reply { result ≡ reply_in taker.entry.now
+        (handed B.orders B.room A.orders market.old requests.old ring.old orders.old own.old opposite.old) }
+    ensures does { handed B.orders B.room A.orders market.new requests.new ring.new orders.new own.new opposite.new
+        ≡ ordered taker.entry.now
+        (handed B.orders B.room A.orders market.old requests.old ring.old orders.old own.old opposite.old) }
+    ensures list { ring_of ring.new.bytes.now ≡ appended (events_in taker.entry.now
+        (handed B.orders B.room A.orders market.old requests.old ring.old orders.old own.old opposite.old))
+        (ring_of ring.old.bytes.now) }
+    ensures market { KeepsMarket market.old market.new }
+    ensures requests { KeepsRequests requests.old requests.new }
+    ensures events { KeepsEvents ring.old ring.new }
+    ensures account { KeepsOpen orders.old orders.new }
+    ensures own { KeepsSide B.holds B.same_place B.side B.room own.old own.new }
+    ensures opposite { KeepsSide A.holds A.same_place A.side A.room opposite.old opposite.new }
 {
     amounts_fit(*taker);
     apply(plan, *taker, market, requests, own, opposite, ring, orders)

@@ -23,7 +23,6 @@ ghost use Rattle.dex_types.specs.Side as book;
 
 use super::*;
 use crate::applying::apply;
-use crate::intake::sizes_in;
 use crate::order_outlook::outlook;
 use crate::payment::{Moves, moves_by};
 use dex_book::ListSide;
@@ -257,7 +256,7 @@ fn act_on(
     ensures ring_place { ring.new.bytes.ghost_name ≡ ring.old.bytes.ghost_name }
     ensures orders_place { orders.new.bytes.ghost_name ≡ orders.old.bytes.ghost_name }
 {
-    let sizes = sizes_in(market);
+    let sizes = market.sizes();
     let Ok(sequence) = requests.next_seq() else {
         return None;
     };

@@ -3,13 +3,12 @@
 ghost use Rattle.std.specs.Prelude.{◌≡◌, ◌+◌, ◌≤◌};
 ghost use Rattle.dex_market.specs.MarketAccount.{IsMarket, market_words};
 ghost use Rattle.dex_match.specs.Applying as applying;
-ghost use Rattle.dex_market.specs.MarketAccount.{sizes_of};
 ghost use Rattle.dex_types.specs.Fees as fees;
 
 use crate::order_plan::OrderPlan;
 use dex_fees::referrer_part;
-use dex_market::MarketView;
-use dex_types::{Lots, Side};
+use dex_market::{MarketFunds, MarketView};
+use dex_types::Side;
 
 /// What a new order brings to its market, in native amounts: coin and pc into the vaults, and of the taker's fee, in pc, what
 /// the market keeps and the referrer's part.
@@ -19,17 +18,6 @@ pub struct Intake {
     pub pc: u64,
     pub fees: u64,
     pub referrer: u64,
-}
-
-/// The lot sizes that a market's account states.
-pub(crate) fn sizes_in(market: &MarketView<'_>) -> Lots
-    requires { IsMarket market.now.bytes.now }
-    ensures { result ≡ sizes_of (market_words market.now.bytes.now) }
-{
-    Lots {
-        coin: market.coin_lot_size(),
-        pc: market.pc_lot_size(),
-    }
 }
 
 /// What a plan brings to its market, where the makers get these rebates of its fee: a bid's deposit is pc, an ask's coin.
@@ -64,12 +52,11 @@ pub(crate) fn take_in(intake: Intake, market: &mut MarketView<'_>)
     ensures words { market_words market.new.bytes.now ≡ applying.words_with intake (market_words market.old.bytes.now) }
     ensures accepted { IsMarket market.new.bytes.now }
 {
-    let coin = market.coin_deposits_total() + intake.coin;
-    let pc = market.pc_deposits_total() + intake.pc - (intake.fees + intake.referrer);
-    let fees = market.pc_fees_accrued() + intake.fees;
-    let rebates = market.referrer_rebates_accrued() + intake.referrer;
-    market.set_coin_deposits_total(coin);
-    market.set_pc_deposits_total(pc);
-    market.set_pc_fees_accrued(fees);
-    market.set_referrer_rebates_accrued(rebates);
+    let funds = MarketFunds {
+        coin_deposits: market.coin_deposits_total() + intake.coin,
+        pc_deposits: market.pc_deposits_total() + intake.pc - (intake.fees + intake.referrer),
+        pc_fees: market.pc_fees_accrued() + intake.fees,
+        referrer_rebates: market.referrer_rebates_accrued() + intake.referrer,
+    };
+    market.set_funds(funds);
 }

@@ -1,5 +1,7 @@
 //! What was decided of a new order.
 
+use dex_ring::Leaving;
+
 /// What an accepted new order does: the native amount from the payer's wallet into the vault, the number of its events,
 /// the base lots and the native quote that fill, its fee in native quote, the base lots that rest, its slot and its id.
 #[derive(Clone, Copy, Debug, PartialEq, Eq)]
@@ -12,4 +14,11 @@ pub struct OrderPlan {
     pub rested: u64,
     pub slot: u8,
     pub id: u128,
+}
+
+/// A plan, and what makers' fills are still to take off totals once those that the plan's order fills are pending too.
+#[derive(Clone, Copy, Debug, PartialEq, Eq)]
+pub struct Decided {
+    pub plan: OrderPlan,
+    pub leaving: Leaving,
 }

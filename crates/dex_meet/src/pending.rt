@@ -6,20 +6,13 @@ ghost use Rattle.dex_types.specs.Side.{Coin, Pc, by_side};
 ghost use Rattle.dex_types.specs.Solvency.{all_leaving};
 
 use crate::wants::Sums;
-use dex_ring::RingRef;
+use dex_ring::{Leaving, RingRef};
 use dex_types::{Event, Lots, Side};
 
 /// The flags of the fill of a resting ask, whose owner pays base, and of a resting bid, whose owner pays quote.
 const ASK_FILL: u8 = 9;
 
 const BID_FILL: u8 = 13;
-
-/// What makers' fills are still to take off their owners' totals, in native base and in native quote.
-#[derive(Clone, Copy, Debug, PartialEq, Eq)]
-pub struct Leaving {
-    pub coin: u128,
-    pub pc: u128,
-}
 
 /// The native amount that the owner pays by an event with these flags, or 0 by another one.
 fn paid_by(event: Event, flags: u8) -> u64

@@ -3,7 +3,7 @@
 ghost use Rattle.std.specs.Prelude.{◌≡◌, ◌+◌, ◌<◌, ◌^◌, Some};
 ghost use Rattle.dex_types.specs.Reasons as reasons;
 
-use dex_types::{Lots, Refusal, Side};
+use dex_types::{Lots, Refusal, Side, WalletSeen};
 
 /// The native base of an ask is 2^64 or more.
 pub fn ask_too_large(side: Side, sizes: Lots, lots: u64) -> Option<Refusal>
@@ -64,6 +64,14 @@ pub fn short_by(deposit: u64, balance: u64) -> Option<Refusal>
     } else {
         None
     }
+}
+
+/// The wallet that pays, where one is named, has less than the deposit, in native amounts.
+pub fn short_of(deposit: u64, payer: Option<WalletSeen>) -> Option<Refusal>
+    ensures { result ≡ reasons.short_of deposit payer }
+{
+    let wallet = payer?;
+    short_by(deposit, wallet.balance)
 }
 
 /// A vault, with what pending makers' fills are still to take off totals, is 2^64 or more, in native amounts.

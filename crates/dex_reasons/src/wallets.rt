@@ -4,9 +4,10 @@ ghost use Rattle.std.specs.Prelude.{◌≡◌, ◌^◌, ◌<◌};
 ghost use Rattle.dex_types.specs.declared.addresses.Address.{Address};
 ghost use Rattle.dex_types.specs.Reasons as reasons;
 ghost use Rattle.dex_types.specs.Wallets as wallets;
+ghost use Rattle.dex_types.specs.Why as why;
 ghost use Rattle.dex_reasons.specs.Reading as reading;
 
-use dex_types::{Address, Refusal, Seen, WalletSeen, is_same};
+use dex_types::{Address, Refusal, Seen, Side, WalletSeen, is_same};
 
 /// What a row brings to the wallets of its roles, in native amounts.
 #[derive(Clone, Copy, Debug, PartialEq, Eq)]
@@ -14,6 +15,16 @@ pub struct Payout {
     pub coin: u64,
     pub pc: u64,
     pub referrer: u64,
+}
+
+/// The wallet that pays for an order or a take of the side: a bid's quote wallet, an ask's base wallet.
+pub fn payer(side: Side, seen: &Seen) -> Option<WalletSeen>
+    ensures { result ≡ why.payer side seen.now }
+{
+    match side {
+        Side::Bid => seen.pc,
+        Side::Ask => seen.coin,
+    }
 }
 
 /// No wallet is named in a role that is used.
@@ -47,7 +58,7 @@ pub fn other_mint(mint: Address, role: Option<WalletSeen>) -> Option<Refusal>
 }
 
 /// The mint is this one, where there is one.
-fn is_mint(known: Option<Address>, mint: Address) -> bool
+pub fn is_mint(known: Option<Address>, mint: Address) -> bool
     ensures { result ≡ reasons.is_mint known mint }
 {
     match known {

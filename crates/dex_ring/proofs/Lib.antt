@@ -1,3 +1,4 @@
+pub mod AmountLaws
 pub mod AppendLaws
 pub mod BlankLaw
 pub mod EventLaw

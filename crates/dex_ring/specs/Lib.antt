@@ -4,3 +4,4 @@ pub mod Faults
 pub mod StandsFor
 pub mod Blank
 pub mod Appended
+pub mod Leaving

@@ -1,13 +1,16 @@
 //! The event queue, a ring of pending events, read and written in place.
 #![tactic(auto)]
 
+pub mod amounts;
 mod event_bytes;
+mod leaving;
 mod making;
 mod places;
 mod ring_check;
 mod ring_ref;
 mod ring_view;
 
+pub use leaving::Leaving;
 pub use making::{blank, made_size};
 pub use ring_check::check_events;
 pub use ring_ref::RingRef;

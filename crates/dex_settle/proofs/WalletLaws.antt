@@ -12,7 +12,7 @@ use Rattle.dex_types.specs.Wallets.{amount_at, brought_to}
 use Rattle.dex_laws.proofs.TraderLaws.{is_same-true, is_same-refl}
 use Rattle.dex_reasons.proofs.WalletAmounts.{amount-le}
 use Rattle.dex_sound.proofs.OrderSoundReasons.{refused_where-none}
-use Rattle.dex_settle.specs.Parts.{HaveOneMint, HasOneCoinMint}
+use Rattle.dex_settle.specs.SettleGiven.{HaveOneMint, HasOneCoinMint}
 
 -- a wallet that a role takes has its mint
 right-mint : (mint : Address) (wallet : WalletSeen) → other_mint mint (Some wallet) ≡ None → mint ≡ wallet.mint

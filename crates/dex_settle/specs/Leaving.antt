@@ -1,13 +1,17 @@
 -- What settling leaves of the market account and of the trader's account.
 use Rattle.std.specs.Prelude.{◌≡◌, ℕ, ◌+◌, ◌-◌, ◌<◌, ◌≤◌, ◌^◌, List}
-use Rattle.dex_fields.specs.declared.market.TheConstants.{COIN_DEPOSITS_TOTAL, PC_DEPOSITS_TOTAL, PC_FEES_ACCRUED, REFERRER_REBATES_ACCRUED}
+use Rattle.dex_fields.specs.declared.market.TheConstants.{ACCOUNT_FLAGS, PC_FEES_ACCRUED}
 use Rattle.dex_fields.specs.Bytes.{with_number}
 use Rattle.dex_types.specs.Settle.{Settlement}
 use Rattle.dex_types.specs.Trader.{Account}
 use Rattle.dex_types.specs.Transfers.{Transfers, payout}
+use Rattle.dex_market.specs.declared.funds.MarketFunds.{MarketFunds}
 use Rattle.dex_market.specs.MarketAccount.{MarketWords, market_words}
+use Rattle.dex_market.specs.MarketFunds.{with_funds, words_with_funds}
 use Rattle.dex_orders.specs.declared.amounts.Funds.{Funds}
+use Rattle.dex_orders.specs.OrdersAccount.{account_of, funded}
 use Rattle.dex_settle.specs.declared.plan.SettlePlan.{SettlePlan}
+use Rattle.dex_settle.specs.SettleGiven.{SettleGiven}
 
 -- a settlement as a plan, and a plan as a settlement
 abbrev pub plan_of : Settlement → SettlePlan
@@ -33,28 +37,21 @@ pub record CanPay (plan : SettlePlan) (words : MarketWords) : Type 0 where
   pub fees : words.pc_fees_accrued + plan.to_fees < 2 ^ 64
   pub rebates : plan.referrer + plan.to_fees ≤ words.referrer_rebates_accrued
 
--- the words of a market that paid a plan
-abbrev pub words_after : SettlePlan → MarketWords → MarketWords
-words_after plan words = record words {
-  coin_deposits_total = words.coin_deposits_total - plan.coin;
-  pc_deposits_total = words.pc_deposits_total - plan.pc;
-  pc_fees_accrued = words.pc_fees_accrued + plan.to_fees;
-  referrer_rebates_accrued = words.referrer_rebates_accrued - (plan.referrer + plan.to_fees);
+-- the funds of a market that paid a plan
+abbrev pub market_after : SettlePlan → MarketWords → MarketFunds
+market_after plan words = record {
+  coin_deposits = words.coin_deposits_total - plan.coin;
+  pc_deposits = words.pc_deposits_total - plan.pc;
+  pc_fees = words.pc_fees_accrued + plan.to_fees;
+  referrer_rebates = words.referrer_rebates_accrued - (plan.referrer + plan.to_fees);
 }
 
--- its bytes, of which four words are written
+-- its words and its bytes with these funds
+abbrev pub words_after : SettlePlan → MarketWords → MarketWords
+words_after plan words = words_with_funds (market_after plan words) words
+
 abbrev pub bytes_after : SettlePlan → List ℕ → List ℕ
-bytes_after plan bytes =
-    with_number
-    (with_number
-    (with_number
-    (with_number bytes COIN_DEPOSITS_TOTAL ((market_words bytes).coin_deposits_total - plan.coin))
-    PC_DEPOSITS_TOTAL
-    ((market_words bytes).pc_deposits_total - plan.pc))
-    PC_FEES_ACCRUED
-    ((market_words bytes).pc_fees_accrued + plan.to_fees))
-    REFERRER_REBATES_ACCRUED
-    ((market_words bytes).referrer_rebates_accrued - (plan.referrer + plan.to_fees))
+bytes_after plan bytes = with_funds (market_after plan (market_words bytes)) bytes
 
 -- funds of which all that is free was paid out, and the referrer part
 abbrev pub funds_after : Account → Funds
@@ -65,3 +62,14 @@ funds_after account = record {
   pc_total = account.pc.total - account.pc.free;
   referrer = 0;
 }
+
+-- what settling leaves: the market paid the plan, and the account has nothing free and no referrer part
+abbrev pub settled : SettlePlan → SettleGiven → SettleGiven
+settled plan given = record { market = bytes_after plan given.market; account = funded given.account (funds_after (account_of given.account)) }
+
+-- the market account without its pc fees, and that of a disabled market
+abbrev pub swept : List ℕ → List ℕ
+swept bytes = with_number bytes PC_FEES_ACCRUED 0
+
+abbrev pub with_disabled : List ℕ → List ℕ
+with_disabled bytes = with_number bytes ACCOUNT_FLAGS 131

@@ -1,15 +1,9 @@
 //! Whether an open-orders account may be opened or closed.
 
-ghost use Rattle.std.specs.Prelude.{◌≡◌, ◌+◌, ◌∷◌, List, IsOk, Some, None};
-ghost use Rattle.dex_types.specs.declared.addresses.Address.{Address};
+ghost use Rattle.std.specs.Prelude.{◌≡◌, ◌+◌, IsOk, Some, None};
 ghost use Rattle.dex_types.specs.Reasons.{answered};
-ghost use Rattle.dex_types.specs.Market.{Market};
 ghost use Rattle.dex_types.specs.Reasons as reasons;
-ghost use Rattle.dex_types.specs.Requests.{Request, open_party};
-ghost use Rattle.dex_types.specs.Trader.{trader_at};
-ghost use Rattle.dex_types.specs.Why.{of_party, why_close, why_init};
 ghost use Rattle.dex_market.specs.MarketAccount.{IsMarket, market_words};
-ghost use Rattle.dex_market.specs.StandsFor.{StandsForMarket};
 ghost use Rattle.dex_orders.specs.OrdersAccount.{IsBlank, IsEmptyAccount, IsOpen, IsOrders, account_of};
 ghost use Rattle.dex_orders.specs.StandsFor.{trader_of};
 ghost use Rattle.dex_settle.specs.Refusing as refusing;
@@ -39,8 +33,6 @@ pub fn decide_init(market: &MarketRef<'_>, account: &[u8]) -> Result<(), Refusal
     requires account { IsOrders account.now }
     ensures answer { result ≡ answered (refusing.init_reason (market_words market.now.bytes.now).account_flags (trader_of account.now)) tt }
     ensures blank { IsOk result → IsBlank account.now }
-    ensures model { (m : Market) (request : Request) (address : Address) (others : List Address) → StandsForMarket market.now.bytes.now m → request.named ≡ address ∷ others →
-        trader_at address m.traders ≡ Some (trader_of account.now) → result ≡ answered (why_init request m) tt }
 {
     match disabled(market.account_flags()).or(not_blank(account)) {
         Some(why) => Err(why),
@@ -79,8 +71,6 @@ pub fn decide_close(account: &[u8], signer: Address) -> Result<(), Refusal>
     ensures answer { result ≡ answered (refusing.close_reason signer (trader_of account.now)) tt }
     ensures opened { IsOk result → IsOpen account.now }
     ensures empty { IsOk result → IsEmptyAccount (account_of account.now) }
-    ensures model { (request : Request) (address : Address) → request.signer ≡ signer →
-        result ≡ answered (of_party (why_close request) (open_party address (Some (trader_of account.now)))) tt }
 {
     match close_reason(account, signer) {
         Some(why) => Err(why),

@@ -1,24 +1,19 @@
 //! Settling: all free funds of an account are paid out, with its referrer part.
 
-ghost use Rattle.std.specs.Prelude.{◌≡◌, ◌+◌, ◌^◌, ◌<◌, IfOk, is_some};
+ghost use Rattle.std.specs.Prelude.{◌≡◌, ◌+◌, ◌^◌, ◌<◌};
 ghost use Rattle.dex_types.specs.declared.addresses.Address.{Address};
-ghost use Rattle.dex_types.specs.Market.{Market};
-ghost use Rattle.dex_types.specs.Reasons.{answered, first_of};
-ghost use Rattle.dex_types.specs.Requests.{Party, Request};
+ghost use Rattle.dex_types.specs.Reasons.{first_of};
 ghost use Rattle.dex_types.specs.Settle as settling;
-ghost use Rattle.dex_types.specs.Trader.{Open};
 ghost use Rattle.dex_types.specs.Wallets.{brought_to};
-ghost use Rattle.dex_types.specs.Why.{why_settle};
+ghost use Rattle.dex_accounts.specs.Keeps.{KeepsMarket, KeepsOpen};
 ghost use Rattle.dex_market.specs.MarketAccount.{IsMarket, market_words};
-ghost use Rattle.dex_market.specs.StandsFor.{StandsForMarket};
-ghost use Rattle.dex_orders.specs.OrdersAccount.{IsOpen, account_of, funded, market_of};
-ghost use Rattle.dex_orders.specs.StandsFor.{StandsForTrader};
+ghost use Rattle.dex_orders.specs.OrdersAccount.{IsOpen, account_of, funded};
 ghost use Rattle.dex_settle.specs.Leaving as leaving;
-ghost use Rattle.dex_settle.specs.Parts.{AreParts, HasOneCoinMint};
+ghost use Rattle.dex_settle.specs.SettleGiven.{HasOneCoinMint, IsOfSound, handed, shown};
 ghost use Rattle.dex_settle.specs.Refusing as refusing;
 
 use crate::plan::SettlePlan;
-use dex_market::{MarketRef, MarketView};
+use dex_market::{MarketFunds, MarketRef, MarketView};
 use dex_orders::{Funds, OrdersRef, OrdersView};
 use dex_reasons::{Payout, missing, not_owner, other_mint, too_full};
 use dex_types::{Address, Refusal, Seen};
@@ -82,10 +77,8 @@ pub(crate) fn decide(
     requires account { IsOpen orders.now.bytes.now }
     requires fits { (account_of orders.now.bytes.now).pc.free + (account_of orders.now.bytes.now).referrer < 2 ^ 64 }
     requires wallets { HasOneCoinMint seen.now }
-    ensures answer { result ≡ answered
-        (refusing.settle_reason (market_words market.now.bytes.now).terms signer seen.now (account_of orders.now.bytes.now))
-        (leaving.plan_of (settling.settlement (is_some seen.now.referrer) (account_of orders.now.bytes.now))) }
-    ensures out { IfOk result (λ plan. leaving.PaysOut plan (account_of orders.now.bytes.now)) }
+    ensures { result ≡ refusing.settle_answer (market_words market.now.bytes.now).terms signer seen.now
+        (account_of orders.now.bytes.now) }
 {
     if let Some(why) = early_reason(market, orders, signer, seen) {
         return Err(why);
@@ -110,15 +103,10 @@ pub fn decide_settle(
 ) -> Result<SettlePlan, Refusal>
     requires market { IsMarket market.now.bytes.now }
     requires account { IsOpen orders.now.bytes.now }
-    requires parts { (m : Market) × (owner : Address) × AreParts market.now.bytes.now orders.now.bytes.now owner m }
+    requires parts { IsOfSound (shown market.now orders.now) }
     requires wallets { HasOneCoinMint seen.now }
-    ensures answer { result ≡ answered
-        (refusing.settle_reason (market_words market.now.bytes.now).terms signer seen.now (account_of orders.now.bytes.now))
-        (leaving.plan_of (settling.settlement (is_some seen.now.referrer) (account_of orders.now.bytes.now))) }
-    ensures out { IfOk result (λ plan. leaving.PaysOut plan (account_of orders.now.bytes.now)) }
-    ensures model { (m : Market) (request : Request) (party : Party) → StandsForMarket market.now.bytes.now m → request.signer ≡ signer →
-        party.account ≡ account_of orders.now.bytes.now → result ≡ answered (why_settle request seen.now m party)
-        (leaving.plan_of (settling.settlement (is_some seen.now.referrer) party.account)) }
+    ensures { result ≡ refusing.settle_answer (market_words market.now.bytes.now).terms signer seen.now
+        (account_of orders.now.bytes.now) }
 {
     decide(market, orders, signer, seen)
 }
@@ -129,17 +117,16 @@ pub(crate) fn pay(plan: &SettlePlan, market: &mut MarketView<'_>)
     requires can_pay { leaving.CanPay plan.now (market_words market.old.bytes.now) }
     ensures place { market.new.bytes.ghost_name ≡ market.old.bytes.ghost_name }
     ensures bytes { market.new.bytes.now ≡ leaving.bytes_after plan.now market.old.bytes.now }
-    ensures words { market_words market.new.bytes.now ≡ leaving.words_after plan.now (market_words market.old.bytes.now) }
     ensures accepted { IsMarket market.new.bytes.now }
 {
-    let coin = market.coin_deposits_total() - plan.coin;
-    let pc = market.pc_deposits_total() - plan.pc;
-    let fees = market.pc_fees_accrued() + plan.to_fees;
     let rebates = market.referrer_rebates_accrued() - (plan.referrer + plan.to_fees);
-    market.set_coin_deposits_total(coin);
-    market.set_pc_deposits_total(pc);
-    market.set_pc_fees_accrued(fees);
-    market.set_referrer_rebates_accrued(rebates);
+    let funds = MarketFunds {
+        coin_deposits: market.coin_deposits_total() - plan.coin,
+        pc_deposits: market.pc_deposits_total() - plan.pc,
+        pc_fees: market.pc_fees_accrued() + plan.to_fees,
+        referrer_rebates: rebates,
+    };
+    market.set_funds(funds);
 }
 
 /// Takes all free funds and the referrer part from the account.
@@ -147,8 +134,6 @@ pub(crate) fn pay_out(orders: &mut OrdersView<'_>)
     requires { IsOpen orders.old.bytes.now }
     ensures place { orders.new.bytes.ghost_name ≡ orders.old.bytes.ghost_name }
     ensures bytes { orders.new.bytes.now ≡ funded orders.old.bytes.now (leaving.funds_after (account_of orders.old.bytes.now)) }
-    ensures market { market_of orders.new.bytes.now ≡ market_of orders.old.bytes.now }
-    ensures words { account_of orders.new.bytes.now ≡ settling.settled_account (account_of orders.old.bytes.now) }
     ensures accepted { IsOpen orders.new.bytes.now }
 {
     let funds = orders.funds();
@@ -166,21 +151,11 @@ pub(crate) fn pay_out(orders: &mut OrdersView<'_>)
 pub fn apply_settle(plan: &SettlePlan, market: &mut MarketView<'_>, orders: &mut OrdersView<'_>)
     requires market { IsMarket market.old.bytes.now }
     requires account { IsOpen orders.old.bytes.now }
-    requires parts { (m : Market) × (owner : Address) × AreParts market.old.bytes.now orders.old.bytes.now owner m }
+    requires parts { IsOfSound (handed market.old orders.old) }
     requires decided { leaving.PaysOut plan.now (account_of orders.old.bytes.now) }
-    ensures market_place { market.new.bytes.ghost_name ≡ market.old.bytes.ghost_name }
-    ensures market_bytes { market.new.bytes.now ≡ leaving.bytes_after plan.now market.old.bytes.now }
-    ensures market_words { market_words market.new.bytes.now ≡ leaving.words_after plan.now (market_words market.old.bytes.now) }
-    ensures market_accepted { IsMarket market.new.bytes.now }
-    ensures orders_place { orders.new.bytes.ghost_name ≡ orders.old.bytes.ghost_name }
-    ensures orders_bytes { orders.new.bytes.now ≡ funded orders.old.bytes.now (leaving.funds_after (account_of orders.old.bytes.now)) }
-    ensures orders_market { market_of orders.new.bytes.now ≡ market_of orders.old.bytes.now }
-    ensures orders_words { account_of orders.new.bytes.now ≡ settling.settled_account (account_of orders.old.bytes.now) }
-    ensures orders_accepted { IsOpen orders.new.bytes.now }
-    ensures market_after { (m : Market) (owner : Address) → AreParts market.old.bytes.now orders.old.bytes.now owner m →
-        StandsForMarket market.new.bytes.now (settling.after_settle owner (account_of orders.old.bytes.now) (leaving.settlement_by plan.now) m) }
-    ensures trader_after { (m : Market) (owner : Address) → AreParts market.old.bytes.now orders.old.bytes.now owner m →
-        StandsForTrader orders.new.bytes.now m.listing.address (Open (settling.settled_account (account_of orders.old.bytes.now))) }
+    ensures does { handed market.new orders.new ≡ leaving.settled plan.now (handed market.old orders.old) }
+    ensures account { KeepsMarket market.old market.new }
+    ensures orders { KeepsOpen orders.old orders.new }
 {
     pay(plan, market);
     pay_out(orders);

@@ -1,15 +1,10 @@
 //! Sweeping: all pc fees are paid out.
 
 ghost use Rattle.std.specs.Prelude.{◌≡◌};
-ghost use Rattle.dex_types.specs.Market.{Market};
 ghost use Rattle.dex_types.specs.Reasons.{answered};
-ghost use Rattle.dex_types.specs.Requests.{Request};
-ghost use Rattle.dex_types.specs.Settle.{after_sweep};
-ghost use Rattle.dex_types.specs.Why.{why_sweep};
-ghost use Rattle.dex_fields.specs.Bytes.{with_number};
-ghost use Rattle.dex_fields.specs.declared.market.TheConstants.{PC_FEES_ACCRUED};
+ghost use Rattle.dex_accounts.specs.Keeps.{KeepsMarket};
 ghost use Rattle.dex_market.specs.MarketAccount.{IsMarket, market_words};
-ghost use Rattle.dex_market.specs.StandsFor.{StandsForMarket};
+ghost use Rattle.dex_settle.specs.Leaving.{swept};
 ghost use Rattle.dex_settle.specs.Refusing as refusing;
 
 use dex_market::{MarketRef, MarketView};
@@ -47,10 +42,8 @@ pub fn decide_sweep(
     seen: &Seen,
 ) -> Result<u64, Refusal>
     requires { IsMarket market.now.bytes.now }
-    ensures answer { result ≡ answered (refusing.sweep_reason (market_words market.now.bytes.now) authority signer seen.now)
+    ensures { result ≡ answered (refusing.sweep_reason (market_words market.now.bytes.now) authority signer seen.now)
         (market_words market.now.bytes.now).pc_fees_accrued }
-    ensures model { (m : Market) (request : Request) → StandsForMarket market.now.bytes.now m → m.listing.authority ≡ authority → request.signer ≡ signer →
-        result ≡ answered (why_sweep request seen.now m) m.pc_fees }
 {
     match refusal_of(market, authority, signer, seen) {
         Some(why) => Err(why),
@@ -61,11 +54,8 @@ pub fn decide_sweep(
 /// Sweeps the fees as it was decided: the pc fees are 0; all other bytes stay.
 pub fn apply_sweep(market: &mut MarketView<'_>)
     requires { IsMarket market.old.bytes.now }
-    ensures place { market.new.bytes.ghost_name ≡ market.old.bytes.ghost_name }
-    ensures bytes { market.new.bytes.now ≡ with_number market.old.bytes.now PC_FEES_ACCRUED 0 }
-    ensures words { market_words market.new.bytes.now ≡ record (market_words market.old.bytes.now) { pc_fees_accrued = 0 } }
-    ensures accepted { IsMarket market.new.bytes.now }
-    ensures after { (m : Market) → StandsForMarket market.old.bytes.now m → StandsForMarket market.new.bytes.now (after_sweep m) }
+    ensures does { market.new.bytes.now ≡ swept market.old.bytes.now }
+    ensures account { KeepsMarket market.old market.new }
 {
     market.set_pc_fees_accrued(0);
 }

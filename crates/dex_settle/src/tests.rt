@@ -1,5 +1,5 @@
 ghost use Rattle.std.specs.Prelude.{◌≡◌, true};
-ghost use Rattle.dex_settle.specs.Parts.{HaveOneMint};
+ghost use Rattle.dex_settle.specs.SettleGiven.{HaveOneMint};
 
 use super::*;
 use crate::settle::{decide, pay, pay_out};

@@ -1,11 +1,11 @@
 -- What a take leaves of the market account.
 use Rattle.std.specs.Prelude.{ℕ, ◌+◌, ◌-◌, ◌<◌, ◌≤◌, ◌^◌, List}
-use Rattle.dex_fields.specs.declared.market.TheConstants.{COIN_DEPOSITS_TOTAL, PC_DEPOSITS_TOTAL, PC_FEES_ACCRUED}
-use Rattle.dex_fields.specs.Bytes.{with_number}
 use Rattle.dex_types.specs.Meeting.{Meeting}
 use Rattle.dex_types.specs.Take.{Take, take_fee}
 use Rattle.dex_types.specs.Transfers.{Transfers}
+use Rattle.dex_market.specs.declared.funds.MarketFunds.{MarketFunds}
 use Rattle.dex_market.specs.MarketAccount.{MarketWords, market_words}
+use Rattle.dex_market.specs.MarketFunds.{with_funds, words_with_funds}
 use Rattle.dex_take.specs.declared.plan.Exchange.{Exchange}
 
 -- what moves between wallets and vaults
@@ -24,25 +24,18 @@ pub record CanExchange (moved : Transfers) (kept : ℕ) (words : MarketWords) : 
   pub pc_out : moved.pc_out + kept ≤ words.pc_deposits_total + moved.pc_in
   pub fees : words.pc_fees_accrued + kept < 2 ^ 64
 
--- the deposits of a token after the transfers
-abbrev pub coin_after : Transfers → MarketWords → ℕ
-coin_after moved words = words.coin_deposits_total + moved.coin_in - moved.coin_out
-
-abbrev pub pc_after : Transfers → ℕ → MarketWords → ℕ
-pc_after moved kept words = words.pc_deposits_total + moved.pc_in - (moved.pc_out + kept)
-
--- the words of the market after them
-abbrev pub words_after : Transfers → ℕ → MarketWords → MarketWords
-words_after moved kept words = record words {
-  coin_deposits_total = coin_after moved words;
-  pc_deposits_total = pc_after moved kept words;
-  pc_fees_accrued = words.pc_fees_accrued + kept;
+-- the funds of the market after them
+abbrev pub funds_after : Transfers → ℕ → MarketWords → MarketFunds
+funds_after moved kept words = record {
+  coin_deposits = words.coin_deposits_total + moved.coin_in - moved.coin_out;
+  pc_deposits = words.pc_deposits_total + moved.pc_in - (moved.pc_out + kept);
+  pc_fees = words.pc_fees_accrued + kept;
+  referrer_rebates = words.referrer_rebates_accrued;
 }
 
--- its bytes, of which three words are written
+-- the words and the bytes of the market with these funds
+abbrev pub words_after : Transfers → ℕ → MarketWords → MarketWords
+words_after moved kept words = words_with_funds (funds_after moved kept words) words
+
 abbrev pub bytes_after : Transfers → ℕ → List ℕ → List ℕ
-bytes_after moved kept bytes =
-    with_number
-    (with_number (with_number bytes COIN_DEPOSITS_TOTAL (coin_after moved (market_words bytes))) PC_DEPOSITS_TOTAL (pc_after moved kept (market_words bytes)))
-    PC_FEES_ACCRUED
-    ((market_words bytes).pc_fees_accrued + kept)
+bytes_after moved kept bytes = with_funds (funds_after moved kept (market_words bytes)) bytes

@@ -1,4 +1,5 @@
-pub mod TakeParts
+pub mod TakeGiven
 pub mod TakeTerms
-pub mod Taking
 pub mod Leaving
+pub mod Taking
+pub mod Taken

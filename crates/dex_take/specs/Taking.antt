@@ -1,32 +1,37 @@
--- Why a take is refused, and what it does else, by what it is given alone.
+-- Why a take is refused, by what it is given alone, and the plan that says what it does else.
 use Rattle.std.specs.Prelude.{◌≡◌, ℕ, ◌+◌, ◌-◌, ◌^◌, ◌<◌, ◌≤◌, List, [], ◌∷◌, ◌++◌, Option, Some, None, Result, length, nat_lt, if◌then◌else◌}
 use Rattle.dex_types.specs.declared.refusals.Refusal.{Refusal}
 use Rattle.dex_types.specs.declared.rows.Seen.{Seen}
 use Rattle.dex_types.specs.declared.terms.Lots.{Lots}
 use Rattle.dex_types.specs.declared.terms.Side.{Side}
 use Rattle.dex_types.specs.Meeting.{Meeting}
-use Rattle.dex_types.specs.Reasons.{answered, ask_too_large, below_minimum, first_of, short_of, too_full}
+use Rattle.dex_types.specs.Reasons.{answered, ask_too_large, balance_of, below_minimum, beyond, first_of, no_room, short_of, too_full}
 use Rattle.dex_types.specs.Side.{Token, Coin, Pc, by_side, by_token, gained_token, locked_token, opposite}
 use Rattle.dex_types.specs.Solvency.{all_leaving}
-use Rattle.dex_types.specs.Take.{Take, take_fee, take_got, take_meeting, take_paid, take_transfers, too_little}
+use Rattle.dex_types.specs.Take.{Take, take_fee, take_got, take_meeting, take_paid, take_transfers}
 use Rattle.dex_types.specs.Transfers.{Transfers, exchange}
-use Rattle.dex_types.specs.Why.{payer}
+use Rattle.dex_types.specs.Why.{TakeReading, payer, why_taking}
 use Rattle.dex_laws.specs.Locks.{locked}
-use Rattle.dex_market.specs.MarketAccount.{MarketWords}
+use Rattle.dex_market.specs.MarketAccount.{MarketWords, sizes_of, vault_of}
 use Rattle.dex_match.specs.declared.order_terms.Taker.{Taker}
-use Rattle.dex_market.specs.MarketAccount.{sizes_of}
-use Rattle.dex_ring.specs.Ring.{room_of}
-use Rattle.dex_market.specs.MarketAccount.{vault_of}
 use Rattle.dex_ring.specs.Appended.{HasRoom}
-use Rattle.dex_reasons.specs.Reading.{beyond, no_room}
+use Rattle.dex_ring.specs.declared.leaving.Leaving.{Leaving}
+use Rattle.dex_ring.specs.Leaving.{leaving_of}
+use Rattle.dex_ring.specs.Ring.{room_of}
+use Rattle.dex_take.specs.declared.outlook.TakeOutlook.{TakeOutlook}
+use Rattle.dex_take.specs.declared.plan.DecidedTake.{DecidedTake}
 use Rattle.dex_take.specs.declared.plan.TakePlan.{TakePlan}
 use Rattle.dex_take.specs.Leaving.{CanExchange, kept_of}
-use Rattle.dex_take.specs.TakeParts.{TakeParts}
+use Rattle.dex_take.specs.TakeGiven.{TakeRead}
 use Rattle.dex_take.specs.TakeTerms.{bare_take, take_of}
 
+-- the lot sizes of the market
+abbrev pub sizes_in : TakeRead → Lots
+sizes_in read = sizes_of read.words
+
 -- what a take meets
-abbrev pub meeting_in : Side → Take → TakeParts → Meeting
-meeting_in side t parts = take_meeting side (sizes_of parts.words) t parts.opposing
+abbrev pub meeting_in : Side → Take → TakeRead → Meeting
+meeting_in side t read = take_meeting side (sizes_in read) t read.opposing
 
 -- the plan that says what it does
 abbrev pub plan_by : Side → Lots → Take → Meeting → TakePlan
@@ -38,12 +43,15 @@ plan_by side sizes t met = record {
   fee = take_fee t met;
 }
 
-abbrev pub plan_in : Side → Take → TakeParts → TakePlan
-plan_in side t parts = plan_by side (sizes_of parts.words) t (meeting_in side t parts)
+abbrev pub plan_in : Side → Take → TakeRead → TakePlan
+plan_in side t read = plan_by side (sizes_in read) t (meeting_in side t read)
 
--- what moves between wallets and vaults by a plan
+-- what moves between wallets and vaults: by a plan, and by what is read
 abbrev pub transfers_by : Side → TakePlan → Transfers
 transfers_by side plan = exchange (locked_token side) plan.deposit plan.payout
+
+abbrev pub moved_in : Side → Take → TakeRead → Transfers
+moved_in side t read = take_transfers side (sizes_in read) t (meeting_in side t read)
 
 -- what a plan fills, where that is too little: the lots where they are too few, else the native quote with its fee
 abbrev pub too_little_by : Side → TakePlan → ℕ → ℕ → Option ℕ
@@ -56,53 +64,86 @@ abbrev pub vault_after : Token → Transfers → MarketWords → ℕ
 vault_after token moved words = vault_of token words + by_token token moved.coin_in moved.pc_in - by_token token moved.coin_out moved.pc_out
 
 -- what pending makers' fills are to take off totals of a token after a take
-abbrev pub leaving_after : Token → TakeParts → Meeting → ℕ
-leaving_after token parts met = all_leaving token (parts.ring.events ++ met.events)
+abbrev pub leaving_after : Token → TakeRead → Meeting → ℕ
+leaving_after token read met = all_leaving token (read.ring.events ++ met.events)
 
--- the reasons that ask for what a take would do
-abbrev pub taking_reasons : Side → Take → TakeParts → Seen → Meeting → Transfers → List (Option Refusal)
-taking_reasons side t parts seen met moved =
-    below_minimum (too_little side t met)
-    ∷ no_room (length met.events) (room_of parts.ring)
-    ∷ short_of (take_paid side (sizes_of parts.words) t met) (payer side seen)
-    ∷ too_full seen moved seen.coin
-    ∷ too_full seen moved seen.pc
-    ∷ beyond (vault_after Coin moved parts.words) (leaving_after Coin parts met)
-    ∷ beyond (vault_after Pc moved parts.words) (leaving_after Pc parts met)
-    ∷ []
+-- what the reasons to refuse a take read
+abbrev pub reading_in : Side → Take → Seen → TakeRead → TakeReading
+reading_in side t seen read =
+    let met = meeting_in side t read in
+    record {
+      sizes = sizes_in read;
+      met = met;
+      limits = record {
+        room = room_of read.ring;
+        balance = balance_of (payer side seen);
+        coin = record { vault = vault_after Coin (moved_in side t read) read.words; leaving = leaving_after Coin read met };
+        pc = record { vault = vault_after Pc (moved_in side t read) read.words; leaving = leaving_after Pc read met };
+      };
+    }
 
--- why a take is refused
-abbrev pub take_reason : Side → Take → TakeParts → Seen → Option Refusal
-take_reason side t parts seen =
-    let met = meeting_in side t parts in
-    first_of (
-    ask_too_large side (sizes_of parts.words) t.lots
-    ∷ first_of (taking_reasons side t parts seen met (take_transfers side (sizes_of parts.words) t met))
-    ∷ []
-    )
+-- why a take is refused, once it may be asked for
+abbrev pub take_reason : Side → Take → TakeRead → Seen → Option Refusal
+take_reason side t read seen = why_taking side t seen (reading_in side t seen read)
 
 -- what deciding answers
-abbrev pub take_answer : Side → Take → TakeParts → Seen → Result TakePlan Refusal
-take_answer side t parts seen = answered (take_reason side t parts seen) (plan_in side t parts)
+abbrev pub take_answer : Side → Take → TakeRead → Seen → Result TakePlan Refusal
+take_answer side t read seen = answered (take_reason side t read seen) (plan_in side t read)
+
+-- the same with what pending makers' fills are still to take off totals once those of the take are pending too
+abbrev pub left_in : Side → Take → TakeRead → Leaving
+left_in side t read = leaving_of (read.ring.events ++ (meeting_in side t read).events)
+
+abbrev pub take_outcome : Side → Take → TakeRead → Seen → Result DecidedTake Refusal
+take_outcome side t read seen = answered (take_reason side t read seen) (record { plan = plan_in side t read; leaving = left_in side t read })
 
 -- what the side that is met locks fits 64 bits, and is in its vault
-pub record IsBacked (side : Side) (parts : TakeParts) : Type 0 where
-  pub fits : locked (opposite side) (sizes_of parts.words) parts.opposing < 2 ^ 64
-  pub held : locked (opposite side) (sizes_of parts.words) parts.opposing ≤ vault_of (gained_token side) parts.words
+pub record IsBacked (side : Side) (read : TakeRead) : Type 0 where
+  pub fits : locked (opposite side) (sizes_in read) read.opposing < 2 ^ 64
+  pub held : locked (opposite side) (sizes_in read) read.opposing ≤ vault_of (gained_token side) read.words
 
--- the plan says what the take does by these parts, and it can be done there: its native base fits, its events have room,
+-- the plan says what the take does with what is given, and it can be done there: its native base fits, its events have room,
 -- and the words of the market can take in and pay out what it moves
-pub record CanBeDone (plan : TakePlan) (taker : Taker) (parts : TakeParts) : Type 0 where
-  pub planned : plan ≡ plan_in taker.id_side (bare_take taker) parts
-  pub size : ask_too_large taker.id_side (sizes_of parts.words) taker.lots ≡ None
-  pub room : HasRoom (length (meeting_in taker.id_side (bare_take taker) parts).events) parts.ring
-  pub counted : parts.ring.seq_num < 2 ^ 64
-  pub can : CanExchange (transfers_by taker.id_side plan) (kept_of (bare_take taker) (meeting_in taker.id_side (bare_take taker) parts)) parts.words
+pub record CanBeDone (plan : TakePlan) (taker : Taker) (read : TakeRead) : Type 0 where
+  pub planned : plan ≡ plan_in taker.id_side (bare_take taker) read
+  pub size : ask_too_large taker.id_side (sizes_in read) taker.lots ≡ None
+  pub room : HasRoom (length (meeting_in taker.id_side (bare_take taker) read).events) read.ring
+  pub counted : read.ring.seq_num < 2 ^ 64
+  pub can : CanExchange (moved_in taker.id_side (bare_take taker) read) (kept_of (bare_take taker) (meeting_in taker.id_side (bare_take taker) read)) read.words
 
--- the plan was decided on these parts, with some least fill, for wallets as some row saw them
-pub record IsDecided (plan : TakePlan) (taker : Taker) (parts : TakeParts) : Type 0 where
+-- the plan was decided on what is given, with some least fill, for wallets as some row saw them
+pub record IsDecided (plan : TakePlan) (taker : Taker) (read : TakeRead) : Type 0 where
   pub min_lots : ℕ
   pub min_pc : ℕ
   pub seen : Seen
-  pub accepted : take_reason taker.id_side (take_of taker min_lots min_pc) parts seen ≡ None
-  pub planned : plan ≡ plan_in taker.id_side (take_of taker min_lots min_pc) parts
+  pub accepted : take_reason taker.id_side (take_of taker min_lots min_pc) read seen ≡ None
+  pub planned : plan ≡ plan_in taker.id_side (take_of taker min_lots min_pc) read
+
+-- what was foreseen of a take is what it does with what is read
+pub record IsForeseen (side : Side) (t : Take) (read : TakeRead) (outlook : TakeOutlook) : Type 0 where
+  pub plan : outlook.plan ≡ plan_in side t read
+  pub events : outlook.events ≡ length (meeting_in side t read).events
+  pub lots : outlook.sums.lots ≡ (meeting_in side t read).lots
+  pub pc : outlook.sums.pc ≡ (meeting_in side t read).pc
+  pub rebates : outlook.sums.rebates ≡ (meeting_in side t read).rebates
+
+-- the reasons that ask for a plan and the events of a take, and those that ask for the bound
+abbrev pub before_bound : Side → TakePlan → ℕ → ℕ → ℕ → ℕ → Seen → List (Option Refusal)
+before_bound side plan min_lots min_pc events room seen =
+    below_minimum (too_little_by side plan min_lots min_pc)
+    ∷ no_room events room
+    ∷ short_of plan.deposit (payer side seen)
+    ∷ too_full seen (transfers_by side plan) seen.coin
+    ∷ too_full seen (transfers_by side plan) seen.pc
+    ∷ []
+
+abbrev pub at_bound : Side → TakePlan → MarketWords → Leaving → List (Option Refusal)
+at_bound side plan words leaving =
+    beyond (vault_after Coin (transfers_by side plan) words) leaving.coin
+    ∷ beyond (vault_after Pc (transfers_by side plan) words) leaving.pc
+    ∷ []
+
+-- no reason before the bound holds against a take
+pub record IsWithin (side : Side) (t : Take) (read : TakeRead) (seen : Seen) : Type 0 where
+  pub size : ask_too_large side (sizes_in read) t.lots ≡ None
+  pub rest : first_of (before_bound side (plan_in side t read) t.min_lots t.min_pc (length (meeting_in side t read).events) (room_of read.ring) seen) ≡ None

@@ -1,20 +1,95 @@
 //! Whether a take is accepted, and what it does then.
 
-ghost use Rattle.std.specs.Prelude.{◌≡◌};
+ghost use Rattle.std.specs.Prelude.{◌≡◌, ◌<◌, ◌^◌, IfErr, IfOk, Option, Some};
 ghost use Rattle.dex_market.specs.MarketAccount.{IsMarket};
-ghost use Rattle.dex_ring.specs.Ring.{IsEventQueue};
-ghost use Rattle.dex_take.specs.TakeParts.{AreSoundParts, given, parts_of};
+ghost use Rattle.dex_ring.specs.Leaving.{leaving_of};
+ghost use Rattle.dex_ring.specs.Ring.{IsEventQueue, ring_of};
+ghost use Rattle.dex_types.specs.declared.refusals.Refusal.{Refusal};
+ghost use Rattle.dex_types.specs.Reasons.{answered};
+ghost use Rattle.dex_take.specs.declared.plan.DecidedTake.{DecidedTake};
+ghost use Rattle.dex_take.specs.TakeGiven.{IsOfSound, read_of, shown};
 ghost use Rattle.dex_take.specs.TakeTerms.{take_of};
-ghost use Rattle.dex_take.specs.Taking.{IsBacked, take_answer};
+ghost use Rattle.dex_take.specs.Taking.{IsBacked, IsForeseen, IsWithin, take_answer, take_outcome, take_reason};
 
-use crate::outlook::outlook;
-use crate::plan::TakePlan;
-use crate::reasons::{LeastFill, late_reason};
+use crate::outlook::{TakeOutlook, outlook};
+use crate::plan::{DecidedTake, TakePlan};
+use crate::reasons::{LeastFill, bound_reason, fill_reason};
 use dex_market::MarketRef;
 use dex_match::Taker;
+use dex_meet::{pending_leaving, with_fills};
 use dex_reasons::ask_too_large;
-use dex_ring::RingRef;
-use dex_types::{Lots, Refusal, Seen, SideRead};
+use dex_ring::{Leaving, RingRef};
+use dex_types::{Refusal, Seen, SideRead};
+
+/// What becomes of a take, where no reason before the bound is against it.
+fn foreseen<B: SideRead>(
+    market: &MarketRef<'_>,
+    opposite: &B,
+    ring: &RingRef<'_>,
+    taker: Taker,
+    least: LeastFill,
+    seen: &Seen,
+) -> Result<TakeOutlook, Refusal>
+    requires holds { B.holds opposite.now }
+    requires market { IsMarket market.now.bytes.now }
+    requires events { IsEventQueue ring.now.bytes.now }
+    requires backed { IsBacked taker.id_side (read_of (shown B.orders market.now opposite.now ring.now)) }
+    ensures outlook { IfOk result (IsForeseen taker.id_side (take_of taker least.lots least.pc) (read_of (shown B.orders market.now opposite.now ring.now))) }
+    ensures within { IfOk result (λ outlook. IsWithin taker.id_side (take_of taker least.lots least.pc) (read_of (shown B.orders market.now opposite.now ring.now)) seen.now) }
+    ensures refused { IfErr result (λ why. take_reason taker.id_side (take_of taker least.lots least.pc)
+        (read_of (shown B.orders market.now opposite.now ring.now)) seen.now ≡ Some why) }
+{
+    let sizes = market.sizes();
+    if let Some(why) = ask_too_large(taker.id_side, sizes, taker.lots) {
+        return Err(why);
+    }
+    let outlook = outlook(sizes, taker, opposite);
+    match fill_reason(taker.id_side, &outlook, least, ring.room(), seen) {
+        Some(why) => Err(why),
+        None => Ok(outlook),
+    }
+}
+
+/// What is decided of a take against which no reason before the bound holds, or the sum that would be too large; these are
+/// the sums that pending makers' fills are still to take off totals.
+fn bounded<B: SideRead>(
+    market: &MarketRef<'_>,
+    opposite: &B,
+    ring: &RingRef<'_>,
+    taker: Taker,
+    least: LeastFill,
+    seen: &Seen,
+    outlook: &TakeOutlook,
+    leaving: Leaving,
+) -> Result<DecidedTake, Refusal>
+    requires market { IsMarket market.now.bytes.now }
+    requires backed { IsBacked taker.id_side (read_of (shown B.orders market.now opposite.now ring.now)) }
+    requires foreseen { IsForeseen taker.id_side (take_of taker least.lots least.pc) (read_of (shown B.orders market.now opposite.now ring.now)) outlook.now }
+    requires within { IsWithin taker.id_side (take_of taker least.lots least.pc) (read_of (shown B.orders market.now opposite.now ring.now)) seen.now }
+    requires pending { leaving ≡ leaving_of (ring_of ring.now.bytes.now).events }
+    requires coin_small { leaving.coin < 2 ^ 80 }
+    requires pc_small { leaving.pc < 2 ^ 80 }
+    ensures { result ≡ take_outcome taker.id_side (take_of taker least.lots least.pc) (read_of (shown B.orders market.now opposite.now ring.now)) seen.now }
+{
+    let left = with_fills(leaving, taker.id_side, market.sizes(), outlook.sums);
+    match bound_reason(market, taker.id_side, &outlook.plan, left) {
+        Some(why) => Err(why),
+        None => Ok(DecidedTake {
+            plan: outlook.plan,
+            leaving: left,
+        }),
+    }
+}
+
+/// The plan alone.
+fn plan_of(decided: Result<DecidedTake, Refusal>) -> Result<TakePlan, Refusal>
+    ensures { (reason : Option Refusal) (d : DecidedTake) → decided ≡ answered reason d → result ≡ answered reason d.plan }
+{
+    match decided {
+        Ok(decided) => Ok(decided.plan),
+        Err(why) => Err(why),
+    }
+}
 
 /// The plan or the refusal, where what the side that is met locks is in its vault.
 pub(crate) fn decide<B: SideRead>(
@@ -28,21 +103,21 @@ pub(crate) fn decide<B: SideRead>(
     requires holds { B.holds opposite.now }
     requires market { IsMarket market.now.bytes.now }
     requires events { IsEventQueue ring.now.bytes.now }
-    requires backed { IsBacked taker.id_side (parts_of (given market.now.bytes.now ring.now.bytes.now (B.orders opposite.now))) }
-    ensures { result ≡ take_answer taker.id_side (take_of taker least.lots least.pc)
-        (parts_of (given market.now.bytes.now ring.now.bytes.now (B.orders opposite.now))) seen.now }
+    requires backed { IsBacked taker.id_side (read_of (shown B.orders market.now opposite.now ring.now)) }
+    ensures { result ≡ take_answer taker.id_side (take_of taker least.lots least.pc) (read_of (shown B.orders market.now opposite.now ring.now)) seen.now }
 {
-    let sizes = Lots {
-        coin: market.coin_lot_size(),
-        pc: market.pc_lot_size(),
-    };
-    if let Some(why) = ask_too_large(taker.id_side, sizes, taker.lots) {
-        return Err(why);
-    }
-    let outlook = outlook(sizes, taker, opposite);
-    match late_reason(market, ring, taker.id_side, sizes, &outlook, least, seen) {
-        Some(why) => Err(why),
-        None => Ok(outlook.plan),
+    match foreseen(market, opposite, ring, taker, least, seen) {
+        Err(why) => Err(why),
+        Ok(outlook) => plan_of(bounded(
+            market,
+            opposite,
+            ring,
+            taker,
+            least,
+            seen,
+            &outlook,
+            pending_leaving(ring),
+        )),
     }
 }
 
@@ -52,7 +127,8 @@ pub(crate) fn decide<B: SideRead>(
 /// Refused are, in this order: an ask of 2^64 native base or more; a take that fills too few lots, or too little quote; one
 /// with more events than the queue has free places; one whose paying wallet has less than it pays; one after which the
 /// coin wallet, or the pc wallet, would hold 2^64 or more with all that it gets under its roles; one after which the coin
-/// vault, or the pc vault, would be 2^64 or more with what pending makers' fills are then still to take off totals.
+/// vault, or the pc vault, would be 2^64 or more with what pending makers' fills are then still to take off totals. Only
+/// for this last reason all pending events are read.
 ///
 /// The taker's account, client id, self-trade rule, order type and times are not looked at.
 pub fn decide_take<B: SideRead>(
@@ -65,13 +141,43 @@ pub fn decide_take<B: SideRead>(
     seen: &Seen,
 ) -> Result<TakePlan, Refusal>
     requires holds { B.holds opposite.now }
-    requires parts { AreSoundParts taker.now.id_side (given market.now.bytes.now ring.now.bytes.now (B.orders opposite.now)) }
+    requires parts { IsOfSound taker.now.id_side (shown B.orders market.now opposite.now ring.now) }
     ensures { result ≡ take_answer taker.entry.now.id_side (take_of taker.entry.now min_lots min_pc)
-        (parts_of (given market.now.bytes.now ring.now.bytes.now (B.orders opposite.now))) seen.now }
+        (read_of (shown B.orders market.now opposite.now ring.now)) seen.now }
 {
     let least = LeastFill {
         lots: min_lots,
         pc: min_pc,
     };
     decide(market, opposite, ring, *taker, least, seen)
+}
+
+/// The same where it is known what pending makers' fills are still to take off totals, in native base and in native quote:
+/// no pending event is read, and what they are to take once the take is done is answered beside the plan.
+pub fn decide_take_with_leaving<B: SideRead>(
+    market: &MarketRef<'_>,
+    opposite: &B,
+    ring: &RingRef<'_>,
+    taker: &Taker,
+    min_lots: u64,
+    min_pc: u64,
+    seen: &Seen,
+    leaving: &Leaving,
+) -> Result<DecidedTake, Refusal>
+    requires holds { B.holds opposite.now }
+    requires parts { IsOfSound taker.now.id_side (shown B.orders market.now opposite.now ring.now) }
+    requires leaving { leaving.now ≡ leaving_of (ring_of ring.now.bytes.now).events }
+    ensures { result ≡ take_outcome taker.entry.now.id_side (take_of taker.entry.now min_lots min_pc)
+        (read_of (shown B.orders market.now opposite.now ring.now)) seen.now }
+{
+    let least = LeastFill {
+        lots: min_lots,
+        pc: min_pc,
+    };
+    match foreseen(market, opposite, ring, *taker, least, seen) {
+        Err(why) => Err(why),
+        Ok(outlook) => bounded(
+            market, opposite, ring, *taker, least, seen, &outlook, *leaving,
+        ),
+    }
 }

@@ -10,9 +10,9 @@ mod reasons;
 mod terms;
 
 pub use apply::apply_take;
-pub use decide::decide_take;
-pub use laws::what_is_decided_is_the_markets;
-pub use plan::TakePlan;
+pub use decide::{decide_take, decide_take_with_leaving};
+pub use laws::{a_take_leaves_the_market_after_it, what_is_decided_is_the_markets};
+pub use plan::{DecidedTake, TakePlan};
 
 #[cfg(test)]
 mod tests;

@@ -6,6 +6,7 @@ ghost use Rattle.dex_take.specs.Taking.{transfers_by};
 ghost use Rattle.dex_types.specs.Side.{by_side};
 
 use dex_meet::Sums;
+use dex_ring::Leaving;
 use dex_types::{Lots, Side};
 
 /// What an accepted take does: the native amount from the paying wallet into its vault and the one from the other vault to
@@ -18,6 +19,13 @@ pub struct TakePlan {
     pub lots: u64,
     pub pc: u64,
     pub fee: u64,
+}
+
+/// A plan, and what makers' fills are still to take off totals once those of the plan's take are pending too.
+#[derive(Clone, Copy, Debug, PartialEq, Eq)]
+pub struct DecidedTake {
+    pub plan: TakePlan,
+    pub leaving: Leaving,
 }
 
 /// What a take moves between wallets and vaults, in native amounts, into the vaults and out of them.

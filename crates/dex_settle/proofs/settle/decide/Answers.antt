@@ -10,8 +10,8 @@ use Rattle.dex_reasons.proofs.FirstReasons.{first_of-early}
 use Rattle.dex_settle.proofs.WalletLaws.{brought-fits}
 use Rattle.dex_settle.proofs.settle.decide.Goals as goal
 
-pub returns-in-Some-clause-answer : goal.returns-in-Some-clause-answer
-returns-in-Some-clause-answer c =
+pub returns-in-Some : goal.returns-in-Some
+returns-in-Some c =
     let seen = c.args.seen.now in
     let account = account_of c.args.orders.now.bytes.now in
     let early = early_settle_reasons (market_words c.args.market.now.bytes.now).terms c.args.signer seen account in

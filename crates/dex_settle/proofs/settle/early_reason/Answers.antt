@@ -1,8 +1,7 @@
 use Rattle.std.proofs.Common.{rules, ◌∙◌, ◌≡◌, ◌∷◌, []}
-use Rattle.dex_types.specs.Reasons.{missing, other_mint}
+use Rattle.dex_types.specs.Reasons.{missing, not_person, other_mint}
 use Rattle.dex_orders.specs.OrdersAccount.{account_of}
 use Rattle.dex_market.specs.MarketAccount.{market_words}
-use Rattle.dex_reasons.specs.Reading.{not_person}
 use Rattle.dex_reasons.proofs.FirstReasons.{joined, joined-first}
 use Rattle.dex_settle.proofs.settle.early_reason.Goals as goal
 

@@ -1,8 +1,7 @@
 use Rattle.std.proofs.Common.{rules, ◌∙◌, ◌≡◌, ◌∷◌, [], arith, ap}
-use Rattle.dex_types.specs.Reasons.{missing, other_mint, too_full}
+use Rattle.dex_types.specs.Reasons.{missing, not_this_authority, other_mint, too_full}
 use Rattle.dex_types.specs.Transfers.{payout}
 use Rattle.dex_market.specs.MarketAccount.{market_words}
-use Rattle.dex_reasons.specs.Reading.{not_this_authority}
 use Rattle.dex_reasons.proofs.FirstReasons.{joined, joined-first}
 use Rattle.dex_reasons.proofs.WalletAmounts.{brought-le}
 use Rattle.dex_settle.proofs.sweep.refusal_of.Goals as goal

@@ -1,7 +1,6 @@
 use Rattle.std.proofs.Common.{◌∙◌, ◌≡◌, ◌∷◌, [], refl}
-use Rattle.dex_types.specs.Reasons.{below_minimum, short_of, too_full}
+use Rattle.dex_types.specs.Reasons.{below_minimum, no_room, short_of, too_full}
 use Rattle.dex_types.specs.Why.{payer}
-use Rattle.dex_reasons.specs.Reading.{no_room}
 use Rattle.dex_reasons.proofs.FirstReasons.{joined, joined-first}
 use Rattle.dex_take.specs.Leaving.{moves}
 use Rattle.dex_take.specs.Taking.{too_little_by, transfers_by}

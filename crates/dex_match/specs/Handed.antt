@@ -1,0 +1,91 @@
+-- What a new order is handed by views, and what it makes of that.
+use Rattle.std.specs.Prelude.{◌≡◌, ℕ, ◌^◌, ◌<◌, ◌≤◌, List, None, Result}
+use Rattle.dex_accounts.specs.Parts.{MarketParts, with_account, with_side}
+use Rattle.dex_market.specs.declared.market_ref.MarketRef.{MarketRef}
+use Rattle.dex_market.specs.declared.market_view.MarketView.{MarketView}
+use Rattle.dex_market.specs.declared.requests.RequestRef.{RequestRef}
+use Rattle.dex_market.specs.declared.requests.RequestView.{RequestView}
+use Rattle.dex_market.specs.MarketAccount.{market_words, sizes_of}
+use Rattle.dex_orders.specs.declared.orders_ref.OrdersRef.{OrdersRef}
+use Rattle.dex_orders.specs.declared.orders_view.OrdersView.{OrdersView}
+use Rattle.dex_ring.specs.Appended.{appended, pushed_all}
+use Rattle.dex_ring.specs.Ring.{IsEventQueue, ring_of}
+use Rattle.dex_ring.specs.declared.ring_ref.RingRef.{RingRef}
+use Rattle.dex_ring.specs.declared.ring_view.RingView.{RingView}
+use Rattle.dex_types.specs.declared.orders.Order.{Order}
+use Rattle.dex_types.specs.declared.refusals.Refusal.{Refusal}
+use Rattle.dex_types.specs.declared.replies.Reply.{Reply}
+use Rattle.dex_types.specs.NewOrder.{order_reply}
+use Rattle.dex_types.specs.Side.{opposite}
+use Rattle.dex_types.specs.QueuedEvent.{QueuedEvent}
+use Rattle.dex_match.specs.declared.order_plan.Decided.{Decided}
+use Rattle.dex_match.specs.declared.order_plan.OrderPlan.{OrderPlan}
+use Rattle.dex_match.specs.declared.order_terms.Taker.{Taker}
+use Rattle.dex_match.specs.Applying.{account_bytes_after, bytes_with, intake_of, ordering_over, requests_after}
+use Rattle.dex_match.specs.OrderParts.{OrderGiven, given_by, parts_of}
+use Rattle.dex_match.specs.Ordering.{order_answer, order_outcome, order_reason}
+use Rattle.dex_match.specs.OrderTerms.{order_of}
+
+-- what doing an order is handed: by the members of both sides' traits, their orders and the room of the order's own side
+abbrev pub handed : {B A : Type 0} → (B → List Order) → (B → ℕ) → (A → List Order) → MarketView → RequestView → RingView → OrdersView → B → A → OrderGiven
+handed own_orders own_room opposing market requests ring account own opposite =
+    given_by market.bytes.now requests.bytes.now ring.bytes.now account.bytes.now (own_orders own) (own_room own) (opposing opposite)
+
+-- what deciding it is shown
+abbrev pub shown : {B A : Type 0} → (B → List Order) → (B → ℕ) → (A → List Order) → MarketRef → RequestRef → RingRef → OrdersRef → B → A → OrderGiven
+shown own_orders own_room opposing market requests ring account own opposite =
+    given_by market.bytes.now requests.bytes.now ring.bytes.now account.bytes.now (own_orders own) (own_room own) (opposing opposite)
+
+-- what is decided of it, with the balance of the wallet that pays, a native amount
+abbrev pub decided_in : Taker → OrderGiven → ℕ → Result OrderPlan Refusal
+decided_in taker given balance = order_answer taker.id_side (order_of taker) (parts_of given) balance
+
+-- the same, with the sums of what makers' fills are to take off totals after it
+abbrev pub outcome_in : Taker → OrderGiven → ℕ → Result Decided Refusal
+outcome_in taker given balance = order_outcome taker.id_side (order_of taker) (parts_of given) balance
+
+-- the events that it appends
+abbrev pub events_in : Taker → OrderGiven → List QueuedEvent
+events_in taker given = (ordering_over taker.id_side (order_of taker) given).events
+
+-- what it is answered
+abbrev pub reply_in : Taker → OrderGiven → Reply
+reply_in taker given = order_reply (order_of taker) (ordering_over taker.id_side (order_of taker) given)
+
+-- what it makes of what it is handed: four words of the market and a sequence number are written, its events are appended, the
+-- account holds the order and is paid, what the order met has left the one side, and what is left of it rests on the other
+abbrev pub ordered : Taker → OrderGiven → OrderGiven
+ordered taker given =
+    let side = taker.id_side in
+    let n = order_of taker in
+    let o = ordering_over side n given in
+    record {
+      market = bytes_with (intake_of side n o) given.market;
+      requests = requests_after given.requests;
+      events = pushed_all o.events given.events;
+      account = account_bytes_after side (sizes_of (market_words given.market)) n o given.account;
+      own = o.posting.side;
+      own_room = given.own_room;
+      opposing = o.met.left;
+    }
+
+-- the parts of a market with what an order made of them
+abbrev pub with_ordered : Taker → OrderGiven → MarketParts → MarketParts
+with_ordered taker given parts =
+    with_account taker.account given.account
+    (with_side (opposite taker.id_side) given.opposing
+    (with_side taker.id_side given.own (record parts { market = given.market; requests = given.requests; events = given.events })))
+
+-- an order was done on what was given: its numbers fit their fields, it was decided with some balance, and the queue holds its
+-- events behind the others
+pub record IsDone (taker : Taker) (given after : OrderGiven) : Type 0 where
+  pub price : 1 ≤ taker.price
+  pub price_fits : taker.price < 2 ^ 64
+  pub lots : taker.lots < 2 ^ 64
+  pub lock : taker.lock < 2 ^ 64
+  pub client : taker.client < 2 ^ 64
+  pub balance : ℕ
+  pub accepted : order_reason taker.id_side (order_of taker) (parts_of given) balance ≡ None
+  pub does : after ≡ ordered taker given
+  pub list : ring_of after.events ≡ appended (events_in taker given) (ring_of given.events)
+  pub queue : IsEventQueue after.events
