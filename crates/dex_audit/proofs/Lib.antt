@@ -8,3 +8,4 @@ pub mod SoundLaw
 pub mod NoneLaw
 pub mod ReadLaws
 pub mod FinalLaws
+pub mod SumLaws

@@ -5,3 +5,5 @@ pub mod Findings
 pub mod Audited
 pub mod Reading
 pub mod Tallies
+pub mod Weights
+pub mod Books

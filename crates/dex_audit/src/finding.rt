@@ -28,11 +28,7 @@ pub fn tell(found: &mut Vec<Finding>, finding: Finding) -> Result<(), NoMemory>
 }
 
 /// Adds the finding, unless the rule holds.
-pub fn tell_unless(
-    found: &mut Vec<Finding>,
-    holds: bool,
-    finding: Finding,
-) -> Result<(), NoMemory>
+pub fn tell_unless(found: &mut Vec<Finding>, holds: bool, finding: Finding) -> Result<(), NoMemory>
     ensures { OnOk result (found.new.items ≡ found.old.items ++ unless holds finding) }
 {
     if !holds {

@@ -1,15 +1,21 @@
 //! What an audit of accounts finds: each place where a rule over several accounts fails.
 #![tactic(auto)]
 
+mod amounts;
+mod book;
 mod finals;
 mod finding;
 mod held;
 mod laws;
+mod locks;
 mod pending;
 mod resting;
+mod slots;
 mod taken;
 mod tally;
+mod totals;
 mod traders;
+mod weights;
 
 pub use finding::Finding;
 pub use laws::{

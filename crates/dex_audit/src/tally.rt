@@ -24,3 +24,13 @@ pub fn count(tally: &mut BTreeMap<u128, u32>, number: u128) -> Result<(), NoMemo
         Err(_) => Err(NoMemory),
     }
 }
+
+/// Marks the number as met.
+pub fn mark(tally: &mut BTreeMap<u128, u32>, number: u128) -> Result<(), NoMemory>
+    ensures { OnOk result ((other : ℕ) → times tally.new other ≡ (if other == number then 1 else times tally.old other)) }
+{
+    match tally.insert(number, 1) {
+        Ok(_) => Ok(()),
+        Err(_) => Err(NoMemory),
+    }
+}

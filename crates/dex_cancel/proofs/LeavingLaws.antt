@@ -1,5 +1,5 @@
 -- what is left of the sides and of the event queue when orders leave
-use Rattle.std.proofs.Common.{length-append, ◌+◌, ◌≤◌, ◌<◌, ◌^◌, ◌≡◌, List, [], ◌∷◌, ◌++◌, Some, length, refl, sym, ap, ◌∙◌, subst, arith}
+use Rattle.std.proofs.Common.{length-append, ℕ, ◌+◌, ◌≤◌, ◌<◌, ◌^◌, ◌≡◌, List, [], ◌∷◌, ◌++◌, Some, length, refl, sym, ap, ◌∙◌, subst, arith}
 use Rattle.std.specs.List.{All}
 use Rattle.std.proofs.lemmas.Bool.{cond_both}
 use Rattle.std.proofs.lemmas.List.Elements.{All-head}
@@ -14,31 +14,55 @@ use Rattle.dex_types.specs.Owed.{order_lock}
 use Rattle.dex_types.specs.Posting.{posted}
 use Rattle.dex_types.specs.Side.{by_side}
 use Rattle.dex_types.specs.Tokens.{is_same_side}
-use Rattle.dex_ring.specs.Ring.{Ring}
 use Rattle.dex_ring.specs.StandsFor.{ring_of_market}
 use Rattle.dex_laws.proofs.PostLaws.{All-posted}
 use Rattle.dex_sound.proofs.WithoutLaws.{All-without}
-use Rattle.dex_cancel.specs.Leaving.{DoLocksFit, DoRest, HasRoom, without_one, without_all, with_out, with_outs}
+use Rattle.dex_cancel.specs.Leaving.{DoLocksFit, DoRest, Queue, out_of, outs_of, queue_of, without_one, without_all, with_out, with_outs}
+use Rattle.dex_ring.specs.Appended.{HasRoom, appended, pushed_all}
+use Rattle.dex_ring.specs.Ring.{Ring, ring_of}
 use Rattle.dex_cancel.proofs.OwnLaws.{IsMine, all-without}
 use Rattle.dex_cancel.proofs.WalkSteps.{on}
+
+-- an order of the side leaves it
+pub without-on : (side : Side) (order : Order) (orders : List Order) → without_all side (on side order ∷ []) orders ≡ without_order order.id orders
+without-on Bid order orders = refl
+without-on Ask order orders = refl
+
+-- a queue by what its bytes say and these
+pub queue-by : (bytes now : List ℕ) (list : Ring) → ring_of bytes ≡ list → bytes ≡ now → queue_of bytes ≡ (let made : Queue = record { list = list; bytes = now } in made)
+queue-by bytes now list says is =
+    let made : Ring → List ℕ → Queue = λ r b. record { list = r; bytes = b } in
+    ap (λ r. made r bytes) says ∙ ap (made list) is
 
 -- one after the other
 pub without_all-append : (side : Side) (gone later : List RestingOrder) (orders : List Order) → without_all side (gone ++ later) orders ≡ without_all side later (without_all side gone orders)
 without_all-append side [] later orders = refl
 without_all-append side (first ∷ gone) later orders = without_all-append side gone later (without_one side first orders)
 
-pub with_outs-append : (sizes : Lots) (gone later : List RestingOrder) (ring : Ring) → with_outs sizes (gone ++ later) ring ≡ with_outs sizes later (with_outs sizes gone ring)
+pub with_outs-append : (sizes : Lots) (gone later : List RestingOrder) (ring : Queue) → with_outs sizes (gone ++ later) ring ≡ with_outs sizes later (with_outs sizes gone ring)
 with_outs-append sizes [] later ring = refl
 with_outs-append sizes (first ∷ gone) later ring = with_outs-append sizes gone later (with_out sizes first ring)
 
 -- an out for each
-pub length-with_outs : (sizes : Lots) (gone : List RestingOrder) (ring : Ring) → length (with_outs sizes gone ring).events ≡ length ring.events + length gone
+pub length-with_outs : (sizes : Lots) (gone : List RestingOrder) (ring : Queue) → length (with_outs sizes gone ring).list.events ≡ length ring.list.events + length gone
 length-with_outs sizes [] ring = omega arith
-length-with_outs sizes (first ∷ gone) ring = omega (arith, length-with_outs sizes gone (with_out sizes first ring), length-append ring.events ((with_out sizes first (record ring { events = [] })).events))
+length-with_outs sizes (first ∷ gone) ring =
+    omega (arith, length-with_outs sizes gone (with_out sizes first ring), length-append ring.list.events (out_of sizes first ∷ []))
 
-pub capacity-with_outs : (sizes : Lots) (gone : List RestingOrder) (ring : Ring) → (with_outs sizes gone ring).capacity ≡ ring.capacity
+pub capacity-with_outs : (sizes : Lots) (gone : List RestingOrder) (ring : Queue) → (with_outs sizes gone ring).list.capacity ≡ ring.list.capacity
 capacity-with_outs sizes [] ring = refl
 capacity-with_outs sizes (first ∷ gone) ring = capacity-with_outs sizes gone (with_out sizes first ring)
+
+-- the bytes with them
+pub bytes-with_outs : (sizes : Lots) (gone : List RestingOrder) (ring : Queue) → (with_outs sizes gone ring).bytes ≡ pushed_all (outs_of sizes gone) ring.bytes
+bytes-with_outs sizes [] ring = refl
+bytes-with_outs sizes (first ∷ gone) ring = bytes-with_outs sizes gone (with_out sizes first ring)
+
+-- and the list, which does not depend on the bytes
+pub list-with_outs : (sizes : Lots) (gone : List RestingOrder) (ring other : Queue) → ring.list ≡ other.list → (with_outs sizes gone ring).list ≡ (with_outs sizes gone other).list
+list-with_outs sizes [] ring other same = same
+list-with_outs sizes (first ∷ gone) ring other same =
+    list-with_outs sizes gone (with_out sizes first ring) (with_out sizes first other) (ap (appended (out_of sizes first ∷ [])) same)
 
 -- what holds of each order holds of each that is left
 pub All-without_all : (P : Order → Type 0) (side : Side) (gone : List RestingOrder) (orders : List Order) → All P orders → All P (without_all side gone orders)
@@ -59,42 +83,53 @@ rests-there resting side bids asks rest is =
     subst (λ s. order_with resting.order.id (by_side s bids asks) ≡ Some resting.order) is
     (All-head (λ (r : RestingOrder). order_with r.order.id (by_side r.side bids asks) ≡ Some r.order) resting [] rest)
 
--- the market's parts
+-- the market's sides and events
+abbrev pub market_queue : Market → Queue
+market_queue m = record { list = ring_of_market m; bytes = [] }
+
 pub market-left : (gone : List RestingOrder) (m : Market) → after_cancels gone m ≡ record m {
   bids = without_all Bid gone m.bids;
   asks = without_all Ask gone m.asks;
-  events = (with_outs m.listing.sizes gone (ring_of_market m)).events;
-  events_appended = (with_outs m.listing.sizes gone (ring_of_market m)).seq_num;
+  events = (with_outs m.listing.sizes gone (market_queue m)).list.events;
+  events_appended = (with_outs m.listing.sizes gone (market_queue m)).list.seq_num;
 }
 market-left [] m = refl
 market-left (first ∷ gone) m = by first.side first.order gone m (market-left gone (cancel_one first m))
   where
+    same : (order : RestingOrder) (gone : List RestingOrder) (m : Market) → ring_of_market (cancel_one order m) ≡ appended (out_of m.listing.sizes order ∷ []) (ring_of_market m)
+        → (with_outs m.listing.sizes gone (market_queue (cancel_one order m))).list ≡ (with_outs m.listing.sizes (order ∷ gone) (market_queue m)).list
+    same order gone m is = list-with_outs m.listing.sizes gone (market_queue (cancel_one order m)) (with_out m.listing.sizes order (market_queue m)) is
+
     by : (side : Side) (order : Order) (gone : List RestingOrder) (m : Market)
         → after_cancels gone (cancel_one (on side order) m) ≡ record (cancel_one (on side order) m) {
           bids = without_all Bid gone (cancel_one (on side order) m).bids;
           asks = without_all Ask gone (cancel_one (on side order) m).asks;
-          events = (with_outs m.listing.sizes gone (ring_of_market (cancel_one (on side order) m))).events;
-          events_appended = (with_outs m.listing.sizes gone (ring_of_market (cancel_one (on side order) m))).seq_num;
+          events = (with_outs m.listing.sizes gone (market_queue (cancel_one (on side order) m))).list.events;
+          events_appended = (with_outs m.listing.sizes gone (market_queue (cancel_one (on side order) m))).list.seq_num;
         }
         → after_cancels (on side order ∷ gone) m ≡ record m {
           bids = without_all Bid (on side order ∷ gone) m.bids;
           asks = without_all Ask (on side order ∷ gone) m.asks;
-          events = (with_outs m.listing.sizes (on side order ∷ gone) (ring_of_market m)).events;
-          events_appended = (with_outs m.listing.sizes (on side order ∷ gone) (ring_of_market m)).seq_num;
+          events = (with_outs m.listing.sizes (on side order ∷ gone) (market_queue m)).list.events;
+          events_appended = (with_outs m.listing.sizes (on side order ∷ gone) (market_queue m)).list.seq_num;
         }
-    by Bid order gone m held = held
-    by Ask order gone m held = held
+    by Bid order gone m held =
+        let made : Ring → Market = λ r. record m { bids = without_all Bid gone (without_order order.id m.bids); asks = without_all Ask gone m.asks; events = r.events; events_appended = r.seq_num } in
+        held ∙ ap made (same (on Bid order) gone m refl)
+    by Ask order gone m held =
+        let made : Ring → Market = λ r. record m { bids = without_all Bid gone m.bids; asks = without_all Ask gone (without_order order.id m.asks); events = r.events; events_appended = r.seq_num } in
+        held ∙ ap made (same (on Ask order) gone m refl)
 
 -- some of an owner's orders left, and these are left
-pub record IsLeft (sizes : Lots) (owner : Address) (gone left : List RestingOrder) (bids asks : List Order) (ring : Ring) (bids_now asks_now : List Order) (ring_now : Ring) : Type 0 where
+pub record IsLeft (sizes : Lots) (owner : Address) (gone left : List RestingOrder) (bids asks : List Order) (ring : Queue) (bids_now asks_now : List Order) (ring_now : Queue) : Type 0 where
   pub bids_are : bids_now ≡ without_all Bid gone bids
   pub asks_are : asks_now ≡ without_all Ask gone asks
   pub ring_is : ring_now ≡ with_outs sizes gone ring
   pub rest : all_orders_of owner bids_now asks_now ≡ left
 
 -- and then one more
-pub left-more : (sizes : Lots) (owner : Address) (gone left : List RestingOrder) (bids asks : List Order) (ring : Ring) (bids_now asks_now : List Order) (ring_now : Ring)
-    (resting : RestingOrder) (bids_then asks_then : List Order) (ring_then : Ring)
+pub left-more : (sizes : Lots) (owner : Address) (gone left : List RestingOrder) (bids asks : List Order) (ring : Queue) (bids_now asks_now : List Order) (ring_now : Queue)
+    (resting : RestingOrder) (bids_then asks_then : List Order) (ring_then : Queue)
     → IsLeft sizes owner gone left bids asks ring bids_now asks_now ring_now → IsMine owner bids_now asks_now resting
     → bids_then ≡ without_all Bid (resting ∷ []) bids_now → asks_then ≡ without_all Ask (resting ∷ []) asks_now → ring_then ≡ with_outs sizes (resting ∷ []) ring_now
     → IsLeft sizes owner (gone ++ resting ∷ []) (without_taken (Some resting) left) bids asks ring bids_then asks_then ring_then
@@ -110,16 +145,16 @@ left-more sizes owner gone left bids asks ring bids_now asks_now ring_now restin
 }
 
 -- locks still fit
-pub locks-now : (sizes : Lots) (owner : Address) (gone left : List RestingOrder) (bids asks : List Order) (ring : Ring) (bids_now asks_now : List Order) (ring_now : Ring)
+pub locks-now : (sizes : Lots) (owner : Address) (gone left : List RestingOrder) (bids asks : List Order) (ring : Queue) (bids_now asks_now : List Order) (ring_now : Queue)
     → IsLeft sizes owner gone left bids asks ring bids_now asks_now ring_now → DoLocksFit sizes bids asks → DoLocksFit sizes bids_now asks_now
 locks-now sizes owner gone left bids asks ring bids_now asks_now ring_now held fit =
     subst (λ os. DoLocksFit sizes os asks_now) (sym held.bids_are) (subst (DoLocksFit sizes (without_all Bid gone bids)) (sym held.asks_are) (DoLocksFit-without_all sizes gone bids asks fit))
 
 -- and there is room for the outs of more of them
-pub room-now : (sizes : Lots) (gone more all : List RestingOrder) (ring ring_now : Ring) → ring_now ≡ with_outs sizes gone ring → HasRoom all ring
-    → length gone + length more ≤ length all → HasRoom more ring_now
+pub room-now : (sizes : Lots) (gone more all : List RestingOrder) (ring ring_now : Queue) → ring_now ≡ with_outs sizes gone ring → HasRoom (length all) ring.list
+    → length gone + length more ≤ length all → HasRoom (length more) ring_now.list
 room-now sizes gone more all ring ring_now is room fit =
-    omega (arith, room, fit, ap (λ (r : Ring). length r.events) is, ap (λ (r : Ring). r.capacity) is, length-with_outs sizes gone ring, capacity-with_outs sizes gone ring)
+    omega (arith, room, fit, ap (λ (q : Queue). length q.list.events) is, ap (λ (q : Queue). q.list.capacity) is, length-with_outs sizes gone ring, capacity-with_outs sizes gone ring)
 
 -- what fits on either side still does when some leave, and where one that fits is posted
 pub fit-left : (sizes : Lots) (side : Side) (gone : List RestingOrder) (orders then : List Order) → then ≡ without_all side gone orders → DoLocksFit sizes orders orders → DoLocksFit sizes then then

@@ -11,11 +11,10 @@ use Rattle.dex_types.specs.declared.terms.Side.{Side}
 use Rattle.dex_types.specs.declared.terms.Side.TheVariants.{Bid, Ask}
 use Rattle.dex_types.specs.Cancel.{RestingOrder, is_same_order, older, oldest, without_taken, at_most_one, taken_by, taken_by_all, age_of, all_orders_of}
 use Rattle.dex_types.specs.Tokens.{is_same_side}
-use Rattle.dex_ring.specs.Ring.{Ring}
 use Rattle.dex_sound.specs.Cancels.{AreApart}
 use Rattle.dex_sound.proofs.CancelledLaws.{without_taken-apart, taken_by-All}
 use Rattle.dex_cancel.specs.Counting.{count_of_client, count_among}
-use Rattle.dex_cancel.specs.Leaving.{with_outs, without_all}
+use Rattle.dex_cancel.specs.Leaving.{Queue, with_outs, without_all}
 use Rattle.dex_cancel.proofs.LeavingLaws.{IsLeft, left-more}
 use Rattle.dex_cancel.proofs.OwnLaws.{IsMine, same-self}
 use Rattle.dex_cancel.proofs.WalkSteps.{count_of_client-append}
@@ -298,8 +297,8 @@ listed-within clients place all =
     )
 
 -- an order that may be there leaves
-pub left-maybe : (sizes : Lots) (owner : Address) (gone left : List RestingOrder) (bids asks : List Order) (ring : Ring) (bids_now asks_now : List Order) (ring_now : Ring)
-    (found : Option RestingOrder) (bids_then asks_then : List Order) (ring_then : Ring)
+pub left-maybe : (sizes : Lots) (owner : Address) (gone left : List RestingOrder) (bids asks : List Order) (ring : Queue) (bids_now asks_now : List Order) (ring_now : Queue)
+    (found : Option RestingOrder) (bids_then asks_then : List Order) (ring_then : Queue)
     → IsLeft sizes owner gone left bids asks ring bids_now asks_now ring_now → ((one : RestingOrder) → found ≡ Some one → IsMine owner bids_now asks_now one)
     → bids_then ≡ without_all Bid (at_most_one found) bids_now → asks_then ≡ without_all Ask (at_most_one found) asks_now → ring_then ≡ with_outs sizes (at_most_one found) ring_now
     → IsLeft sizes owner (gone ++ at_most_one found) (without_taken found left) bids asks ring bids_then asks_then ring_then
@@ -314,8 +313,8 @@ left-maybe sizes owner gone left bids asks ring bids_now asks_now ring_now (Some
     left-more sizes owner gone left bids asks ring bids_now asks_now ring_now one bids_then asks_then ring_then held (mine one refl) bids_is asks_is ring_is
 
 -- so the orders of one client id more
-pub listed-more : (sizes : Lots) (owner : Address) (clients : List ℕ) (client : ℕ) (all : List RestingOrder) (bids asks : List Order) (ring : Ring) (bids_now asks_now : List Order) (ring_now : Ring)
-    (bids_then asks_then : List Order) (ring_then : Ring)
+pub listed-more : (sizes : Lots) (owner : Address) (clients : List ℕ) (client : ℕ) (all : List RestingOrder) (bids asks : List Order) (ring : Queue) (bids_now asks_now : List Order) (ring_now : Queue)
+    (bids_then asks_then : List Order) (ring_then : Queue)
     → IsLeft sizes owner (taken_by_all clients all) (left_after clients all) bids asks ring bids_now asks_now ring_now
     → All (IsMine owner bids_now asks_now) (all_orders_of owner bids_now asks_now)
     → bids_then ≡ without_all Bid (at_most_one (taken_by client (all_orders_of owner bids_now asks_now))) bids_now

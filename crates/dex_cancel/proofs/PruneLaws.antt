@@ -16,14 +16,13 @@ use Rattle.dex_types.specs.Cancel.{RestingOrder, order_with, without_order, orde
 use Rattle.dex_types.specs.Owed.{order_lock}
 use Rattle.dex_types.specs.Posting.{InBookOrder}
 use Rattle.dex_types.specs.Tokens.{is_same_side}
-use Rattle.dex_ring.specs.Ring.{Ring}
 use Rattle.dex_laws.specs.Walks.{orders_from, IsReached}
 use Rattle.dex_laws.proofs.BookSideLaws.{Rests, rests, order_with-between, order_after-between, without_order-between, between-sorted}
 use Rattle.dex_laws.proofs.SideLaws.{InBookOrder-without}
 use Rattle.dex_laws.proofs.WalkLaws.{from_id-between, walk-step}
 use Rattle.dex_sound.proofs.WithoutLaws.{found-All}
-use Rattle.dex_cancel.specs.Leaving.{DoOrdersFit, with_outs, without_all}
-use Rattle.dex_cancel.proofs.LeavingLaws.{All-without_all, without_all-append, with_outs-append}
+use Rattle.dex_cancel.specs.Leaving.{DoOrdersFit, Queue, with_outs, without_all}
+use Rattle.dex_cancel.proofs.LeavingLaws.{All-without_all, without-on, without_all-append, with_outs-append}
 use Rattle.dex_cancel.proofs.WalkSteps.{on, length-orders_of, orders_of-own, orders_of-other, stepped}
 
 -- the first of the orders behind others is reached, with all of them before it
@@ -49,11 +48,6 @@ walk-without side orders order sorted found =
       ap (λ o. orders_from o (without_order order.id orders)) next ∙ ap (orders_from (best_of r.after)) left ∙ behind.0 ∙ sym rest,
       subst (λ o. IsReached o (without_order order.id orders)) (sym next) (subst (IsReached (best_of r.after)) (sym left) behind.1),
     )
-
--- an order of the side leaves it
-without-on : (side : Side) (order : Order) (orders : List Order) → without_all side (on side order ∷ []) orders ≡ without_order order.id orders
-without-on Bid order orders = refl
-without-on Ask order orders = refl
 
 -- and so behind one that left if it was the owner's
 walk-left : (owner : Address) (side named : Side) (orders : List Order) (order : Order) (next : Option Order) (then : List Order)
@@ -98,7 +92,7 @@ next-taken all count some rest within is =
     }
 
 -- the owner's first so many orders left a side, and a walk goes on behind them: what it has before it has the others
-pub record IsPruned (sizes : Lots) (owner : Address) (side : Side) (count : ℕ) (orders : List Order) (ring : Ring) (next : Option Order) (orders_now : List Order) (ring_now : Ring) : Type 0 where
+pub record IsPruned (sizes : Lots) (owner : Address) (side : Side) (count : ℕ) (orders : List Order) (ring : Queue) (next : Option Order) (orders_now : List Order) (ring_now : Queue) : Type 0 where
   pub orders_are : orders_now ≡ without_all side (take count (orders_of owner side orders)) orders
   pub ring_is : ring_now ≡ with_outs sizes (take count (orders_of owner side orders)) ring
   pub rest : orders_of owner side (orders_from next orders_now) ≡ drop count (orders_of owner side orders)
@@ -106,7 +100,7 @@ pub record IsPruned (sizes : Lots) (owner : Address) (side : Side) (count : ℕ)
   pub reached : IsReached next orders_now
 
 -- one more step takes the next order, if it is the owner's
-pub pruned-next : (sizes : Lots) (owner : Address) (side named : Side) (room count : ℕ) (orders : List Order) (ring : Ring) (next : Option Order) (now : List Order) (ring_now : Ring)
+pub pruned-next : (sizes : Lots) (owner : Address) (side named : Side) (room count : ℕ) (orders : List Order) (ring : Queue) (next : Option Order) (now : List Order) (ring_now : Queue)
     (order : Order) → IsBookSide side room now → IsPruned sizes owner named count orders ring next now ring_now → next ≡ Some order
     → IsNext (orders_of owner named orders) count (orders_of owner named (order ∷ [])) (orders_of owner named (orders_from (order_after order.id now) now))
 pruned-next sizes owner side named room count orders ring next now ring_now order book held is =
@@ -115,8 +109,8 @@ pruned-next sizes owner side named room count orders ring next now ring_now orde
     next-taken (orders_of owner named orders) count (orders_of owner named (order ∷ [])) (orders_of owner named later) held.within
     (sym held.rest ∙ ap (orders_of owner named) step.0 ∙ orders_of-first owner named order later)
 
-pub pruned-more : (sizes : Lots) (owner : Address) (side named : Side) (room count : ℕ) (orders : List Order) (ring : Ring) (next : Option Order) (now : List Order) (ring_now : Ring)
-    (order : Order) (following : Option Order) (then : List Order) (ring_then : Ring) (more : ℕ)
+pub pruned-more : (sizes : Lots) (owner : Address) (side named : Side) (room count : ℕ) (orders : List Order) (ring : Queue) (next : Option Order) (now : List Order) (ring_now : Queue)
+    (order : Order) (following : Option Order) (then : List Order) (ring_then : Queue) (more : ℕ)
     → IsBookSide side room now → IsPruned sizes owner named count orders ring next now ring_now → next ≡ Some order → following ≡ order_after order.id now
     → more ≡ count + length (orders_of owner named (order ∷ []))
     → then ≡ without_all named (orders_of owner named (order ∷ [])) now → ring_then ≡ with_outs sizes (orders_of owner named (order ∷ [])) ring_now
@@ -140,7 +134,7 @@ pruned-more sizes owner side named room count orders ring next now ring_now orde
     })
 
 -- with fewer orders before the walk
-pub pruned-shorter : (sizes : Lots) (owner : Address) (side named : Side) (room count : ℕ) (orders : List Order) (ring : Ring) (next : Option Order) (now : List Order) (ring_now : Ring)
+pub pruned-shorter : (sizes : Lots) (owner : Address) (side named : Side) (room count : ℕ) (orders : List Order) (ring : Queue) (next : Option Order) (now : List Order) (ring_now : Queue)
     (order : Order) (following : Option Order) (then : List Order)
     → IsBookSide side room now → IsPruned sizes owner named count orders ring next now ring_now → next ≡ Some order → following ≡ order_after order.id now
     → then ≡ without_all named (orders_of owner named (order ∷ [])) now → length (orders_from following then) < length (orders_from next now)
@@ -154,7 +148,7 @@ pub one-own : (owner : Address) (side : Side) (order : Order) → length (orders
 one-own owner side order = length-orders_of owner side (order ∷ [])
 
 -- where the walk is over, all of the owner's orders left
-pub pruned-all : (sizes : Lots) (owner : Address) (side : Side) (count limit : ℕ) (orders : List Order) (ring : Ring) (next : Option Order) (now : List Order) (ring_now : Ring)
+pub pruned-all : (sizes : Lots) (owner : Address) (side : Side) (count limit : ℕ) (orders : List Order) (ring : Queue) (next : Option Order) (now : List Order) (ring_now : Queue)
     → IsPruned sizes owner side count orders ring next now ring_now → next ≡ None → count ≤ limit → take count (orders_of owner side orders) ≡ take limit (orders_of owner side orders)
 pruned-all sizes owner side count limit orders ring next now ring_now held is most =
     let all : List RestingOrder = orders_of owner side orders in
@@ -227,7 +221,7 @@ asks-pruned owner limit bids asks =
     ∙ without_all-append Ask own later asks
     ∙ ap (without_all Ask later) (other-side owner Ask Bid limit asks bids refl)
 
-pub outs-pruned : (sizes : Lots) (owner : Address) (limit : ℕ) (bids asks : List Order) (ring : Ring)
+pub outs-pruned : (sizes : Lots) (owner : Address) (limit : ℕ) (bids asks : List Order) (ring : Queue)
     → with_outs sizes (take limit (all_orders_of owner bids asks)) ring
     ≡ with_outs sizes (take (asks_of_first owner limit bids) (orders_of owner Ask asks)) (with_outs sizes (take limit (orders_of owner Bid bids)) ring)
 outs-pruned sizes owner limit bids asks ring =

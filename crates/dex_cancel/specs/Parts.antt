@@ -1,21 +1,35 @@
--- Which parts of one sound market a cancel is given.
+-- What a cancel is handed of a market's parts, and what it leaves of them.
 use Rattle.std.specs.Prelude.{◌≡◌, List}
-use Rattle.dex_types.specs.declared.orders.Order.{Order}
-use Rattle.dex_types.specs.declared.terms.Lots.{Lots}
-use Rattle.dex_types.specs.Market.{Market}
-use Rattle.dex_types.specs.Soundness.{IsSound}
-use Rattle.dex_ring.specs.Ring.{Ring}
-use Rattle.dex_ring.specs.StandsFor.{ring_of_market}
+use Rattle.dex_types.specs.declared.addresses.Address.{Address}
+use Rattle.dex_types.specs.declared.terms.Side.TheVariants.{Bid, Ask}
+use Rattle.dex_types.specs.Cancel.{CancelBy, RestingOrder, cancelled}
+use Rattle.dex_market.specs.MarketAccount.{market_words, sizes_of}
+use Rattle.dex_accounts.specs.Parts.{AreSoundParts, MarketParts}
+use Rattle.dex_ring.specs.Appended.{pushed_all}
+use Rattle.dex_cancel.specs.Leaving.{CancelGiven, outs_of, without_all}
 
--- the lot sizes, the two sides' orders and the event queue are a market's
-pub record ArePartsOf (lots : Lots) (bids asks : List Order) (ring : Ring) (market : Market) : Type 0 where
-  pub lots_are : market.listing.sizes ≡ lots
-  pub bids_are : market.bids ≡ bids
-  pub asks_are : market.asks ≡ asks
-  pub ring_is : ring_of_market market ≡ ring
+-- what a cancel is handed of a market's parts
+abbrev pub cancel_given : MarketParts → CancelGiven
+cancel_given parts = record { sizes = sizes_of (market_words parts.market); bids = parts.bids; asks = parts.asks; queue = parts.events }
 
--- they are those of one sound market
-pub record AreSoundParts (lots : Lots) (bids asks : List Order) (ring : Ring) : Type 0 where
-  pub market : Market
-  pub sound : IsSound market
-  pub parts : ArePartsOf lots bids asks ring market
+-- the parts with what it leaves of these
+abbrev pub with_cancelled : CancelGiven → MarketParts → MarketParts
+with_cancelled given parts = record parts { bids = given.bids; asks = given.asks; events = given.queue }
+
+-- what was handed is of one sound market
+pub record AreOfSoundMarket (given : CancelGiven) : Type 0 where
+  pub whole : MarketParts
+  pub sound : AreSoundParts whole
+  pub given_is : cancel_given whole ≡ given
+
+-- the orders that a cancel names, of what was handed
+abbrev pub named_in : CancelBy → Address → CancelGiven → List RestingOrder
+named_in by owner given = cancelled by owner given.bids given.asks
+
+-- what is left where orders leave: the sides without them, and the queue with an out of each behind its events
+abbrev pub left_by : List RestingOrder → CancelGiven → CancelGiven
+left_by gone given = record given {
+  bids = without_all Bid gone given.bids;
+  asks = without_all Ask gone given.asks;
+  queue = pushed_all (outs_of given.sizes gone) given.queue;
+}

@@ -7,7 +7,6 @@ mod finding;
 mod found;
 mod laws;
 mod leaving;
-mod outs;
 mod pruning;
 mod taking;
 mod what;

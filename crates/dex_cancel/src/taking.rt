@@ -1,12 +1,12 @@
 //! Taking one order off its side.
 
-ghost use Rattle.std.specs.Prelude.{◌≡◌, ◌<◌, ◌^◌, Some, length};
-ghost use Rattle.dex_types.specs.Cancel.{order_with, without_order};
+ghost use Rattle.std.specs.Prelude.{◌≡◌, ◌<◌, ◌^◌, [], ◌∷◌, Some};
+ghost use Rattle.dex_types.specs.Cancel.{order_with};
 ghost use Rattle.dex_types.specs.Owed.{order_lock};
-ghost use Rattle.dex_ring.specs.Ring.{IsEventQueue, ring_of};
-ghost use Rattle.dex_cancel.specs.Leaving.{with_out};
+ghost use Rattle.dex_accounts.specs.Keeps.{KeepsSide};
+ghost use Rattle.dex_cancel.specs.Leaving.{CanLeaveSide, HaveLeftSide, side_handed};
 
-use crate::outs::releasing_out;
+use dex_meet::ring_events::push_releasing_out;
 use dex_ring::RingView;
 use dex_types::{Lots, Order, Side, SideBook};
 
@@ -14,24 +14,19 @@ use dex_types::{Lots, Order, Side, SideBook};
 pub fn take_off<S: SideBook>(
     order: Order,
     side: Side,
-    lots: Lots,
+    sizes: Lots,
     book: &mut S,
     ring: &mut RingView<'_>,
 )
     requires holds { S.holds book.old }
-    requires accepted { IsEventQueue ring.old.bytes.now }
+    requires can { CanLeaveSide (record { side = side; order = order } ∷ []) (side_handed sizes side S.orders book.old ring.old) }
     requires rests { order_with order.id (S.orders book.old) ≡ Some order }
-    requires fits { order_lock side lots order < 2 ^ 64 }
-    requires room { length (ring_of ring.old.bytes.now).events < (ring_of ring.old.bytes.now).capacity }
-    ensures orders { S.orders book.new ≡ without_order order.id (S.orders book.old) }
-    ensures ring { ring_of ring.new.bytes.now ≡ with_out lots (record { side = side; order = order }) (ring_of ring.old.bytes.now) }
-    ensures holds { S.holds book.new }
-    ensures accepted { IsEventQueue ring.new.bytes.now }
-    ensures side { S.side book.new ≡ S.side book.old }
-    ensures room { S.room book.new ≡ S.room book.old }
-    ensures place { S.same_place book.old book.new }
-    ensures ring_place { ring.new.bytes.ghost_name ≡ ring.old.bytes.ghost_name }
+    requires fits { order_lock side sizes order < 2 ^ 64 }
+    ensures left { HaveLeftSide (record { side = side; order = order } ∷ []) (side_handed sizes side S.orders book.old ring.old)
+        (side_handed sizes side S.orders book.new ring.new) }
+    ensures book { KeepsSide S.holds S.same_place S.side S.room book.old book.new }
+    ensures place { ring.new.bytes.ghost_name ≡ ring.old.bytes.ghost_name }
 {
     let _ = book.remove(order.id);
-    ring.push(&releasing_out(side, lots, &order));
+    push_releasing_out(ring, side, sizes, order, order.lots);
 }

@@ -1,7 +1,7 @@
 -- How many events are consumed, and that what they leave depends on their number alone.
-use Rattle.std.proofs.Common.{◌≡◌, ℕ, zero, suc, ◌+◌, ◌-◌, ◌<◌, true, false, ltb, List, [], ◌∷◌, length, drop, get_or, sum, refl, sym, ap, ◌∙◌, arith}
+use Rattle.std.proofs.Common.{◌≡◌, ℕ, zero, suc, ◌+◌, ◌-◌, ◌<◌, ◌≤◌, true, false, ltb, ◌&&◌, List, [], ◌∷◌, length, drop, get_or, sum, refl, sym, ap, ◌∙◌, arith, ⊎_elim}
 use Rattle.std.proofs.lemmas.List.Sums.{sum_by-cons}
-use Rattle.std.proofs.lemmas.Bool.{cond-true, cond-false, lt-ltb, and_from, and_right}
+use Rattle.std.proofs.lemmas.Bool.{cases_Bool, cond-true, cond-false, lt-ltb, and_from, and_right}
 use Rattle.dex_types.specs.declared.addresses.Address.{Address}
 use Rattle.dex_types.specs.Payment.{consumable, is_named}
 use Rattle.dex_types.specs.QueuedEvent.{QueuedEvent}
@@ -44,3 +44,17 @@ pub consumable-none : (limit : ℕ) (named : List Address) (events : List Queued
 consumable-none zero named [] none = refl
 consumable-none zero named (event ∷ events) none = refl
 consumable-none (suc limit) named events none = absurd (omega arith)
+
+-- no more are consumed than are pending
+pub consumable-le : (limit : ℕ) (named : List Address) (events : List QueuedEvent) → consumable limit named events ≤ length events
+consumable-le limit named [] = omega arith
+consumable-le limit named (event ∷ events) =
+    let test = ltb 0 limit && is_named event.owner named in
+    ⊎_elim
+    (λ (on : test ≡ true).
+    let one : consumable limit named (event ∷ events) ≡ consumable (limit - 1) named events + 1 = cond-true _ _ _ on in
+    omega (arith, one, consumable-le (limit - 1) named events))
+    (λ (off : test ≡ false).
+    let none : consumable limit named (event ∷ events) ≡ 0 = cond-false _ _ _ off in
+    omega (arith, none))
+    (cases_Bool test)

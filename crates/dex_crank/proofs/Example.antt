@@ -26,7 +26,7 @@ use Rattle.dex_types.specs.Soundness.{IsSound}
 use Rattle.dex_types.specs.Steps.{step}
 use Rattle.dex_types.specs.Trader.{Account, Trader, Traders, Open, no_slots}
 use Rattle.dex_crank.specs.PaidBytes.{crank_bytes}
-use Rattle.dex_crank.specs.Parts.{AreAccepted, AreOf}
+use Rattle.dex_crank.specs.Parts.{AreCrankedIn}
 use Rattle.dex_accounts.proofs.PartLaws.{trader_of-open}
 
 abbrev pub address : ℕ → Address
@@ -115,7 +115,7 @@ traded-traders = refl
 -- ---- its queue and its accounts
 
 abbrev pub parts : List ℕ → List OrdersAccount → Type 0
-parts queue accounts = AreAccepted (crank_bytes queue accounts) × ((m : Market) × AreOf (crank_bytes queue accounts) m)
+parts queue accounts = (m : Market) × AreCrankedIn m (crank_bytes queue accounts)
 
 -- bytes that stand for the events and for the two accounts are those of that market
 pub parts-traded : (queue : List ℕ) (amy ben : OrdersAccount) → IsEventQueue queue → events_of queue ≡ ask_fill ∷ bid_fill ∷ bid_out ∷ []
@@ -126,25 +126,21 @@ parts-traded queue amy ben is events at_amy open_amy words_amy at_ben open_ben w
     let made : Address → Trader → Address → Trader → Traders = λ a t b u. (a, t) ∷ (b, u) ∷ [] in
     let amys : Trader = trader_of amy.bytes.items in
     let bens : Trader = trader_of ben.bytes.items in (
+      traded,
       record {
+        sound = traded-sound;
         queue = is;
+        events = events ∙ traded-events;
         accounts =
             All-cons P (orders_account_of amy) (orders_account_of ben ∷ []) (inr (inl open_amy))
             (All-cons P (orders_account_of ben) [] (inr (inl open_ben)) (All-nil P));
+        traders =
+            ap (λ (a : Address). made a amys ben.address bens) at_amy
+            ∙ ap (λ (t : Trader). made (address 1) t ben.address bens) (trader_of-open amy.bytes.items open_amy ∙ ap Open words_amy)
+            ∙ ap (λ (b : Address). made (address 1) (Open asker) b bens) at_ben
+            ∙ ap (made (address 1) (Open asker) (address 2)) (trader_of-open ben.bytes.items open_ben ∙ ap Open words_ben)
+            ∙ traded-traders;
       },
-      (
-        traded,
-        record {
-          sound = traded-sound;
-          events = events ∙ traded-events;
-          traders =
-              ap (λ (a : Address). made a amys ben.address bens) at_amy
-              ∙ ap (λ (t : Trader). made (address 1) t ben.address bens) (trader_of-open amy.bytes.items open_amy ∙ ap Open words_amy)
-              ∙ ap (λ (b : Address). made (address 1) (Open asker) b bens) at_ben
-              ∙ ap (made (address 1) (Open asker) (address 2)) (trader_of-open ben.bytes.items open_ben ∙ ap Open words_ben)
-              ∙ traded-traders;
-        },
-      ),
     )
 
 -- two accounts that were put behind each other

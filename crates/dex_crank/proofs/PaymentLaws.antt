@@ -1,8 +1,10 @@
 -- What a payment leaves of an account: by its funds and its slot, and in the bytes.
-use Rattle.std.proofs.Common.{◌≡◌, ℕ, ◌+◌, ◌-◌, ◌≤◌, ◌<◌, ◌^◌, true, false, cond, eqb, ◌&&◌, List, set, Option, None, refl, sym, ap, ◌∙◌, subst, arith}
-use Rattle.std.proofs.lemmas.Bool.{cond_both, cond-true, cond-false}
+use Rattle.std.proofs.Common.{◌≡◌, ℕ, ◌+◌, ◌-◌, ◌≤◌, ◌<◌, ◌^◌, true, false, cond, eqb, ◌&&◌, List, set, get_or, Option, None, IsSome, refl, sym, ap, ◌∙◌, subst, arith, inl, inr, ⊎_elim}
+use Rattle.std.proofs.lemmas.Bool.{cases_Bool, cases_lt, cond_both, cond-true, cond-false}
 use Rattle.dex_orders.specs.declared.amounts.Funds.{Funds}
-use Rattle.dex_orders.specs.OrdersAccount.{IsOpen, account_of, funded, funds_of, market_of, removed, with_funds}
+use Rattle.dex_orders.specs.OrdersAccount.{IsOpen, account_of, funded, funds_of, market_of, removed, slots_of, with_funds}
+use Rattle.dex_orders.proofs.SlotLaw.{get_or-slots_of_past}
+use Rattle.dex_orders.proofs.WriteLaws.{IsOpen-funded, IsOpen-removed, account_of-funded, account_of-removed, market_of-funded, market_of-removed}
 use Rattle.dex_sound.specs.Fields.{AccountFits}
 use Rattle.dex_types.specs.declared.addresses.Address.{Address}
 use Rattle.dex_types.specs.declared.terms.Side.TheVariants.{Bid, Ask}
@@ -13,7 +15,7 @@ use Rattle.dex_types.specs.Side.{Coin, Pc}
 use Rattle.dex_types.specs.Soundness.{is_final, is_out_kind}
 use Rattle.dex_types.specs.Trader.{Account, Holding}
 use Rattle.dex_crank.specs.Funds.{FitsFunds, paid_funds}
-use Rattle.dex_crank.specs.PaidBytes.{IsPaid, paid_in}
+use Rattle.dex_crank.specs.PaidBytes.{CanTake, paid_in}
 
 -- ---- an account of known parts
 
@@ -68,11 +70,13 @@ module _ (person : Address) (coin_free coin_total pc_free pc_total referrer : �
       record {
         coin_leaving = coin;
         pc_leaving = pc;
-        coin = subst (λ (f : Funds). f.coin_free ≤ f.coin_total) same (fits.free Coin);
-        pc = subst (λ (f : Funds). f.pc_free ≤ f.pc_total) same (fits.free Pc);
-        coin_total = subst (λ (f : Funds). f.coin_total < 2 ^ 64) same (fits.total Coin);
-        pc_total = subst (λ (f : Funds). f.pc_total < 2 ^ 64) same (fits.total Pc);
-        referrer = subst (λ (f : Funds). f.referrer < 2 ^ 64) same fits.referrer;
+        fit = record {
+          coin = subst (λ (f : Funds). f.coin_free ≤ f.coin_total) same (fits.free Coin);
+          pc = subst (λ (f : Funds). f.pc_free ≤ f.pc_total) same (fits.free Pc);
+          coin_total = subst (λ (f : Funds). f.coin_total < 2 ^ 64) same (fits.total Coin);
+          pc_total = subst (λ (f : Funds). f.pc_total < 2 ^ 64) same (fits.total Pc);
+          referrer = subst (λ (f : Funds). f.referrer < 2 ^ 64) same fits.referrer;
+        };
       }
 
 -- ---- the account's bytes
@@ -90,33 +94,65 @@ words-paid event bytes =
     let a = account_of bytes in
     paid_as-parts a.person a.coin.free a.coin.total a.pc.free a.pc.total a.referrer a.slots event event.kind
 
-module _ (event : QueuedEvent) (old paid : List ℕ) (made : paid ≡ funded old (funds_after event old)) (words : account_of paid ≡ with_funds (funds_after event old) (account_of old))
-    (stays : market_of paid ≡ market_of old) where
-  -- the event is the last of its order
-  module _ (final : is_final event ≡ true) (new : List ℕ) (freed : new ≡ removed paid event.slot) where
-    pub paid_in-final : new ≡ paid_in event old
-    unfolding paid_in
-    paid_in-final = freed ∙ ap (λ (b : List ℕ). removed b event.slot) made ∙ sym (cond-true (is_final event) _ _ final)
+-- the last payment of an order frees the slot too, and another one pays the funds alone
+pub paid_in-final : (event : QueuedEvent) (old : List ℕ) → is_final event ≡ true → removed (funded old (funds_after event old)) event.slot ≡ paid_in event old
+unfolding paid_in
+paid_in-final event old final = sym (cond-true (is_final event) _ _ final)
 
-    pub IsPaid-final : account_of new ≡ record (account_of paid) { slots = set (account_of paid).slots event.slot None } → market_of new ≡ market_of paid → IsOpen new → IsPaid event old
-    IsPaid-final now on_market accepted = record {
-      accepted = subst IsOpen paid_in-final accepted;
-      words =
-          ap account_of (sym paid_in-final) ∙ now
-          ∙ ap (λ (a : Account). record a { slots = set a.slots event.slot None }) words
-          ∙ sym (words-paid event old ∙ cond-true (is_final event) _ _ final);
-      market = ap market_of (sym paid_in-final) ∙ on_market ∙ stays;
-    }
+pub paid_in-more : (event : QueuedEvent) (old : List ℕ) → is_final event ≡ false → funded old (funds_after event old) ≡ paid_in event old
+unfolding paid_in
+paid_in-more event old more = sym (cond-false (is_final event) _ _ more)
 
-  -- more of its order is to come
-  module _ (more : is_final event ≡ false) where
-    pub paid_in-more : paid ≡ paid_in event old
-    unfolding paid_in
-    paid_in-more = made ∙ sym (cond-false (is_final event) _ _ more)
+-- the account that was paid stands for the trader that was paid, on the same market
+pub record IsPaid (event : QueuedEvent) (bytes : List ℕ) : Type 0 where
+  pub accepted : IsOpen (paid_in event bytes)
+  pub words : account_of (paid_in event bytes) ≡ paid_as event.kind event (account_of bytes)
+  pub market : market_of (paid_in event bytes) ≡ market_of bytes
 
-    pub IsPaid-more : IsOpen paid → IsPaid event old
-    IsPaid-more accepted = record {
-      accepted = subst IsOpen paid_in-more accepted;
-      words = ap account_of (sym paid_in-more) ∙ words ∙ sym (words-paid event old ∙ cond-false (is_final event) _ _ more);
-      market = ap market_of (sym paid_in-more) ∙ stays;
-    }
+module _ (event : QueuedEvent) (old : List ℕ) (can : CanTake event old) where
+  abbrev paid : List ℕ
+  paid = funded old (funds_after event old)
+
+  pub paid-open : IsOpen paid
+  paid-open = IsOpen-funded old (funds_after event old) can.accepted can.fits.fit
+
+  paid-words : account_of paid ≡ with_funds (funds_after event old) (account_of old)
+  paid-words = account_of-funded old (funds_after event old) can.accepted can.fits.fit
+
+  paid-market : market_of paid ≡ market_of old
+  paid-market = market_of-funded old (funds_after event old) can.accepted can.fits.fit
+
+  slot-lt : event.slot < 128
+  slot-lt =
+      elim (cases_lt event.slot 128) [
+        | inl lt ↦ lt
+        | inr past ↦ absurd (let none : get_or (slots_of old) event.slot None ≡ None = get_or-slots_of_past old event.slot past in cc can.held)
+      ]
+
+  pub paid-held : IsSome (get_or (account_of paid).slots event.slot None)
+  paid-held = subst (λ (a : Account). IsSome (get_or a.slots event.slot None)) (sym paid-words) can.held
+
+  final-paid : is_final event ≡ true → IsPaid event old
+  final-paid final =
+      let made : removed paid event.slot ≡ paid_in event old = paid_in-final event old final in
+      record {
+        accepted = subst IsOpen made (IsOpen-removed paid event.slot paid-open slot-lt);
+        words =
+            ap account_of (sym made) ∙ account_of-removed paid event.slot paid-open slot-lt
+            ∙ ap (λ (a : Account). record a { slots = set a.slots event.slot None }) paid-words
+            ∙ sym (words-paid event old ∙ cond-true (is_final event) _ _ final);
+        market = ap market_of (sym made) ∙ market_of-removed paid event.slot paid-open slot-lt ∙ paid-market;
+      }
+
+  more-paid : is_final event ≡ false → IsPaid event old
+  more-paid more =
+      let made : paid ≡ paid_in event old = paid_in-more event old more in
+      record {
+        accepted = subst IsOpen made paid-open;
+        words = ap account_of (sym made) ∙ paid-words ∙ sym (words-paid event old ∙ cond-false (is_final event) _ _ more);
+        market = ap market_of (sym made) ∙ paid-market;
+      }
+
+  -- an account that can be paid is
+  pub IsPaid-of : IsPaid event old
+  IsPaid-of = ⊎_elim final-paid more-paid (cases_Bool (is_final event))

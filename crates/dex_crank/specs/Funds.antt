@@ -1,6 +1,7 @@
 -- What an event pays, in the funds of its owner's account.
-use Rattle.std.specs.Prelude.{◌+◌, ◌-◌, ◌<◌, ◌≤◌, ◌^◌}
+use Rattle.std.specs.Prelude.{◌+◌, ◌-◌, ◌≤◌}
 use Rattle.dex_orders.specs.declared.amounts.Funds.{Funds}
+use Rattle.dex_orders.specs.OrdersAccount.{FundsFit}
 use Rattle.dex_types.specs.declared.terms.Side.TheVariants.{Bid, Ask}
 use Rattle.dex_types.specs.Fees.{referrer_part}
 use Rattle.dex_types.specs.Owed.{leaving_as}
@@ -38,8 +39,4 @@ paid_funds (ReleasingOut Ask) event funds = record funds { coin_free = funds.coi
 pub record FitsFunds (kind : EventKind) (event : QueuedEvent) (funds : Funds) : Type 0 where
   pub coin_leaving : leaving_as Coin kind event ≤ funds.coin_total
   pub pc_leaving : leaving_as Pc kind event ≤ funds.pc_total
-  pub coin : (paid_funds kind event funds).coin_free ≤ (paid_funds kind event funds).coin_total
-  pub pc : (paid_funds kind event funds).pc_free ≤ (paid_funds kind event funds).pc_total
-  pub coin_total : (paid_funds kind event funds).coin_total < 2 ^ 64
-  pub pc_total : (paid_funds kind event funds).pc_total < 2 ^ 64
-  pub referrer : (paid_funds kind event funds).referrer < 2 ^ 64
+  pub fit : FundsFit (paid_funds kind event funds)

@@ -1,11 +1,11 @@
 -- What consuming events leaves of the bytes of the event queue and of the open-orders accounts.
 use Rattle.std.specs.Prelude.{◌≡◌, ℕ, zero, suc, List, [], ◌∷◌, Some, None, Bool, false, map, IsSome, slice_index_or, if◌then◌else◌}
-use Rattle.dex_orders.specs.OrdersAccount.{IsOpen, account_of, funded, funds_of, market_of, removed}
+use Rattle.dex_orders.specs.OrdersAccount.{IsOpen, account_of, funded, funds_of, removed}
 use Rattle.dex_ring.specs.Ring.{event_at, popped}
 use Rattle.dex_types.specs.declared.account_bytes.OrdersAccount.{OrdersAccount}
 use Rattle.dex_types.specs.declared.addresses.Address.{Address}
 use Rattle.dex_types.specs.Accounts.{PlainAccount, orders_account_of}
-use Rattle.dex_types.specs.Payment.{is_named, paid_as}
+use Rattle.dex_types.specs.Payment.{is_named}
 use Rattle.dex_types.specs.QueuedEvent.{QueuedEvent, decoded_event}
 use Rattle.dex_types.specs.Soundness.{is_final}
 use Rattle.dex_accounts.specs.Owners.{bytes_at, changed_at}
@@ -35,12 +35,6 @@ pub record CanTake (event : QueuedEvent) (bytes : List ℕ) : Type 0 where
   pub accepted : IsOpen bytes
   pub fits : FitsFunds event.kind event (funds_of (account_of bytes))
   pub held : IsSome (slice_index_or (account_of bytes).slots event.slot None)
-
--- the account that was paid stands for the trader that was paid, on the same market
-pub record IsPaid (event : QueuedEvent) (bytes : List ℕ) : Type 0 where
-  pub accepted : IsOpen (paid_in event bytes)
-  pub words : account_of (paid_in event bytes) ≡ paid_as event.kind event (account_of bytes)
-  pub market : market_of (paid_in event bytes) ≡ market_of bytes
 
 -- ---- the owner's account among others
 

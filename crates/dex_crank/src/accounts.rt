@@ -1,14 +1,13 @@
 //! The owner's open-orders account, paid in place.
 
-ghost use Rattle.std.specs.Prelude.{◌≡◌, ℕ, ◌<◌, List, IsSome, Some, None, length, map, slice_index_or, slice_set};
+ghost use Rattle.std.specs.Prelude.{◌≡◌, ◌<◌, IsSome, None, length, map, slice_index_or, slice_set};
 ghost use Rattle.dex_types.specs.declared.account_bytes.OrdersAccount.{OrdersAccount};
 ghost use Rattle.dex_types.specs.Accounts.{orders_account_of};
 ghost use Rattle.dex_types.specs.QueuedEvent.{decoded_event};
-ghost use Rattle.dex_orders.specs.OrdersAccount.{IsOpen, account_of, funded, funds_of, market_of, removed, with_funds};
+ghost use Rattle.dex_orders.specs.OrdersAccount.{IsOpen, account_of, funded, funds_of, removed};
+ghost use Rattle.dex_accounts.specs.Owners.{changed_at};
 ghost use Rattle.dex_crank.specs.Funds.{FitsFunds, paid_funds};
-ghost use Rattle.dex_accounts.specs.Owners.{bytes_at, changed_at};
-ghost use Rattle.dex_crank.specs.PaidBytes.{CanTake, HasOwner, IsPaid, paid_in};
-ghost use Rattle.dex_accounts.specs.Owners.{IsFirst};
+ghost use Rattle.dex_crank.specs.PaidBytes.{CanTake, HasOwner, paid_in};
 
 use crate::kinds::is_final;
 use crate::payment::paid_funds;
@@ -20,10 +19,7 @@ use dex_types::{Event, OrdersAccount};
 fn pay_funds(bytes: &mut [u8], event: &Event)
     requires accepted { IsOpen bytes.old }
     requires fits { FitsFunds (decoded_event event.now).kind (decoded_event event.now) (funds_of (account_of bytes.old)) }
-    ensures bytes { bytes.new ≡ funded bytes.old (paid_funds (decoded_event event.now).kind (decoded_event event.now) (funds_of (account_of bytes.old))) }
-    ensures market { market_of bytes.new ≡ market_of bytes.old }
-    ensures words { account_of bytes.new ≡ with_funds (paid_funds (decoded_event event.now).kind (decoded_event event.now) (funds_of (account_of bytes.old))) (account_of bytes.old) }
-    ensures accepted { IsOpen bytes.new }
+    ensures { bytes.new ≡ funded bytes.old (paid_funds (decoded_event event.now).kind (decoded_event event.now) (funds_of (account_of bytes.old))) }
 {
     let mut view = OrdersView { bytes };
     let funds = paid_funds(event, view.funds());
@@ -34,10 +30,7 @@ fn pay_funds(bytes: &mut [u8], event: &Event)
 fn free_slot(bytes: &mut [u8], slot: u8)
     requires accepted { IsOpen bytes.old }
     requires taken { IsSome (slice_index_or (account_of bytes.old).slots slot None) }
-    ensures bytes { bytes.new ≡ removed bytes.old slot }
-    ensures market { market_of bytes.new ≡ market_of bytes.old }
-    ensures words { account_of bytes.new ≡ record (account_of bytes.old) { slots = slice_set (account_of bytes.old).slots slot None } }
-    ensures accepted { IsOpen bytes.new }
+    ensures { bytes.new ≡ removed bytes.old slot }
 {
     OrdersView { bytes }.remove(slot);
 }
@@ -45,8 +38,7 @@ fn free_slot(bytes: &mut [u8], slot: u8)
 /// Pays the event to this account: its funds, and its slot where the event is the last of its order.
 fn pay(bytes: &mut [u8], event: &Event)
     requires { CanTake (decoded_event event.now) bytes.old }
-    ensures bytes { bytes.new ≡ paid_in (decoded_event event.now) bytes.old }
-    ensures paid { IsPaid (decoded_event event.now) bytes.old }
+    ensures { bytes.new ≡ paid_in (decoded_event event.now) bytes.old }
 {
     pay_funds(bytes, event);
     if is_final(event) {
@@ -56,8 +48,7 @@ fn pay(bytes: &mut [u8], event: &Event)
 
 fn pay_buffer(bytes: &mut Vec<u8>, event: &Event)
     requires { CanTake (decoded_event event.now) bytes.old.items }
-    ensures bytes { bytes.new.items ≡ paid_in (decoded_event event.now) bytes.old.items }
-    ensures paid { IsPaid (decoded_event event.now) bytes.old.items }
+    ensures { bytes.new.items ≡ paid_in (decoded_event event.now) bytes.old.items }
 {
     pay(bytes, event);
 }
@@ -66,11 +57,10 @@ fn pay_buffer(bytes: &mut Vec<u8>, event: &Event)
 fn pay_at(accounts: &mut [OrdersAccount], place: usize, event: &Event)
     requires within { place < length accounts.old }
     requires can_take { (default : OrdersAccount) → CanTake (decoded_event event.now) (slice_index_or accounts.old place default).bytes.items }
-    ensures accounts { (default : OrdersAccount) →
+    ensures { (default : OrdersAccount) →
         let account = slice_index_or accounts.old place default in
         map orders_account_of accounts.new
         ≡ slice_set (map orders_account_of accounts.old) place (record { address = account.address; bytes = paid_in (decoded_event event.now) account.bytes.items }) }
-    ensures paid { (default : OrdersAccount) → IsPaid (decoded_event event.now) (slice_index_or accounts.old place default).bytes.items }
 {
     pay_buffer(&mut accounts[place].bytes, event);
 }
@@ -78,9 +68,7 @@ fn pay_at(accounts: &mut [OrdersAccount], place: usize, event: &Event)
 /// Pays the event to its owner's account; all other accounts stay.
 pub fn pay_owner(accounts: &mut [OrdersAccount], event: &Event)
     requires { HasOwner (decoded_event event.now) (map orders_account_of accounts.old) }
-    ensures accounts { map orders_account_of accounts.new
-        ≡ changed_at event.now.owner (paid_in (decoded_event event.now)) (map orders_account_of accounts.old) }
-    ensures paid { (bytes : List ℕ) → bytes_at event.now.owner (map orders_account_of accounts.old) ≡ Some bytes → IsPaid (decoded_event event.now) bytes }
+    ensures { map orders_account_of accounts.new ≡ changed_at event.now.owner (paid_in (decoded_event event.now)) (map orders_account_of accounts.old) }
 {
     let place = place_of(accounts, event.owner);
     pay_at(accounts, place, event);

@@ -1,54 +1,84 @@
 //! Consuming events from the front of the queue.
 
-ghost use Rattle.std.specs.Prelude.{◌≡◌, ◌<◌, length, map, drop};
-ghost use Rattle.dex_types.specs.Accounts.{orders_account_of};
+ghost use Rattle.std.specs.Prelude.{◌≡◌, ◌+◌, ◌<◌, ◌∷◌, length, map};
 ghost use Rattle.dex_types.specs.Market.{Market};
-ghost use Rattle.dex_types.specs.Payment.{after_crank, consumable};
+ghost use Rattle.dex_types.specs.Payment.{consumable};
+ghost use Rattle.dex_types.specs.QueuedEvent.{decoded_event};
+ghost use Rattle.dex_types.specs.Side.{Coin, Pc};
+ghost use Rattle.dex_types.specs.Solvency.{all_leaving};
 ghost use Rattle.dex_ring.specs.Ring.{events_of};
+ghost use Rattle.dex_accounts.specs.Keeps.{KeepsEvents};
 ghost use Rattle.dex_crank.specs.PaidBytes.{crank_bytes, paid_bytes, paid_first};
-ghost use Rattle.dex_crank.specs.Parts.{AreAccepted, AreOf, Keeps};
+ghost use Rattle.dex_crank.specs.Parts.{AreCrankedIn, AreOfSoundMarket, Keeps};
 
 use crate::accounts::pay_owner;
+use crate::kinds::with_leaving;
 use crate::queue::{goes_on, take_first};
-use dex_ring::RingView;
-use dex_types::{Address, OrdersAccount};
+use dex_ring::{Leaving, RingView};
+use dex_types::{Address, Event, OrdersAccount};
+
+/// What a crank consumed: how many events, and what these were still to take off totals.
+#[derive(Clone, Copy, Debug, PartialEq, Eq)]
+pub struct Consumed {
+    pub count: u32,
+    pub leaving: Leaving,
+}
 
 /// Pays the first event to its owner and takes it off the queue.
-fn pay_first(queue: &mut [u8], accounts: &mut [OrdersAccount])
-    requires accepted { AreAccepted (crank_bytes queue.old accounts.old) }
-    requires market { (m : Market) × AreOf (crank_bytes queue.old accounts.old) m }
+fn pay_first(queue: &mut [u8], accounts: &mut [OrdersAccount]) -> Event
+    requires market { (m : Market) × AreCrankedIn m (crank_bytes queue.old accounts.old) }
     requires pending { 0 < length (events_of queue.old) }
+    ensures event { events_of queue.old ≡ decoded_event result ∷ events_of queue.new }
     ensures bytes { crank_bytes queue.new accounts.new ≡ paid_first (crank_bytes queue.old accounts.old) }
-    ensures events { events_of queue.new ≡ drop 1 (events_of queue.old) }
-    ensures kept { Keeps (crank_bytes queue.old accounts.old) (crank_bytes queue.new accounts.new) }
-    ensures accepted { AreAccepted (crank_bytes queue.new accounts.new) }
-    ensures market { (m : Market) → AreOf (crank_bytes queue.old accounts.old) m → AreOf (crank_bytes queue.new accounts.new) (after_crank 1 m) }
 {
     let event = take_first(queue);
     pay_owner(accounts, &event);
+    event
 }
 
-fn consume_from(
+/// Consumes events of a slice that is a queue.
+pub(crate) fn consume_from(
     queue: &mut [u8],
     accounts: &mut [OrdersAccount],
     named: &[Address],
     limit: u16,
-) -> u32
-    requires accepted { AreAccepted (crank_bytes queue.old accounts.old) }
-    requires market { (m : Market) × AreOf (crank_bytes queue.old accounts.old) m }
-    ensures count { result ≡ consumable limit named.now (events_of queue.old) }
-    ensures bytes { crank_bytes queue.new accounts.new ≡ paid_bytes result (crank_bytes queue.old accounts.old) }
-    ensures kept { Keeps (crank_bytes queue.old accounts.old) (crank_bytes queue.new accounts.new) }
-    ensures accepted { AreAccepted (crank_bytes queue.new accounts.new) }
-    ensures market { (m : Market) → AreOf (crank_bytes queue.old accounts.old) m → AreOf (crank_bytes queue.new accounts.new) (after_crank result m) }
+) -> Consumed
+    requires { (m : Market) × AreCrankedIn m (crank_bytes queue.old accounts.old) }
+    ensures count { result.count ≡ consumable limit named.now (events_of queue.old) }
+    ensures coin { all_leaving Coin (events_of queue.old) ≡ result.leaving.coin + all_leaving Coin (events_of queue.new) }
+    ensures pc { all_leaving Pc (events_of queue.old) ≡ result.leaving.pc + all_leaving Pc (events_of queue.new) }
+    ensures does { crank_bytes queue.new accounts.new ≡ paid_bytes result.count (crank_bytes queue.old accounts.old) }
 {
+    let mut leaving = Leaving { coin: 0, pc: 0 };
     for count in 0..limit {
         if !goes_on(queue, named) {
-            return u32::from(count);
+            let count = u32::from(count);
+            return Consumed { count, leaving };
         }
-        pay_first(queue, accounts);
+        let event = pay_first(queue, accounts);
+        leaving = with_leaving(leaving, &event);
     }
-    u32::from(limit)
+    let count = u32::from(limit);
+    Consumed { count, leaving }
+}
+
+/// Consumes events as `consume` does, and tells what they were still to take off totals: the sums over the events that
+/// are pending afterwards are those before less these. So who keeps the two sums needs no pass over the queue.
+pub fn consume_with_leaving(
+    ring: &mut RingView<'_>,
+    accounts: &mut [OrdersAccount],
+    named: &[Address],
+    limit: u16,
+) -> Consumed
+    requires { AreOfSoundMarket (crank_bytes ring.old.bytes.now accounts.old) }
+    ensures count { result.count ≡ consumable limit named.now (events_of ring.old.bytes.now) }
+    ensures coin { all_leaving Coin (events_of ring.old.bytes.now) ≡ result.leaving.coin + all_leaving Coin (events_of ring.new.bytes.now) }
+    ensures pc { all_leaving Pc (events_of ring.old.bytes.now) ≡ result.leaving.pc + all_leaving Pc (events_of ring.new.bytes.now) }
+    ensures does { crank_bytes ring.new.bytes.now accounts.new ≡ paid_bytes result.count (crank_bytes ring.old.bytes.now accounts.old) }
+    ensures ring { KeepsEvents ring.old ring.new }
+    ensures kept { Keeps (crank_bytes ring.old.bytes.now accounts.old) (crank_bytes ring.new.bytes.now accounts.new) }
+{
+    consume_from(ring.bytes, accounts, named, limit)
 }
 
 /// Consumes events from the front of the queue, at most `limit`, up to the first one whose owner is not among the named
@@ -64,15 +94,11 @@ pub fn consume(
     named: &[Address],
     limit: u16,
 ) -> u32
-    requires accepted { AreAccepted (crank_bytes ring.old.bytes.now accounts.old) }
-    requires market { (m : Market) × AreOf (crank_bytes ring.old.bytes.now accounts.old) m }
+    requires { AreOfSoundMarket (crank_bytes ring.old.bytes.now accounts.old) }
     ensures count { result ≡ consumable limit named.now (events_of ring.old.bytes.now) }
-    ensures place { ring.new.bytes.ghost_name ≡ ring.old.bytes.ghost_name }
-    ensures bytes { crank_bytes ring.new.bytes.now accounts.new ≡ paid_bytes result (crank_bytes ring.old.bytes.now accounts.old) }
+    ensures does { crank_bytes ring.new.bytes.now accounts.new ≡ paid_bytes result (crank_bytes ring.old.bytes.now accounts.old) }
+    ensures ring { KeepsEvents ring.old ring.new }
     ensures kept { Keeps (crank_bytes ring.old.bytes.now accounts.old) (crank_bytes ring.new.bytes.now accounts.new) }
-    ensures accepted { AreAccepted (crank_bytes ring.new.bytes.now accounts.new) }
-    ensures market { (m : Market) → AreOf (crank_bytes ring.old.bytes.now accounts.old) m
-        → AreOf (crank_bytes ring.new.bytes.now accounts.new) (after_crank result m) }
 {
-    consume_from(ring.bytes, accounts, named, limit)
+    consume_with_leaving(ring, accounts, named, limit).count
 }

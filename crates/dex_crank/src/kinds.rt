@@ -1,10 +1,13 @@
 //! What an event tells, by its flags.
 
-ghost use Rattle.std.specs.Prelude.{◌≡◌};
+ghost use Rattle.std.specs.Prelude.{◌≡◌, ◌+◌, ◌<◌, ◌^◌};
+ghost use Rattle.dex_types.specs.Owed.{leaving};
 ghost use Rattle.dex_types.specs.QueuedEvent.{decoded_event, kind_of};
+ghost use Rattle.dex_types.specs.Side.{Coin, Pc};
 ghost use Rattle.dex_types.specs.Soundness.{is_final};
 ghost use Rattle.dex_crank.specs.Funds.{told_kind};
 
+use dex_ring::Leaving;
 use dex_types::{Event, EventFlags, Side};
 
 const FILLED_ASK: u8 = EventFlags::MAKER_FILL_OF_ASK.0;
@@ -57,5 +60,28 @@ pub fn is_final(event: &Event) -> bool
     match kind_of(event.flags) {
         Kind::PlainOut(_) | Kind::ReleasingOut(_) => event.paid == 0,
         Kind::MakerFill(_) | Kind::TakerFill(_) => false,
+    }
+}
+
+/// The sums with what the event is still to take off its owner's total: what a filled maker pays.
+pub fn with_leaving(sums: Leaving, event: &Event) -> Leaving
+    requires coin { sums.coin < 2 ^ 127 }
+    requires pc { sums.pc < 2 ^ 127 }
+    ensures coin { result.coin ≡ sums.coin + leaving Coin (decoded_event event.now) }
+    ensures pc { result.pc ≡ sums.pc + leaving Pc (decoded_event event.now) }
+    ensures coin_small { result.coin < sums.coin + 2 ^ 64 }
+    ensures pc_small { result.pc < sums.pc + 2 ^ 64 }
+{
+    let paid = u128::from(event.paid);
+    match kind_of(event.flags) {
+        Kind::MakerFill(Side::Ask) => Leaving {
+            coin: sums.coin + paid,
+            ..sums
+        },
+        Kind::MakerFill(Side::Bid) => Leaving {
+            pc: sums.pc + paid,
+            ..sums
+        },
+        _ => sums,
     }
 }

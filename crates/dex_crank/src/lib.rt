@@ -9,7 +9,7 @@ pub mod laws;
 mod payment;
 mod queue;
 
-pub use crank::consume;
+pub use crank::{Consumed, consume, consume_with_leaving};
 pub use kinds::{Kind, is_final, kind_of};
 
 #[cfg(test)]

@@ -5,9 +5,11 @@ ghost use Rattle.dex_types.specs.Trader.{no_slots};
 ghost use Rattle.dex_orders.specs.OrdersAccount.{IsBlank, IsOpen, account_of};
 ghost use Rattle.dex_ring.specs.Ring.{IsEventQueue, events_of};
 ghost use Rattle.dex_crank.specs.PaidBytes.{crank_bytes};
-ghost use Rattle.dex_crank.specs.Parts.{AreAccepted, AreOf};
+ghost use Rattle.dex_crank.specs.PaidBytes.{paid_bytes};
+ghost use Rattle.dex_crank.specs.Parts.{AreCrankedIn};
 
 use super::*;
+use crate::crank::consume_from;
 use dex_fields::event_queue::{ACCOUNT_FLAGS, COUNT, HEAD};
 use dex_fields::{END_TEXT, FRONT_TEXT, get_u64, put_u64};
 use dex_orders::{Funds, OrdersView, init};
@@ -231,7 +233,7 @@ fn traded_accounts(alloc: Global) -> Result<Vec<OrdersAccount>, AllocError>
     ensures len { IfOk result (λ accounts. length accounts.items ≡ 2) }
     ensures market { IfOk result (λ accounts. (queue : List ℕ) → IsEventQueue queue
         → events_of queue ≡ decoded_event ASK_FILL ∷ decoded_event BID_FILL ∷ decoded_event BID_OUT ∷ []
-        → AreAccepted (crank_bytes queue accounts.items) × ((m : Market) × AreOf (crank_bytes queue accounts.items) m)) }
+        → (m : Market) × AreCrankedIn m (crank_bytes queue accounts.items)) }
 {
     let mut accounts = Vec::new(alloc);
     let amy = account_of_amy(alloc)?;
@@ -241,13 +243,12 @@ fn traded_accounts(alloc: Global) -> Result<Vec<OrdersAccount>, AllocError>
     Ok(accounts)
 }
 
+/// Consumes events, and answers how many; what is left is a market's again.
 fn crank(queue: &mut [u8], accounts: &mut [OrdersAccount], named: &[Address], limit: u16) -> u32
-    requires accepted { AreAccepted (crank_bytes queue.old accounts.old) }
-    requires market { (m : Market) × AreOf (crank_bytes queue.old accounts.old) m }
-    ensures accepted { AreAccepted (crank_bytes queue.new accounts.new) }
-    ensures market { (m : Market) × AreOf (crank_bytes queue.new accounts.new) m }
+    requires { (m : Market) × AreCrankedIn m (crank_bytes queue.old accounts.old) }
+    ensures { (m : Market) × AreCrankedIn m (crank_bytes queue.new accounts.new) }
 {
-    consume(&mut RingView { bytes: queue }, accounts, named, limit)
+    consume_from(queue, accounts, named, limit).count
 }
 
 #[test]

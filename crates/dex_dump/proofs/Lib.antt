@@ -1,3 +1,5 @@
 pub mod TextLaws
 pub mod ReadingLaws
 pub mod AnswerLaws
+pub mod FieldLaws
+pub mod RowLaws

@@ -4,6 +4,7 @@ use Rattle.std.specs.List.{flat_map}
 use Rattle.dex_types.specs.declared.addresses.Address.{Address}
 use Rattle.dex_types.specs.Accounts.{PlainAccount, PlainAccounts, PlainMarketAccounts}
 use Rattle.dex_types.specs.Addresses.{is_same}
+use Rattle.hex.specs.Hex.{IsBytes}
 use Rattle.dex_market.specs.MarketAccount.{market_words}
 use Rattle.dex_token.specs.MintAccount.{IsMint}
 use Rattle.dex_token.specs.TokenAccount.{IsWallet, wallet_words}
@@ -57,3 +58,36 @@ pub record AreAccepted (accounts : PlainAccounts) : Type 0 where
   pub few_wallets : length accounts.wallets ≤ 256
   pub few_markets : length accounts.markets ≤ 16
   pub few_orders : All (λ (market : PlainMarketAccounts). length market.orders ≤ 64) accounts.markets
+
+-- ---- what bytes hold
+
+-- an address of 32 bytes
+pub record IsAddress (address : Address) : Type 0 where
+  pub size : length address.0 ≡ 32
+  pub bytes : IsBytes address.0
+
+-- an account of bytes at such an address
+pub record IsHeld (account : PlainAccount) : Type 0 where
+  pub address : IsAddress account.address
+  pub bytes : IsBytes account.bytes
+
+-- the same of a market's accounts
+pub record IsHeldMarket (accounts : PlainMarketAccounts) : Type 0 where
+  pub address : IsAddress accounts.address
+  pub authority : IsAddress accounts.authority
+  pub market : IsBytes accounts.market
+  pub coin_vault : IsBytes accounts.coin_vault
+  pub pc_vault : IsBytes accounts.pc_vault
+  pub requests : IsBytes accounts.requests
+  pub events : IsBytes accounts.events
+  pub bids : IsBytes accounts.bids
+  pub asks : IsBytes accounts.asks
+  pub orders : All IsHeld accounts.orders
+
+-- all accounts are of bytes, at addresses of 32 bytes: what buffers and arrays of bytes hold
+pub record HoldBytes (accounts : PlainAccounts) : Type 0 where
+  pub mints : All IsHeld accounts.mints
+  pub srm : IfSome accounts.srm IsAddress
+  pub msrm : IfSome accounts.msrm IsAddress
+  pub wallets : All IsHeld accounts.wallets
+  pub markets : All IsHeldMarket accounts.markets

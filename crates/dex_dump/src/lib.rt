@@ -17,3 +17,6 @@ pub use faults::{DumpError, DumpFault};
 pub use lines::is_first_row;
 pub use reader::{DumpRead, read_dump, read_rows};
 pub use writing::{append_dump, write_dump};
+
+#[cfg(test)]
+mod tests;

@@ -6,7 +6,7 @@ mod market;
 mod market_bytes;
 mod parts;
 mod tokens;
-mod zeros;
+mod zeroed;
 
 pub use laws::{
     a_made_market_is_sound, accounts_with_blank_ones_stand_for_the_market_with_them,
@@ -15,6 +15,7 @@ pub use laws::{
 pub use market::{MarketSet, make_market, make_orders};
 pub use parts::{MarketPart, derived};
 pub use tokens::{make_mint, make_wallet};
+pub use zeroed::zeros;
 
 #[cfg(test)]
 mod tests;

@@ -19,7 +19,7 @@ ghost use Rattle.dex_market.specs.StandsFor.{StandsForMarket};
 use crate::market_bytes::write_market;
 use crate::parts::{MarketPart, derived};
 use crate::tokens::make_wallet;
-use crate::zeros::zeros;
+use crate::zeroed::zeros;
 use dex_fields::{market, open_orders, write_empty_account};
 use dex_types::{Address, Ix, MarketAccounts, NoMemory, Side};
 use std::alloc::Global;

@@ -6,7 +6,7 @@ ghost use Rattle.dex_token.specs.MintAccount.{IsMint, mint_words};
 ghost use Rattle.dex_token.specs.TokenAccount.{IsWallet, wallet_words};
 ghost use Rattle.dex_make.specs.TokenBytes.{mint_bytes, mint_writes, wallet_bytes, wallet_writes};
 
-use crate::zeros::zeros;
+use crate::zeroed::zeros;
 use dex_fields::{mint, put_addr, put_u8, put_u64, token_account};
 use dex_types::{Address, NoMemory};
 use std::alloc::Global;

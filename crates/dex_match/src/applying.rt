@@ -155,9 +155,11 @@ pub fn apply_order<B: SideBook, A: SideBook>(
     ensures reply { result ≡ reply_in taker.entry.now
         (handed B.orders B.room A.orders market.old requests.old ring.old orders.old own.old opposite.old) }
     ensures does { handed B.orders B.room A.orders market.new requests.new ring.new orders.new own.new opposite.new
-        ≡ ordered taker.entry.now (handed B.orders B.room A.orders market.old requests.old ring.old orders.old own.old opposite.old) }
+        ≡ ordered taker.entry.now
+        (handed B.orders B.room A.orders market.old requests.old ring.old orders.old own.old opposite.old) }
     ensures list { ring_of ring.new.bytes.now ≡ appended (events_in taker.entry.now
-        (handed B.orders B.room A.orders market.old requests.old ring.old orders.old own.old opposite.old)) (ring_of ring.old.bytes.now) }
+        (handed B.orders B.room A.orders market.old requests.old ring.old orders.old own.old opposite.old))
+        (ring_of ring.old.bytes.now) }
     ensures market { KeepsMarket market.old market.new }
     ensures requests { KeepsRequests requests.old requests.new }
     ensures events { KeepsEvents ring.old ring.new }

@@ -1,6 +1,7 @@
 //! A new order meets the other side of the book, and what is left of it rests on its own.
 
 ghost use Rattle.std.specs.Prelude.{◌≡◌, ◌<◌, ◌≤◌, ◌^◌, ◌==◌, ◌∷◌, [], length, IfSome, if◌then◌else◌};
+ghost use Rattle.dex_accounts.specs.Keeps.{KeepsEvents, KeepsSide};
 ghost use Rattle.dex_laws.specs.Locks.{locked};
 ghost use Rattle.dex_match.specs.Applying as applying;
 ghost use Rattle.dex_match.specs.OrderTerms.{meeting_with, order_of};
@@ -40,14 +41,10 @@ fn meet_opposite<A: SideBook>(
     requires locks { locked (book.opposite taker.id_side) sizes (A.orders opposite.old) < 2 ^ 64 }
     ensures rebates { result ≡ (meeting_with sizes taker (A.orders opposite.old)).rebates }
     ensures left { A.orders opposite.new ≡ (meeting_with sizes taker (A.orders opposite.old)).left }
-    ensures holds { A.holds opposite.new }
-    ensures same_side { A.side opposite.new ≡ A.side opposite.old }
-    ensures same_room { A.room opposite.new ≡ A.room opposite.old }
-    ensures same_place { A.same_place opposite.old opposite.new }
+    ensures side { KeepsSide A.holds A.same_place A.side A.room opposite.old opposite.new }
     ensures list { ring_of ring.new.bytes.now ≡ appended (meeting_with sizes taker (A.orders opposite.old)).events (ring_of ring.old.bytes.now) }
     ensures bytes { ring.new.bytes.now ≡ pushed_all (meeting_with sizes taker (A.orders opposite.old)).events ring.old.bytes.now }
-    ensures accepted { IsEventQueue ring.new.bytes.now }
-    ensures place { ring.new.bytes.ghost_name ≡ ring.old.bytes.ghost_name }
+    ensures queue { KeepsEvents ring.old ring.new }
 {
     let terms = terms_of(sizes, taker);
     let want = want_of(sizes, taker);
@@ -77,8 +74,7 @@ fn push_fills(ring: &mut RingView<'_>, side: Side, order: Order, pc: u64, amount
         else meeting.event_of (events.TakerFill side) order amounts.released amounts.paid amounts.fee_or_rebate ∷ [])) (ring_of ring.old.bytes.now) }
     requires slot { order.slot < 128 }
     requires tier { order.tier < 7 }
-    ensures place { ring.new.bytes.ghost_name ≡ ring.old.bytes.ghost_name }
-    ensures accepted { IsEventQueue ring.new.bytes.now }
+    ensures queue { KeepsEvents ring.old ring.new }
     ensures list { ring_of ring.new.bytes.now ≡ appended (if pc == 0 then []
         else meeting.event_of (events.TakerFill side) order amounts.released amounts.paid amounts.fee_or_rebate ∷ []) (ring_of ring.old.bytes.now) }
     ensures bytes { ring.new.bytes.now ≡ pushed_all (if pc == 0 then []
@@ -116,8 +112,7 @@ fn push_last(ring: &mut RingView<'_>, side: Side, sizes: Lots, order: Order, boo
     requires slot { order.slot < 128 }
     requires tier { order.tier < 7 }
     requires gone { IfSome booted (λ gone. applying.CanLeave side sizes gone) }
-    ensures place { ring.new.bytes.ghost_name ≡ ring.old.bytes.ghost_name }
-    ensures accepted { IsEventQueue ring.new.bytes.now }
+    ensures queue { KeepsEvents ring.old ring.new }
     ensures list { ring_of ring.new.bytes.now ≡ appended (orders.last_events side sizes order booted) (ring_of ring.old.bytes.now) }
     ensures bytes { ring.new.bytes.now ≡ pushed_all (orders.last_events side sizes order booted) ring.old.bytes.now }
 {
@@ -146,14 +141,10 @@ fn rest_or_end<B: SideBook>(
     requires counted { (ring_of ring.old.bytes.now).seq_num < 2 ^ 64 }
     requires room { HasRoom (length (orders.last_events side sizes order (posting.post side (B.room own.old) order (B.orders own.old)).booted)) (ring_of ring.old.bytes.now) }
     ensures orders { B.orders own.new ≡ (posting.post side (B.room own.old) order (B.orders own.old)).side }
-    ensures holds { B.holds own.new }
-    ensures same_side { B.side own.new ≡ B.side own.old }
-    ensures same_room { B.room own.new ≡ B.room own.old }
-    ensures same_place { B.same_place own.old own.new }
+    ensures side { KeepsSide B.holds B.same_place B.side B.room own.old own.new }
     ensures list { ring_of ring.new.bytes.now ≡ appended (orders.last_events side sizes order (posting.post side (B.room own.old) order (B.orders own.old)).booted) (ring_of ring.old.bytes.now) }
     ensures bytes { ring.new.bytes.now ≡ pushed_all (orders.last_events side sizes order (posting.post side (B.room own.old) order (B.orders own.old)).booted) ring.old.bytes.now }
-    ensures accepted { IsEventQueue ring.new.bytes.now }
-    ensures place { ring.new.bytes.ghost_name ≡ ring.old.bytes.ghost_name }
+    ensures queue { KeepsEvents ring.old ring.new }
 {
     let booted = post(own, order);
     push_last(ring, side, sizes, order, booted);
@@ -176,21 +167,14 @@ pub(crate) fn trade<B: SideBook, A: SideBook>(
     requires can_trade { applying.CanTrade taker.id_side sizes (order_of taker) plan.now (B.room own.old) (B.orders own.old) (A.orders opposite.old) (ring_of ring.old.bytes.now) }
     ensures rebates { result ≡ (meeting_with sizes taker (A.orders opposite.old)).rebates }
     ensures own { B.orders own.new ≡ (applying.posted_by taker.id_side (order_of taker) plan.now (B.room own.old) (B.orders own.old)).side }
-    ensures own_holds { B.holds own.new }
-    ensures own_side { B.side own.new ≡ B.side own.old }
-    ensures own_room { B.room own.new ≡ B.room own.old }
-    ensures own_place { B.same_place own.old own.new }
+    ensures own_side { KeepsSide B.holds B.same_place B.side B.room own.old own.new }
     ensures opposite { A.orders opposite.new ≡ (meeting_with sizes taker (A.orders opposite.old)).left }
-    ensures opposite_holds { A.holds opposite.new }
-    ensures opposite_side { A.side opposite.new ≡ A.side opposite.old }
-    ensures opposite_room { A.room opposite.new ≡ A.room opposite.old }
-    ensures opposite_place { A.same_place opposite.old opposite.new }
+    ensures opposite_side { KeepsSide A.holds A.same_place A.side A.room opposite.old opposite.new }
     ensures list { ring_of ring.new.bytes.now ≡ appended (applying.events_by taker.id_side sizes (order_of taker) plan.now (meeting_with sizes taker (A.orders opposite.old))
         (applying.posted_by taker.id_side (order_of taker) plan.now (B.room own.old) (B.orders own.old))) (ring_of ring.old.bytes.now) }
     ensures bytes { ring.new.bytes.now ≡ pushed_all (applying.events_by taker.id_side sizes (order_of taker) plan.now (meeting_with sizes taker (A.orders opposite.old))
         (applying.posted_by taker.id_side (order_of taker) plan.now (B.room own.old) (B.orders own.old))) ring.old.bytes.now }
-    ensures accepted { IsEventQueue ring.new.bytes.now }
-    ensures place { ring.new.bytes.ghost_name ≡ ring.old.bytes.ghost_name }
+    ensures queue { KeepsEvents ring.old ring.new }
 {
     let rebates = meet_opposite(sizes, taker, opposite, ring);
     let order = order_by(plan, taker);

@@ -14,6 +14,10 @@ kind_on code.TakerFill side = TakerFill side
 kind_on code.PlainOut side = PlainOut side
 kind_on code.ReleasingOut side = ReleasingOut side
 
+-- an event of an order of the side, with these amounts
+abbrev pub event_with : Kind → Side → Order → Amounts → QueuedEvent
+event_with kind side order amounts = event_of (kind_on kind side) order amounts.released amounts.paid amounts.fee_or_rebate
+
 -- the fill of a resting order that loses these lots, with these amounts, and, where that empties it, its out
 abbrev pub filled_events : Side → Order → ℕ → Amounts → List QueuedEvent
 filled_events side order lots amounts =

@@ -1,9 +1,10 @@
 use Rattle.dex_meet.specs.declared.wants.Terms.{Terms}
 use Rattle.dex_meet.specs.declared.wants.Want.{Want}
-use Rattle.std.specs.Prelude.{ℕ, ◌*◌}
+use Rattle.std.specs.Prelude.{ℕ, ◌*◌, List}
 use Rattle.dex_meet.specs.declared.fills.Fill.{Fill}
 use Rattle.dex_types.specs.declared.orders.Order.{Order}
-use Rattle.dex_types.specs.Meeting.{TakerTerms, Demand, met_lots, met_pc, met_rebate}
+use Rattle.dex_types.specs.declared.terms.Side.{Side}
+use Rattle.dex_types.specs.Meeting.{TakerTerms, Demand, Meeting, meet, met_lots, met_pc, met_rebate}
 
 -- what the taker keeps to
 abbrev pub taking : Terms → TakerTerms
@@ -28,3 +29,7 @@ fill_met taker order lots = record {
   pc = met_pc (taking taker) order lots;
   rebate = met_rebate (taking taker) order lots;
 }
+
+-- what it meets of these orders of the opposite side
+abbrev pub met_by : Side → Terms → Want → List Order → Meeting
+met_by side taker want opposing = meet side (taking taker) (demand want) opposing

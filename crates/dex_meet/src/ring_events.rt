@@ -1,7 +1,8 @@
 //! The events of a meeting, appended to an event queue.
 
 ghost use Rattle.std.specs.Prelude.{◌≡◌, ◌+◌, ◌*◌, ◌^◌, ◌<◌, ◌≤◌, ◌∷◌, [], length, ◌-◌, ◌==◌, if◌then◌else◌};
-ghost use Rattle.dex_meet.specs.EventKinds.{filled_events, kind_on};
+ghost use Rattle.dex_accounts.specs.Keeps.{KeepsEvents};
+ghost use Rattle.dex_meet.specs.EventKinds.{event_with, filled_events};
 ghost use Rattle.dex_ring.specs.Appended.{appended, HasRoom, pushed_all};
 ghost use Rattle.dex_meet.specs.Taker.{fill_met, taking};
 ghost use Rattle.dex_ring.specs.EventBytes.{IsQueued};
@@ -22,8 +23,8 @@ use dex_types::{Event, Lots, Order, Side};
 fn event(kind: Kind, side: Side, order: Order, amounts: Amounts) -> Event
     requires slot { order.slot < 128 }
     requires tier { order.tier < 7 }
-    ensures event { decoded_event result ≡ meeting.event_of (kind_on kind side) order amounts.released amounts.paid amounts.fee_or_rebate }
-    ensures encoded { result ≡ encoded_event (meeting.event_of (kind_on kind side) order amounts.released amounts.paid amounts.fee_or_rebate) }
+    ensures event { decoded_event result ≡ event_with kind side order amounts }
+    ensures encoded { result ≡ encoded_event (event_with kind side order amounts) }
     ensures queued { IsQueued result }
 {
     Event {
@@ -45,10 +46,10 @@ pub fn push(ring: &mut RingView<'_>, kind: Kind, side: Side, order: Order, amoun
     requires room { HasRoom 1 (ring_of ring.old.bytes.now) }
     requires slot { order.slot < 128 }
     requires tier { order.tier < 7 }
-    ensures place { ring.new.bytes.ghost_name ≡ ring.old.bytes.ghost_name }
-    ensures accepted { IsEventQueue ring.new.bytes.now }
-    ensures list { ring_of ring.new.bytes.now ≡ appended (meeting.event_of (kind_on kind side) order amounts.released amounts.paid amounts.fee_or_rebate ∷ []) (ring_of ring.old.bytes.now) }
-    ensures bytes { ring.new.bytes.now ≡ pushed_all (meeting.event_of (kind_on kind side) order amounts.released amounts.paid amounts.fee_or_rebate ∷ []) ring.old.bytes.now }
+    ensures queue { KeepsEvents ring.old ring.new }
+    ensures list { ring_of ring.new.bytes.now
+        ≡ appended (event_with kind side order amounts ∷ []) (ring_of ring.old.bytes.now) }
+    ensures bytes { ring.new.bytes.now ≡ pushed_all (event_with kind side order amounts ∷ []) ring.old.bytes.now }
 {
     let event = event(kind, side, order, amounts);
     ring.push(&event);
@@ -60,9 +61,9 @@ pub fn push_plain_out(ring: &mut RingView<'_>, side: Side, order: Order)
     requires room { HasRoom 1 (ring_of ring.old.bytes.now) }
     requires slot { order.slot < 128 }
     requires tier { order.tier < 7 }
-    ensures place { ring.new.bytes.ghost_name ≡ ring.old.bytes.ghost_name }
-    ensures accepted { IsEventQueue ring.new.bytes.now }
-    ensures list { ring_of ring.new.bytes.now ≡ appended (meeting.plain_out side order ∷ []) (ring_of ring.old.bytes.now) }
+    ensures queue { KeepsEvents ring.old ring.new }
+    ensures list { ring_of ring.new.bytes.now
+        ≡ appended (meeting.plain_out side order ∷ []) (ring_of ring.old.bytes.now) }
     ensures bytes { ring.new.bytes.now ≡ pushed_all (meeting.plain_out side order ∷ []) ring.old.bytes.now }
 {
     push(
@@ -86,9 +87,9 @@ pub fn push_releasing_out(ring: &mut RingView<'_>, side: Side, sizes: Lots, orde
     requires tier { order.tier < 7 }
     requires of_order { lots ≤ order.lots }
     requires fits { book.lock side sizes (book.price_of order.id) order.lots < 2 ^ 64 }
-    ensures place { ring.new.bytes.ghost_name ≡ ring.old.bytes.ghost_name }
-    ensures accepted { IsEventQueue ring.new.bytes.now }
-    ensures list { ring_of ring.new.bytes.now ≡ appended (meeting.releasing_out side sizes order lots ∷ []) (ring_of ring.old.bytes.now) }
+    ensures queue { KeepsEvents ring.old ring.new }
+    ensures list { ring_of ring.new.bytes.now
+        ≡ appended (meeting.releasing_out side sizes order lots ∷ []) (ring_of ring.old.bytes.now) }
     ensures bytes { ring.new.bytes.now ≡ pushed_all (meeting.releasing_out side sizes order lots ∷ []) ring.old.bytes.now }
 {
     let price = price_of(order.id);
@@ -106,9 +107,9 @@ fn push_fill(ring: &mut RingView<'_>, side: Side, order: Order, lots: u64, amoun
     requires room { HasRoom (length (filled_events side order lots amounts)) (ring_of ring.old.bytes.now) }
     requires slot { order.slot < 128 }
     requires tier { order.tier < 7 }
-    ensures place { ring.new.bytes.ghost_name ≡ ring.old.bytes.ghost_name }
-    ensures accepted { IsEventQueue ring.new.bytes.now }
-    ensures list { ring_of ring.new.bytes.now ≡ appended (filled_events side order lots amounts) (ring_of ring.old.bytes.now) }
+    ensures queue { KeepsEvents ring.old ring.new }
+    ensures list { ring_of ring.new.bytes.now
+        ≡ appended (filled_events side order lots amounts) (ring_of ring.old.bytes.now) }
     ensures bytes { ring.new.bytes.now ≡ pushed_all (filled_events side order lots amounts) ring.old.bytes.now }
 {
     push(ring, Kind::MakerFill, side, order, amounts);
@@ -135,9 +136,9 @@ pub(crate) fn push_met(
     requires small { fill.rebate ≤ fill.pc }
     requires received { side ≡ Side.Bid → fill.pc + fill.rebate < 2 ^ 64 }
     requires locks { book.lock (book.opposite side) taker.sizes (book.price_of order.id) order.lots < 2 ^ 64 }
-    ensures place { ring.new.bytes.ghost_name ≡ ring.old.bytes.ghost_name }
-    ensures accepted { IsEventQueue ring.new.bytes.now }
-    ensures list { ring_of ring.new.bytes.now ≡ appended (meeting.met_events side (taking taker) order lots) (ring_of ring.old.bytes.now) }
+    ensures queue { KeepsEvents ring.old ring.new }
+    ensures list { ring_of ring.new.bytes.now
+        ≡ appended (meeting.met_events side (taking taker) order lots) (ring_of ring.old.bytes.now) }
     ensures bytes { ring.new.bytes.now ≡ pushed_all (meeting.met_events side (taking taker) order lots) ring.old.bytes.now }
 {
     let maker = side.opposite();

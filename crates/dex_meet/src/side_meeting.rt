@@ -1,12 +1,12 @@
 //! A taker meets a side of the book in place.
 
 ghost use Rattle.std.specs.Prelude.{◌≡◌, ◌<◌, ◌^◌, length};
+ghost use Rattle.dex_accounts.specs.Keeps.{KeepsEvents, KeepsSide};
 ghost use Rattle.dex_laws.specs.Locks.{locked};
 ghost use Rattle.dex_meet.specs.Prospects.{FitsSums, IsMet};
 ghost use Rattle.dex_ring.specs.Appended.{appended, HasRoom, pushed_all};
-ghost use Rattle.dex_meet.specs.Taker.{taking, demand};
+ghost use Rattle.dex_meet.specs.Taker.{met_by};
 ghost use Rattle.dex_ring.specs.Ring.{IsEventQueue, ring_of};
-ghost use Rattle.dex_types.specs.Meeting as meeting;
 ghost use Rattle.dex_types.specs.Side.{opposite};
 
 use crate::fills::fill_met;
@@ -30,19 +30,16 @@ pub fn meet_side<B: SideBook>(
     requires holds { B.holds opposing.old }
     requires accepted { IsEventQueue ring.old.bytes.now }
     requires counted { (ring_of ring.old.bytes.now).seq_num < 2 ^ 64 }
-    requires fits { FitsSums side taker.sizes (meeting.meet side (taking taker) (demand want) (B.orders opposing.old)) }
-    requires room { HasRoom (length (meeting.meet side (taking taker) (demand want) (B.orders opposing.old)).events) (ring_of ring.old.bytes.now) }
+    requires fits { FitsSums side taker.sizes (met_by side taker want (B.orders opposing.old)) }
+    requires room { HasRoom (length (met_by side taker want (B.orders opposing.old)).events) (ring_of ring.old.bytes.now) }
     requires locks { locked (opposite side) taker.sizes (B.orders opposing.old) < 2 ^ 64 }
-    ensures met { IsMet (meeting.meet side (taking taker) (demand want) (B.orders opposing.old)) result }
-    ensures left { B.orders opposing.new ≡ (meeting.meet side (taking taker) (demand want) (B.orders opposing.old)).left }
-    ensures holds { B.holds opposing.new }
-    ensures same_side { B.side opposing.new ≡ B.side opposing.old }
-    ensures same_room { B.room opposing.new ≡ B.room opposing.old }
-    ensures same_place { B.same_place opposing.old opposing.new }
-    ensures list { ring_of ring.new.bytes.now ≡ appended (meeting.meet side (taking taker) (demand want) (B.orders opposing.old)).events (ring_of ring.old.bytes.now) }
-    ensures bytes { ring.new.bytes.now ≡ pushed_all (meeting.meet side (taking taker) (demand want) (B.orders opposing.old)).events ring.old.bytes.now }
-    ensures accepted { IsEventQueue ring.new.bytes.now }
-    ensures place { ring.new.bytes.ghost_name ≡ ring.old.bytes.ghost_name }
+    ensures met { IsMet (met_by side taker want (B.orders opposing.old)) result }
+    ensures left { B.orders opposing.new ≡ (met_by side taker want (B.orders opposing.old)).left }
+    ensures list { ring_of ring.new.bytes.now
+        ≡ appended (met_by side taker want (B.orders opposing.old)).events (ring_of ring.old.bytes.now) }
+    ensures bytes { ring.new.bytes.now ≡ pushed_all (met_by side taker want (B.orders opposing.old)).events ring.old.bytes.now }
+    ensures queue { KeepsEvents ring.old ring.new }
+    ensures side { KeepsSide B.holds B.same_place B.side B.room opposing.old opposing.new }
 {
     let mut met = unmet(want);
     'orders: while let Some(order) = opposing.best() {

@@ -2,7 +2,7 @@
 
 ghost use Rattle.std.specs.Prelude.{◌≡◌, ◌+◌, ◌∷◌, List, length};
 ghost use Rattle.dex_meet.specs.Prospects.{FitsSums, IsForeseen, IsMet};
-ghost use Rattle.dex_meet.specs.Taker.{taking, demand};
+ghost use Rattle.dex_meet.specs.Taker.{taking, demand, met_by};
 ghost use Rattle.dex_types.specs.declared.orders.Order.{Order};
 ghost use Rattle.dex_types.specs.Meeting as meeting;
 ghost use Rattle.dex_types.specs.Side as book;
@@ -90,8 +90,8 @@ fn prospect_at(side: Side, taker: Terms, met: Met, events: u32, order: Order) ->
 /// What a taker of the side would meet of the opposite side from the best order on.
 pub fn foresee<B: SideRead>(side: Side, taker: Terms, want: Want, opposing: &B) -> Prospect
     requires holds { B.holds opposing.now }
-    requires fits { FitsSums side taker.sizes (meeting.meet side (taking taker) (demand want) (B.orders opposing.now)) }
-    ensures { IsForeseen side taker.limit_price (meeting.meet side (taking taker) (demand want) (B.orders opposing.now)) result }
+    requires fits { FitsSums side taker.sizes (met_by side taker want (B.orders opposing.now)) }
+    ensures { IsForeseen side taker.limit_price (met_by side taker want (B.orders opposing.now)) result }
 {
     let mut met = unmet(want);
     let mut events = 0;

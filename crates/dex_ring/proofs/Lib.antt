@@ -1,3 +1,4 @@
+pub mod AmountLaws
 pub mod AppendLaws
 pub mod BlankLaw
 pub mod EventLaw
@@ -6,3 +7,4 @@ pub mod PopLaw
 pub mod PushLaw
 pub mod RingLaw
 pub mod Verdicts
+pub mod CountLaw

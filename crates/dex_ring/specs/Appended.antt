@@ -1,5 +1,5 @@
 -- What appending events leaves of an event queue: of the list that it holds, and of its bytes.
-use Rattle.std.specs.Prelude.{◌≡◌, ℕ, ◌+◌, ◌≤◌, ◌++◌, List, [], ◌∷◌, length}
+use Rattle.std.specs.Prelude.{◌≡◌, ℕ, ◌+◌, ◌^◌, ◌<◌, ◌≤◌, ◌++◌, List, [], ◌∷◌, length}
 use Rattle.dex_types.specs.Market.{events_counted}
 use Rattle.dex_types.specs.QueuedEvent.{QueuedEvent, encoded_event}
 use Rattle.dex_ring.specs.EventBytes.{IsQueued, event_bytes, event_of}
@@ -23,3 +23,9 @@ pub record IsStorable (event : QueuedEvent) : Type 0 where
   pub queued : IsQueued (encoded_event event)
   pub read : event_of (event_bytes (encoded_event event)) ≡ encoded_event event
   pub size : length (event_bytes (encoded_event event)) ≡ 88
+
+-- the native amounts of an event are below 2^64
+pub record AmountsFit (event : QueuedEvent) : Type 0 where
+  pub released : event.released < 2 ^ 64
+  pub paid : event.paid < 2 ^ 64
+  pub fee_or_rebate : event.fee_or_rebate < 2 ^ 64

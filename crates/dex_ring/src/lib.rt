@@ -1,6 +1,7 @@
 //! The event queue, a ring of pending events, read and written in place.
 #![tactic(auto)]
 
+pub mod amounts;
 mod event_bytes;
 mod leaving;
 mod making;

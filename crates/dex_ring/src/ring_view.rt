@@ -4,6 +4,8 @@ ghost use Rattle.std.specs.Prelude.{◌≡◌, ◌+◌, ◌<◌, ◌↔◌, ◌+
 ghost use Rattle.dex_types.specs.Market.{events_counted};
 ghost use Rattle.dex_types.specs.QueuedEvent.{QueuedEvent, decoded_event, encoded_event};
 ghost use Rattle.dex_ring.specs.EventBytes.{IsQueued};
+ghost use Rattle.dex_fields.specs.Bytes.{with_number};
+ghost use Rattle.dex_fields.specs.declared.event_queue.TheConstants.{SEQ_NUM};
 ghost use Rattle.dex_ring.specs.Ring.{IsEventQueue, popped, pushed, ring_of};
 
 use crate::places::{place, write_event};
@@ -52,6 +54,16 @@ fn pop_event(bytes: &mut [u8]) -> Event
     put_u64(bytes, HEAD, next);
     put_u64(bytes, COUNT, count - 1);
     event
+}
+
+/// Sets how many events were ever appended.
+fn set_seq_num_of(bytes: &mut [u8], value: u64)
+    requires { IsEventQueue bytes.old }
+    ensures bytes { bytes.new ≡ with_number bytes.old SEQ_NUM value }
+    ensures list { ring_of bytes.new ≡ record (ring_of bytes.old) { seq_num = value } }
+    ensures accepted { IsEventQueue bytes.new }
+{
+    put_u64(bytes, SEQ_NUM, value);
 }
 
 impl RingView<'_> {
@@ -104,6 +116,17 @@ impl RingView<'_> {
         ensures accepted { IsEventQueue self.new.bytes.now }
     {
         push_event(self.bytes, event);
+    }
+
+    /// Sets how many events were ever appended, modulo 2^64. It writes that word; all other bytes stay.
+    pub fn set_seq_num(&mut self, value: u64)
+        requires { IsEventQueue self.old.bytes.now }
+        ensures place { self.new.bytes.ghost_name ≡ self.old.bytes.ghost_name }
+        ensures bytes { self.new.bytes.now ≡ with_number self.old.bytes.now SEQ_NUM value }
+        ensures list { ring_of self.new.bytes.now ≡ record (ring_of self.old.bytes.now) { seq_num = value } }
+        ensures accepted { IsEventQueue self.new.bytes.now }
+    {
+        set_seq_num_of(self.bytes, value);
     }
 
     /// Takes the first event. It writes the head and the count; all other bytes stay, the event's own among them.

@@ -47,7 +47,7 @@ label_address-injective a b is_a is_b same =
 digit_lower : (d : ℕ) → d < 16 → is_lower_hexdigit (slice_index lower_digits d) ≡ true
 digit_lower d below = AllPass-from_list_all is_lower_hexdigit lower_digits refl d 0 below
 
-digits_lower : (bytes : List ℕ) → IsBytes bytes → list_all is_lower_hexdigit (encode_lower bytes) ≡ true
+pub digits_lower : (bytes : List ℕ) → IsBytes bytes → list_all is_lower_hexdigit (encode_lower bytes) ≡ true
 unfolding encode_with
 digits_lower [] h = refl
 digits_lower (byte ∷ rest) h =

@@ -1,16 +1,23 @@
-use Rattle.std.proofs.Common.{refl}
-use Rattle.dex_ring.specs.Ring.{ring_of}
+use Rattle.std.proofs.Common.{refl, ap}
 use Rattle.dex_cancel.specs.Cancelling.{named_by}
-use Rattle.dex_cancel.proofs.MarketLaws.{sound-locks, cancel-parts}
+use Rattle.dex_cancel.specs.Leaving.{Queue, handed}
+use Rattle.dex_cancel.proofs.MarketLaws.{can-leave, left-exactly}
 use Rattle.dex_cancel.proofs.leaving.apply_cancel.Goals as goal
 
-pub cancel_all-requires-clause-locks : goal.cancel_all-requires-clause-locks
-cancel_all-requires-clause-locks g c =
-    sound-locks c.args.lots (g.B.SideRead.orders c.args.bids.now) (g.A.SideRead.orders c.args.asks.now) (ring_of c.args.ring.now.bytes.now) c.requires.market
-
-pub returns-clause-market : goal.returns-clause-market
-returns-clause-market g c =
+pub cancel_all-requires-clause-can : goal.cancel_all-requires-clause-can
+cancel_all-requires-clause-can g c =
     let bids = g.B.SideRead.orders c.args.bids.now in
     let asks = g.A.SideRead.orders c.args.asks.now in
-    let after = c.cancel_all.ensures in
-    cancel-parts (named_by c.args.what.now) c.args.account c.args.lots bids asks (ring_of c.args.ring.now.bytes.now) _ _ _ _ refl after.bids after.asks after.ring
+    let given = handed c.args.sizes g.B.SideRead.orders g.A.SideRead.orders c.args.bids.now c.args.asks.now c.args.ring.now in
+    can-leave (named_by c.args.what.now) c.args.account given c.requires.market c.requires.decided
+
+pub returns-clause-does : goal.returns-clause-does
+returns-clause-does g c =
+    let left = c.cancel_all.ensures.left in
+    left-exactly _ _ _ refl left
+
+pub returns-clause-events : goal.returns-clause-events
+returns-clause-events g c = ap (λ (q : Queue). q.list) c.cancel_all.ensures.left.queue
+
+pub returns-clause-ring : goal.returns-clause-ring
+returns-clause-ring g c = record { place = c.cancel_all.ensures.place; accepted = c.cancel_all.ensures.left.accepted }

@@ -12,13 +12,13 @@ take_off-requires-clause-rests g c = rests-there (resting c.args.found) Bid _ (g
 
 pub take_off-requires-clause-fits : goal.take_off-requires-clause-fits
 take_off-requires-clause-fits g c =
-    found-All (λ (o : Order). order_lock Bid c.args.lots o < 2 ^ 64) c.args.found.order.id c.args.found.order (g.B.SideRead.orders c.args.bids.now)
-    (rests-there (resting c.args.found) Bid _ (g.A.SideRead.orders c.args.asks.now) c.requires.rests c.in-Bid.is) c.requires.locks.0
+    found-All (λ (o : Order). order_lock Bid c.args.sizes o < 2 ^ 64) c.args.found.order.id c.args.found.order (g.B.SideRead.orders c.args.bids.now)
+    (rests-there (resting c.args.found) Bid _ (g.A.SideRead.orders c.args.asks.now) c.requires.rests c.in-Bid.is) c.requires.can.locks.0
 
 pub take_off-requires-in-Ask-clause-rests : goal.take_off-requires-in-Ask-clause-rests
 take_off-requires-in-Ask-clause-rests g c = rests-there (resting c.args.found) Ask (g.B.SideRead.orders c.args.bids.now) _ c.requires.rests c.in-Ask.is
 
 pub take_off-requires-in-Ask-clause-fits : goal.take_off-requires-in-Ask-clause-fits
 take_off-requires-in-Ask-clause-fits g c =
-    found-All (λ (o : Order). order_lock Ask c.args.lots o < 2 ^ 64) c.args.found.order.id c.args.found.order (g.A.SideRead.orders c.args.asks.now)
-    (rests-there (resting c.args.found) Ask (g.B.SideRead.orders c.args.bids.now) _ c.requires.rests c.in-Ask.is) c.requires.locks.1
+    found-All (λ (o : Order). order_lock Ask c.args.sizes o < 2 ^ 64) c.args.found.order.id c.args.found.order (g.A.SideRead.orders c.args.asks.now)
+    (rests-there (resting c.args.found) Ask (g.B.SideRead.orders c.args.bids.now) _ c.requires.rests c.in-Ask.is) c.requires.can.locks.1

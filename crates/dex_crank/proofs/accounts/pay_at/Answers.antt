@@ -6,8 +6,8 @@ use Rattle.dex_crank.specs.PaidBytes.{paid_in}
 use Rattle.dex_accounts.proofs.OwnerLaws.{set_plain}
 use Rattle.dex_crank.proofs.accounts.pay_at.Goals as goal
 
-pub returns-clause-accounts : goal.returns-clause-accounts
-returns-clause-accounts c = λ default.
+pub returns : goal.returns
+returns c = λ default.
     map-set orders_account_of c.args.accounts.now c.args.place _
     ∙ set_plain c.args.accounts.now c.args.place c.index-accounts-place.result default c.pay_buffer.new.bytes.items (paid_in (decoded_event c.args.event.now))
-    c.requires.within c.pay_buffer.ensures.bytes
+    c.requires.within c.pay_buffer.ensures

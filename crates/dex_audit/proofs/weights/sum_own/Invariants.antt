@@ -1,0 +1,12 @@
+use Rattle.std.proofs.Common.{◌≡◌, take}
+use Rattle.dex_types.specs.Totals.{total, weighed_where}
+use Rattle.dex_ring.specs.Ring.{ring_of}
+use Rattle.dex_audit.specs.Funds.{is_own_held}
+use Rattle.dex_audit.specs.Lists.{capped}
+use Rattle.dex_audit.specs.Reading.{traders}
+use Rattle.dex_audit.specs.Weights.{weight_of}
+use Rattle.dex_audit.proofs.weights.sum_own.Given as goal
+
+abbrev pub invariant-loop-number : goal.invariant-loop-number
+invariant-loop-number l =
+    l.sum ≡ capped (total (weighed_where (is_own_held (traders l.accounts) l.owner) (weight_of l.weight)) (take l.number (ring_of l.ring.bytes.now).events))

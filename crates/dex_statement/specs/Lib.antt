@@ -1,0 +1,9 @@
+pub mod Faults
+pub mod Telling
+pub mod Words
+pub mod Forms
+pub mod Stated
+pub mod OrderWords
+pub mod Parties
+pub mod Setup
+pub mod Statements

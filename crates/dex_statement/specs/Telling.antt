@@ -1,0 +1,17 @@
+-- What the answer of a call about a row tells.
+use Rattle.std.specs.Prelude.{◌≡◌, List, Result, Ok, Err}
+use Rattle.dex_statement.specs.declared.faults.FaultKind.{FaultKind}
+use Rattle.dex_statement.specs.declared.faults.RowError.{RowError}
+use Rattle.dex_statement.specs.declared.faults.RowError.TheVariants.{Fault, NoMemory}
+
+-- The answer is what is meant, a value or a fault, as a view shows it. Want of memory tells nothing.
+abbrev pub TellsAs : {A B : Type 0} → (A → B) → Result A RowError → Result B FaultKind → Type 0
+TellsAs view (Ok x) meant = meant ≡ Ok (view x)
+TellsAs view (Err (Fault kind)) meant = meant ≡ Err kind
+TellsAs view (Err NoMemory) meant = Unit {0}
+
+-- the same of a value that is shown as it is
+abbrev pub Tells : {A : Type 0} → Result A RowError → Result A FaultKind → Type 0
+Tells (Ok x) meant = meant ≡ Ok x
+Tells (Err (Fault kind)) meant = meant ≡ Err kind
+Tells (Err NoMemory) meant = Unit {0}

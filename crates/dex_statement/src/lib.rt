@@ -1,0 +1,24 @@
+//! What one row of a script states by itself, or the first fault that it has by itself, whatever stands in other rows.
+//!
+//! A row is a record of comma-separated values. Setup rows make accounts, instruction rows hand an instruction to a lane,
+//! and a `program` or a `clock` row chooses the program or sets the clock.
+#![tactic(auto)]
+
+mod faults;
+mod forms;
+mod instruction;
+mod order_words;
+mod parties;
+mod setup;
+mod statement;
+mod words;
+
+pub use faults::{FaultKind, RowError, SetupCode};
+pub use forms::Form;
+pub use instruction::InstructionWords;
+pub use parties::Parties;
+pub use setup::MarketWords;
+pub use statement::{Statement, statement_of};
+
+#[cfg(test)]
+mod tests;

@@ -1,0 +1,281 @@
+//! The instruction that the words of a `do` row ask for.
+
+ghost use Rattle.std.specs.Prelude.{◌≡◌, ◌≤◌, ◌∷◌, [], IfOk, MatchResult, drop, length, take};
+ghost use Rattle.dex_instruction.specs.Spelling.{spelling};
+ghost use Rattle.dex_statement.specs.OrderWords as order;
+ghost use Rattle.dex_statement.specs.Telling.{TellsAs};
+ghost use Rattle.dex_statement.specs.Words.{texts};
+
+use crate::faults::{FaultKind, RowError};
+use crate::words::{order_type_of, self_trade_of, side_of, time_word, word_at};
+use dex_instruction::encode;
+use dex_rows::numbers::{u16_word, u64_word, u128_word};
+use dex_types::{ClientIds, Ix};
+use std::alloc::Global;
+
+/// The first word of a `do` row, which names the instruction.
+#[derive(Clone, Copy, Debug, PartialEq, Eq)]
+pub enum Verb {
+    Init,
+    Close,
+    Settle,
+    Disable,
+    Sweep,
+    Match,
+    Consume,
+    Prune,
+    New,
+    Take,
+    Cancel,
+    CancelByClient,
+    CancelByClients,
+}
+
+/// The instruction's bytes that the words of a `do` row ask for.
+#[tactic(auto, unfolding(crate::specs::OrderWords::data_of))]
+pub(crate) fn data_of(alloc: Global, words: &[&[u8]]) -> Result<Vec<u8>, RowError>
+    ensures { TellsAs (λ bytes. bytes.items) result (order.data_of (texts words.now)) }
+{
+    let ix = match verb_of(word_at(words, 0)) {
+        None => return Err(RowError::Fault(FaultKind::UnknownRow)),
+        Some(verb) => ix_of(verb, words)?,
+    };
+    spelling_of(alloc, &ix)
+}
+
+/// The bytes that spell an instruction.
+fn spelling_of(alloc: Global, ix: &Ix) -> Result<Vec<u8>, RowError>
+    ensures { TellsAs (λ bytes. bytes.items) result (Ok (spelling ix.now)) }
+{
+    let mut out = [0; 128];
+    let count = encode(ix, &mut out);
+    let mut data = Vec::new(alloc);
+    data.extend_from_slice(&out[..count])?;
+    Ok(data)
+}
+
+/// The verb that a word is.
+fn verb_of(word: &[u8]) -> Option<Verb>
+    ensures { result ≡ order.verb_of word.now }
+{
+    if word == b"new".as_slice() {
+        Some(Verb::New)
+    } else if word == b"take".as_slice() {
+        Some(Verb::Take)
+    } else if word == b"cancel".as_slice() {
+        Some(Verb::Cancel)
+    } else if word == b"cancelc".as_slice() {
+        Some(Verb::CancelByClient)
+    } else if word == b"cancels".as_slice() {
+        Some(Verb::CancelByClients)
+    } else if word == b"match".as_slice() {
+        Some(Verb::Match)
+    } else if word == b"consume".as_slice() {
+        Some(Verb::Consume)
+    } else if word == b"prune".as_slice() {
+        Some(Verb::Prune)
+    } else {
+        bare_verb_of(word)
+    }
+}
+
+/// The verb without further words that a word is.
+fn bare_verb_of(word: &[u8]) -> Option<Verb>
+    ensures { result ≡ order.bare_verb_of word.now }
+{
+    if word == b"init".as_slice() {
+        Some(Verb::Init)
+    } else if word == b"close".as_slice() {
+        Some(Verb::Close)
+    } else if word == b"settle".as_slice() {
+        Some(Verb::Settle)
+    } else if word == b"disable".as_slice() {
+        Some(Verb::Disable)
+    } else if word == b"sweep".as_slice() {
+        Some(Verb::Sweep)
+    } else {
+        None
+    }
+}
+
+/// The instruction of a verb and the words behind it.
+fn ix_of(verb: Verb, words: &[&[u8]]) -> Result<Ix, FaultKind>
+    ensures { order.Spells result (order.bytes_of verb (texts words.now)) }
+{
+    match verb {
+        Verb::Init => bare_ix(Ix::InitOpenOrders, words),
+        Verb::Close => bare_ix(Ix::CloseOpenOrders, words),
+        Verb::Settle => bare_ix(Ix::SettleFunds, words),
+        Verb::Disable => bare_ix(Ix::DisableMarket, words),
+        Verb::Sweep => bare_ix(Ix::SweepFees, words),
+        Verb::Match => Ok(Ix::MatchOrders {
+            limit: limit_of(words)?,
+        }),
+        Verb::Consume => Ok(Ix::ConsumeEvents {
+            limit: limit_of(words)?,
+        }),
+        Verb::Prune => Ok(Ix::Prune {
+            limit: limit_of(words)?,
+        }),
+        Verb::New => order_of(words),
+        Verb::Take => take_of(words),
+        Verb::Cancel => cancel_of(words),
+        Verb::CancelByClient => cancel_by_client_of(words),
+        Verb::CancelByClients => cancels_of(words),
+    }
+}
+
+/// An instruction without fields, of a verb alone.
+fn bare_ix(ix: Ix, words: &[&[u8]]) -> Result<Ix, FaultKind>
+    ensures { result ≡ order.bare_ix ix (texts words.now) }
+{
+    if words.len() == 1 {
+        Ok(ix)
+    } else {
+        Err(FaultKind::FieldCount)
+    }
+}
+
+/// How many orders or events the one word behind a verb says.
+#[tactic(auto, unfolding(crate::specs::OrderWords::limit_of))]
+fn limit_of(words: &[&[u8]]) -> Result<u16, FaultKind>
+    ensures { result ≡ order.limit_of (texts words.now) }
+{
+    if words.len() != 2 {
+        return Err(FaultKind::FieldCount);
+    }
+    u16_word(word_at(words, 1)).ok_or(FaultKind::BadNumber)
+}
+
+/// Whether a word that stands at a place is to be a side and is none.
+fn is_strange_side(words: &[&[u8]], place: usize) -> bool
+    ensures { result ≡ order.is_strange_side (texts words.now) place }
+{
+    place < words.len() && side_of(word_at(words, place)).is_none()
+}
+
+/// Whether a word that stands at a place is to be a self-trade rule and is none.
+fn is_strange_self_trade(words: &[&[u8]], place: usize) -> bool
+    ensures { result ≡ order.is_strange_self_trade (texts words.now) place }
+{
+    place < words.len() && self_trade_of(word_at(words, place)).is_none()
+}
+
+/// Whether a word that stands at a place is to be an order type and is none.
+fn is_strange_order_type(words: &[&[u8]], place: usize) -> bool
+    ensures { result ≡ order.is_strange_order_type (texts words.now) place }
+{
+    place < words.len() && order_type_of(word_at(words, place)).is_none()
+}
+
+/// Whether one of an order's words that are of a list is not.
+fn is_strange_order(words: &[&[u8]]) -> bool
+    ensures { result ≡ order.is_strange_order (texts words.now) }
+{
+    is_strange_side(words, 1) || is_strange_self_trade(words, 5) || is_strange_order_type(words, 6)
+}
+
+/// The latest time that the word behind an order's others says, where there is one.
+#[tactic(auto, unfolding(crate::specs::OrderWords::latest_of))]
+fn latest_of(words: &[&[u8]]) -> Result<Option<i64>, FaultKind>
+    ensures { result ≡ order.latest_of (texts words.now) }
+{
+    if words.len() != 10 {
+        return Ok(None);
+    }
+    let latest = time_word(word_at(words, 9)).ok_or(FaultKind::BadNumber)?;
+    Ok(Some(latest))
+}
+
+/// The new order that words ask for.
+#[tactic(auto, unfolding(crate::specs::OrderWords::order_of))]
+fn order_of(words: &[&[u8]]) -> Result<Ix, FaultKind>
+    ensures { result ≡ order.order_of (texts words.now) }
+{
+    if is_strange_order(words) {
+        return Err(FaultKind::UnknownRow);
+    }
+    if words.len() != 9 && words.len() != 10 {
+        return Err(FaultKind::FieldCount);
+    }
+    Ok(Ix::NewOrderV3 {
+        side: side_of(word_at(words, 1)).ok_or(FaultKind::UnknownRow)?,
+        limit_price: u64_word(word_at(words, 2)).ok_or(FaultKind::BadNumber)?,
+        max_coin_qty: u64_word(word_at(words, 3)).ok_or(FaultKind::BadNumber)?,
+        max_native_pc_qty_including_fees: u64_word(word_at(words, 4)).ok_or(FaultKind::BadNumber)?,
+        self_trade_behavior: self_trade_of(word_at(words, 5)).ok_or(FaultKind::UnknownRow)?,
+        order_type: order_type_of(word_at(words, 6)).ok_or(FaultKind::UnknownRow)?,
+        client_order_id: u64_word(word_at(words, 7)).ok_or(FaultKind::BadNumber)?,
+        limit: u16_word(word_at(words, 8)).ok_or(FaultKind::BadNumber)?,
+        max_ts: latest_of(words)?,
+    })
+}
+
+/// The take that words ask for.
+#[tactic(auto, unfolding(crate::specs::OrderWords::take_of))]
+fn take_of(words: &[&[u8]]) -> Result<Ix, FaultKind>
+    ensures { result ≡ order.take_of (texts words.now) }
+{
+    if is_strange_side(words, 1) {
+        return Err(FaultKind::UnknownRow);
+    }
+    if words.len() != 8 {
+        return Err(FaultKind::FieldCount);
+    }
+    Ok(Ix::SendTake {
+        side: side_of(word_at(words, 1)).ok_or(FaultKind::UnknownRow)?,
+        limit_price: u64_word(word_at(words, 2)).ok_or(FaultKind::BadNumber)?,
+        max_coin_qty: u64_word(word_at(words, 3)).ok_or(FaultKind::BadNumber)?,
+        max_native_pc_qty_including_fees: u64_word(word_at(words, 4)).ok_or(FaultKind::BadNumber)?,
+        min_coin_qty: u64_word(word_at(words, 5)).ok_or(FaultKind::BadNumber)?,
+        min_native_pc_qty: u64_word(word_at(words, 6)).ok_or(FaultKind::BadNumber)?,
+        limit: u16_word(word_at(words, 7)).ok_or(FaultKind::BadNumber)?,
+    })
+}
+
+/// The cancel of one order, by its id, that words ask for.
+#[tactic(auto, unfolding(crate::specs::OrderWords::cancel_of))]
+fn cancel_of(words: &[&[u8]]) -> Result<Ix, FaultKind>
+    ensures { result ≡ order.cancel_of (texts words.now) }
+{
+    if is_strange_side(words, 1) {
+        return Err(FaultKind::UnknownRow);
+    }
+    if words.len() != 3 {
+        return Err(FaultKind::FieldCount);
+    }
+    Ok(Ix::CancelOrderV2 {
+        side: side_of(word_at(words, 1)).ok_or(FaultKind::UnknownRow)?,
+        order_id: u128_word(word_at(words, 2)).ok_or(FaultKind::BadNumber)?,
+    })
+}
+
+/// The cancel of one order, by its client id, that words ask for.
+#[tactic(auto, unfolding(crate::specs::OrderWords::cancel_by_client_of))]
+fn cancel_by_client_of(words: &[&[u8]]) -> Result<Ix, FaultKind>
+    ensures { result ≡ order.cancel_by_client_of (texts words.now) }
+{
+    if words.len() != 2 {
+        return Err(FaultKind::FieldCount);
+    }
+    Ok(Ix::CancelOrderByClientIdV2 {
+        client_order_id: u64_word(word_at(words, 1)).ok_or(FaultKind::BadNumber)?,
+    })
+}
+
+/// The cancel of one to eight orders, by their client ids, that words ask for.
+#[tactic(auto, unfolding(crate::specs::OrderWords::cancels_of))]
+fn cancels_of(words: &[&[u8]]) -> Result<Ix, FaultKind>
+    ensures { order.Spells result (order.cancels_of (texts words.now)) }
+{
+    if words.len() < 2 || 9 < words.len() {
+        return Err(FaultKind::FieldCount);
+    }
+    let mut ids = [0; 8];
+    'ids: for place in 1..words.len() {
+        ids[place - 1] = u64_word(words[place]).ok_or(FaultKind::BadNumber)?;
+    }
+    Ok(Ix::CancelOrdersByClientIds {
+        ids: ClientIds::new(&ids[..words.len() - 1]),
+    })
+}

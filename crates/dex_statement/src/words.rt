@@ -1,0 +1,103 @@
+//! The fields of a row, and the words of a field.
+
+ghost use Rattle.std.specs.Prelude.{◌≡◌, ◌<◌, IfOk, length, map};
+ghost use Rattle.std.specs.List.{slice_split};
+ghost use Rattle.csv.specs.Records.{fields_of};
+ghost use Rattle.dex_statement.specs.Words as script;
+
+use csv::ByteRecord;
+use dex_rows::numbers::u64_word;
+use dex_rows::records::{field, field_count};
+use dex_types::{OrderType, SelfTrade, Side};
+use std::alloc::{AllocError, Global};
+
+/// The field at a place of a row, counted from 0; no bytes behind the last.
+pub(crate) fn field_at(row: &ByteRecord, place: usize) -> &[u8]
+    ensures { result.now ≡ script.field_at (fields_of row.now) place }
+{
+    if place < field_count(row) {
+        field(row, place)
+    } else {
+        &[]
+    }
+}
+
+/// The words of a field: what stands before, between and behind its spaces.
+pub(crate) fn words_of(alloc: Global, field: &[u8]) -> Result<Vec<&[u8]>, AllocError>
+    ensures { IfOk result (λ found. script.texts found.items ≡ script.words_of field.now) }
+{
+    field.split(|byte| *byte == b' ').collect(alloc)
+}
+
+/// The word at a place, counted from 0; no bytes behind the last.
+pub(crate) fn word_at<'a>(words: &[&'a [u8]], place: usize) -> &'a [u8]
+    ensures { result.now ≡ script.field_at (script.texts words.now) place }
+{
+    if place < words.len() {
+        words[place]
+    } else {
+        &[]
+    }
+}
+
+/// The side that a word names.
+pub(crate) fn side_of(word: &[u8]) -> Option<Side>
+    ensures { result ≡ script.side_of word.now }
+{
+    if word == b"bid".as_slice() {
+        Some(Side::Bid)
+    } else if word == b"ask".as_slice() {
+        Some(Side::Ask)
+    } else {
+        None
+    }
+}
+
+/// The self-trade rule that a word names.
+pub(crate) fn self_trade_of(word: &[u8]) -> Option<SelfTrade>
+    ensures { result ≡ script.self_trade_of word.now }
+{
+    if word == b"decrement".as_slice() {
+        Some(SelfTrade::Decrement)
+    } else if word == b"cancel".as_slice() {
+        Some(SelfTrade::CancelProvide)
+    } else if word == b"abort".as_slice() {
+        Some(SelfTrade::Abort)
+    } else {
+        None
+    }
+}
+
+/// The order type that a word names.
+pub(crate) fn order_type_of(word: &[u8]) -> Option<OrderType>
+    ensures { result ≡ script.order_type_of word.now }
+{
+    if word == b"limit".as_slice() {
+        Some(OrderType::Limit)
+    } else if word == b"ioc".as_slice() {
+        Some(OrderType::Ioc)
+    } else if word == b"post".as_slice() {
+        Some(OrderType::PostOnly)
+    } else {
+        None
+    }
+}
+
+/// The time that a number is, where it is below 2^63.
+pub(crate) fn time_of(number: u64) -> Option<i64>
+    ensures { result ≡ script.time_of number }
+{
+    if number < 1 << 63 {
+        Some(number.cast_signed())
+    } else {
+        None
+    }
+}
+
+/// The time that a word writes: a number below 2^63.
+#[tactic(auto, unfolding(crate::specs::Words::time_word))]
+pub(crate) fn time_word(word: &[u8]) -> Option<i64>
+    ensures { result ≡ script.time_word word.now }
+{
+    time_of(u64_word(word)?)
+}
