@@ -20,7 +20,8 @@ pub fn decide_disable(
     signer: Address,
 ) -> Result<(), Refusal>
     requires { IsMarket market.now.bytes.now }
-    ensures { result ≡ answered (refusing.disable_reason (market_words market.now.bytes.now).account_flags authority signer) tt }
+    ensures { result ≡ answered (refusing.disable_reason (market_words market.now.bytes.now).account_flags
+        authority signer) tt }
 {
     match disabled(market.account_flags()).or(not_authority(authority, signer)) {
         Some(why) => Err(why),

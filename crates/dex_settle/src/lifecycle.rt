@@ -31,7 +31,8 @@ fn not_blank(account: &[u8]) -> Option<Refusal>
 pub fn decide_init(market: &MarketRef<'_>, account: &[u8]) -> Result<(), Refusal>
     requires market { IsMarket market.now.bytes.now }
     requires account { IsOrders account.now }
-    ensures answer { result ≡ answered (refusing.init_reason (market_words market.now.bytes.now).account_flags (trader_of account.now)) tt }
+    ensures answer { result ≡ answered (refusing.init_reason (market_words market.now.bytes.now).account_flags
+        (trader_of account.now)) tt }
     ensures blank { IsOk result → IsBlank account.now }
 {
     match disabled(market.account_flags()).or(not_blank(account)) {

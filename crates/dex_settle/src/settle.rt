@@ -41,7 +41,8 @@ fn early_reason(
 ) -> Option<Refusal>
     requires market { IsMarket market.now.bytes.now }
     requires account { IsOpen orders.now.bytes.now }
-    ensures { result ≡ first_of (refusing.early_settle_reasons (market_words market.now.bytes.now).terms signer seen.now (account_of orders.now.bytes.now)) }
+    ensures { result ≡ first_of (refusing.early_settle_reasons
+        (market_words market.now.bytes.now).terms signer seen.now (account_of orders.now.bytes.now)) }
 {
     missing(seen.coin)
         .or(missing(seen.pc))
@@ -133,7 +134,8 @@ pub(crate) fn pay(plan: &SettlePlan, market: &mut MarketView<'_>)
 pub(crate) fn pay_out(orders: &mut OrdersView<'_>)
     requires { IsOpen orders.old.bytes.now }
     ensures place { orders.new.bytes.ghost_name ≡ orders.old.bytes.ghost_name }
-    ensures bytes { orders.new.bytes.now ≡ funded orders.old.bytes.now (leaving.funds_after (account_of orders.old.bytes.now)) }
+    ensures bytes { orders.new.bytes.now ≡ funded orders.old.bytes.now (leaving.funds_after
+        (account_of orders.old.bytes.now)) }
     ensures accepted { IsOpen orders.new.bytes.now }
 {
     let funds = orders.funds();

@@ -49,7 +49,8 @@ pub(crate) fn apply<B: SideBook>(
     requires backed { IsBacked taker.id_side (read_of (handed B.orders market.old opposite.old ring.old)) }
     requires can { CanBeDone plan.now taker (read_of (handed B.orders market.old opposite.old ring.old)) }
     ensures reply { result ≡ reply_in taker (handed B.orders market.old opposite.old ring.old) }
-    ensures does { handed B.orders market.new opposite.new ring.new ≡ taken taker (handed B.orders market.old opposite.old ring.old) }
+    ensures does { handed B.orders market.new opposite.new ring.new
+        ≡ taken taker (handed B.orders market.old opposite.old ring.old) }
     ensures list { let before = handed B.orders market.old opposite.old ring.old in
         ring_of ring.new.bytes.now ≡ appended (met_in taker before).events (ring_of before.events) }
     ensures account { KeepsMarket market.old market.new }

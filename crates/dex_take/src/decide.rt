@@ -34,8 +34,10 @@ fn foreseen<B: SideRead>(
     requires market { IsMarket market.now.bytes.now }
     requires events { IsEventQueue ring.now.bytes.now }
     requires backed { IsBacked taker.id_side (read_of (shown B.orders market.now opposite.now ring.now)) }
-    ensures outlook { IfOk result (IsForeseen taker.id_side (take_of taker least.lots least.pc) (read_of (shown B.orders market.now opposite.now ring.now))) }
-    ensures within { IfOk result (λ outlook. IsWithin taker.id_side (take_of taker least.lots least.pc) (read_of (shown B.orders market.now opposite.now ring.now)) seen.now) }
+    ensures outlook { IfOk result (IsForeseen taker.id_side (take_of taker least.lots least.pc) (read_of
+        (shown B.orders market.now opposite.now ring.now))) }
+    ensures within { IfOk result (λ outlook. IsWithin taker.id_side (take_of taker least.lots least.pc) (read_of
+        (shown B.orders market.now opposite.now ring.now)) seen.now) }
     ensures refused { IfErr result (λ why. take_reason taker.id_side (take_of taker least.lots least.pc)
         (read_of (shown B.orders market.now opposite.now ring.now)) seen.now ≡ Some why) }
 {
@@ -64,12 +66,15 @@ fn bounded<B: SideRead>(
 ) -> Result<DecidedTake, Refusal>
     requires market { IsMarket market.now.bytes.now }
     requires backed { IsBacked taker.id_side (read_of (shown B.orders market.now opposite.now ring.now)) }
-    requires foreseen { IsForeseen taker.id_side (take_of taker least.lots least.pc) (read_of (shown B.orders market.now opposite.now ring.now)) outlook.now }
-    requires within { IsWithin taker.id_side (take_of taker least.lots least.pc) (read_of (shown B.orders market.now opposite.now ring.now)) seen.now }
+    requires foreseen { IsForeseen taker.id_side (take_of taker least.lots least.pc) (read_of
+        (shown B.orders market.now opposite.now ring.now)) outlook.now }
+    requires within { IsWithin taker.id_side (take_of taker least.lots least.pc) (read_of
+        (shown B.orders market.now opposite.now ring.now)) seen.now }
     requires pending { leaving ≡ leaving_of (ring_of ring.now.bytes.now).events }
     requires coin_small { leaving.coin < 2 ^ 80 }
     requires pc_small { leaving.pc < 2 ^ 80 }
-    ensures { result ≡ take_outcome taker.id_side (take_of taker least.lots least.pc) (read_of (shown B.orders market.now opposite.now ring.now)) seen.now }
+    ensures { result ≡ take_outcome taker.id_side (take_of taker least.lots least.pc) (read_of
+        (shown B.orders market.now opposite.now ring.now)) seen.now }
 {
     let left = with_fills(leaving, taker.id_side, market.sizes(), outlook.sums);
     match bound_reason(market, taker.id_side, &outlook.plan, left) {
@@ -83,7 +88,8 @@ fn bounded<B: SideRead>(
 
 /// The plan alone.
 fn plan_of(decided: Result<DecidedTake, Refusal>) -> Result<TakePlan, Refusal>
-    ensures { (reason : Option Refusal) (d : DecidedTake) → decided ≡ answered reason d → result ≡ answered reason d.plan }
+    ensures { (reason : Option Refusal) (d : DecidedTake) → decided ≡ answered reason d →
+        result ≡ answered reason d.plan }
 {
     match decided {
         Ok(decided) => Ok(decided.plan),
@@ -104,7 +110,8 @@ pub(crate) fn decide<B: SideRead>(
     requires market { IsMarket market.now.bytes.now }
     requires events { IsEventQueue ring.now.bytes.now }
     requires backed { IsBacked taker.id_side (read_of (shown B.orders market.now opposite.now ring.now)) }
-    ensures { result ≡ take_answer taker.id_side (take_of taker least.lots least.pc) (read_of (shown B.orders market.now opposite.now ring.now)) seen.now }
+    ensures { result ≡ take_answer taker.id_side (take_of taker least.lots least.pc) (read_of
+        (shown B.orders market.now opposite.now ring.now)) seen.now }
 {
     match foreseen(market, opposite, ring, taker, least, seen) {
         Err(why) => Err(why),

@@ -20,18 +20,23 @@ ghost use Rattle.dex_types.specs.Why.{take_reading, why_taking};
 /// market refuses it, once its wallets and its signer have passed.
 pub fn what_is_decided_is_the_markets()
     ensures meeting { (side : Side) (t : Take) (parts : MarketParts) (m : Market) → AreOf parts m →
-        meeting_in side t (read_of (take_given side parts)) ≡ take_meeting side m.listing.sizes t (orders (opposite side) m) }
-    ensures reason { (side : Side) (t : Take) (parts : MarketParts) (m : Market) (seen : Seen) → IsSound m → AreOf parts m →
-        take_reason side t (read_of (take_given side parts)) seen ≡ why_taking side t seen (take_reading side t seen m) }
+        meeting_in side t (read_of (take_given side parts)) ≡ take_meeting side m.listing.sizes t (orders
+        (opposite side) m) }
+    ensures reason { (side : Side) (t : Take) (parts : MarketParts) (m : Market) (seen : Seen) → IsSound m →
+        AreOf parts m →
+        take_reason side t (read_of (take_given side parts)) seen
+        ≡ why_taking side t seen (take_reading side t seen m) }
 {}
 
 /// With what a take left put back, the parts of a sound market are those of the market after it, whatever its least fill;
 /// and what it is answered is the market's.
 pub fn a_take_leaves_the_market_after_it()
-    ensures after { (plan : TakePlan) (taker : Taker) (min_lots min_pc : ℕ) (parts : MarketParts) (left : TakeGiven) (m : Market) →
+    ensures after { (plan : TakePlan) (taker : Taker) (min_lots min_pc : ℕ) (parts : MarketParts)
+        (left : TakeGiven) (m : Market) →
         IsSound m → AreOf parts m → IsDone plan taker (take_given taker.id_side parts) left →
         let t = take_of taker min_lots min_pc in AreOf (with_taken taker.id_side left parts)
-        (after_take taker.id_side t (take_meeting taker.id_side m.listing.sizes t (orders (opposite taker.id_side) m)) m) }
+        (after_take taker.id_side t (take_meeting taker.id_side m.listing.sizes t (orders
+        (opposite taker.id_side) m)) m) }
     ensures reply { (taker : Taker) (min_lots min_pc : ℕ) (parts : MarketParts) (m : Market) → AreOf parts m →
         let t = take_of taker min_lots min_pc in reply_in taker (take_given taker.id_side parts)
         ≡ take_reply t (take_meeting taker.id_side m.listing.sizes t (orders (opposite taker.id_side) m)) }

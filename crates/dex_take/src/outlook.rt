@@ -28,7 +28,8 @@ pub(crate) fn outlook<B: SideRead>(sizes: Lots, taker: Taker, opposing: &B) -> T
     requires holds { B.holds opposing.now }
     requires base { ask_too_large taker.id_side sizes taker.lots ≡ None }
     requires locks { locked (opposite taker.id_side) sizes (B.orders opposing.now) < 2 ^ 64 }
-    ensures plan { result.plan ≡ plan_by taker.id_side sizes (bare_take taker) (meeting_with sizes taker (B.orders opposing.now)) }
+    ensures plan { result.plan ≡ plan_by taker.id_side sizes (bare_take taker) (meeting_with sizes taker
+        (B.orders opposing.now)) }
     ensures events { result.events ≡ length (meeting_with sizes taker (B.orders opposing.now)).events }
     ensures lots { result.sums.lots ≡ (meeting_with sizes taker (B.orders opposing.now)).lots }
     ensures pc { result.sums.pc ≡ (meeting_with sizes taker (B.orders opposing.now)).pc }

@@ -1,4 +1,3 @@
-use Rattle.dex_types.specs.declared.rows.Seen.{Seen}
 use Rattle.dex_take.specs.TakeGiven.{given, read_of}
 use Rattle.dex_take.specs.TakeTerms.{take_of}
 use Rattle.dex_take.specs.Taking.{left_in, plan_in, take_reason}
