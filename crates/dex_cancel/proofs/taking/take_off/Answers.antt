@@ -17,5 +17,5 @@ returns-clause-left g c =
     record {
       orders = c.remove.ensures.orders ∙ sym (without-on c.args.side c.args.order (g.S.SideRead.orders c.args.book.now));
       queue = queue-by c.push_releasing_out.new.ring.bytes.now _ _ c.push_releasing_out.ensures.list c.push_releasing_out.ensures.bytes;
-      accepted = c.push_releasing_out.ensures.accepted;
+      accepted = c.push_releasing_out.ensures.queue.accepted;
     }
