@@ -1,0 +1,4 @@
+pub mod CopyLaws
+pub mod FindingLaws
+pub mod TooSmallLaws
+pub mod MarketLaws

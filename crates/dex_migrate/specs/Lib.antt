@@ -1,0 +1,4 @@
+pub mod Migrated
+pub mod TooSmall
+pub mod Answers
+pub mod Steps

@@ -1,0 +1,17 @@
+//! Accounts of another size: every side of the book with so many nodes, and every event queue with room for so many events.
+#![tactic(auto)]
+
+mod faults;
+mod laws;
+mod markets;
+mod migrating;
+mod queues;
+mod sides;
+mod too_small;
+
+pub use faults::{MigrateError, MigrateFault, MigrateWhat};
+pub use laws::migrated_accounts_have_the_same_findings;
+pub use migrating::migrate;
+
+#[cfg(test)]
+mod tests;
