@@ -8,7 +8,8 @@ use Rattle.dex_dump.specs.DumpText.{Fields, account_rows, dump_rows, dump_text, 
 use Rattle.dex_dump.specs.Lines.{PlainLine, line_of}
 use Rattle.dex_dump.specs.Lines.PlainLine.{Mint, Srm, Msrm, Wallet, Market, Orders}
 use Rattle.dex_dump.specs.Reading.{start}
-use Rattle.dex_dump.proofs.RowLaws.{first_of, one_text, others_of}
+use Rattle.dex_dump.proofs.EachRow.{first_of, others_of}
+use Rattle.dex_dump.proofs.RowLaws.{one_text}
 use Rattle.dex_dump.proofs.StatedLaws.{first_stated, last_stated, market_stated, mint_stated, msrm_stated, orders_stated, srm_stated, wallet_stated}
 
 -- the accounts of rows, and the open-orders accounts of the market in front of them
