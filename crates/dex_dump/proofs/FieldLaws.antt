@@ -1,5 +1,5 @@
 -- The fields of a dump hold no comma, no quote and no byte outside 32 to 126, and are read back as what they were written from.
-use Rattle.std.proofs.Common.{◌≡◌, ◌≢◌, ◌<◌, ◌≤◌, ◌+◌, ◌-◌, ◌*◌, ◌/◌, ◌%◌, ◌∷◌, ◌++◌, ◌∙◌, ◌&&◌, ◌==◌, [], ℕ, zero, suc, List, Bool, not, true, false, Some, None, refl, inl, inr, sym, ap, map, length, replicate, slice_index, take, drop, arith, subst}
+use Rattle.std.proofs.Common.{◌≡◌, ◌<◌, ◌+◌, ◌-◌, ◌*◌, ◌/◌, ◌%◌, ◌∷◌, ◌++◌, ◌∙◌, ◌&&◌, ◌==◌, [], ℕ, zero, suc, List, Bool, not, true, false, Some, refl, inl, inr, sym, ap, length, replicate, slice_index, arith}
 use Rattle.std.specs.List.{list_all, list_any}
 use Rattle.std.proofs.lemmas.Bool.{and_parts, cases_Bool, eqb-true}
 use Rattle.std.proofs.lemmas.Bool.Decides.{nat_tests}
@@ -11,7 +11,7 @@ use Rattle.base64.specs.Engines.{standard}
 use Rattle.csv.specs.Quoting.{needs_byte}
 use Rattle.csv.specs.Writing.{default_writer}
 use Rattle.dex_types.specs.declared.addresses.Address.{Address}
-use Rattle.dex_types.specs.Text.{address_text, behind_front, front_of, is_label, is_label_character, is_labelled, label_address}
+use Rattle.dex_types.specs.Text.{address_text, behind_front, front_of, is_label_character, is_labelled, label_address}
 use Rattle.hex.specs.Hex.{IsBytes, encode_lower}
 use Rattle.dex_rows.specs.Addresses.{address_of, is_lower_hexdigit}
 use Rattle.dex_rows.specs.Printable.{is_printable, is_printable_byte}

@@ -2,4 +2,9 @@ pub mod TextLaws
 pub mod ReadingLaws
 pub mod AnswerLaws
 pub mod FieldLaws
+pub mod EachRow
+pub mod PlainRows
 pub mod RowLaws
+pub mod StatedLaws
+pub mod OneText
+pub mod BehindLaws

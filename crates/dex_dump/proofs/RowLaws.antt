@@ -1,24 +1,18 @@
--- The rows of a dump are read back from its text, and each states what it was written from.
-use Rattle.std.proofs.Common.{◌≡◌, ◌∷◌, ◌++◌, ◌∙◌, ◌&&◌, [], ℕ, List, Bool, All, IfSome, arith, suc, codes, ◌<◌, Option, Some, None, true, false, append_assoc, refl, sym, ap, map, subst}
-use Rattle.std.specs.List.{flat_map, list_all}
+-- The rows of a dump are read back from its text.
+use Rattle.std.proofs.Common.{◌≡◌, ◌∷◌, ◌++◌, ◌∙◌, [], ℕ, List, true, append_assoc, refl, sym, ap, map}
+use Rattle.std.specs.List.{list_all}
 use Rattle.std.proofs.lemmas.Bool.{and_parts}
 use Rattle.csv.specs.Reading.{strip_bom}
 use Rattle.csv.specs.Writing.{default_writer, fields_text, is_blank, read_back, row_text}
 use Rattle.csv.proofs.RoundTrip.{rows_text}
-use Rattle.dex_types.specs.declared.addresses.Address.{Address}
-use Rattle.dex_types.specs.Accounts.{PlainAccount, PlainAccounts, PlainMarketAccounts}
-use Rattle.dex_types.specs.Text.{address_text}
-use Rattle.dex_rows.specs.Printable.{is_printable, row_is_printable}
+use Rattle.dex_types.specs.Accounts.{PlainAccounts}
 use Rattle.dex_rows.specs.Records.{rows_of}
 use Rattle.dex_rows.proofs.RowLaws.{rows_of-written, strip_bom-none}
-use Rattle.dex_dump.specs.Accepted.{HoldBytes, IsAddress, IsHeld, IsHeldMarket}
-use Rattle.dex_dump.specs.DumpText.{Fields, account_rows, base64_text, behind_first, dump_rows, dump_text, first_row, last_row, line_text, lines_text, market_row, market_rows, mint_row, named_rows, orders_row, wallet_row}
-use Rattle.dex_dump.specs.Lines.{PlainLine, account_at, form_of, line_of, market_of, mint_of, msrm_of, orders_of, srm_of, wallet_of}
-use Rattle.dex_dump.specs.Lines.PlainLine.{Mint, Srm, Msrm, Wallet, Market, Orders}
-use Rattle.dex_dump.proofs.FieldLaws.{address_of-text, address_plain, base64_of-text, base64_plain, is_plain, printable, unquoted}
-
-abbrev plain : List ℕ → Bool
-plain field = list_all is_plain field
+use Rattle.dex_dump.specs.Accepted.{HoldBytes}
+use Rattle.dex_dump.specs.DumpText.{Fields, account_rows, behind_first, dump_rows, dump_text, first_row, last_row, line_text, lines_text}
+use Rattle.dex_dump.proofs.EachRow.{AreAll, EachRow, all_accounts, all_append}
+use Rattle.dex_dump.proofs.FieldLaws.{unquoted}
+use Rattle.dex_dump.proofs.PlainRows.{IsPlain, each_plain, plain}
 
 -- ---- the text of one row
 
@@ -36,83 +30,26 @@ fields_behind (field ∷ rest) h =
     ∙ ap (λ (t : List ℕ). field ++ t) (fields_behind rest parts.1)))
 
 -- of two fields or more
-written : (x y : List ℕ) (ys : Fields) → plain x ≡ true → list_all plain (y ∷ ys) ≡ true → IsWritten (x ∷ y ∷ ys)
+written : (x y : List ℕ) (ys : Fields) → IsPlain (x ∷ y ∷ ys) → IsWritten (x ∷ y ∷ ys)
 unfolding is_blank
-written x y ys first others = record {
-  text = rw (unquoted x first) (append_assoc x (fields_text default_writer (y ∷ ys)) (10 ∷ []) ∙ ap (λ (t : List ℕ). x ++ t) (fields_behind (y ∷ ys) others));
-  back = refl;
+written x y ys all =
+    let parts = and_parts (plain x) (list_all plain (y ∷ ys)) all in
+    record {
+      text = rw (unquoted x parts.0) (append_assoc x (fields_text default_writer (y ∷ ys)) (10 ∷ []) ∙ ap (λ (t : List ℕ). x ++ t) (fields_behind (y ∷ ys) parts.1));
+      back = refl;
+    }
+
+-- ---- all rows
+
+each_written : EachRow IsWritten
+each_written = record {
+  mint = λ mint is. written _ _ _ (each_plain.mint mint is);
+  srm = λ mint is. written _ _ _ (each_plain.srm mint is);
+  msrm = λ mint is. written _ _ _ (each_plain.msrm mint is);
+  wallet = λ wallet is. written _ _ _ (each_plain.wallet wallet is);
+  market = λ market is. written _ _ _ (each_plain.market market is);
+  orders = λ market at account is. written _ _ _ (each_plain.orders market at account is);
 }
-
-mint_written : (mint : PlainAccount) → IsHeld mint → IsWritten (mint_row mint)
-mint_written mint is = written _ _ _ refl (rw (address_plain mint.address is.address, base64_plain mint.bytes is.bytes) refl)
-
-wallet_written : (wallet : PlainAccount) → IsHeld wallet → IsWritten (wallet_row wallet)
-wallet_written wallet is = written _ _ _ refl (rw (address_plain wallet.address is.address, base64_plain wallet.bytes is.bytes) refl)
-
-orders_written : (market : Address) → IsAddress market → (account : PlainAccount) → IsHeld account → IsWritten (orders_row market account)
-orders_written market at account is =
-    written _ _ _ refl (rw (address_plain market at, address_plain account.address is.address, base64_plain account.bytes is.bytes) refl)
-
-market_written : (market : PlainMarketAccounts) → IsHeldMarket market → IsWritten (market_row market)
-market_written market is = written _ _ _ refl (rw (
-  address_plain market.address is.address,
-  address_plain market.authority is.authority,
-  base64_plain market.market is.market,
-  base64_plain market.coin_vault is.coin_vault,
-  base64_plain market.pc_vault is.pc_vault,
-  base64_plain market.requests is.requests,
-  base64_plain market.events is.events,
-  base64_plain market.bids is.bids,
-  base64_plain market.asks is.asks,
-) refl)
-
--- ---- the rows of all accounts
-
-abbrev AreWritten : List Fields → Type 0
-AreWritten [] = Unit {0}
-AreWritten (row ∷ rows) = IsWritten row × AreWritten rows
-
--- of all elements of a list the first, and the others
-pub first_of : {A : Type 0} (P : A → Type 0) (x : A) (xs : List A) → All P (x ∷ xs) → P x
-first_of P x xs h = h 0 x (omega arith)
-
-pub others_of : {A : Type 0} (P : A → Type 0) (x : A) (xs : List A) → All P (x ∷ xs) → All P xs
-others_of P x xs h = λ k d below. h (suc k) d (omega arith)
-
-named_written : (word : List ℕ) → plain word ≡ true → (mint : Option Address) → IfSome mint IsAddress → AreWritten (named_rows word mint)
-named_written word first None is = tt
-named_written word first (Some mint) is = (written word (address_text mint) [] first (rw (address_plain mint is) refl), tt)
-
-all_map : {A : Type 0} (P : A → Type 0) (row : A → Fields) → ((x : A) → P x → IsWritten (row x)) → (xs : List A) → All P xs → AreWritten (map row xs)
-all_map P row each [] h = tt
-all_map P row each (x ∷ xs) h = (each x (first_of P x xs h), all_map P row each xs (others_of P x xs h))
-
-all_append : (xs ys : List Fields) → AreWritten xs → AreWritten ys → AreWritten (xs ++ ys)
-all_append [] ys h k = k
-all_append (x ∷ xs) ys h k = (h.0, all_append xs ys h.1 k)
-
-all_markets : (markets : List PlainMarketAccounts) → All IsHeldMarket markets → AreWritten (flat_map market_rows markets)
-all_markets [] h = tt
-all_markets (market ∷ markets) h =
-    let is = first_of IsHeldMarket market markets h in (
-      market_written market is,
-      all_append (map (orders_row market.address) market.orders) (flat_map market_rows markets)
-          (all_map IsHeld (orders_row market.address) (orders_written market.address is.address) market.orders is.orders)
-          (all_markets markets (others_of IsHeldMarket market markets h)),
-    )
-
-all_accounts : (accounts : PlainAccounts) → HoldBytes accounts → AreWritten (account_rows accounts)
-unfolding account_rows
-all_accounts accounts h =
-    let srm = codes "srm" in
-    let msrm = codes "msrm" in
-    let markets = flat_map market_rows accounts.markets in
-    let wallets = map wallet_row accounts.wallets in
-    all_append (map mint_row accounts.mints) (named_rows srm accounts.srm ++ (named_rows msrm accounts.msrm ++ (wallets ++ markets)))
-    (all_map IsHeld mint_row mint_written accounts.mints h.mints)
-    (all_append (named_rows srm accounts.srm) (named_rows msrm accounts.msrm ++ (wallets ++ markets)) (named_written srm refl accounts.srm h.srm)
-    (all_append (named_rows msrm accounts.msrm) (wallets ++ markets) (named_written msrm refl accounts.msrm h.msrm)
-    (all_append wallets markets (all_map IsHeld wallet_row wallet_written accounts.wallets h.wallets) (all_markets accounts.markets h.markets))))
 
 first_written : IsWritten first_row
 unfolding is_blank fields_text behind_first
@@ -122,17 +59,18 @@ last_written : IsWritten last_row
 unfolding is_blank fields_text behind_first
 last_written = record { text = refl; back = refl }
 
-all_rows : (accounts : PlainAccounts) → HoldBytes accounts → AreWritten (dump_rows accounts)
-all_rows accounts h = (first_written, all_append (account_rows accounts) (last_row ∷ []) (all_accounts accounts h) (last_written, tt))
+all_rows : (accounts : PlainAccounts) → HoldBytes accounts → AreAll IsWritten (dump_rows accounts)
+all_rows accounts h =
+    (first_written, all_append IsWritten (account_rows accounts) (last_row ∷ []) (all_accounts IsWritten each_written accounts h) (last_written, tt))
 
 -- ---- the text of all
 
-lines_written : (rows : List Fields) → AreWritten rows → rows_text rows ≡ lines_text rows
+lines_written : (rows : List Fields) → AreAll IsWritten rows → rows_text rows ≡ lines_text rows
 unfolding rows_text lines_text
 lines_written [] h = refl
 lines_written (row ∷ rows) h = rw (h.0.text, lines_written rows h.1) refl
 
-rows_back : (rows : List Fields) → AreWritten rows → map read_back rows ≡ rows
+rows_back : (rows : List Fields) → AreAll IsWritten rows → map read_back rows ≡ rows
 rows_back [] h = refl
 rows_back (row ∷ rows) h = rw (h.0.back, rows_back rows h.1) refl
 
@@ -149,15 +87,3 @@ rows_of-dump accounts h =
 pub one_text : (accounts others : PlainAccounts) → HoldBytes accounts → HoldBytes others → dump_text accounts ≡ dump_text others
     → dump_rows accounts ≡ dump_rows others
 one_text accounts others h k same = sym (rows_of-dump accounts h) ∙ ap rows_of same ∙ rows_of-dump others k
-
--- ---- what each row states
-
-mint_printable : (mint : PlainAccount) → IsHeld mint → row_is_printable (mint_row mint) ≡ true
-unfolding row_is_printable is_printable
-mint_printable mint is =
-    rw (printable (address_text mint.address) (address_plain mint.address is.address), printable (base64_text mint.bytes) (base64_plain mint.bytes is.bytes)) refl
-
-pub mint_stated : (mint : PlainAccount) → IsHeld mint → line_of (mint_row mint) ≡ Some (Mint mint)
-unfolding line_of form_of mint_of account_at
-mint_stated mint is =
-    rw (mint_printable mint is, address_of-text mint.address is.address, base64_of-text mint.bytes is.bytes) refl
