@@ -1,2 +1,4 @@
 pub mod Numbered
+pub mod Words
+pub mod Values
 pub mod Written
