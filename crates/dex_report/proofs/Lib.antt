@@ -1,4 +1,6 @@
 pub mod Numbered
 pub mod Words
 pub mod Values
+pub mod Replies
+pub mod ReadBack
 pub mod Written

@@ -3,7 +3,6 @@ use Rattle.std.specs.Prelude.{◌≡◌, ℕ, ◌<◌, ◌^◌, Bool, true, List
 use Rattle.std.specs.Int.{w64}
 use Rattle.std.specs.Int.RustNames.{FitsSigned}
 use Rattle.std.specs.List.{All, list_all}
-use Rattle.dex_types.specs.declared.addresses.Address.{Address}
 use Rattle.dex_types.specs.declared.movements.Entry.{Entry}
 use Rattle.dex_types.specs.declared.movements.Movement.{Movement}
 use Rattle.dex_types.specs.declared.movements.WalletEntry.{WalletEntry}
@@ -11,19 +10,14 @@ use Rattle.dex_types.specs.declared.refusals.Refusal.{Refusal}
 use Rattle.dex_types.specs.declared.refusals.Refusal.TheVariants as refusal
 use Rattle.dex_types.specs.declared.replies.Reply.{Reply}
 use Rattle.dex_types.specs.declared.replies.Reply.TheVariants.{Ordered, Took, Cancelled, Consumed, Settled, Swept, Done, Refused}
+use Rattle.dex_dump.specs.Accepted.{HoldBytes, IsAddress}
 use Rattle.dex_report.specs.Outcomes.{PlainMarketJournal, PlainOutcome, PlainWalletJournal}
-use Rattle.hex.specs.Hex.{IsBytes}
 
 -- the movements stand from the front: behind an empty place there is none
 abbrev pub stand_from_front : List (Option Movement) → Bool
 stand_from_front [] = true
 stand_from_front (Some movement ∷ rest) = stand_from_front rest
 stand_from_front (None ∷ rest) = list_all is_none rest
-
--- an address: 32 bytes
-pub record IsAddress (address : Address) : Type 0 where
-  pub length : length address.0 ≡ 32
-  pub bytes : IsBytes address.0
 
 -- the values of a refusal
 abbrev pub FitRefusal : Refusal → Type 0
@@ -101,7 +95,8 @@ pub record IsToldWallet (journal : PlainWalletJournal) : Type 0 where
   pub count : length journal.entries < 2 ^ 64
   pub entries : All FitWalletEntry journal.entries
 
--- the journals of an outcome
-pub record AreTold (outcome : PlainOutcome) : Type 0 where
+-- an outcome whose values fit their types, and the movements of whose entries stand from the front
+pub record IsToldOutcome (outcome : PlainOutcome) : Type 0 where
+  pub accounts : HoldBytes outcome.accounts
   pub markets : All IsToldMarket outcome.markets
   pub wallets : All IsToldWallet outcome.wallets
