@@ -1,4 +1,4 @@
--- The rows of a dump are read back from its text, and each states what it was written from.
+-- The rows of a dump are read back from its text.
 use Rattle.std.proofs.Common.{◌≡◌, ◌∷◌, ◌++◌, ◌∙◌, ◌&&◌, [], ℕ, List, Bool, All, IfSome, arith, suc, codes, ◌<◌, Option, Some, None, true, false, append_assoc, refl, sym, ap, map, subst}
 use Rattle.std.specs.List.{flat_map, list_all}
 use Rattle.std.proofs.lemmas.Bool.{and_parts}
@@ -8,16 +8,13 @@ use Rattle.csv.proofs.RoundTrip.{rows_text}
 use Rattle.dex_types.specs.declared.addresses.Address.{Address}
 use Rattle.dex_types.specs.Accounts.{PlainAccount, PlainAccounts, PlainMarketAccounts}
 use Rattle.dex_types.specs.Text.{address_text}
-use Rattle.dex_rows.specs.Printable.{is_printable, row_is_printable}
 use Rattle.dex_rows.specs.Records.{rows_of}
 use Rattle.dex_rows.proofs.RowLaws.{rows_of-written, strip_bom-none}
 use Rattle.dex_dump.specs.Accepted.{HoldBytes, IsAddress, IsHeld, IsHeldMarket}
 use Rattle.dex_dump.specs.DumpText.{Fields, account_rows, base64_text, behind_first, dump_rows, dump_text, first_row, last_row, line_text, lines_text, market_row, market_rows, mint_row, named_rows, orders_row, wallet_row}
-use Rattle.dex_dump.specs.Lines.{PlainLine, account_at, form_of, line_of, market_of, mint_of, msrm_of, orders_of, srm_of, wallet_of}
-use Rattle.dex_dump.specs.Lines.PlainLine.{Mint, Srm, Msrm, Wallet, Market, Orders}
-use Rattle.dex_dump.proofs.FieldLaws.{address_of-text, address_plain, base64_of-text, base64_plain, is_plain, printable, unquoted}
+use Rattle.dex_dump.proofs.FieldLaws.{address_plain, base64_plain, is_plain, unquoted}
 
-abbrev plain : List ℕ → Bool
+abbrev pub plain : List ℕ → Bool
 plain field = list_all is_plain field
 
 -- ---- the text of one row
@@ -149,15 +146,3 @@ rows_of-dump accounts h =
 pub one_text : (accounts others : PlainAccounts) → HoldBytes accounts → HoldBytes others → dump_text accounts ≡ dump_text others
     → dump_rows accounts ≡ dump_rows others
 one_text accounts others h k same = sym (rows_of-dump accounts h) ∙ ap rows_of same ∙ rows_of-dump others k
-
--- ---- what each row states
-
-mint_printable : (mint : PlainAccount) → IsHeld mint → row_is_printable (mint_row mint) ≡ true
-unfolding row_is_printable is_printable
-mint_printable mint is =
-    rw (printable (address_text mint.address) (address_plain mint.address is.address), printable (base64_text mint.bytes) (base64_plain mint.bytes is.bytes)) refl
-
-pub mint_stated : (mint : PlainAccount) → IsHeld mint → line_of (mint_row mint) ≡ Some (Mint mint)
-unfolding line_of form_of mint_of account_at
-mint_stated mint is =
-    rw (mint_printable mint is, address_of-text mint.address is.address, base64_of-text mint.bytes is.bytes) refl

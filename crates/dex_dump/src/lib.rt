@@ -3,6 +3,7 @@
 
 mod checks;
 pub mod faults;
+mod laws;
 mod lines;
 mod reader;
 mod reading;
@@ -14,6 +15,7 @@ pub use dex_make::{
     make_orders, make_wallet, parts_have_addresses_of_their_own,
 };
 pub use faults::{DumpError, DumpFault};
+pub use laws::one_text_is_of_one_exchange;
 pub use lines::is_first_row;
 pub use reader::{DumpRead, read_dump, read_rows};
 pub use writing::{append_dump, write_dump};
