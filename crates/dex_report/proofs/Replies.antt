@@ -3,6 +3,7 @@ use Rattle.std.proofs.Common.{◌≡◌, ◌∙◌, ℕ, ◌<◌, ◌^◌, ◌++
 use Rattle.std.specs.Fmt.{decimal, signed_decimal}
 use Rattle.std.specs.Str.{bytes_eq}
 use Rattle.std.specs.List.{flat_map, list_all}
+use Rattle.std.proofs.lemmas.Fmt.{decimal_digit}
 use Rattle.dex_types.specs.declared.instructions.BadData.{BadData}
 use Rattle.dex_types.specs.declared.instructions.BadData.TheVariants.{Short, Version, UnknownTag, RetiredTag, Length, ZeroField, BadEnum}
 use Rattle.dex_types.specs.declared.refusals.Refusal.{Refusal}
@@ -54,50 +55,68 @@ reply_words (Refused why) = refusal_words why
 
 -- a refusal's text is its words
 refusal-spaced : (why : Refusal) → spaced (refusal_text why) ≡ flat_map spaced (refusal_words why)
-refusal-spaced (refusal.BadData a) = simp (append_assoc, append-nil)
+refusal-spaced (refusal.BadData a) = simp (append_assoc, append-nil, spaced)
 refusal-spaced refusal.MarketDisabled = refl
 refusal-spaced refusal.NoAccount = refl
 refusal-spaced refusal.AccountExists = refl
-refusal-spaced (refusal.NotOwner a) = simp (append_assoc, append-nil)
-refusal-spaced (refusal.NotAuthority a) = simp (append_assoc, append-nil)
-refusal-spaced (refusal.WrongMint a) = simp (append_assoc, append-nil)
-refusal-spaced (refusal.WalletNotSigned a) = simp (append_assoc, append-nil)
-refusal-spaced (refusal.NotEmpty a b) = simp (append_assoc, append-nil)
+refusal-spaced (refusal.NotOwner a) = simp (append_assoc, append-nil, spaced)
+refusal-spaced (refusal.NotAuthority a) = simp (append_assoc, append-nil, spaced)
+refusal-spaced (refusal.WrongMint a) = simp (append_assoc, append-nil, spaced)
+refusal-spaced (refusal.WalletNotSigned a) = simp (append_assoc, append-nil, spaced)
+refusal-spaced (refusal.NotEmpty a b) = simp (append_assoc, append-nil, spaced)
 refusal-spaced refusal.TooManyOpenOrders = refl
 refusal-spaced refusal.AskTooLarge = refl
 refusal-spaced refusal.SequenceExhausted = refl
-refusal-spaced (refusal.TimePast a b) = simp (append_assoc, append-nil)
+refusal-spaced (refusal.TimePast a b) = simp (append_assoc, append-nil, spaced)
 refusal-spaced refusal.OrderNotFound = refl
 refusal-spaced refusal.SideMismatch = refl
-refusal-spaced (refusal.OrderNotYours a) = simp (append_assoc, append-nil)
+refusal-spaced (refusal.OrderNotYours a) = simp (append_assoc, append-nil, spaced)
 refusal-spaced refusal.ClientIdZero = refl
 refusal-spaced refusal.ClientIdNotFound = refl
-refusal-spaced (refusal.WouldSelfTrade a) = simp (append_assoc, append-nil)
-refusal-spaced (refusal.BelowMinimum a) = simp (append_assoc, append-nil)
-refusal-spaced (refusal.EventQueueFull a b) = simp (append_assoc, append-nil)
-refusal-spaced (refusal.InsufficientFunds a b) = simp (append_assoc, append-nil)
-refusal-spaced (refusal.BalanceTooLarge a b) = simp (append_assoc, append-nil)
-refusal-spaced (refusal.SumTooLarge a b) = simp (append_assoc, append-nil)
+refusal-spaced (refusal.WouldSelfTrade a) = simp (append_assoc, append-nil, spaced)
+refusal-spaced (refusal.BelowMinimum a) = simp (append_assoc, append-nil, spaced)
+refusal-spaced (refusal.EventQueueFull a b) = simp (append_assoc, append-nil, spaced)
+refusal-spaced (refusal.InsufficientFunds a b) = simp (append_assoc, append-nil, spaced)
+refusal-spaced (refusal.BalanceTooLarge a b) = simp (append_assoc, append-nil, spaced)
+refusal-spaced (refusal.SumTooLarge a b) = simp (append_assoc, append-nil, spaced)
+
+-- one word more
+more : (p w : List ℕ) (ws : List (List ℕ)) → (p ++ spaced w) ++ flat_map spaced ws ≡ p ++ flat_map spaced (w ∷ ws)
+more p w ws = append_assoc p (spaced w) (flat_map spaced ws)
+
+-- six words behind a text
+pub six-words : (p a b c d e f : List ℕ) → p ++ spaced a ++ spaced b ++ spaced c ++ spaced d ++ spaced e ++ spaced f
+    ≡ p ++ flat_map spaced (a ∷ b ∷ c ∷ d ∷ e ∷ f ∷ [])
+six-words p a b c d e f =
+    let p1 = p ++ spaced a in let p2 = p1 ++ spaced b in let p3 = p2 ++ spaced c in let p4 = p3 ++ spaced d in let p5 = p4 ++ spaced e in
+    sym (append-nil (p5 ++ spaced f)) ∙ more p5 f [] ∙ more p4 e (f ∷ []) ∙ more p3 d (e ∷ f ∷ []) ∙ more p2 c (d ∷ e ∷ f ∷ [])
+    ∙ more p1 b (c ∷ d ∷ e ∷ f ∷ []) ∙ more p a (b ∷ c ∷ d ∷ e ∷ f ∷ [])
 
 -- a reply's text is its words
 pub reply-spaced : (reply : Reply) → spaced (reply_text reply) ≡ flat_map spaced (reply_words reply)
-reply-spaced (Ordered a b c d e f) = simp (append_assoc, append-nil)
-reply-spaced (Took a b c) = simp (append_assoc, append-nil)
-reply-spaced (Cancelled a) = simp (append_assoc, append-nil)
-reply-spaced (Consumed a) = simp (append_assoc, append-nil)
-reply-spaced (Settled a b c) = simp (append_assoc, append-nil)
-reply-spaced (Swept a) = simp (append_assoc, append-nil)
+reply-spaced (Ordered a b c d e f) = ap (λ (t : List ℕ). 32 ∷ t) (six-words (codes "ok order") (decimal a) (decimal b) (decimal c) (decimal d) (decimal e) (decimal f))
+reply-spaced (Took a b c) = simp (append_assoc, append-nil, spaced)
+reply-spaced (Cancelled a) = simp (append_assoc, append-nil, spaced)
+reply-spaced (Consumed a) = simp (append_assoc, append-nil, spaced)
+reply-spaced (Settled a b c) = simp (append_assoc, append-nil, spaced)
+reply-spaced (Swept a) = simp (append_assoc, append-nil, spaced)
 reply-spaced Done = refl
 reply-spaced (Refused why) = refusal-spaced why
 
+bad-digit : (rule : BadData) → bad_data_number rule < 10
+bad-digit Short = omega arith
+bad-digit Version = omega arith
+bad-digit UnknownTag = omega arith
+bad-digit RetiredTag = omega arith
+bad-digit Length = omega arith
+bad-digit ZeroField = omega arith
+bad-digit BadEnum = omega arith
+
+digit-small : (n : ℕ) → n < 10 → n < 2 ^ 128
+digit-small n h = omega arith
+
 is_word-bad : (rule : BadData) → is_word (decimal (bad_data_number rule)) ≡ true
-is_word-bad Short = refl
-is_word-bad Version = refl
-is_word-bad UnknownTag = refl
-is_word-bad RetiredTag = refl
-is_word-bad Length = refl
-is_word-bad ZeroField = refl
-is_word-bad BadEnum = refl
+is_word-bad rule = is_word-decimal (bad_data_number rule) (digit-small _ (bad-digit rule))
 
 refusal-are_words : (why : Refusal) → FitRefusal why → list_all is_word (refusal_words why) ≡ true
 refusal-are_words (refusal.BadData a) h = rw (is_word-bad a) refl
@@ -144,13 +163,13 @@ bad_data_in word =
 
 bad_data_in-decimal : (rule : BadData) → bad_data_in (decimal (bad_data_number rule)) ≡ rule
 unfolding bad_data_in
-bad_data_in-decimal Short = refl
-bad_data_in-decimal Version = refl
-bad_data_in-decimal UnknownTag = refl
-bad_data_in-decimal RetiredTag = refl
-bad_data_in-decimal Length = refl
-bad_data_in-decimal ZeroField = refl
-bad_data_in-decimal BadEnum = refl
+bad_data_in-decimal Short = rw (decimal_digit 1 (omega arith)) refl
+bad_data_in-decimal Version = rw (decimal_digit 2 (omega arith)) refl
+bad_data_in-decimal UnknownTag = rw (decimal_digit 3 (omega arith)) refl
+bad_data_in-decimal RetiredTag = rw (decimal_digit 4 (omega arith)) refl
+bad_data_in-decimal Length = rw (decimal_digit 5 (omega arith)) refl
+bad_data_in-decimal ZeroField = rw (decimal_digit 6 (omega arith)) refl
+bad_data_in-decimal BadEnum = rw (decimal_digit 7 (omega arith)) refl
 
 -- the word at a place
 abbrev at : List (List ℕ) → ℕ → List ℕ
@@ -303,3 +322,62 @@ reply-count (Settled a b c) = refl
 reply-count (Swept a) = refl
 reply-count Done = refl
 reply-count (Refused why) = refusal-count why
+
+refusal-second : (why : Refusal) (rest : List (List ℕ)) → at (refusal_words why ++ rest) 1 ≡ at (refusal_words why) 1
+refusal-second (refusal.BadData a) rest = refl
+refusal-second refusal.MarketDisabled rest = refl
+refusal-second refusal.NoAccount rest = refl
+refusal-second refusal.AccountExists rest = refl
+refusal-second (refusal.NotOwner a) rest = refl
+refusal-second (refusal.NotAuthority a) rest = refl
+refusal-second (refusal.WrongMint a) rest = refl
+refusal-second (refusal.WalletNotSigned a) rest = refl
+refusal-second (refusal.NotEmpty a b) rest = refl
+refusal-second refusal.TooManyOpenOrders rest = refl
+refusal-second refusal.AskTooLarge rest = refl
+refusal-second refusal.SequenceExhausted rest = refl
+refusal-second (refusal.TimePast a b) rest = refl
+refusal-second refusal.OrderNotFound rest = refl
+refusal-second refusal.SideMismatch rest = refl
+refusal-second (refusal.OrderNotYours a) rest = refl
+refusal-second refusal.ClientIdZero rest = refl
+refusal-second refusal.ClientIdNotFound rest = refl
+refusal-second (refusal.WouldSelfTrade a) rest = refl
+refusal-second (refusal.BelowMinimum a) rest = refl
+refusal-second (refusal.EventQueueFull a b) rest = refl
+refusal-second (refusal.InsufficientFunds a b) rest = refl
+refusal-second (refusal.BalanceTooLarge a b) rest = refl
+refusal-second (refusal.SumTooLarge a b) rest = refl
+
+-- what follows the words is not the second of them
+pub reply-second : (reply : Reply) (rest : List (List ℕ)) → at (reply_words reply ++ rest) 1 ≡ at (reply_words reply) 1
+reply-second (Ordered a b c d e f) rest = refl
+reply-second (Took a b c) rest = refl
+reply-second (Cancelled a) rest = refl
+reply-second (Consumed a) rest = refl
+reply-second (Settled a b c) rest = refl
+reply-second (Swept a) rest = refl
+reply-second Done rest = refl
+reply-second (Refused why) rest = refusal-second why rest
+
+-- two lists in front of others, of one length
+pub front-ends : (s t x y : List (List ℕ)) → length s ≡ length t → s ++ x ≡ t ++ y → (s ≡ t) × (x ≡ y)
+front-ends [] [] x y same e = (refl, e)
+front-ends [] (b ∷ t) x y same e = absurd (omega arith)
+front-ends (a ∷ s) [] x y same e = absurd (omega arith)
+front-ends (a ∷ s) (b ∷ t) x y same e =
+    let first : a ≡ b = cc e in
+    let others : s ++ x ≡ t ++ y = cc e in
+    let fewer : length s ≡ length t = omega arith in
+    let r = front-ends s t x y fewer others in
+    let front : s ≡ t = r.0 in
+    let whole : a ∷ s ≡ b ∷ t = cc (first, front) in
+    (whole, r.1)
+
+-- replies and what follows them are told by their words
+pub reply-ends : (r s : Reply) (x y : List (List ℕ)) → FitReply r → FitReply s → reply_words r ++ x ≡ reply_words s ++ y → (r ≡ s) × (x ≡ y)
+reply-ends r s x y fr fs e =
+    let second : at (reply_words r) 1 ≡ at (reply_words s) 1 = sym (reply-second r x) ∙ ap (λ (w : List (List ℕ)). at w 1) e ∙ reply-second s y in
+    let count : length (reply_words r) ≡ length (reply_words s) = reply-count r ∙ ap count_by second ∙ sym (reply-count s) in
+    let parts = front-ends (reply_words r) (reply_words s) x y count e in
+    (sym (reply-told r fr) ∙ ap reply_in parts.0 ∙ reply-told s fs, parts.1)
