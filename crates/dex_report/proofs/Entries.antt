@@ -124,7 +124,7 @@ moves-told (Some a ∷ s) (Some b ∷ t) fs ft hs ht same e =
     let rest : flat_map move_words s ≡ flat_map move_words t = cc e in
     let fewer : length s ≡ length t = omega arith in
     let first : a ≡ b = same-movement a b (same-address a.wallet b.wallet fa.0 fb.0 wallet) (same-kind a.kind b.kind kind)
-        (same-number a.amount b.amount (from64 _ fa.1) (from64 _ fb.1) amount) (same-number a.before b.before (from64 _ fa.2) (from64 _ fb.2) before) in
+    (same-number a.amount b.amount (from64 _ fa.1) (from64 _ fb.1) amount) (same-number a.before b.before (from64 _ fa.2) (from64 _ fb.2) before) in
     let others : s ≡ t = moves-told s t (others_of FitMove (Some a) s fs) (others_of FitMove (Some b) t ft) hs ht fewer rest in
     cc (first, others)
 
@@ -144,8 +144,8 @@ entry-spaced entry x =
     let reply : spaced (reply_text entry.reply) ≡ flat_map spaced (reply_words entry.reply) = reply-spaced entry.reply in
     let moves : flat_map move_text entry.moves ≡ flat_map spaced (flat_map move_words entry.moves) = moves-spaced entry.moves in
     let both : spaced (reply_text entry.reply) ++ flat_map move_text entry.moves ≡ flat_map spaced (reply_words entry.reply ++ flat_map move_words entry.moves)
-        = joined (spaced (reply_text entry.reply)) _ (flat_map move_text entry.moves) _ reply moves
-        ∙ sym (flat_map-append spaced (reply_words entry.reply) (flat_map move_words entry.moves)) in
+    = joined (spaced (reply_text entry.reply)) _ (flat_map move_text entry.moves) _ reply moves
+    ∙ sym (flat_map-append spaced (reply_words entry.reply) (flat_map move_words entry.moves)) in
     let lane = spaced (decimal entry.lane) in
     let row = spaced (decimal entry.row) in
     entry-joined (codes "entry") lane row (spaced (reply_text entry.reply)) (flat_map move_text entry.moves) x
@@ -171,10 +171,10 @@ entry-told a b ha hb e =
     let rest : reply_words a.reply ++ flat_map move_words a.moves ≡ reply_words b.reply ++ flat_map move_words b.moves = cc e in
     let parts = reply-ends a.reply b.reply (flat_map move_words a.moves) (flat_map move_words b.moves) ha.fits.reply hb.fits.reply rest in
     same-entry a b
-        (same-number a.lane b.lane (from32 _ ha.fits.lane) (from32 _ hb.fits.lane) lane)
-        (same-number a.row b.row (from32 _ ha.fits.row) (from32 _ hb.fits.row) row)
-        parts.0
-        (moves-told a.moves b.moves ha.fits.moves hb.fits.moves ha.front hb.front (ha.fits.places ∙ sym hb.fits.places) parts.1)
+    (same-number a.lane b.lane (from32 _ ha.fits.lane) (from32 _ hb.fits.lane) lane)
+    (same-number a.row b.row (from32 _ ha.fits.row) (from32 _ hb.fits.row) row)
+    parts.0
+    (moves-told a.moves b.moves ha.fits.moves hb.fits.moves ha.front hb.front (ha.fits.places ∙ sym hb.fits.places) parts.1)
 
 pub entry-back : IsReadBack Entry IsTold entry_line
 entry-back a b x y ha hb e =
@@ -194,7 +194,7 @@ line-joined p t x = simp append_assoc
 move-line : (entry : WalletEntry) (x : List ℕ) → move_line entry ++ x ≡ codes "move" ++ (flat_map spaced (wallet_words entry) ++ 10 ∷ x)
 move-line entry x =
     ap (λ (t : List ℕ). (t ++ (10 ∷ [])) ++ x) (six-words (codes "move") (address_text entry.market) (decimal entry.lane) (decimal entry.row)
-        (kind_text entry.kind) (decimal entry.amount) (decimal entry.before))
+    (kind_text entry.kind) (decimal entry.amount) (decimal entry.before))
     ∙ line-joined (codes "move") (flat_map spaced (wallet_words entry)) x
 
 wallet-are_words : (entry : WalletEntry) → FitWalletEntry entry → list_all is_word (wallet_words entry) ≡ true
@@ -220,12 +220,12 @@ wallet-told a b ha hb e =
     let amount : decimal a.amount ≡ decimal b.amount = cc e in
     let before : decimal a.before ≡ decimal b.before = cc e in
     same-wallet_entry a b
-        (same-address a.market b.market ha.market hb.market market)
-        (same-number a.lane b.lane (from32 _ ha.lane) (from32 _ hb.lane) lane)
-        (same-number a.row b.row (from32 _ ha.row) (from32 _ hb.row) row)
-        (same-kind a.kind b.kind kind)
-        (same-number a.amount b.amount (from64 _ ha.amount) (from64 _ hb.amount) amount)
-        (same-number a.before b.before (from64 _ ha.before) (from64 _ hb.before) before)
+    (same-address a.market b.market ha.market hb.market market)
+    (same-number a.lane b.lane (from32 _ ha.lane) (from32 _ hb.lane) lane)
+    (same-number a.row b.row (from32 _ ha.row) (from32 _ hb.row) row)
+    (same-kind a.kind b.kind kind)
+    (same-number a.amount b.amount (from64 _ ha.amount) (from64 _ hb.amount) amount)
+    (same-number a.before b.before (from64 _ ha.before) (from64 _ hb.before) before)
 
 pub move-back : IsReadBack WalletEntry FitWalletEntry move_line
 move-back a b x y ha hb e =

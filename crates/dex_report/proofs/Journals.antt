@@ -38,7 +38,7 @@ journal-ends : (A : Type 0) (P : A → Type 0) (text : A → List ℕ) → IsRea
     → (a ≡ b) × (s ≡ t) × (x ≡ y)
 journal-ends A P text each a b s t x y at bt few many ps pt e =
     let parts = line-ends (header a (length s)) (header b (length t)) (flat_map text s ++ x) (flat_map text t ++ y)
-        (header-are_words a (length s) at few) (header-are_words b (length t) bt many) e in
+    (header-are_words a (length s) at few) (header-are_words b (length t) bt many) e in
     let words = parts.0 in
     let address : address_text a ≡ address_text b = cc words in
     let count : decimal (length s) ≡ decimal (length t) = cc words in
@@ -57,7 +57,7 @@ market-back : IsReadBack PlainMarketJournal IsToldMarket market_lines
 market-back a b x y ha hb e =
     let behind = append_cancel_left (codes "market") _ _ (sym (market-spaced a x) ∙ e ∙ market-spaced b y) in
     let parts = journal-ends Entry IsTold entry_line entry-back a.address b.address a.entries b.entries x y
-        ha.address hb.address ha.count hb.count ha.entries hb.entries behind in
+    ha.address hb.address ha.count hb.count ha.entries hb.entries behind in
     (same-market a b parts.0 parts.1, parts.2)
 
 wallet-spaced : (journal : PlainWalletJournal) (x : List ℕ) → wallet_lines journal ++ x
@@ -72,7 +72,7 @@ wallet-back : IsReadBack PlainWalletJournal IsToldWallet wallet_lines
 wallet-back a b x y ha hb e =
     let behind = append_cancel_left (codes "wallet") _ _ (sym (wallet-spaced a x) ∙ e ∙ wallet-spaced b y) in
     let parts = journal-ends WalletEntry FitWalletEntry move_line move-back a.address b.address a.entries b.entries x y
-        ha.address hb.address ha.count hb.count ha.entries hb.entries behind in
+    ha.address hb.address ha.count hb.count ha.entries hb.entries behind in
     (same-wallet a b parts.0 parts.1, parts.2)
 
 -- ---- what each part begins with
@@ -122,9 +122,9 @@ outcome-ends a b ha hb e =
     let da = dump-begins a.accounts ends in
     let db = dump-begins b.accounts ends in
     let markets = all-that PlainMarketJournal IsToldMarket market_lines 109 market-back market-begins a.markets b.markets _ _ ha.markets hb.markets
-        (wallets-begin a.wallets (last_part a) da.1) (wallets-begin b.wallets (last_part b) db.1) e in
+    (wallets-begin a.wallets (last_part a) da.1) (wallets-begin b.wallets (last_part b) db.1) e in
     let wallets = all-that PlainWalletJournal IsToldWallet wallet_lines 119 wallet-back wallet-begins a.wallets b.wallets (last_part a) (last_part b)
-        ha.wallets hb.wallets da.0 db.0 markets.1 in
+    ha.wallets hb.wallets da.0 db.0 markets.1 in
     let dumps : dump_text a.accounts ≡ dump_text b.accounts = append_cancel_right (dump_text a.accounts) (dump_text b.accounts) ends wallets.1 in
     same-outcome a b (dump_text-injective a.accounts b.accounts ha.accounts hb.accounts dumps) markets.0 wallets.0
 
