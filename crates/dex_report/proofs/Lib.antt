@@ -1,2 +1,8 @@
 pub mod Numbered
+pub mod Words
+pub mod Values
+pub mod Replies
+pub mod ReadBack
+pub mod Entries
+pub mod Journals
 pub mod Written

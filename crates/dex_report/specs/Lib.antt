@@ -1,6 +1,7 @@
 pub mod Lines
 pub mod Outcomes
 pub mod Report
+pub mod Telling
 pub mod Draws
 pub mod MadeRows
 pub mod MadeSetup

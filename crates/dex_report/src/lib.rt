@@ -2,6 +2,7 @@
 #![tactic(auto)]
 
 mod bulk;
+mod laws;
 mod made;
 mod made_rows;
 mod made_setup;
@@ -9,6 +10,7 @@ mod outcome;
 mod report;
 
 pub use bulk::bulk_text;
+pub use laws::one_reading;
 pub use made::make_script;
 pub use outcome::{MarketJournal, Outcome, WalletJournal};
 pub use report::report_text;
