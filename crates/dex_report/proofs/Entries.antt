@@ -1,9 +1,8 @@
 -- The lines of journals' entries are read back.
-use Rattle.std.proofs.Common.{◌≡◌, ◌∙◌, ℕ, ◌<◌, ◌^◌, ◌++◌, ◌∷◌, ◌==◌, ◌&&◌, [], List, Bool, true, false, if◌then◌else◌, Option, Some, None, is_none, All, codes, refl, sym, ap, length, append_assoc, append-nil, arith}
+use Rattle.std.proofs.Common.{◌≡◌, ◌∙◌, ℕ, ◌<◌, ◌^◌, ◌++◌, ◌∷◌, [], List, true, if◌then◌else◌, Option, Some, None, is_none, All, codes, refl, sym, ap, length, append_assoc, append-nil, arith}
 use Rattle.std.specs.Fmt.{decimal}
 use Rattle.std.specs.Str.{bytes_eq}
 use Rattle.std.specs.List.{flat_map, list_all}
-use Rattle.std.proofs.lemmas.Bool.{and_parts}
 use Rattle.std.proofs.lemmas.Grind.{flat_map-append}
 use Rattle.std.proofs.lemmas.List.{append_cancel_left}
 use Rattle.std.proofs.lemmas.List.Folds.{list_all-append}
@@ -13,12 +12,10 @@ use Rattle.dex_types.specs.declared.movements.MoveKind.{MoveKind}
 use Rattle.dex_types.specs.declared.movements.MoveKind.TheVariants.{Probe, Debit, Credit}
 use Rattle.dex_types.specs.declared.movements.Movement.{Movement}
 use Rattle.dex_types.specs.declared.movements.WalletEntry.{WalletEntry}
-use Rattle.dex_types.specs.declared.replies.Reply.{Reply}
 use Rattle.dex_types.specs.MovementText.{kind_text}
 use Rattle.dex_types.specs.Text.{address_text, reply_text, spaced}
 use Rattle.dex_dump.specs.Accepted.{IsAddress}
-use Rattle.dex_dump.proofs.RowLaws.{first_of, others_of}
-use Rattle.dex_report.specs.Lines.{line}
+use Rattle.dex_dump.proofs.EachRow.{first_of, others_of}
 use Rattle.dex_report.specs.Report.{entry_line, move_line, move_text}
 use Rattle.dex_report.specs.Telling.{FitMove, FitWalletEntry, IsTold, stand_from_front}
 use Rattle.dex_report.proofs.ReadBack.{IsReadBack}

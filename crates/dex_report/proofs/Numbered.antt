@@ -1,5 +1,5 @@
 -- Texts that are written number by number.
-use Rattle.std.proofs.Common.{◌≡◌, ◌∙◌, ℕ, ◌+◌, ◌++◌, List, [], refl, sym, ap, append_assoc, append-nil, add-one}
+use Rattle.std.proofs.Common.{◌≡◌, ◌∙◌, ℕ, ◌+◌, ◌++◌, List, refl, sym, ap, append_assoc, append-nil, add-one}
 use Rattle.dex_report.specs.Lines.{numbered}
 
 -- before the first number nothing is written

@@ -1,7 +1,7 @@
 -- Texts that are read back whatever follows them, one behind another.
-use Rattle.std.proofs.Common.{◌≡◌, ◌∙◌, ℕ, ◌+◌, ◌++◌, ◌∷◌, ◌==◌, [], suc, List, Bool, true, false, All, length, refl, sym, ap, append_assoc, arith}
+use Rattle.std.proofs.Common.{◌≡◌, ◌∙◌, ℕ, ◌++◌, ◌∷◌, ◌==◌, [], List, Bool, true, false, All, length, refl, sym, ap, append_assoc, arith}
 use Rattle.std.specs.List.{flat_map}
-use Rattle.dex_dump.proofs.RowLaws.{first_of, others_of}
+use Rattle.dex_dump.proofs.EachRow.{first_of, others_of}
 
 -- what such a text was written from, and what follows it, are told by the whole
 abbrev pub IsReadBack : (A : Type 0) → (A → Type 0) → (A → List ℕ) → Type 0

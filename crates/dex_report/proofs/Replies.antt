@@ -1,5 +1,5 @@
 -- What a reply's words tell.
-use Rattle.std.proofs.Common.{◌≡◌, ◌∙◌, ℕ, ◌<◌, ◌^◌, ◌++◌, ◌∷◌, ◌-◌, ◌==◌, [], List, Bool, true, false, if◌then◌else◌, codes, refl, sym, ap, length, append_assoc, append-nil, arith, slice_index_or}
+use Rattle.std.proofs.Common.{◌≡◌, ◌∙◌, ℕ, ◌<◌, ◌^◌, ◌++◌, ◌∷◌, [], List, true, if◌then◌else◌, codes, refl, sym, ap, length, append_assoc, append-nil, arith, slice_index_or}
 use Rattle.std.specs.Fmt.{decimal, signed_decimal}
 use Rattle.std.specs.Str.{bytes_eq}
 use Rattle.std.specs.List.{flat_map, list_all}

@@ -1,9 +1,8 @@
 -- What is written of numbers and addresses are words, and is read back.
-use Rattle.std.proofs.Common.{◌≡◌, ◌∙◌, ℕ, ℤ, pos, negsuc, ◌<◌, ◌≤◌, ◌+◌, ◌-◌, ◌/◌, ◌%◌, ◌^◌, ◌++◌, ◌∷◌, ◌==◌, ◌&&◌, [], suc, List, Bool, true, false, if◌then◌else◌, Some, None, Option, drop, length, refl, sym, ap, arith, lit≤, inl, inr}
+use Rattle.std.proofs.Common.{◌≡◌, ℕ, ℤ, pos, negsuc, ◌<◌, ◌≤◌, ◌+◌, ◌-◌, ◌%◌, ◌^◌, ◌∷◌, [], suc, List, true, false, Some, None, Option, drop, refl, ap, arith, lit≤, inl, inr}
 use Rattle.std.specs.Fmt.{decimal, signed_decimal}
 use Rattle.std.specs.Int.{w64}
 use Rattle.std.specs.Int.RustNames.{FitsSigned}
-use Rattle.std.specs.List.{list_all}
 use Rattle.std.proofs.lemmas.Bool.{and_parts, cases_Bool}
 use Rattle.std.proofs.lemmas.Bool.Decides.{nat_tests}
 use Rattle.std.proofs.lemmas.Fmt.{decimal_by_steps_wide}

@@ -1,5 +1,5 @@
 -- A word ends at what separates it from the next, and a line at its line feed.
-use Rattle.std.proofs.Common.{◌≡◌, ◌∙◌, ℕ, ◌++◌, ◌∷◌, ◌&&◌, [], List, Bool, true, false, not, nat_lt, refl, sym, ap, append_assoc, arith}
+use Rattle.std.proofs.Common.{◌≡◌, ◌∙◌, ℕ, ◌++◌, ◌∷◌, [], List, Bool, true, false, not, nat_lt, refl, sym, ap, append_assoc}
 use Rattle.std.specs.List.{flat_map, list_all}
 use Rattle.std.proofs.lemmas.Bool.{and_parts}
 use Rattle.dex_types.specs.Text.{spaced}

@@ -1,8 +1,7 @@
 -- What a made script draws, as a function of the words of PCG's 32-bit generator.
-use Rattle.std.specs.Prelude.{ℕ, zero, suc, ◌+◌, ◌*◌, ◌%◌, ◌==◌, nat_le, if◌then◌else◌}
+use Rattle.std.specs.Prelude.{ℕ, ◌+◌, ◌*◌, ◌%◌, ◌==◌, nat_le, if◌then◌else◌}
 use Rattle.dex_types.specs.declared.terms.OrderType.{OrderType}
 use Rattle.dex_types.specs.declared.terms.OrderType.TheVariants.{Limit, Ioc}
-use Rattle.dex_types.specs.declared.terms.Side.{Side}
 use Rattle.dex_types.specs.declared.terms.Side.TheVariants.{Bid, Ask}
 use Rattle.dex_report.specs.declared.made_rows.MadeInstruction.{MadeInstruction}
 use Rattle.dex_report.specs.declared.made_rows.MadeInstruction.TheVariants.{New, Cancel, Settle}

@@ -1,5 +1,5 @@
 -- The rows of made scripts.
-use Rattle.std.specs.Prelude.{ℕ, ◌/◌, ◌%◌, ◌==◌, ◌++◌, if◌then◌else◌, List, codes}
+use Rattle.std.specs.Prelude.{ℕ, ◌%◌, ◌==◌, ◌++◌, if◌then◌else◌, List, codes}
 use Rattle.std.specs.Fmt.{decimal}
 use Rattle.dex_types.specs.declared.terms.OrderType.{OrderType}
 use Rattle.dex_types.specs.declared.terms.OrderType.TheVariants.{Limit, Ioc, PostOnly}

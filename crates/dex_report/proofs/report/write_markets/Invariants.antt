@@ -1,8 +1,8 @@
 use Rattle.std.proofs.Common.{◌≡◌, ◌++◌, map, take}
 use Rattle.std.specs.List.{flat_map}
 use Rattle.std.specs.String.{string_bytes}
-use Rattle.dex_report.specs.Outcomes.{market_journal_of, wallet_journal_of}
-use Rattle.dex_report.specs.Report.{entry_line, market_lines, move_line, wallet_lines}
+use Rattle.dex_report.specs.Outcomes.{market_journal_of}
+use Rattle.dex_report.specs.Report.{market_lines}
 use Rattle.dex_report.proofs.report.write_markets.Given as goal
 
 abbrev pub invariant-markets : goal.invariant-markets

@@ -1,8 +1,7 @@
-use Rattle.std.proofs.Common.{◌≡◌, ◌++◌, map, take}
+use Rattle.std.proofs.Common.{◌≡◌, ◌++◌, take}
 use Rattle.std.specs.List.{flat_map}
 use Rattle.std.specs.String.{string_bytes}
-use Rattle.dex_report.specs.Outcomes.{market_journal_of, wallet_journal_of}
-use Rattle.dex_report.specs.Report.{entry_line, market_lines, move_line, wallet_lines}
+use Rattle.dex_report.specs.Report.{move_line}
 use Rattle.dex_report.proofs.report.write_wallet.Given as goal
 
 abbrev pub invariant-moves : goal.invariant-moves
