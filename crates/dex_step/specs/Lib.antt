@@ -1,1 +1,7 @@
+pub mod Acting
+pub mod CancelActs
+pub mod ConsumeActs
 pub mod OrderActs
+pub mod OrderRows
+pub mod TakeActs
+pub mod TakeRows
