@@ -1,7 +1,7 @@
 -- Consuming events of a sound market's accounts: what it leaves is the step's.
-use Rattle.std.proofs.Common.{◌≡◌, ℕ, zero, suc, ◌+◌, ◌-◌, ◌<◌, ◌≤◌, List, ◌∷◌, Some, length, drop, map, refl, sym, ap, ◌∙◌, subst, arith}
+use Rattle.std.proofs.Common.{◌≡◌, ℕ, zero, suc, ◌+◌, ◌-◌, ◌<◌, ◌≤◌, List, [], ◌∷◌, Some, length, drop, map, refl, sym, ap, ◌∙◌, subst, arith}
 use Rattle.std.specs.List.{All}
-use Rattle.std.proofs.lemmas.List.{length-drop, map-map}
+use Rattle.std.proofs.lemmas.List.{length-drop}
 use Rattle.dex_types.specs.declared.addresses.Address.{Address}
 use Rattle.dex_types.specs.declared.replies.Reply.TheVariants.{Consumed as ConsumedReply}
 use Rattle.dex_types.specs.Accounts.{PlainAccount, PlainMarketAccounts}
@@ -66,7 +66,8 @@ named-bytes market bytes m (suc count) parts le all =
 
 -- an account's address is the first of its two names
 addresses-by : (accounts : List PlainAccount) → addresses_of accounts ≡ map (λ (names : Address × Address). names.0) (map named_in accounts)
-addresses-by accounts = sym (map-map accounts named_in (λ (names : Address × Address). names.0))
+addresses-by [] = refl
+addresses-by (account ∷ others) = ap (λ (l : List Address). account.address ∷ l) (addresses-by others)
 
 module _ (accounts : PlainMarketAccounts) (limit : ℕ) (named : List Address) (leaving : Leaving) (sound : AreSound accounts)
     (sums : leaving ≡ leaving_of (market_in accounts).events) where
@@ -103,7 +104,8 @@ module _ (accounts : PlainMarketAccounts) (limit : ℕ) (named : List Address) (
     names : KeepNames accounts.address accounts.orders after.orders
     names =
         let cranked = market-of (crank_given (parts_of accounts)) consume-can in
-        let le : consumed.count ≤ length (market-of (crank_given (parts_of accounts)) consume-can).0.events = within in
+        let some : consumed.count ≤ length (events_of accounts.events) = omega (arith, done.count, consumable-le limit named (events_of accounts.events)) in
+        let le = subst (λ (l : List QueuedEvent). consumed.count ≤ length l) cranked.1.events some in
         record {
           addresses = addresses-by after.orders ∙ ap (map (λ (n : Address × Address). n.0)) done.kept.names ∙ sym (addresses-by accounts.orders);
           named = λ all.

@@ -1,3 +1,4 @@
+pub mod ActLaws
 pub mod CancelRowLaws
 pub mod ConsumeRowLaws
 pub mod LeavingLaws

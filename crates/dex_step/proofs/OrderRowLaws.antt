@@ -80,7 +80,7 @@ pc-after Ask account n o m held amount held_is amount_is = omega (arith, held_is
 
 module _ (accounts : PlainMarketAccounts) (taker : Taker) (plan : OrderPlan) (leaving : Leaving) (sound : AreSound accounts)
     (decided : IsOrderDecided taker plan leaving (market_in accounts)) where
-  own : OpenAt taker.account decided.account accounts
+  pub own : OpenAt taker.account decided.account accounts
   own = open-at taker.account decided.account accounts sound decided.known
 
   given : GivenOf taker.id_side taker.account (order_given taker.id_side own.bytes (parts_of accounts)) (market_in accounts)

@@ -10,10 +10,10 @@ use Rattle.dex_types.specs.Side.{Coin, Pc, opposite}
 use Rattle.dex_types.specs.Solvency.{all_leaving, vault}
 use Rattle.dex_types.specs.Soundness.{IsSound}
 use Rattle.dex_slab.specs.StandsFor.{IsSideAccount}
-use Rattle.dex_token.specs.TokenAccount.{WalletWords}
+use Rattle.dex_token.specs.TokenAccount.{IsWallet, WalletWords, wallet_words}
 use Rattle.dex_accounts.specs.Decoded.{AreSound, market_in}
 use Rattle.dex_accounts.specs.Parts.{AreOf, AreSoundParts, MarketParts, parts_of}
-use Rattle.dex_step.specs.Acting.{KeepNames, bytes_on, coin_held, pc_held}
+use Rattle.dex_step.specs.Acting.{HaveVaults, Holds, KeepNames, bytes_on, coin_held, pc_held}
 
 -- parts, one by one, and two that are the same
 abbrev parts_by : List ℕ → List ℕ → List ℕ → List Order → ℕ → List Order → ℕ → List PlainAccount → MarketParts
@@ -43,6 +43,20 @@ both-sides Ask accounts own met = (met, own)
 -- where accounts are as they were, their names are
 pub names-same : (market : Address) (before after : List PlainAccount) → after ≡ before → KeepNames market before after
 names-same market before after same = subst (KeepNames market before) (sym same) (record { addresses = refl; named = λ all. all })
+
+-- a vault that is as it was holds what it held
+held-same : (before after : List ℕ) → IsWallet before → after ≡ before → Holds before after (wallet_words before).amount
+held-same before after accepted same =
+    subst (λ (b : List ℕ). Holds before b (wallet_words before).amount) (sym same) (record { accepted = accepted; words = refl })
+
+pub vaults-kept : (before after : PlainMarketAccounts) → AreSound before → after.address ≡ before.address → after.authority ≡ before.authority
+    → after.coin_vault ≡ before.coin_vault → after.pc_vault ≡ before.pc_vault → HaveVaults before after (coin_held before) (pc_held before)
+vaults-kept before after sound address authority coin pc = record {
+  address = address;
+  authority = authority;
+  coin_vault = held-same before.coin_vault after.coin_vault sound.stands.coin_vault.accepted coin;
+  pc_vault = held-same before.pc_vault after.pc_vault sound.stands.pc_vault.accepted pc;
+}
 
 module _ (accounts : PlainMarketAccounts) (sound : AreSound accounts) where
   pub sound-on : (side : Side) → IsSideAccount side (bytes_on side accounts)
