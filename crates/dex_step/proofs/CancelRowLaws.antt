@@ -1,9 +1,8 @@
 -- A cancel over a sound market's accounts: that it can be done as it was decided, and that what it leaves is the step's.
-use Rattle.std.proofs.Common.{◌≡◌, ℕ, ◌+◌, List, [], ◌∷◌, Option, Some, None, Result, IsOk, length, rules, refl, sym, ap, ◌∙◌, subst, arith}
+use Rattle.std.proofs.Common.{◌≡◌, ℕ, List, [], ◌∷◌, Option, Some, None, IsOk, length, rules, refl, sym, ap, ◌∙◌, subst, arith}
 use Rattle.dex_types.specs.declared.addresses.Address.{Address}
 use Rattle.dex_types.specs.declared.orders.Order.{Order}
 use Rattle.dex_types.specs.declared.refusals.Refusal.{Refusal}
-use Rattle.dex_types.specs.declared.replies.Reply.{Reply}
 use Rattle.dex_types.specs.declared.replies.Reply.TheVariants.{Cancelled}
 use Rattle.dex_types.specs.declared.terms.Lots.{Lots}
 use Rattle.dex_types.specs.declared.terms.Side.TheVariants.{Bid, Ask}
@@ -11,25 +10,23 @@ use Rattle.dex_types.specs.Accounts.{PlainMarketAccounts}
 use Rattle.dex_types.specs.Cancel.{CancelBy, RestingOrder, after_cancels, cancel_one, cancelled}
 use Rattle.dex_types.specs.Market.{Market}
 use Rattle.dex_types.specs.Owed.{leaving}
-use Rattle.dex_types.specs.Reasons.{answered, event_room}
+use Rattle.dex_types.specs.Reasons.{answered}
 use Rattle.dex_types.specs.Side.{Token, Coin, Pc}
 use Rattle.dex_types.specs.Solvency.{all_leaving}
-use Rattle.dex_types.specs.Why.{why_cancelled, why_cancelling}
+use Rattle.dex_types.specs.Why.{why_cancelling}
 use Rattle.dex_laws.proofs.TotalLaws.{total-append}
 use Rattle.dex_accounts.specs.Decoded.{AreSound, market_in}
-use Rattle.dex_accounts.specs.Parts.{AreOf, MarketParts, parts_of}
-use Rattle.dex_cancel.specs.Cancelling.{decided}
+use Rattle.dex_accounts.specs.Parts.{AreOf, parts_of}
 use Rattle.dex_cancel.specs.Leaving.{CancelGiven, out_of, queue_of, with_outs}
 use Rattle.dex_cancel.specs.Parts.{cancel_given, left_by, named_in, with_cancelled}
 use Rattle.dex_cancel.proofs.LeavingLaws.{market-left}
 use Rattle.dex_cancel.proofs.MarketLaws.{AreOf-left, named-parts}
 use Rattle.dex_market.specs.MarketAccount.{market_words, sizes_of}
-use Rattle.dex_ring.specs.declared.leaving.Leaving.{Leaving}
 use Rattle.dex_ring.specs.Leaving.{leaving_of}
 use Rattle.dex_ring.specs.Ring.{IsEventQueue, Ring, ring_of, room_of}
 use Rattle.dex_slab.specs.Slab.{resting}
 use Rattle.dex_step.specs.Acting.{HasStepped, HaveVaults, coin_held, pc_held}
-use Rattle.dex_step.specs.CancelActs.{CanCancel, HasCancelled, IsCancelDecided, cancel_bytes, cancel_bytes_of, cancel_of, cancel_step}
+use Rattle.dex_step.specs.CancelActs.{CanCancel, HasCancelled, IsCancelDecided, cancel_bytes, cancel_bytes_of, cancel_step}
 use Rattle.dex_step.proofs.LeavingLaws.{leaves-stepped}
 use Rattle.dex_step.proofs.SoundParts.{coin-held, names-same, pc-held, same-parts, sound-are, sound-on, sound-parts}
 

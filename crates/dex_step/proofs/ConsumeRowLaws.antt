@@ -1,5 +1,5 @@
 -- Consuming events of a sound market's accounts: what it leaves is the step's.
-use Rattle.std.proofs.Common.{◌≡◌, ℕ, zero, suc, ◌+◌, ◌-◌, ◌<◌, ◌≤◌, List, [], ◌∷◌, Some, length, drop, map, refl, sym, ap, ◌∙◌, subst, arith}
+use Rattle.std.proofs.Common.{◌≡◌, ℕ, zero, suc, ◌-◌, ◌<◌, ◌≤◌, List, [], ◌∷◌, Some, length, drop, map, refl, sym, ap, ◌∙◌, subst, arith}
 use Rattle.std.specs.List.{All}
 use Rattle.std.proofs.lemmas.List.{length-drop}
 use Rattle.dex_types.specs.declared.addresses.Address.{Address}
@@ -12,7 +12,7 @@ use Rattle.dex_types.specs.Side.{Coin, Pc}
 use Rattle.dex_types.specs.Solvency.{all_leaving}
 use Rattle.dex_accounts.specs.Accepted.{NamesMarket}
 use Rattle.dex_accounts.specs.Decoded.{AreSound, market_in}
-use Rattle.dex_accounts.specs.Owners.{bytes_at, changed_at, named_in}
+use Rattle.dex_accounts.specs.Owners.{named_in}
 use Rattle.dex_accounts.specs.Parts.{AreOf, MarketParts, parts_of}
 use Rattle.dex_accounts.proofs.OwnerLaws.{All-bytes_at, All-changed_at}
 use Rattle.dex_accounts.proofs.PartLaws.{events_in-parts}

@@ -1,5 +1,5 @@
 -- Accounts that have the parts and the vaults of the market that a step leaves are that market's.
-use Rattle.std.proofs.Common.{◌≡◌, ℕ, List, refl, sym, ap, ◌∙◌, subst}
+use Rattle.std.proofs.Common.{◌≡◌, ℕ, List, sym, ap, ◌∙◌, subst}
 use Rattle.std.specs.List.{All}
 use Rattle.dex_types.specs.declared.addresses.Address.{Address}
 use Rattle.dex_types.specs.declared.replies.Reply.{Reply}
@@ -8,20 +8,20 @@ use Rattle.dex_types.specs.Market.{Listing, Market}
 use Rattle.dex_types.specs.Side.{Token, Coin, Pc, by_token}
 use Rattle.dex_types.specs.Soundness.{IsSound}
 use Rattle.dex_types.specs.Steps.{Step}
-use Rattle.dex_market.specs.MarketAccount.{MarketWords, market_words}
+use Rattle.dex_market.specs.MarketAccount.{MarketWords}
 use Rattle.dex_orders.specs.OrdersAccount.{IsOrders}
 use Rattle.dex_orders.specs.StandsFor.{IsOnMarket}
 use Rattle.dex_ring.specs.declared.leaving.Leaving.{Leaving}
 use Rattle.dex_ring.specs.Leaving.{leaving_of}
-use Rattle.dex_token.specs.StandsFor.{StandsForVault, vault_words}
-use Rattle.dex_token.specs.TokenAccount.{WalletWords, wallet_words}
+use Rattle.dex_token.specs.StandsFor.{StandsForVault}
+use Rattle.dex_token.specs.TokenAccount.{WalletWords}
 use Rattle.dex_accounts.specs.Accepted.{IsAccepted, NamesMarket}
 use Rattle.dex_accounts.specs.Decoded.{AreSound, market_in}
 use Rattle.dex_accounts.specs.Parts.{AreOf, MarketParts}
 use Rattle.dex_accounts.specs.StandsFor.{StandsFor}
 use Rattle.dex_accounts.proofs.Decoded.{AreSound-of, told}
 use Rattle.dex_accounts.proofs.PartLaws.{StandsFor-parts}
-use Rattle.dex_step.specs.Acting.{HasStepped, Holds, KeepNames, KeepsAccounts, Leaves}
+use Rattle.dex_step.specs.Acting.{HasStepped, Holds, KeepsAccounts, Leaves}
 
 -- a vault that holds what the market after it says is its vault
 vault-holds : (token : Token) (m m' : Market) (before after : List ℕ) (amount : ℕ) → StandsForVault before token m → Holds before after amount

@@ -1,38 +1,35 @@
 -- A new order over a sound market's accounts: that it can be done as it was decided, and that what it leaves is the step's.
-use Rattle.std.proofs.Common.{◌≡◌, ℕ, ◌+◌, ◌<◌, ◌≤◌, ◌^◌, ◌++◌, List, Option, Some, None, refl, sym, ap, ◌∙◌, subst, arith}
+use Rattle.std.proofs.Common.{◌≡◌, ℕ, ◌+◌, ◌<◌, ◌^◌, List, Option, Some, None, refl, sym, ap, ◌∙◌, subst, arith}
 use Rattle.dex_types.specs.declared.addresses.Address.{Address}
-use Rattle.dex_types.specs.declared.orders.Order.{Order}
 use Rattle.dex_types.specs.declared.replies.Reply.{Reply}
 use Rattle.dex_types.specs.declared.terms.Side.{Side}
 use Rattle.dex_types.specs.declared.terms.Side.TheVariants.{Bid, Ask}
-use Rattle.dex_types.specs.Accounts.{PlainAccount, PlainMarketAccounts}
+use Rattle.dex_types.specs.Accounts.{PlainMarketAccounts}
 use Rattle.dex_types.specs.Market.{Market}
 use Rattle.dex_types.specs.NewOrder.{NewOrder, Ordering, after_order, order_on, order_reply}
-use Rattle.dex_types.specs.Requests.{Party, open_party}
+use Rattle.dex_types.specs.Requests.{open_party}
 use Rattle.dex_types.specs.Side.{by_side, opposite}
 use Rattle.dex_types.specs.Soundness.{IsSound}
 use Rattle.dex_types.specs.Steps.{Step, by_party, ordered as step_ordered}
-use Rattle.dex_types.specs.Trader.{Account, Open, Trader}
+use Rattle.dex_types.specs.Trader.{Account, Trader}
 use Rattle.dex_types.specs.Why.{order_reading, why_ordering}
 use Rattle.dex_accounts.specs.Decoded.{AreSound, market_in}
 use Rattle.dex_accounts.specs.Owners.{IsFirst, bytes_at, changed_at}
-use Rattle.dex_accounts.specs.Parts.{AreOf, HasOpen, MarketParts, parts_of, with_account, with_side}
+use Rattle.dex_accounts.specs.Parts.{AreOf, parts_of, with_account, with_side}
 use Rattle.dex_match.specs.declared.order_plan.OrderPlan.{OrderPlan}
 use Rattle.dex_match.specs.declared.order_terms.Taker.{Taker}
-use Rattle.dex_match.specs.Applying.{ordering_over}
 use Rattle.dex_match.specs.Handed.{IsDone, events_in, ordered, reply_in, with_ordered}
-use Rattle.dex_match.specs.OrderParts.{OrderGiven, given_by, order_given, parts_of as read_of}
+use Rattle.dex_match.specs.OrderParts.{OrderGiven, order_given, parts_of as read_of}
 use Rattle.dex_match.specs.OrderTerms.{order_of}
 use Rattle.dex_match.specs.Ordering.{order_reason, ordering_in, plan_by}
 use Rattle.dex_match.proofs.AfterLaws.{order-leaves}
-use Rattle.dex_match.proofs.PartsLaws.{GivenOf, given-of, ordering-is, reason-is, same-given}
+use Rattle.dex_match.proofs.PartsLaws.{GivenOf, given-of, ordering-is, reason-is}
 use Rattle.dex_ring.specs.declared.leaving.Leaving.{Leaving}
 use Rattle.dex_ring.specs.Appended.{appended}
 use Rattle.dex_ring.specs.Ring.{ring_of}
 use Rattle.dex_slab.specs.Slab.{resting, room_in}
-use Rattle.dex_slab.specs.StandsFor.{IsSideAccount}
-use Rattle.dex_step.specs.Acting.{CanTakeIn, HasStepped, HaveTakenIn, KeepNames, Leaves, bytes_on, coin_held, pc_held}
-use Rattle.dex_step.specs.OrderActs.{CanOrder, CanOrderAt, HasOrdered, HasOrderedIn, among_of, bytes_with, given_of}
+use Rattle.dex_step.specs.Acting.{CanTakeIn, HasStepped, HaveTakenIn, KeepNames, bytes_on, coin_held, pc_held}
+use Rattle.dex_step.specs.OrderActs.{CanOrder, CanOrderAt, HasOrderedIn, among_of, bytes_with, given_of}
 use Rattle.dex_step.specs.OrderRows.{IsOrderDecided, order_step}
 use Rattle.dex_step.proofs.LeavingLaws.{leaves-stepped}
 use Rattle.dex_step.proofs.OwnerParts.{OpenAt, names-changed, open-at, open-named}

@@ -1,13 +1,11 @@
 -- The open account of an owner among a sound market's accounts, and what stays of the accounts where it is given other bytes.
-use Rattle.std.proofs.Common.{◌≡◌, ℕ, List, Some, refl, sym, ap, ◌∙◌, subst, inl, inr}
-use Rattle.std.specs.List.{All}
+use Rattle.std.proofs.Common.{◌≡◌, ℕ, List, Some, sym, ap, ◌∙◌, inl, inr}
 use Rattle.dex_types.specs.declared.addresses.Address.{Address}
 use Rattle.dex_types.specs.Accounts.{PlainAccount, PlainMarketAccounts}
 use Rattle.dex_types.specs.Trader.{Account, Blank, Closed, Open, Trader, trader_at}
 use Rattle.dex_orders.specs.OrdersAccount.{IsOpen, IsOpened, IsOrders, account_of, market_of}
 use Rattle.dex_orders.specs.StandsFor.{StandForTraders, StandsForTrader, trader_of}
 use Rattle.dex_settle.proofs.TraderLaws.{trader_of-blank, trader_of-closed}
-use Rattle.dex_accounts.specs.Accepted.{NamesMarket}
 use Rattle.dex_accounts.specs.Decoded.{AreSound, market_in}
 use Rattle.dex_accounts.specs.Owners.{bytes_at, changed_at}
 use Rattle.dex_accounts.specs.Parts.{HasOpen, parts_of}

@@ -1,5 +1,5 @@
 -- The parts of a sound market's accounts, by its sides.
-use Rattle.std.proofs.Common.{◌≡◌, ℕ, ◌+◌, ◌<◌, ◌^◌, List, refl, sym, ap, ◌∙◌, subst, arith}
+use Rattle.std.proofs.Common.{◌≡◌, ℕ, ◌+◌, ◌<◌, ◌^◌, List, refl, sym, ap, subst, arith}
 use Rattle.dex_types.specs.declared.addresses.Address.{Address}
 use Rattle.dex_types.specs.declared.orders.Order.{Order}
 use Rattle.dex_types.specs.declared.terms.Side.{Side}
@@ -7,7 +7,7 @@ use Rattle.dex_types.specs.declared.terms.Side.TheVariants.{Bid, Ask}
 use Rattle.dex_types.specs.Accounts.{PlainAccount, PlainMarketAccounts}
 use Rattle.dex_types.specs.Market.{Market}
 use Rattle.dex_types.specs.Side.{Coin, Pc, opposite}
-use Rattle.dex_types.specs.Solvency.{all_leaving, vault}
+use Rattle.dex_types.specs.Solvency.{all_leaving}
 use Rattle.dex_types.specs.Soundness.{IsSound}
 use Rattle.dex_slab.specs.StandsFor.{IsSideAccount}
 use Rattle.dex_token.specs.TokenAccount.{IsWallet, WalletWords, wallet_words}

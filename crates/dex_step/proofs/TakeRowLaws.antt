@@ -1,5 +1,5 @@
 -- A take over a sound market's accounts: that it can be done as it was decided, and that what it leaves is the step's.
-use Rattle.std.proofs.Common.{◌≡◌, ℕ, ◌+◌, ◌-◌, ◌<◌, ◌≤◌, ◌^◌, List, None, refl, sym, ap, ◌∙◌, subst, arith}
+use Rattle.std.proofs.Common.{◌≡◌, ℕ, ◌+◌, ◌-◌, List, refl, sym, ap, ◌∙◌, subst, arith}
 use Rattle.dex_types.specs.declared.replies.Reply.{Reply}
 use Rattle.dex_types.specs.declared.terms.Side.{Side}
 use Rattle.dex_types.specs.declared.terms.Side.TheVariants.{Bid, Ask}
@@ -11,7 +11,7 @@ use Rattle.dex_types.specs.Soundness.{IsSound}
 use Rattle.dex_types.specs.Take.{Take, after_take, take_demand, take_got, take_meeting, take_paid, take_reply, take_terms}
 use Rattle.dex_laws.proofs.MovedLaws.{meet-moved_le}
 use Rattle.dex_accounts.specs.Decoded.{AreSound, market_in}
-use Rattle.dex_accounts.specs.Parts.{AreOf, MarketParts, parts_of}
+use Rattle.dex_accounts.specs.Parts.{AreOf, parts_of}
 use Rattle.dex_match.specs.declared.order_terms.Taker.{Taker}
 use Rattle.dex_ring.specs.declared.leaving.Leaving.{Leaving}
 use Rattle.dex_ring.specs.Appended.{appended}
@@ -52,11 +52,11 @@ exchanges Bid t accounts sound after =
         fits = omega (arith, pc-held accounts sound, pc-fits (after_take Bid t met m) after);
       };
       held = omega (
-          arith,
-          coin-held accounts sound,
-          sound.sound.funds.solvent.vaults Coin,
-          meet-moved_le Bid (take_terms m.listing.sizes t) (take_demand Bid m.listing.sizes t) m.asks,
-        );
+        arith,
+        coin-held accounts sound,
+        sound.sound.funds.solvent.vaults Coin,
+        meet-moved_le Bid (take_terms m.listing.sizes t) (take_demand Bid m.listing.sizes t) m.asks,
+      );
     }
 exchanges Ask t accounts sound after =
     let m = market_in accounts in
@@ -68,11 +68,11 @@ exchanges Ask t accounts sound after =
         fits = omega (arith, coin-held accounts sound, coin-fits (after_take Ask t met m) after);
       };
       held = omega (
-          arith,
-          pc-held accounts sound,
-          sound.sound.funds.solvent.vaults Pc,
-          meet-moved_le Ask (take_terms m.listing.sizes t) (take_demand Ask m.listing.sizes t) m.bids,
-        );
+        arith,
+        pc-held accounts sound,
+        sound.sound.funds.solvent.vaults Pc,
+        meet-moved_le Ask (take_terms m.listing.sizes t) (take_demand Ask m.listing.sizes t) m.bids,
+      );
     }
 
 -- the parts after a take are those before, with what it left put back

@@ -1,4 +1,4 @@
-use Rattle.std.proofs.Common.{get_or, ◌≡◌, ◌<◌, List, ℕ, length, map, sym, ap, ◌∙◌, subst, arith}
+use Rattle.std.proofs.Common.{get_or, ◌≡◌, ◌<◌, List, ℕ, length, sym, ◌∙◌, subst, arith}
 use Rattle.std.proofs.lemmas.List.{length-map, map-set}
 use Rattle.dex_types.specs.Accounts.{orders_account_of}
 use Rattle.dex_accounts.proofs.OwnerLaws.{changed_at-here, owned_here}
