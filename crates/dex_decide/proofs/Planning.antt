@@ -17,6 +17,10 @@ pub err-planned : {X Y : Type 0} (why : Option Refusal) (x : X) (planned : Y) (r
 err-planned None x planned refusal e = absurd (cc)
 err-planned (Some given) x planned refusal e = let same : refusal ≡ given = cc in ap (λ r. Err r) same
 
+-- what is given as a reason is answered
+pub given-planned : {Y : Type 0} (why : Option Refusal) (planned : Y) (refusal : Refusal) → Some refusal ≡ why → Err refusal ≡ answered why planned
+given-planned why planned refusal given = ap (λ r. answered r planned) given
+
 -- an instruction that needs an open account is refused without one, and else as that account's
 pub no-party : {P : Type 0} (W : Party → Option Refusal) (planned : P) (party : Option Party) → party ≡ None → Err NoAccount ≡ answered (of_party W party) planned
 no-party W planned party none = ap (λ p. answered (of_party W p) planned) (sym none)
