@@ -5,10 +5,10 @@ use Rattle.std.proofs.lemmas.Bool.{cases_Bool, cond-true, cond-false}
 use Rattle.dex_types.specs.declared.addresses.Address.{Address}
 use Rattle.dex_types.specs.Accounts.{PlainAccount}
 use Rattle.dex_types.specs.Addresses.{is_same}
-use Rattle.dex_types.specs.Requests.{Party, open_party, party_of}
+use Rattle.dex_types.specs.Requests.{open_party, party_of}
 use Rattle.dex_types.specs.Trader.{Trader, trader_at}
 use Rattle.dex_types.specs.Why.{named_first}
-use Rattle.dex_orders.specs.OrdersAccount.{IsOpen, IsOrders, account_of}
+use Rattle.dex_orders.specs.OrdersAccount.{IsOpen, IsOrders}
 use Rattle.dex_orders.specs.StandsFor.{trader_of, traders_of}
 use Rattle.dex_accounts.specs.Owners.{bytes_at}
 use Rattle.dex_accounts.proofs.OwnerLaws.{All-bytes_at}

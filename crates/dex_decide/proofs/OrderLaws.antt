@@ -9,7 +9,7 @@ use Rattle.dex_types.specs.declared.terms.Side.{Side}
 use Rattle.dex_types.specs.declared.terms.Side.TheVariants.{Bid, Ask}
 use Rattle.dex_types.specs.Accounts.{PlainMarketAccounts}
 use Rattle.dex_types.specs.NewOrder.{NewOrder, Ordering, order_on}
-use Rattle.dex_types.specs.Reasons.{answered, first_of, missing, not_person, not_signed_by, other_discount_mint, other_mint}
+use Rattle.dex_types.specs.Reasons.{first_of, missing, not_person, not_signed_by, other_discount_mint, other_mint}
 use Rattle.dex_types.specs.Requests.{Party, Request}
 use Rattle.dex_types.specs.Side.{opposite}
 use Rattle.dex_types.specs.Why.{order_reading, payer, payer_mint, why_order_early, why_order_of, why_ordering}
@@ -18,7 +18,7 @@ use Rattle.dex_ring.specs.Ring.{Ring}
 use Rattle.dex_match.specs.declared.order_plan.Decided.{Decided}
 use Rattle.dex_match.specs.OrderParts.{IsGiven, OrderGiven, given_by, order_given}
 use Rattle.dex_match.specs.OrderParts as orders
-use Rattle.dex_match.specs.Ordering.{order_outcome, order_reason, ordering_in, plan_by, sums_after}
+use Rattle.dex_match.specs.Ordering.{order_reason, ordering_in, plan_by, sums_after}
 use Rattle.dex_match.proofs.PartsLaws.{given-of, ordering-is, reason-is}
 use Rattle.dex_orders.specs.OrdersAccount.{account_of}
 use Rattle.dex_reasons.proofs.FirstReasons.{first_of-one}

@@ -1,24 +1,21 @@
 -- What each call is given of a sound market's accounts.
-use Rattle.std.proofs.Common.{◌≡◌, ℕ, Bool, true, false, List, [], ◌∷◌, Option, Some, None, refl, sym, ap, ◌∙◌, subst, rw}
+use Rattle.std.proofs.Common.{◌≡◌, ℕ, Bool, true, false, List, [], ◌∷◌, Option, Some, None, refl, sym, ap, ◌∙◌}
 use Rattle.std.specs.List.{All}
 use Rattle.std.specs.Prelude.{◌==◌, if◌then◌else◌}
 use Rattle.std.proofs.lemmas.List.Elements.{All-head, All-tail, All-nil, All-cons}
 use Rattle.dex_types.specs.declared.addresses.Address.{Address}
 use Rattle.dex_types.specs.declared.orders.Order.{Order}
-use Rattle.dex_types.specs.declared.refusals.Refusal.{Refusal}
 use Rattle.dex_types.specs.declared.rows.Seen.{Seen}
 use Rattle.dex_types.specs.declared.rows.WalletSeen.{WalletSeen}
 use Rattle.dex_types.specs.declared.terms.Side.TheVariants.{Bid, Ask}
 use Rattle.dex_types.specs.Accounts.{PlainAccount, PlainMarketAccounts}
 use Rattle.dex_types.specs.Cancel.{CancelBy}
-use Rattle.dex_types.specs.Market.{Market}
 use Rattle.dex_types.specs.Reasons.{answered, disabled, when_disabled}
 use Rattle.dex_types.specs.Requests.{Party, Request, party_of}
-use Rattle.dex_types.specs.Trader.{Traders}
 use Rattle.dex_types.specs.Why.{of_party, named_first, why_cancelled, why_cancelling, why_close, why_disable, why_init, why_opening, why_settle, why_sweep}
 use Rattle.dex_market.specs.MarketAccount.{MarketWords, market_words}
 use Rattle.dex_market.specs.StandsFor.{words_of}
-use Rattle.dex_orders.specs.OrdersAccount.{IsOrders, account_of}
+use Rattle.dex_orders.specs.OrdersAccount.{IsOrders}
 use Rattle.dex_orders.specs.StandsFor.{IsOnMarket, trader_of, traders_of}
 use Rattle.dex_ring.specs.Leaving.{leaving_of}
 use Rattle.dex_ring.specs.declared.leaving.Leaving.{Leaving}
@@ -30,7 +27,7 @@ use Rattle.dex_settle.proofs.ModelLaws.{close-is, disable-is, init-is, settle-is
 use Rattle.dex_accounts.specs.Decoded.{AreSound, market_in}
 use Rattle.dex_accounts.specs.Parts.{AreOf, AreSoundParts, HasOpen, parts_of}
 use Rattle.dex_history.specs.Journal.{Agree, Asked, Sees}
-use Rattle.dex_decide.specs.Named.{IsActing, account_by, named_in, party_by}
+use Rattle.dex_decide.specs.Named.{IsActing, account_by, named_in}
 use Rattle.dex_decide.proofs.NamedLaws.{is-named, none-first}
 
 each-accepted : (market : Address) (accounts : List PlainAccount) → All (IsOnMarket market) accounts → All (λ (account : PlainAccount). IsOrders account.bytes) accounts

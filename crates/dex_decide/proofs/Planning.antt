@@ -1,5 +1,5 @@
 -- What is answered, with another value in the place of a plan's.
-use Rattle.std.proofs.Common.{◌≡◌, Option, Some, None, Result, Ok, Err, List, [], ◌∷◌, refl, sym, ap, ◌∙◌}
+use Rattle.std.proofs.Common.{◌≡◌, Option, Some, None, Result, Ok, Err, [], ◌∷◌, sym, ap, ◌∙◌}
 use Rattle.dex_types.specs.declared.refusals.Refusal.{Refusal}
 use Rattle.dex_types.specs.declared.refusals.Refusal.TheVariants.{NoAccount}
 use Rattle.dex_types.specs.Reasons.{answered, first_of}

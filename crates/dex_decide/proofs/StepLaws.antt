@@ -1,5 +1,5 @@
 -- What a plan tells is what the step of its row does.
-use Rattle.std.proofs.Common.{◌≡◌, ℕ, List, [], ◌∷◌, Option, Some, None, Result, Ok, Err, refl, sym, ap, ◌∙◌}
+use Rattle.std.proofs.Common.{◌≡◌, List, [], ◌∷◌, Option, Some, None, Result, Ok, Err, take, refl, ap}
 use Rattle.dex_types.specs.declared.addresses.Address.{Address}
 use Rattle.dex_types.specs.declared.instructions.BadData.{BadData}
 use Rattle.dex_types.specs.declared.instructions.Ix.{Ix}
@@ -7,18 +7,18 @@ use Rattle.dex_types.specs.declared.instructions.Ix.TheVariants.{InitializeMarke
 use Rattle.dex_types.specs.declared.refusals.Refusal.{Refusal}
 use Rattle.dex_types.specs.declared.rows.Seen.{Seen}
 use Rattle.dex_types.specs.declared.terms.Side.{Side}
-use Rattle.dex_types.specs.Cancel.{CancelBy}
+use Rattle.dex_types.specs.Cancel.{CancelBy, ById, ByClient, ByClients, First}
 use Rattle.dex_types.specs.Market.{Market}
 use Rattle.dex_types.specs.NewOrder.{NewOrder}
 use Rattle.dex_types.specs.Reasons.{answered}
 use Rattle.dex_types.specs.Requests.{Party, Request, party_of}
 use Rattle.dex_types.specs.Steps as steps
 use Rattle.dex_types.specs.Steps.{act_cancel, act_close, act_decoded, act_init, act_order, act_settle, refused, step, unless_refused}
+use Rattle.dex_types.specs.Terms.{terms_order}
 use Rattle.dex_types.specs.Why.{why}
 use Rattle.dex_ring.specs.declared.leaving.Leaving.{Leaving}
 use Rattle.dex_ring.specs.Leaving.{leaving_of}
 use Rattle.dex_decide.specs.declared.plan.Plan.{Plan}
-use Rattle.dex_decide.specs.declared.plan.Plan.TheVariants as plans
 use Rattle.dex_decide.specs.declared.plan.Deposit.{Deposit}
 use Rattle.dex_decide.specs.Owing.{deposit_of, entering, sums_told}
 use Rattle.dex_decide.specs.Plans.{by_party, decided, order_plan, plan_decoded, settle_plan}
@@ -71,14 +71,14 @@ plan-owes (Ok (ConsumeEvents limit)) request seen m = refl
 plan-owes (Ok SettleFunds) request seen m = settle-owes seen m (party_of request.named m.traders)
 plan-owes (Ok DisableMarket) request seen m = refl
 plan-owes (Ok SweepFees) request seen m = refl
-plan-owes (Ok (NewOrderV3 side price lots max_pc self_trade order_type client limit latest)) request seen m = order-owes side _ m (party_of request.named m.traders)
-plan-owes (Ok (CancelOrderV2 side id)) request seen m = cancel-owes _ m (party_of request.named m.traders)
-plan-owes (Ok (CancelOrderByClientIdV2 client)) request seen m = cancel-owes _ m (party_of request.named m.traders)
+plan-owes (Ok (NewOrderV3 side price lots max_pc self_trade order_type client limit latest)) request seen m = order-owes side (terms_order request seen price lots max_pc self_trade order_type client limit latest) m (party_of request.named m.traders)
+plan-owes (Ok (CancelOrderV2 side id)) request seen m = cancel-owes (ById side id) m (party_of request.named m.traders)
+plan-owes (Ok (CancelOrderByClientIdV2 client)) request seen m = cancel-owes (ByClient client) m (party_of request.named m.traders)
 plan-owes (Ok (SendTake side price lots max_pc min_lots min_pc limit)) request seen m = refl
 plan-owes (Ok CloseOpenOrders) request seen m = close-owes m (party_of request.named m.traders)
 plan-owes (Ok InitOpenOrders) request seen m = init-owes request.named request.signer m
-plan-owes (Ok (Prune limit)) request seen m = cancel-owes _ m (party_of request.named m.traders)
-plan-owes (Ok (CancelOrdersByClientIds ids)) request seen m = cancel-owes _ m (party_of request.named m.traders)
+plan-owes (Ok (Prune limit)) request seen m = cancel-owes (First limit) m (party_of request.named m.traders)
+plan-owes (Ok (CancelOrdersByClientIds ids)) request seen m = cancel-owes (ByClients (take ids.count ids.ids)) m (party_of request.named m.traders)
 
 -- the sums that a plan tells, after the step
 some-same : {X : Type 0} {x y : X} → Some x ≡ Some y → y ≡ x
@@ -103,7 +103,7 @@ plan-sums (Ok (ConsumeEvents limit)) request seen m sums told = absurd (cc)
 plan-sums (Ok SettleFunds) request seen m sums told = settle-sums seen m (party_of request.named m.traders) sums told
 plan-sums (Ok DisableMarket) request seen m sums told = absurd (cc)
 plan-sums (Ok SweepFees) request seen m sums told = absurd (cc)
-plan-sums (Ok (NewOrderV3 side price lots max_pc self_trade order_type client limit latest)) request seen m sums told = order-sums side _ m (party_of request.named m.traders) sums told
+plan-sums (Ok (NewOrderV3 side price lots max_pc self_trade order_type client limit latest)) request seen m sums told = order-sums side (terms_order request seen price lots max_pc self_trade order_type client limit latest) m (party_of request.named m.traders) sums told
 plan-sums (Ok (CancelOrderV2 side id)) request seen m sums told = absurd (cc)
 plan-sums (Ok (CancelOrderByClientIdV2 client)) request seen m sums told = absurd (cc)
 plan-sums (Ok (SendTake side price lots max_pc min_lots min_pc limit)) request seen m sums told = some-same told

@@ -1,22 +1,20 @@
 -- A take, over a sound market's accounts.
-use Rattle.std.proofs.Common.{◌≡◌, ℕ, List, [], ◌∷◌, ◌++◌, Option, Some, None, refl, sym, ap, ◌∙◌}
+use Rattle.std.proofs.Common.{◌≡◌, ℕ, List, [], ◌∷◌, Option, None, refl, sym, ap, ◌∙◌}
 use Rattle.dex_types.specs.declared.refusals.Refusal.{Refusal}
 use Rattle.dex_types.specs.declared.rows.Seen.{Seen}
 use Rattle.dex_types.specs.declared.terms.Side.{Side}
 use Rattle.dex_types.specs.Accounts.{PlainMarketAccounts}
-use Rattle.dex_types.specs.Market.{Market, orders}
-use Rattle.dex_types.specs.Meeting.{Meeting}
+use Rattle.dex_types.specs.Market.{orders}
 use Rattle.dex_types.specs.Reasons.{first_of}
 use Rattle.dex_types.specs.Requests.{Request}
 use Rattle.dex_types.specs.Side.{opposite}
 use Rattle.dex_types.specs.Take.{Take, take_meeting}
 use Rattle.dex_types.specs.Why.{take_reading, why_take, why_take_early, why_taking}
 use Rattle.dex_reasons.proofs.FirstReasons.{first_of-one}
-use Rattle.dex_ring.specs.Leaving.{leaving_of}
 use Rattle.dex_take.specs.declared.plan.DecidedTake.{DecidedTake}
 use Rattle.dex_take.specs.TakeGiven.{IsOfSound, TakeRead, given, read_of, take_given}
-use Rattle.dex_take.specs.Taking.{left_in, meeting_in, plan_by, plan_in, sizes_in, take_reason}
-use Rattle.dex_take.proofs.TakeAmounts.{given-of, of_market, read-of}
+use Rattle.dex_take.specs.Taking.{left_in, plan_by, plan_in, take_reason}
+use Rattle.dex_take.proofs.TakeAmounts.{given-of, read-of}
 use Rattle.dex_take.proofs.TakeReasons.{reason-given}
 use Rattle.dex_slab.specs.Slab.{resting}
 use Rattle.dex_accounts.specs.Decoded.{AreSound, market_in}

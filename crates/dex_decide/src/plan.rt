@@ -17,7 +17,9 @@ pub enum Plan {
     /// Nothing: orders are matched as they come in.
     Nothing,
     /// Consume events, at most so many.
-    Consume { limit: u16 },
+    Consume {
+        limit: u16,
+    },
     /// Pay out all free funds of the named account, and its referrer part.
     Settle(SettlePlan),
     /// Disable the market for good.

@@ -157,7 +157,15 @@ fn decide_instruction(
                 max_ts: None,
                 program: seen.program,
             };
-            decide_take_row(accounts, row, seen, taker, min_coin_qty, min_native_pc_qty, leaving)
+            decide_take_row(
+                accounts,
+                row,
+                seen,
+                taker,
+                min_coin_qty,
+                min_native_pc_qty,
+                leaving,
+            )
         }
         Ix::CloseOpenOrders => decide_close_row(accounts, row),
         Ix::InitOpenOrders => decide_init_row(accounts, row),

@@ -1,4 +1,4 @@
-use Rattle.std.proofs.Common.{◌≡◌, ℕ, List, Option, length, sym, ap, ◌∙◌}
+use Rattle.std.proofs.Common.{ℕ, Option, length, sym, ap, ◌∙◌}
 use Rattle.dex_types.specs.declared.refusals.Refusal.{Refusal}
 use Rattle.dex_types.specs.declared.terms.Side.TheVariants.{Bid, Ask}
 use Rattle.dex_types.specs.Accounts.{market_accounts_of}
@@ -6,7 +6,6 @@ use Rattle.dex_types.specs.Cancel.{cancelled}
 use Rattle.dex_types.specs.Reasons.{answered}
 use Rattle.dex_types.specs.Why.{why_cancelled}
 use Rattle.dex_cancel.specs.Cancelling.{decided, named_by}
-use Rattle.dex_ring.specs.Ring.{ring_of, room_of}
 use Rattle.dex_slab.specs.Slab.{resting}
 use Rattle.dex_decide.specs.declared.plan.Plan.TheVariants as plans
 use Rattle.dex_decide.specs.Given.{market_of}

@@ -1,6 +1,6 @@
 use Rattle.std.proofs.Common.{sym, ap, ◌∙◌, Option}
 use Rattle.dex_types.specs.declared.refusals.Refusal.{Refusal}
-use Rattle.dex_types.specs.Accounts.{PlainAccount, market_accounts_of}
+use Rattle.dex_types.specs.Accounts.{market_accounts_of}
 use Rattle.dex_types.specs.Reasons.{answered}
 use Rattle.dex_types.specs.Why.{of_party, why_close}
 use Rattle.dex_decide.specs.declared.plan.Plan.TheVariants as plans

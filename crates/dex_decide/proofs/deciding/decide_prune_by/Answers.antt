@@ -1,6 +1,5 @@
 use Rattle.std.proofs.Common.{◌≡◌, None, Some, sym, ap, ◌∙◌}
 use Rattle.dex_types.specs.declared.addresses.Address.{Address}
-use Rattle.dex_types.specs.Accounts.{market_accounts_of}
 use Rattle.dex_types.specs.Cancel.{First}
 use Rattle.dex_types.specs.Reasons.{not_authority, not_this_authority}
 use Rattle.dex_types.specs.Why.{why_cancelled}

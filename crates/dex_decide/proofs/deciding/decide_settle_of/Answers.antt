@@ -1,4 +1,4 @@
-use Rattle.std.proofs.Common.{◌≡◌, is_some, sym, ap, ◌∙◌, Option}
+use Rattle.std.proofs.Common.{is_some, sym, ap, ◌∙◌, Option}
 use Rattle.dex_types.specs.declared.refusals.Refusal.{Refusal}
 use Rattle.dex_types.specs.Accounts.{market_accounts_of}
 use Rattle.dex_types.specs.Reasons.{answered}
@@ -11,7 +11,6 @@ use Rattle.dex_history.specs.Journal.{asked_of}
 use Rattle.dex_decide.specs.declared.plan.Plan.TheVariants as plans
 use Rattle.dex_decide.specs.Given.{asked_by, market_of}
 use Rattle.dex_decide.specs.Named.{party_by}
-use Rattle.dex_decide.specs.Plans.{settle_plan}
 use Rattle.dex_decide.proofs.PartLaws.{one-coin-mint, settle-given, settle-told}
 use Rattle.dex_decide.proofs.Planning.{err-planned, ok-planned}
 use Rattle.dex_decide.proofs.deciding.decide_settle_of.Goals as goal

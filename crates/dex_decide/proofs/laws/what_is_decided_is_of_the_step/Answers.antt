@@ -1,8 +1,7 @@
-use Rattle.std.proofs.Common.{Option, Some, sym, ap, ◌∙◌}
-use Rattle.dex_types.specs.Steps.{Step, act_decoded}
+use Rattle.std.proofs.Common.{sym, ap, ◌∙◌}
+use Rattle.dex_types.specs.Steps.{Step}
 use Rattle.dex_types.specs.Why.{why}
 use Rattle.dex_ring.specs.Leaving.{leaving_of}
-use Rattle.dex_decide.specs.declared.plan.Plan.{Plan}
 use Rattle.dex_decide.specs.Owing.{deposit_of, entering, sums_told}
 use Rattle.dex_decide.specs.Plans.{plan_decoded}
 use Rattle.dex_decide.proofs.StepLaws.{plan-owes, plan-sums, step-acted, step-refused, told-plan}

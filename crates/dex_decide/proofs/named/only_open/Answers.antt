@@ -1,4 +1,4 @@
-use Rattle.std.proofs.Common.{◌≡◌, map, sym, ⊎_elim, ◌∙◌}
+use Rattle.std.proofs.Common.{map, ⊎_elim}
 use Rattle.dex_types.specs.Accounts.{orders_account_of}
 use Rattle.dex_decide.specs.Named.{account_by}
 use Rattle.dex_decide.proofs.NamedLaws.{accepted-named, acts-open, not-open}

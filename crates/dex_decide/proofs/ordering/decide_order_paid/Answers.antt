@@ -1,4 +1,4 @@
-use Rattle.std.proofs.Common.{◌≡◌, None, Some, Option, sym, ap, ◌∙◌, ◌∷◌, [], subst}
+use Rattle.std.proofs.Common.{◌≡◌, None, Option, sym, ap, ◌∙◌, ◌∷◌, [], subst}
 use Rattle.dex_types.specs.declared.addresses.Address.{Address}
 use Rattle.dex_types.specs.declared.refusals.Refusal.{Refusal}
 use Rattle.dex_types.specs.Accounts.{market_accounts_of}
@@ -8,8 +8,7 @@ use Rattle.dex_types.specs.Why.{order_reading, why_order_early, why_order_of, wh
 use Rattle.dex_match.specs.declared.order_plan.Decided.{Decided}
 use Rattle.dex_match.specs.OrderParts.{parts_of}
 use Rattle.dex_match.specs.OrderTerms.{order_of}
-use Rattle.dex_match.specs.Ordering.{order_reason, ordering_in, plan_by, sums_after}
-use Rattle.dex_orders.specs.OrdersAccount.{account_of}
+use Rattle.dex_match.specs.Ordering.{ordering_in, plan_by, sums_after}
 use Rattle.dex_accounts.specs.Parts.{HasOpen}
 use Rattle.dex_accounts.specs.Parts as whole
 use Rattle.dex_decide.specs.declared.plan.Plan.TheVariants as plans
