@@ -2,4 +2,5 @@ pub mod NamedLaws
 pub mod OrderLaws
 pub mod PartLaws
 pub mod Planning
+pub mod StepLaws
 pub mod TakeLaws

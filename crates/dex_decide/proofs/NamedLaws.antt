@@ -1,26 +1,20 @@
 -- The account that a row names first, as a trader of the market.
-use Rattle.std.proofs.Common.{◌≡◌, ℕ, ◌<◌, true, false, List, [], ◌∷◌, length, map, Option, Some, None, refl, sym, ap, ◌∙◌, subst, arith, ⊎_elim, get_or, inl, inr}
+use Rattle.std.proofs.Common.{◌≡◌, ℕ, ◌<◌, true, false, List, [], ◌∷◌, length, Option, Some, None, refl, sym, ap, ◌∙◌, subst, arith, ⊎_elim, get_or, inl, inr}
 use Rattle.std.specs.List.{All}
-use Rattle.std.proofs.lemmas.List.{get_or-map}
 use Rattle.std.proofs.lemmas.Bool.{cases_Bool, cond-true, cond-false}
 use Rattle.dex_types.specs.declared.addresses.Address.{Address}
-use Rattle.dex_types.specs.declared.account_bytes.OrdersAccount.{OrdersAccount}
-use Rattle.dex_types.specs.Accounts.{PlainAccount, orders_account_of}
+use Rattle.dex_types.specs.Accounts.{PlainAccount}
 use Rattle.dex_types.specs.Addresses.{is_same}
-use Rattle.dex_types.specs.declared.refusals.Refusal.TheVariants.{NoAccount}
-use Rattle.dex_types.specs.Market.{Market}
-use Rattle.dex_types.specs.Reasons.{not_blank}
-use Rattle.dex_types.specs.Why.{why_blank}
-use Rattle.dex_types.specs.Requests.{Party, open_party, party_of}
-use Rattle.dex_types.specs.Trader.{Trader, Traders, trader_at}
-use Rattle.dex_orders.specs.OrdersAccount.{IsOpen, IsOrders, account_of}
-use Rattle.dex_orders.specs.StandsFor.{entry_of, trader_of, traders_of}
-use Rattle.dex_crank.specs.PaidBytes.{bytes_at}
-use Rattle.dex_crank.specs.Places.{IsFirst}
-use Rattle.dex_crank.proofs.OwnerLaws.{All-bytes_at, bytes_at-first}
-use Rattle.dex_crank.proofs.PartLaws.{trader_of-open}
+use Rattle.dex_types.specs.Requests.{open_party, party_of}
+use Rattle.dex_types.specs.Trader.{Trader, trader_at}
+use Rattle.dex_types.specs.Why.{named_first}
+use Rattle.dex_orders.specs.OrdersAccount.{IsOpen, IsOrders}
+use Rattle.dex_orders.specs.StandsFor.{trader_of, traders_of}
+use Rattle.dex_accounts.specs.Owners.{bytes_at}
+use Rattle.dex_accounts.proofs.OwnerLaws.{All-bytes_at}
+use Rattle.dex_accounts.proofs.PartLaws.{trader_of-open}
 use Rattle.dex_settle.proofs.TraderLaws.{trader_of-blank, trader_of-closed}
-use Rattle.dex_decide.specs.Named.{IsActing, account_with, named_in, party_in}
+use Rattle.dex_decide.specs.Named.{IsActing, account_by, account_with, named_in, party_in}
 
 -- the trader that bytes stand for, where there are some
 abbrev pub trader_with : Option (List ℕ) → Option Trader
@@ -68,7 +62,7 @@ named-at : (address : Address) (others : List Address) (accounts : List PlainAcc
     → bytes_at address accounts ≡ bytes → account_with address bytes ≡ Some account → IsNamed (address ∷ others) accounts account
 named-at address others accounts None account at first = absurd (cc)
 named-at address others accounts (Some bytes) account at first =
-    let here : PlainAccount = record { address = address; bytes = bytes } in
+    let here : PlainAccount = account_by address bytes in
     let whole : IsNamed (address ∷ others) accounts here = record {
       others = others;
       first = refl;
@@ -91,9 +85,9 @@ accepted-named named accounts account all first =
 
 -- it acts, where it is open
 pub acts-open : (named : List Address) (accounts : List PlainAccount) (address : Address) (bytes : List ℕ)
-    → named_in named accounts ≡ Some (record { address = address; bytes = bytes }) → IsOpen bytes → IsActing named accounts address bytes
+    → named_in named accounts ≡ Some (account_by address bytes) → IsOpen bytes → IsActing named accounts address bytes
 acts-open named accounts address bytes first is_open =
-    let account : PlainAccount = record { address = address; bytes = bytes } in
+    let account : PlainAccount = account_by address bytes in
     record {
       accepted = is_open;
       first = first;
@@ -105,31 +99,20 @@ pub no-account : (named : List Address) (accounts : List PlainAccount) → named
 no-account named accounts none = party-named named accounts ∙ ap party_in none
 
 pub not-open : (named : List Address) (accounts : List PlainAccount) (address : Address) (bytes : List ℕ)
-    → named_in named accounts ≡ Some (record { address = address; bytes = bytes }) → (IsOpen bytes → ⊥) → IsOrders bytes → party_of named (traders_of accounts) ≡ None
+    → named_in named accounts ≡ Some (account_by address bytes) → (IsOpen bytes → ⊥) → IsOrders bytes → party_of named (traders_of accounts) ≡ None
 not-open named accounts address bytes first other (inl blank) =
-    let account : PlainAccount = record { address = address; bytes = bytes } in
+    let account : PlainAccount = account_by address bytes in
     (is-named named accounts account first).party ∙ ap (λ (t : Trader). open_party address (Some t)) (trader_of-blank bytes blank)
 not-open named accounts address bytes first other (inr (inl is_open)) = absurd (other is_open)
 not-open named accounts address bytes first other (inr (inr closed)) =
-    let account : PlainAccount = record { address = address; bytes = bytes } in
+    let account : PlainAccount = account_by address bytes in
     (is-named named accounts account first).party ∙ ap (λ (t : Trader). open_party address (Some t)) (trader_of-closed bytes closed)
 
--- the bytes at the place that was found
-pub found-at : (address : Address) (accounts : List OrdersAccount) (place : ℕ) (default : OrdersAccount) → place < length accounts
-    → IsFirst address (map orders_account_of accounts) place → bytes_at address (map orders_account_of accounts) ≡ Some (get_or accounts place default).bytes.items
-found-at address accounts place default lt first =
-    bytes_at-first address (map orders_account_of accounts) place (orders_account_of default) first
-    ∙ ap (λ (a : PlainAccount). Some a.bytes) (get_or-map orders_account_of accounts place default (orders_account_of default) lt)
-
--- where none is named, an account that is to be opened is none of the market's
-none-at : (address : Address) (bytes : Option (List ℕ)) → account_with address bytes ≡ None → not_blank (trader_with bytes) ≡ Some NoAccount
+-- and where none is named, none stands there
+none-at : (address : Address) (bytes : Option (List ℕ)) → account_with address bytes ≡ None → trader_with bytes ≡ None
 none-at address None none = refl
 none-at address (Some bytes) none = absurd (cc)
 
-pub none-blank : (named : List Address) (accounts : List PlainAccount) (m : Market) → traders_of accounts ≡ m.traders → named_in named accounts ≡ None
-    → why_blank named m ≡ Some NoAccount
-none-blank [] accounts m stand none = refl
-none-blank (address ∷ others) accounts m stand none =
-    ap (λ (t : Traders). not_blank (trader_at address t)) (sym stand)
-    ∙ ap not_blank (trader_at-bytes address accounts)
-    ∙ none-at address (bytes_at address accounts) none
+pub none-first : (named : List Address) (accounts : List PlainAccount) → named_in named accounts ≡ None → named_first named (traders_of accounts) ≡ None
+none-first [] accounts none = refl
+none-first (address ∷ others) accounts none = trader_at-bytes address accounts ∙ none-at address (bytes_at address accounts) none

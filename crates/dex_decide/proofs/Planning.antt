@@ -1,5 +1,5 @@
 -- What is answered, with another value in the place of a plan's.
-use Rattle.std.proofs.Common.{◌≡◌, Option, Some, None, Result, Ok, Err, List, [], ◌∷◌, refl, sym, ap, ◌∙◌}
+use Rattle.std.proofs.Common.{◌≡◌, Option, Some, None, Result, Ok, Err, [], ◌∷◌, sym, ap, ◌∙◌}
 use Rattle.dex_types.specs.declared.refusals.Refusal.{Refusal}
 use Rattle.dex_types.specs.declared.refusals.Refusal.TheVariants.{NoAccount}
 use Rattle.dex_types.specs.Reasons.{answered, first_of}
@@ -16,6 +16,10 @@ ok-planned f (Some refusal) x y e = absurd (cc)
 pub err-planned : {X Y : Type 0} (why : Option Refusal) (x : X) (planned : Y) (refusal : Refusal) → Err refusal ≡ answered why x → Err refusal ≡ answered why planned
 err-planned None x planned refusal e = absurd (cc)
 err-planned (Some given) x planned refusal e = let same : refusal ≡ given = cc in ap (λ r. Err r) same
+
+-- what is given as a reason is answered
+pub given-planned : {Y : Type 0} (why : Option Refusal) (planned : Y) (refusal : Refusal) → Some refusal ≡ why → Err refusal ≡ answered why planned
+given-planned why planned refusal given = ap (λ r. answered r planned) given
 
 -- an instruction that needs an open account is refused without one, and else as that account's
 pub no-party : {P : Type 0} (W : Party → Option Refusal) (planned : P) (party : Option Party) → party ≡ None → Err NoAccount ≡ answered (of_party W party) planned

@@ -1,5 +1,5 @@
 -- What a row is to do on a market, once it is decided.
-use Rattle.std.specs.Prelude.{ℕ, List, Option, Some, None, Result, Ok, Err, is_some, take}
+use Rattle.std.specs.Prelude.{List, [], ◌∷◌, ◌++◌, Option, Some, None, Result, Ok, Err, is_some}
 use Rattle.dex_types.specs.declared.addresses.Address.{Address}
 use Rattle.dex_types.specs.declared.instructions.BadData.{BadData}
 use Rattle.dex_types.specs.declared.instructions.Ix.{Ix}
@@ -11,19 +11,22 @@ use Rattle.dex_types.specs.declared.terms.SelfTrade.TheVariants.{Decrement}
 use Rattle.dex_types.specs.declared.terms.Side.{Side}
 use Rattle.dex_types.specs.Market.{Market, orders}
 use Rattle.dex_types.specs.NewOrder.{NewOrder, order_on}
-use Rattle.dex_types.specs.Reasons.{answered}
+use Rattle.dex_types.specs.QueuedEvent.{QueuedEvent}
+use Rattle.dex_types.specs.Reasons.{answered, disabled, first_of}
 use Rattle.dex_types.specs.Requests.{Party, Request, party_of}
 use Rattle.dex_types.specs.Settle.{settlement}
 use Rattle.dex_types.specs.Side.{opposite}
 use Rattle.dex_types.specs.Take.{Take, take_meeting}
 use Rattle.dex_types.specs.Terms.{terms_order, terms_take}
-use Rattle.dex_types.specs.Why.{why}
+use Rattle.dex_types.specs.Trader.{Account}
+use Rattle.dex_types.specs.Why.{of_party, why, why_order}
+use Rattle.dex_ring.specs.declared.leaving.Leaving.{Leaving}
+use Rattle.dex_ring.specs.Leaving.{leaving_of}
 use Rattle.dex_cancel.specs.declared.what.CancelWhat.TheVariants as cancels
 use Rattle.dex_match.specs.declared.order_terms.Taker.{Taker}
 use Rattle.dex_match.specs.Ordering as ordering
 use Rattle.dex_match.specs.OrderTerms.{order_of}
 use Rattle.dex_settle.specs.Leaving.{plan_of}
-use Rattle.dex_take.specs.declared.plan.TakePlan.{TakePlan}
 use Rattle.dex_take.specs.Taking as taking
 use Rattle.dex_decide.specs.declared.plan.Plan.{Plan}
 use Rattle.dex_decide.specs.declared.plan.Plan.TheVariants as plans
@@ -73,19 +76,40 @@ abbrev pub by_party : (Party → Plan) → Option Party → Plan
 by_party planned None = plans.Nothing
 by_party planned (Some party) = planned party
 
+-- what an open account is answered; without one the row is refused
+abbrev pub answered_by : (Party → Option Refusal) → (Party → Plan) → Option Party → Result Plan Refusal
+answered_by why planned party = answered (of_party why party) (by_party planned party)
+
 abbrev pub settle_plan : Seen → Party → Plan
 settle_plan seen party = plans.Settle (plan_of (settlement (is_some seen.referrer) party.account))
 
-abbrev pub order_plan : Side → (Address → NewOrder) → Market → Party → Plan
-order_plan side order m party =
-    plans.Order (taker_of side (order party.address)) (ordering.plan_by (order party.address) (order_on side m party.account (order party.address)))
+-- what makers' fills are to take off totals, once these events are pending behind those of the market
+abbrev pub sums_with : List QueuedEvent → Market → Leaving
+sums_with events m = leaving_of (m.events ++ events)
 
--- what a take does on a market
-abbrev pub take_planned : Side → Take → Market → TakePlan
-take_planned side t m = taking.plan_by side m.listing.sizes t (take_meeting side m.listing.sizes t (orders (opposite side) m))
+-- a new order of an account, what it does on the market, and what the sums are after it
+abbrev pub order_planned : Side → NewOrder → Market → Account → Plan
+order_planned side n m account =
+    let o = order_on side m account n in
+    plans.Order (taker_of side n) (ordering.plan_by n o) (sums_with o.events m)
+
+abbrev pub order_plan : Side → (Address → NewOrder) → Market → Party → Plan
+order_plan side order m party = order_planned side (order party.address) m party.account
+
+-- what a new order is answered, for the account that the row names first
+abbrev pub order_answer : Side → (Address → NewOrder) → Request → Seen → Market → Result Plan Refusal
+order_answer side order request seen m = answered
+    (first_of (disabled m ∷ of_party (why_order side order request seen m) (party_of request.named m.traders) ∷ []))
+    (by_party (order_plan side order m) (party_of request.named m.traders))
+
+-- a take, what it does on the market, and what the sums are after it
+abbrev pub take_planned : Side → Taker → Take → Market → Plan
+take_planned side taker t m =
+    let met = take_meeting side m.listing.sizes t (orders (opposite side) m) in
+    plans.Take taker (taking.plan_by side m.listing.sizes t met) (sums_with met.events m)
 
 abbrev pub take_plan : Side → Take → Request → Market → Plan
-take_plan side t request m = plans.Take (taker_of_take side request t) (take_planned side t m)
+take_plan side t request m = take_planned side (taker_of_take side request t) t m
 
 -- what an instruction is to do
 abbrev pub plan_on : Ix → Request → Seen → Market → Plan

@@ -1,22 +1,21 @@
 //! Whether a row is refused, instruction by instruction. Each function reads only.
 
-ghost use Rattle.std.specs.Prelude.{◌≡◌, ◌∷◌, [], map, MatchOption, Some, None};
+ghost use Rattle.std.specs.Prelude.{◌≡◌, ◌==◌, MatchOption, Some, None};
 ghost use Rattle.dex_types.specs.Cancel.{First};
 ghost use Rattle.dex_types.specs.Accounts.{market_accounts_of};
-ghost use Rattle.dex_types.specs.Reasons.{answered, first_of};
-ghost use Rattle.dex_types.specs.Requests.{party_of};
-ghost use Rattle.dex_types.specs.Rows.{row_of};
+ghost use Rattle.dex_types.specs.Reasons.{answered};
 ghost use Rattle.dex_types.specs.Why as reasons;
-ghost use Rattle.dex_orders.specs.OrdersAccount.{IsOpen, account_of};
+ghost use Rattle.dex_orders.specs.OrdersAccount.{IsOpen};
 ghost use Rattle.dex_ring.specs.Ring.{IsEventQueue, ring_of, room_of};
 ghost use Rattle.dex_cancel.specs.Cancelling.{named_by};
 ghost use Rattle.dex_cancel.specs.declared.what.CancelWhat.TheVariants as cancels;
 ghost use Rattle.dex_market.specs.MarketAccount.{IsMarket, market_words};
-ghost use Rattle.dex_reasons.specs.Reading as reading;
-ghost use Rattle.dex_accounts.specs.Decoded.{AreSound, market_in};
-ghost use Rattle.dex_history.specs.Journal.{Sees, request_of};
+ghost use Rattle.dex_accounts.specs.Decoded.{AreSound};
+ghost use Rattle.dex_history.specs.Journal.{Sees, asked_of};
+ghost use Rattle.dex_types.specs.Rows.{row_of};
 ghost use Rattle.dex_decide.specs.declared.plan.Plan.TheVariants as plans;
-ghost use Rattle.dex_decide.specs.Named.{IsActing, named_in};
+ghost use Rattle.dex_decide.specs.Given.{asked_by, market_of, party_on};
+ghost use Rattle.dex_decide.specs.Named.{IsActing, account_by, named_in, party_by};
 ghost use Rattle.dex_decide.specs.Plans as planning;
 
 use crate::named::{Acting, named_first, open_named};
@@ -33,8 +32,8 @@ use dex_types::{MarketAccounts, Refusal, Row, Seen, Side};
 /// Sweeping the fees.
 pub fn decide_sweep_row(accounts: &MarketAccounts, row: &Row, seen: &Seen) -> Result<Plan, Refusal>
     requires { AreSound (market_accounts_of accounts.now) }
-    ensures { result ≡ answered (reasons.why_sweep (request_of (row_of row.entry.now)) seen.now (market_in (market_accounts_of accounts.now)))
-        (plans.Sweep (market_in (market_accounts_of accounts.now)).pc_fees) }
+    ensures { result ≡ answered (reasons.why_sweep (asked_by row.entry.now) seen.now (market_of accounts.now))
+        (plans.Sweep (market_of accounts.now).pc_fees) }
 {
     let market = MarketRef {
         bytes: &accounts.market,
@@ -48,7 +47,7 @@ pub fn decide_sweep_row(accounts: &MarketAccounts, row: &Row, seen: &Seen) -> Re
 /// Disabling the market.
 pub fn decide_disable_row(accounts: &MarketAccounts, row: &Row) -> Result<Plan, Refusal>
     requires { AreSound (market_accounts_of accounts.now) }
-    ensures { result ≡ answered (reasons.why_disable (request_of (row_of row.entry.now)) (market_in (market_accounts_of accounts.now))) plans.Disable }
+    ensures { result ≡ answered (reasons.why_disable (asked_by row.entry.now) (market_of accounts.now)) plans.Disable }
 {
     let market = MarketRef {
         bytes: &accounts.market,
@@ -61,8 +60,10 @@ pub fn decide_disable_row(accounts: &MarketAccounts, row: &Row) -> Result<Plan, 
 
 /// The account that the row names first, if it is one of the market's.
 fn account_named<'a>(accounts: &'a MarketAccounts, row: &Row) -> Option<Acting<'a>>
-    ensures { MatchOption result (named_in row.entry.now.named.items (market_accounts_of accounts.now).orders ≡ None)
-        (λ acting. named_in row.entry.now.named.items (market_accounts_of accounts.now).orders ≡ Some (record { address = acting.address; bytes = acting.bytes.now })) }
+    ensures { MatchOption result
+        (named_in row.entry.now.named.items (market_accounts_of accounts.now).orders ≡ None)
+        (λ acting. named_in row.entry.now.named.items (market_accounts_of accounts.now).orders
+        ≡ Some (account_by acting.address acting.bytes.now)) }
 {
     named_first(&accounts.orders, &row.named)
 }
@@ -70,7 +71,7 @@ fn account_named<'a>(accounts: &'a MarketAccounts, row: &Row) -> Option<Acting<'
 /// Opening an account.
 pub fn decide_init_row(accounts: &MarketAccounts, row: &Row) -> Result<Plan, Refusal>
     requires { AreSound (market_accounts_of accounts.now) }
-    ensures { result ≡ answered (reasons.why_init (request_of (row_of row.entry.now)) (market_in (market_accounts_of accounts.now))) plans.Init }
+    ensures { result ≡ answered (reasons.why_init (asked_by row.entry.now) (market_of accounts.now)) plans.Init }
 {
     let market = MarketRef {
         bytes: &accounts.market,
@@ -87,7 +88,8 @@ pub fn decide_init_row(accounts: &MarketAccounts, row: &Row) -> Result<Plan, Ref
 /// Why an account that is none of the market's is not opened.
 fn disabled_or_none(market: MarketRef<'_>) -> Refusal
     requires { IsMarket market.bytes.now }
-    ensures { Some result ≡ first_of (reading.flagged_disabled (market_words market.entry.bytes.now).account_flags ∷ Some Refusal.NoAccount ∷ []) }
+    ensures { Some result
+        ≡ reasons.why_opening ((market_words market.entry.bytes.now).account_flags == 131) None }
 {
     match disabled(market.account_flags()) {
         Some(why) => why,
@@ -98,8 +100,8 @@ fn disabled_or_none(market: MarketRef<'_>) -> Refusal
 /// Closing an account.
 pub fn decide_close_row(accounts: &MarketAccounts, row: &Row) -> Result<Plan, Refusal>
     requires { AreSound (market_accounts_of accounts.now) }
-    ensures { result ≡ answered (reasons.of_party (reasons.why_close (request_of (row_of row.entry.now)))
-        (party_of row.entry.now.named.items (market_in (market_accounts_of accounts.now)).traders)) plans.Close }
+    ensures { result ≡ answered (reasons.of_party (reasons.why_close (asked_by row.entry.now))
+        (party_on (asked_by row.entry.now) (market_of accounts.now))) plans.Close }
 {
     match account_named(accounts, row) {
         None => Err(Refusal::NoAccount),
@@ -118,11 +120,12 @@ fn decide_settle_of(
     acting: Acting<'_>,
 ) -> Result<Plan, Refusal>
     requires sound { AreSound (market_accounts_of accounts.now) }
-    requires sees { Sees (row_of row.now) seen.now }
-    requires acting { IsActing row.now.named.items (market_accounts_of accounts.now).orders acting.address acting.bytes.now }
-    ensures { result ≡ answered (reasons.why_settle (request_of (row_of row.entry.now)) seen.now (market_in (market_accounts_of accounts.now))
-        (record { address = acting.entry.address; account = account_of acting.entry.bytes.now }))
-        (planning.settle_plan seen.now (record { address = acting.entry.address; account = account_of acting.entry.bytes.now })) }
+    requires sees { Sees (asked_of (row_of row.now)) seen.now }
+    requires acting { IsActing row.now.named.items (market_accounts_of accounts.now).orders
+        acting.address acting.bytes.now }
+    ensures { result ≡ answered (reasons.why_settle (asked_by row.entry.now) seen.now (market_of accounts.now)
+        (party_by acting.entry.address acting.entry.bytes.now))
+        (planning.settle_plan seen.now (party_by acting.entry.address acting.entry.bytes.now)) }
 {
     let market = MarketRef {
         bytes: &accounts.market,
@@ -139,10 +142,10 @@ fn decide_settle_of(
 /// Settling.
 pub fn decide_settle_row(accounts: &MarketAccounts, row: &Row, seen: &Seen) -> Result<Plan, Refusal>
     requires sound { AreSound (market_accounts_of accounts.now) }
-    requires sees { Sees (row_of row.now) seen.now }
-    ensures { result ≡ answered (reasons.of_party (reasons.why_settle (request_of (row_of row.entry.now)) seen.now (market_in (market_accounts_of accounts.now)))
-        (party_of row.entry.now.named.items (market_in (market_accounts_of accounts.now)).traders))
-        (planning.by_party (planning.settle_plan seen.now) (party_of row.entry.now.named.items (market_in (market_accounts_of accounts.now)).traders)) }
+    requires sees { Sees (asked_of (row_of row.now)) seen.now }
+    ensures { result ≡ planning.answered_by
+        (reasons.why_settle (asked_by row.entry.now) seen.now (market_of accounts.now))
+        (planning.settle_plan seen.now) (party_on (asked_by row.entry.now) (market_of accounts.now)) }
 {
     match open_named(&accounts.orders, &row.named) {
         None => Err(Refusal::NoAccount),
@@ -165,7 +168,8 @@ fn decide_cancel_of(
     what: CancelWhat,
 ) -> Result<Plan, Refusal>
     requires { AreSound (market_accounts_of accounts.now) }
-    ensures { result ≡ answered (reasons.why_cancelled (named_by what) acting.entry.address (market_in (market_accounts_of accounts.now))) (plans.Cancel what) }
+    ensures { result ≡ answered (reasons.why_cancelled (named_by what) acting.entry.address (market_of accounts.now))
+        (plans.Cancel what) }
 {
     let bids = SlabRef {
         bytes: &accounts.bids,
@@ -196,8 +200,8 @@ fn decide_cancel_by(
 ) -> Result<Plan, Refusal>
     requires sound { AreSound (market_accounts_of accounts.now) }
     requires acting { IsOpen acting.bytes.now }
-    ensures { result ≡ answered (reasons.why_cancel (named_by what) (request_of (row_of row.entry.now)) (market_in (market_accounts_of accounts.now))
-        (record { address = acting.entry.address; account = account_of acting.entry.bytes.now })) (plans.Cancel what) }
+    ensures { result ≡ answered (reasons.why_cancel (named_by what) (asked_by row.entry.now) (market_of accounts.now)
+        (party_by acting.entry.address acting.entry.bytes.now)) (plans.Cancel what) }
 {
     let orders = OrdersRef {
         bytes: acting.bytes,
@@ -215,8 +219,9 @@ pub fn decide_cancel_row(
     what: CancelWhat,
 ) -> Result<Plan, Refusal>
     requires { AreSound (market_accounts_of accounts.now) }
-    ensures { result ≡ answered (reasons.of_party (reasons.why_cancel (named_by what) (request_of (row_of row.entry.now)) (market_in (market_accounts_of accounts.now)))
-        (party_of row.entry.now.named.items (market_in (market_accounts_of accounts.now)).traders)) (plans.Cancel what) }
+    ensures { result ≡ answered (reasons.of_party
+        (reasons.why_cancel (named_by what) (asked_by row.entry.now) (market_of accounts.now))
+        (party_on (asked_by row.entry.now) (market_of accounts.now))) (plans.Cancel what) }
 {
     match open_named(&accounts.orders, &row.named) {
         None => Err(Refusal::NoAccount),
@@ -232,8 +237,8 @@ fn decide_prune_by(
     limit: u16,
 ) -> Result<Plan, Refusal>
     requires { AreSound (market_accounts_of accounts.now) }
-    ensures { result ≡ answered (reasons.why_prune (First limit) (request_of (row_of row.entry.now)) (market_in (market_accounts_of accounts.now))
-        (record { address = acting.entry.address; account = account_of acting.entry.bytes.now })) (plans.Cancel (cancels.Prune limit)) }
+    ensures { result ≡ answered (reasons.why_prune (First limit) (asked_by row.entry.now) (market_of accounts.now)
+        (party_by acting.entry.address acting.entry.bytes.now)) (plans.Cancel (cancels.Prune limit)) }
 {
     match not_authority(accounts.authority, row.signer) {
         Some(why) => Err(why),
@@ -244,8 +249,9 @@ fn decide_prune_by(
 /// Pruning an account.
 pub fn decide_prune_row(accounts: &MarketAccounts, row: &Row, limit: u16) -> Result<Plan, Refusal>
     requires { AreSound (market_accounts_of accounts.now) }
-    ensures { result ≡ answered (reasons.of_party (reasons.why_prune (First limit) (request_of (row_of row.entry.now)) (market_in (market_accounts_of accounts.now)))
-        (party_of row.entry.now.named.items (market_in (market_accounts_of accounts.now)).traders)) (plans.Cancel (cancels.Prune limit)) }
+    ensures { result ≡ answered (reasons.of_party
+        (reasons.why_prune (First limit) (asked_by row.entry.now) (market_of accounts.now))
+        (party_on (asked_by row.entry.now) (market_of accounts.now))) (plans.Cancel (cancels.Prune limit)) }
 {
     match open_named(&accounts.orders, &row.named) {
         None => Err(Refusal::NoAccount),

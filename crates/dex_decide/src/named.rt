@@ -7,12 +7,11 @@ ghost use Rattle.dex_types.specs.declared.addresses.Address.{Address};
 ghost use Rattle.dex_types.specs.Requests.{party_of};
 ghost use Rattle.dex_orders.specs.OrdersAccount.{IsOrders};
 ghost use Rattle.dex_orders.specs.StandsFor.{traders_of};
-ghost use Rattle.dex_crank.specs.PaidBytes.{bytes_at};
-ghost use Rattle.dex_crank.specs.Places.{IsFirst};
-ghost use Rattle.dex_decide.specs.Named.{IsActing, named_in};
+ghost use Rattle.dex_decide.specs.Named.{IsActing, account_by, named_in};
 
+use dex_accounts::find_bytes;
 use dex_orders::{OrdersState, state_of};
-use dex_types::{Address, OrdersAccount, is_same};
+use dex_types::{Address, OrdersAccount};
 
 /// An account of a market, lent for reading: its address and its bytes.
 #[derive(Clone, Copy, Debug)]
@@ -21,37 +20,13 @@ pub struct Acting<'a> {
     pub bytes: &'a [u8],
 }
 
-/// The place of the account of an address, if it is among these.
-pub fn place_of(accounts: &[OrdersAccount], address: Address) -> Option<usize>
-    ensures { MatchOption result (bytes_at address (map orders_account_of accounts.now) ≡ None)
-        (λ place. IsFirst address (map orders_account_of accounts.now) place) }
-{
-    for place in 0..accounts.len() {
-        if is_same(address, accounts[place].address) {
-            return Some(place);
-        }
-    }
-    None
-}
-
-/// The bytes of the account of an address, if it is among these.
-fn find_account(accounts: &[OrdersAccount], address: Address) -> Option<&[u8]>
-    ensures { MatchOption result (bytes_at address (map orders_account_of accounts.now) ≡ None)
-        (λ bytes. bytes_at address (map orders_account_of accounts.now) ≡ Some bytes.now) }
-{
-    match place_of(accounts, address) {
-        None => None,
-        Some(place) => Some(&accounts[place].bytes),
-    }
-}
-
 /// The account that is named first, if it is one of these.
 pub fn named_first<'a>(accounts: &'a [OrdersAccount], named: &[Address]) -> Option<Acting<'a>>
     ensures { MatchOption result (named_in named.now (map orders_account_of accounts.now) ≡ None)
-        (λ acting. named_in named.now (map orders_account_of accounts.now) ≡ Some (record { address = acting.address; bytes = acting.bytes.now })) }
+        (λ acting. named_in named.now (map orders_account_of accounts.now) ≡ Some (account_by acting.address acting.bytes.now)) }
 {
     let address = first_of(named)?;
-    match find_account(accounts, address) {
+    match find_bytes(accounts, address) {
         None => None,
         Some(bytes) => Some(Acting { address, bytes }),
     }
@@ -59,7 +34,8 @@ pub fn named_first<'a>(accounts: &'a [OrdersAccount], named: &[Address]) -> Opti
 
 /// The first of these addresses.
 fn first_of(named: &[Address]) -> Option<Address>
-    ensures { MatchOption result (named.now ≡ []) (λ address. (others : List Address) × (named.now ≡ address ∷ others)) }
+    ensures { MatchOption result (named.now ≡ [])
+        (λ address. (others : List Address) × (named.now ≡ address ∷ others)) }
 {
     if named.is_empty() {
         None
@@ -87,7 +63,7 @@ fn only_open<'a>(
     acting: Acting<'a>,
 ) -> Option<Acting<'a>>
     requires accepted { All (λ (account : PlainAccount). IsOrders account.bytes) (map orders_account_of accounts.now) }
-    requires first { named_in named.now (map orders_account_of accounts.now) ≡ Some (record { address = acting.address; bytes = acting.bytes.now }) }
+    requires first { named_in named.now (map orders_account_of accounts.now) ≡ Some (account_by acting.address acting.bytes.now) }
     ensures { MatchOption result (party_of named.now (traders_of (map orders_account_of accounts.now)) ≡ None)
         (λ acting. IsActing named.now (map orders_account_of accounts.now) acting.address acting.bytes.now) }
 {

@@ -3,12 +3,13 @@
 ghost use Rattle.std.specs.Prelude.{◌≡◌, ◌∷◌, []};
 ghost use Rattle.dex_types.specs.Accounts.{market_accounts_of};
 ghost use Rattle.dex_types.specs.Reasons as each;
-ghost use Rattle.dex_types.specs.Requests.{party_of};
 ghost use Rattle.dex_types.specs.Rows.{row_of};
 ghost use Rattle.dex_types.specs.Terms.{terms_order};
 ghost use Rattle.dex_types.specs.Why as reasons;
-ghost use Rattle.dex_accounts.specs.Decoded.{AreSound, market_in};
-ghost use Rattle.dex_history.specs.Journal.{Sees, request_of};
+ghost use Rattle.dex_ring.specs.Leaving.{leaving_of};
+ghost use Rattle.dex_accounts.specs.Decoded.{AreSound};
+ghost use Rattle.dex_history.specs.Journal.{Sees, asked_of};
+ghost use Rattle.dex_decide.specs.Given.{asked_by, market_of, party_on};
 ghost use Rattle.dex_decide.specs.Plans as planning;
 
 use crate::deciding::{
@@ -21,6 +22,7 @@ use crate::taking::{decide_take_row, is_disabled};
 use dex_cancel::CancelWhat;
 use dex_instruction::decode;
 use dex_match::Taker;
+use dex_meet::Leaving;
 use dex_types::{Ix, MarketAccounts, OrderType, Refusal, Row, Seen, SelfTrade, Side};
 
 /// A new order.
@@ -29,17 +31,16 @@ fn decide_new_order(
     row: &Row,
     seen: &Seen,
     taker: Taker,
+    leaving: &Leaving,
 ) -> Result<Plan, Refusal>
-    requires { AreSound (market_accounts_of accounts.now) }
-    ensures { result ≡ each.answered (each.first_of (each.disabled (market_in (market_accounts_of accounts.now))
-        ∷ reasons.of_party (reasons.why_order taker.id_side (planning.order_by taker) (request_of (row_of row.entry.now)) seen.now
-        (market_in (market_accounts_of accounts.now))) (party_of row.entry.now.named.items (market_in (market_accounts_of accounts.now)).traders) ∷ []))
-        (planning.by_party (planning.order_plan taker.id_side (planning.order_by taker) (market_in (market_accounts_of accounts.now)))
-        (party_of row.entry.now.named.items (market_in (market_accounts_of accounts.now)).traders)) }
+    requires sound { AreSound (market_accounts_of accounts.now) }
+    requires leaving { leaving.now ≡ leaving_of (market_of accounts.now).events }
+    ensures { result ≡ planning.order_answer taker.id_side (planning.order_by taker) (asked_by row.entry.now)
+        seen.now (market_of accounts.now) }
 {
     match is_disabled(accounts) {
         Some(why) => Err(why),
-        None => decide_order_row(accounts, row, seen, taker),
+        None => decide_order_row(accounts, row, seen, taker, leaving),
     }
 }
 
@@ -57,7 +58,8 @@ fn order_taker(
     limit: u16,
     max_ts: Option<i64>,
 ) -> Taker
-    ensures { result ≡ planning.taker_of side (terms_order (request_of (row_of row.entry.now)) seen.now price lots lock self_trade order_type client limit max_ts row.entry.now.signer) }
+    ensures { result ≡ planning.taker_of side (terms_order (asked_by row.entry.now) seen.now price lots lock
+        self_trade order_type client limit max_ts row.entry.now.signer) }
 {
     Taker {
         id_side: side,
@@ -82,11 +84,14 @@ fn decide_instruction(
     row: &Row,
     seen: &Seen,
     ix: Ix,
+    leaving: &Leaving,
 ) -> Result<Plan, Refusal>
     requires sound { AreSound (market_accounts_of accounts.now) }
-    requires sees { Sees (row_of row.now) seen.now }
-    ensures { result ≡ each.answered (reasons.why_instruction ix (request_of (row_of row.entry.now)) seen.now (market_in (market_accounts_of accounts.now)))
-        (planning.plan_on ix (request_of (row_of row.entry.now)) seen.now (market_in (market_accounts_of accounts.now))) }
+    requires sees { Sees (asked_of (row_of row.now)) seen.now }
+    requires leaving { leaving.now ≡ leaving_of (market_of accounts.now).events }
+    ensures { result ≡ each.answered
+        (reasons.why_instruction ix (asked_by row.entry.now) seen.now (market_of accounts.now))
+        (planning.plan_on ix (asked_by row.entry.now) seen.now (market_of accounts.now)) }
 {
     match ix {
         Ix::InitializeMarket { .. } => Err(Refusal::AccountExists),
@@ -119,7 +124,7 @@ fn decide_instruction(
                 limit,
                 max_ts,
             );
-            decide_new_order(accounts, row, seen, taker)
+            decide_new_order(accounts, row, seen, taker, leaving)
         }
         Ix::CancelOrderV2 { side, order_id } => {
             let what = CancelWhat::ById { side, id: order_id };
@@ -152,7 +157,15 @@ fn decide_instruction(
                 max_ts: None,
                 program: seen.program,
             };
-            decide_take_row(accounts, row, seen, taker, min_coin_qty, min_native_pc_qty)
+            decide_take_row(
+                accounts,
+                row,
+                seen,
+                taker,
+                min_coin_qty,
+                min_native_pc_qty,
+                leaving,
+            )
         }
         Ix::CloseOpenOrders => decide_close_row(accounts, row),
         Ix::InitOpenOrders => decide_init_row(accounts, row),
@@ -163,14 +176,25 @@ fn decide_instruction(
     }
 }
 
-/// Whether the row is refused by its market, or what it is to do there. It reads only.
-pub fn decide(accounts: &MarketAccounts, row: &Row, seen: &Seen) -> Result<Plan, Refusal>
+/// Whether the row is refused by its market, or what it is to do there. It reads only. `leaving` are the native base and the
+/// native quote that pending makers' fills are still to take off their owners' totals, so that no row goes through the event
+/// queue for them.
+///
+/// It answers the first reason that holds against the row, with its values, and else the plan; with the plan of an order or a
+/// take come the same sums as they are after it.
+pub fn decide(
+    accounts: &MarketAccounts,
+    row: &Row,
+    seen: &Seen,
+    leaving: &Leaving,
+) -> Result<Plan, Refusal>
     requires sound { AreSound (market_accounts_of accounts.now) }
-    requires sees { Sees (row_of row.now) seen.now }
-    ensures { result ≡ planning.decided (request_of (row_of row.entry.now)) seen.now (market_in (market_accounts_of accounts.now)) }
+    requires sees { Sees (asked_of (row_of row.now)) seen.now }
+    requires leaving { leaving.now ≡ leaving_of (market_of accounts.now).events }
+    ensures { result ≡ planning.decided (asked_by row.entry.now) seen.now (market_of accounts.now) }
 {
     match decode(&row.bytes) {
-        Ok(ix) => decide_instruction(accounts, row, seen, ix),
+        Ok(ix) => decide_instruction(accounts, row, seen, ix, leaving),
         Err(rule) => Err(Refusal::BadData(rule)),
     }
 }

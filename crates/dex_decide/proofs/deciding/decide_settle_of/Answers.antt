@@ -1,35 +1,44 @@
-use Rattle.std.proofs.Common.{◌≡◌, ℕ, List, is_some, refl, sym, ap, ◌∙◌, subst}
+use Rattle.std.proofs.Common.{is_some, sym, ap, ◌∙◌, Option}
+use Rattle.dex_types.specs.declared.refusals.Refusal.{Refusal}
 use Rattle.dex_types.specs.Accounts.{market_accounts_of}
-use Rattle.dex_types.specs.Requests.{Party}
+use Rattle.dex_types.specs.Reasons.{answered}
 use Rattle.dex_types.specs.Rows.{row_of}
 use Rattle.dex_types.specs.Settle.{settlement}
 use Rattle.dex_types.specs.Why.{why_settle}
-use Rattle.dex_market.specs.StandsFor.{StandsForMarket}
-use Rattle.dex_orders.specs.OrdersAccount.{account_of}
+use Rattle.dex_settle.specs.declared.plan.SettlePlan.{SettlePlan}
 use Rattle.dex_settle.specs.Leaving.{plan_of}
-use Rattle.dex_settle.specs.Parts.{AreParts}
-use Rattle.dex_accounts.specs.Decoded.{market_in}
-use Rattle.dex_history.specs.Journal.{request_of}
-use Rattle.dex_decide.specs.Plans.{settle_plan}
-use Rattle.dex_decide.proofs.PartLaws.{settle-parts}
-use Rattle.dex_decide.proofs.Planning.{err-planned}
+use Rattle.dex_history.specs.Journal.{asked_of}
+use Rattle.dex_decide.specs.declared.plan.Plan.TheVariants as plans
+use Rattle.dex_decide.specs.Given.{asked_by, market_of}
+use Rattle.dex_decide.specs.Named.{party_by}
+use Rattle.dex_decide.proofs.PartLaws.{one-coin-mint, settle-given, settle-told}
+use Rattle.dex_decide.proofs.Planning.{err-planned, ok-planned}
 use Rattle.dex_decide.proofs.deciding.decide_settle_of.Goals as goal
 
 pub decide_settle-requires-clause-parts : goal.decide_settle-requires-clause-parts
 decide_settle-requires-clause-parts c =
-    let accounts = market_accounts_of c.args.accounts.now in (
-      market_in accounts,
-      c.args.acting.address,
-      subst (λ (b : List ℕ). AreParts b c.args.acting.bytes.now c.args.acting.address (market_in accounts)) (sym c.deref.ensures.value)
-          (settle-parts accounts c.requires.sound (row_of c.args.row.now).named c.args.acting.address c.args.acting.bytes.now c.requires.acting),
-    )
+    settle-given (market_accounts_of c.args.accounts.now) c.requires.sound (asked_by c.args.row.now).named c.args.acting.address c.args.acting.bytes.now
+    c.requires.acting c.deref.result.now c.deref.ensures.value
+
+pub decide_settle-requires-clause-wallets : goal.decide_settle-requires-clause-wallets
+decide_settle-requires-clause-wallets c = one-coin-mint (asked_of (row_of c.args.row.now)) c.args.seen.now c.requires.sees
+
+pub returns-in-Ok : goal.returns-in-Ok
+returns-in-Ok c =
+    let request = asked_by c.args.row.now in
+    let party = party_by c.args.acting.address c.args.acting.bytes.now in
+    let plan : SettlePlan = plan_of (settlement (is_some c.args.seen.now.referrer) party.account) in
+    ok-planned plans.Settle (why_settle request c.args.seen.now (market_of c.args.accounts.now) party) plan c.in-Ok.plan
+    (sym c.in-Ok.is ∙ c.decide_settle.ensures
+    ∙ ap (λ (r : Option Refusal). answered r plan)
+    (settle-told (market_accounts_of c.args.accounts.now) c.requires.sound request c.deref.result.now c.deref.ensures.value c.args.seen.now party))
 
 pub returns-in-Err : goal.returns-in-Err
 returns-in-Err c =
-    let accounts = market_accounts_of c.args.accounts.now in
-    let row = row_of c.args.row.now in
-    let m = market_in accounts in
-    let party : Party = record { address = c.args.acting.address; account = account_of c.args.acting.bytes.now } in
-    let stands : StandsForMarket c.deref.result.now m = subst (λ (b : List ℕ). StandsForMarket b m) (sym c.deref.ensures.value) c.requires.sound.stands.terms in
-    err-planned (why_settle (request_of row) c.args.seen.now m party) (plan_of (settlement (is_some c.args.seen.now.referrer) party.account)) (settle_plan c.args.seen.now party) c.in-Err.why
-    (sym c.in-Err.is ∙ c.decide_settle.ensures.model m (request_of row) party stands refl refl)
+    let request = asked_by c.args.row.now in
+    let party = party_by c.args.acting.address c.args.acting.bytes.now in
+    let plan : SettlePlan = plan_of (settlement (is_some c.args.seen.now.referrer) party.account) in
+    err-planned (why_settle request c.args.seen.now (market_of c.args.accounts.now) party) plan (plans.Settle plan) c.in-Err.why
+    (sym c.in-Err.is ∙ c.decide_settle.ensures
+    ∙ ap (λ (r : Option Refusal). answered r plan)
+    (settle-told (market_accounts_of c.args.accounts.now) c.requires.sound request c.deref.result.now c.deref.ensures.value c.args.seen.now party))

@@ -1,11 +1,12 @@
-use Rattle.std.proofs.Common.{◌≡◌, map, sym, ⊎_elim, ◌∙◌}
+use Rattle.std.proofs.Common.{map, ⊎_elim}
 use Rattle.dex_types.specs.Accounts.{orders_account_of}
+use Rattle.dex_decide.specs.Named.{account_by}
 use Rattle.dex_decide.proofs.NamedLaws.{accepted-named, acts-open, not-open}
 use Rattle.dex_decide.proofs.named.only_open.Goals as goal
 
 pub state_of-requires : goal.state_of-requires
 state_of-requires c =
-    accepted-named c.args.named.now (map orders_account_of c.args.accounts.now) (record { address = c.args.acting.address; bytes = c.args.acting.bytes.now })
+    accepted-named c.args.named.now (map orders_account_of c.args.accounts.now) (account_by c.args.acting.address c.args.acting.bytes.now)
     c.requires.accepted c.requires.first
 
 pub returns-in-Open : goal.returns-in-Open
@@ -19,5 +20,5 @@ returns-in-Blank c =
     (λ blank. absurd (let e = c.state_of.ensures.open.1 is_open in cc))
     (λ closed. absurd (let e = c.state_of.ensures.open.1 is_open in cc))
     c.in-Blank.is)
-    (accepted-named c.args.named.now (map orders_account_of c.args.accounts.now) (record { address = c.args.acting.address; bytes = c.args.acting.bytes.now })
+    (accepted-named c.args.named.now (map orders_account_of c.args.accounts.now) (account_by c.args.acting.address c.args.acting.bytes.now)
     c.requires.accepted c.requires.first)
