@@ -4,5 +4,6 @@ pub mod ConsumeRowLaws
 pub mod LeavingLaws
 pub mod OrderRowLaws
 pub mod OwnerParts
+pub mod PlannedLaws
 pub mod SoundParts
 pub mod TakeRowLaws

@@ -8,4 +8,4 @@ mod acting_takes;
 mod laws;
 mod vaults;
 
-pub use laws::what_is_left_is_the_steps;
+pub use laws::{what_is_decided_is_planned, what_is_left_is_the_steps};

@@ -10,6 +10,7 @@ use Rattle.dex_decide.specs.declared.plan.Plan.{Plan}
 use Rattle.dex_decide.specs.declared.plan.Plan.TheVariants as plans
 use Rattle.dex_step.specs.CancelActs.{IsCancelDecided, cancel_step}
 use Rattle.dex_step.specs.ConsumeActs.{consume_step}
+use Rattle.dex_step.specs.FundActs.{IsCloseDecided, IsDisableDecided, IsInitDecided, IsSettleDecided, IsSweepDecided, close_step, disable_step, init_step, settle_step, sweep_step}
 use Rattle.dex_step.specs.OrderRows.{IsOrderDecided, order_step}
 use Rattle.dex_step.specs.TakeRows.{IsTakeDecided, take_step}
 

@@ -1,5 +1,5 @@
 -- What is decided of a row says what its plan needs, and what its step is.
-use Rattle.std.proofs.Common.{◌≡◌, ℕ, ◌≤◌, ℤ, List, [], ◌∷◌, Option, Some, None, Result, Ok, Err, is_some, take, refl, sym, ap, ◌∙◌, subst}
+use Rattle.std.proofs.Common.{◌≡◌, ℕ, ◌≤◌, ℤ, Bool, true, false, arith, List, [], ◌∷◌, Option, Some, None, Result, Ok, Err, is_some, take, refl, sym, ap, ◌∙◌, subst}
 use Rattle.dex_types.specs.declared.addresses.Address.{Address}
 use Rattle.dex_types.specs.declared.instructions.BadData.{BadData}
 use Rattle.dex_types.specs.declared.instructions.Ix.{Ix}
@@ -10,18 +10,20 @@ use Rattle.dex_types.specs.declared.rows.WalletSeen.{WalletSeen}
 use Rattle.dex_types.specs.declared.terms.OrderType.{OrderType}
 use Rattle.dex_types.specs.declared.terms.SelfTrade.{SelfTrade}
 use Rattle.dex_types.specs.declared.terms.Side.{Side}
+use Rattle.dex_types.specs.declared.terms.Side.TheVariants.{Bid, Ask}
 use Rattle.dex_types.specs.Cancel.{CancelBy, ByClient, ByClients, ById, First}
 use Rattle.dex_types.specs.Market.{Market}
 use Rattle.dex_types.specs.NewOrder.{NewOrder}
-use Rattle.dex_types.specs.Reasons.{answered, disabled, first_of, missing, not_authority, not_owner}
+use Rattle.dex_types.specs.Reasons.{answered, disabled, first_of, missing, not_authority, not_blank, not_empty, not_owner, not_person, when_disabled}
 use Rattle.dex_types.specs.Requests.{HasPrice, Party, Request, open_party, party_of}
 use Rattle.dex_types.specs.Rows.{PlainRow}
 use Rattle.dex_types.specs.Soundness.{IsSound}
-use Rattle.dex_types.specs.Steps.{Step, act, act_cancel, act_decoded, act_order, act_take, by_party, unless_refused}
+use Rattle.dex_types.specs.Steps.{Step, act, act_cancel, act_close, act_decoded, act_init, act_order, act_settle, act_take, by_party, settled, unless_refused}
+use Rattle.dex_types.specs.Settle.{settlement}
 use Rattle.dex_types.specs.Take.{Take}
 use Rattle.dex_types.specs.Terms.{terms_order, terms_take}
 use Rattle.dex_types.specs.Trader.{Account, Blank, Closed, Open, Trader, Traders, trader_at}
-use Rattle.dex_types.specs.Why.{of_party, payer, why, why_cancel, why_cancelled, why_decoded, why_instruction, why_order, why_order_early, why_ordering, why_prune, why_take, order_reading}
+use Rattle.dex_types.specs.Why.{of_party, payer, why, why_cancel, why_cancelled, why_decoded, why_instruction, why_order, why_order_early, why_ordering, why_close, why_init, why_prune, why_settle, why_take, named_first, order_reading}
 use Rattle.dex_cancel.specs.declared.what.CancelWhat.{CancelWhat}
 use Rattle.dex_cancel.specs.declared.what.CancelWhat.TheVariants as cancels
 use Rattle.dex_cancel.specs.Cancelling.{named_by}
@@ -35,7 +37,10 @@ use Rattle.dex_take.specs.TakeTerms.{bare_take, take_of}
 use Rattle.dex_decide.specs.declared.plan.Plan.{Plan}
 use Rattle.dex_decide.specs.declared.plan.Plan.TheVariants as plans
 use Rattle.dex_decide.specs.Plans as planning
+use Rattle.dex_settle.specs.declared.plan.SettlePlan.{SettlePlan}
+use Rattle.dex_settle.specs.Leaving.{PaysOut, plan_of, settlement_by}
 use Rattle.dex_step.specs.CancelActs.{IsCancelDecided, cancel_step}
+use Rattle.dex_step.specs.FundActs.{IsCloseDecided, IsInitDecided, IsSettleDecided, close_step, init_step, settle_step}
 use Rattle.dex_step.specs.OrderRows.{IsOrderDecided, order_step}
 use Rattle.dex_step.specs.TakeRows.{IsTakeDecided, take_step}
 use Rattle.dex_step.specs.Planned.{IsPlanned, OfFirst}
@@ -164,6 +169,67 @@ cancel-none by request m acting none = (first_of-none (not_owner request acting.
 prune-none : (by : CancelBy) (request : Request) (m : Market) (acting : Party) → why_prune by request m acting ≡ None → why_cancelled by acting.address m ≡ None
 prune-none by request m acting none = (first_of-none (not_authority request m ∷ why_cancelled by acting.address m ∷ []) none).1.0
 
+-- ---- settling, sweeping, disabling, opening and closing
+
+pays-out : (has_referrer : Bool) (account : Account) → PaysOut (plan_of (settlement has_referrer account)) account
+pays-out true account = record { coin = refl; pc = refl; referrer = omega arith }
+pays-out false account = record { coin = refl; pc = refl; referrer = omega arith }
+
+-- the step of an open account that is found at its address
+at-account : (acts : Party → Step) (m : Market) (acting : Party) → trader_at acting.address m.traders ≡ Some (Open acting.account)
+    → by_party acts m (open_party acting.address (trader_at acting.address m.traders)) ≡ acts acting
+at-account acts m acting known = ap (λ (t : Option Trader). by_party acts m (open_party acting.address t)) known
+
+settle-planned : (request : Request) (seen : Seen) (m : Market) → of_party (why_settle request seen m) (party_of request.named m.traders) ≡ None
+    → IsSound (by_party (act_settle seen m) m (party_of request.named m.traders)).market
+    → IsPlanned (planning.by_party (planning.settle_plan seen) (party_of request.named m.traders)) request m
+    (by_party (act_settle seen m) m (party_of request.named m.traders))
+settle-planned request seen m none sound =
+    let party = of-party (why_settle request seen m) (party_of request.named m.traders) none in
+    let acting : Party = party.acting in
+    let known = party-found request.named m.traders acting party.is in
+    let plan : SettlePlan = plan_of (settlement (is_some seen.referrer) acting.account) in
+    let steps : act_settle seen m acting ≡ settle_step plan acting.address m = sym (at-account (λ p. settled m p (settlement_by plan)) m acting known) in
+    by-found (planning.settle_plan seen) (act_settle seen m) request m acting party.is
+    (of-first request.named m.traders acting _ party.is (record {
+      account = acting.account;
+      known = known;
+      out = pays-out (is_some seen.referrer) acting.account;
+      sound = subst (λ (s : Step). IsSound s.market) (ap (by_party (act_settle seen m) m) party.is ∙ steps) sound;
+    }, steps))
+
+close-planned : (request : Request) (m : Market) → of_party (why_close request) (party_of request.named m.traders) ≡ None
+    → IsSound (by_party (act_close m) m (party_of request.named m.traders)).market
+    → IsPlanned plans.Close request m (by_party (act_close m) m (party_of request.named m.traders))
+close-planned request m none sound =
+    let party = of-party (why_close request) (party_of request.named m.traders) none in
+    let acting : Party = party.acting in
+    let steps : by_party (act_close m) m (party_of request.named m.traders) ≡ close_step acting.address m = ap (by_party (act_close m) m) party.is in
+    of-first request.named m.traders acting _ party.is (record {
+      account = acting.account;
+      known = party-found request.named m.traders acting party.is;
+      empty = (first_of-none (not_person acting.account.person request.signer ∷ not_empty acting.account ∷ []) party.none).1.0;
+      sound = subst (λ (s : Step). IsSound s.market) steps sound;
+    }, steps)
+
+-- an account that is to be opened is blank
+blank-first : (trader : Option Trader) → not_blank trader ≡ None → trader ≡ Some Blank
+blank-first None none = absurd (cc)
+blank-first (Some Blank) none = refl
+blank-first (Some Closed) none = absurd (cc)
+blank-first (Some (Open account)) none = absurd (cc)
+
+init-named : (named : List Address) (signer : Address) (m : Market) → not_blank (named_first named m.traders) ≡ None → IsSound (act_init named signer m).market
+    → OfFirst named (λ owner. IsInitDecided owner signer m × (act_init named signer m ≡ init_step owner signer m))
+init-named [] signer m none sound = absurd (cc)
+init-named (address ∷ others) signer m none sound =
+    record { address = address; others = others; is = refl; holds = (record { blank = blank-first (trader_at address m.traders) none; sound = sound }, refl) }
+
+init-planned : (request : Request) (m : Market) → why_init request m ≡ None → IsSound (act_init request.named request.signer m).market
+    → IsPlanned plans.Init request m (act_init request.named request.signer m)
+init-planned request m none sound =
+    init-named request.named request.signer m (first_of-none (when_disabled m.is_disabled ∷ not_blank (named_first request.named m.traders) ∷ []) none).1.0 sound
+
 -- ---- each instruction
 
 each-planned : (ix : Ix) (request : Request) (seen : Seen) (m : Market) → HasPrice (Ok ix) → why_instruction ix request seen m ≡ None → IsSound (act ix request seen m).market
@@ -172,8 +238,8 @@ each-planned (InitializeMarket coin_lot pc_lot fee_rate_bps nonce dust) request 
 each-planned (MatchOrders limit) request seen m priced none sound = refl
 each-planned (ConsumeEvents limit) request seen m priced none sound = refl
 each-planned SettleFunds request seen m priced none sound = settle-planned request seen m none sound
-each-planned DisableMarket request seen m priced none sound = disable-planned request m none sound
-each-planned SweepFees request seen m priced none sound = sweep-planned request seen m none sound
+each-planned DisableMarket request seen m priced none sound = (record { sound = sound }, refl)
+each-planned SweepFees request seen m priced none sound = (record { fees_are = refl; sound = sound }, refl)
 each-planned (NewOrderV3 side price lots max_pc self_trade order_type client limit latest) request seen m priced none sound =
     order-planned side request seen price lots max_pc self_trade order_type client limit latest m priced none sound
 each-planned (CancelOrderV2 side id) request seen m priced none sound =
