@@ -170,6 +170,8 @@ cancel-planned what reason request m tells none sound =
     let steps : by_party (act_cancel (named_by what) m) m (party_of request.named m.traders) ≡ cancel_step (named_by what) party.acting.address m =
     ap (by_party (act_cancel (named_by what) m) m) party.is in
     of-first request.named m.traders party.acting _ party.is (record {
+      account = party.acting.account;
+      known = party-found request.named m.traders party.acting party.is;
       accepted = tells party.acting party.none;
       sound = subst (λ (s : Step). IsSound s.market) steps sound;
     }, steps)
