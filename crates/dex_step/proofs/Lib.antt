@@ -1,6 +1,7 @@
 pub mod ActLaws
 pub mod CancelRowLaws
 pub mod ConsumeRowLaws
+pub mod FundLaws
 pub mod LeavingLaws
 pub mod OrderRowLaws
 pub mod OwnerParts

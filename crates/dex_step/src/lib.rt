@@ -3,6 +3,7 @@
 
 mod acting_cancels;
 mod acting_events;
+mod acting_funds;
 mod acting_orders;
 mod acting_takes;
 mod laws;
