@@ -2,6 +2,7 @@ pub mod ActLaws
 pub mod ApplyLaws
 pub mod CancelRowLaws
 pub mod ConsumeRowLaws
+pub mod FundLaws
 pub mod LeavingLaws
 pub mod OrderRowLaws
 pub mod OwnerParts
