@@ -1,0 +1,2 @@
+pub mod PremiseLaws
+pub mod SlotSteps

@@ -1,0 +1,12 @@
+use Rattle.std.proofs.Common.{◌≡◌, ◌≤◌, ◌+◌, drop, length}
+use Rattle.dex_orders.specs.OrdersAccount.{account_of}
+use Rattle.dex_cancel_slots.specs.Slots.{has_client, orders_in}
+use Rattle.dex_cancel_slots.proofs.finding.count_client.Given as goal
+
+abbrev pub invariant-loop-slot : goal.invariant-loop-slot
+invariant-loop-slot g l =
+    let slots = (account_of l.account.bytes.now).slots in
+    let named = orders_in (has_client l.client) (g.B.SideRead.orders l.bids) (g.A.SideRead.orders l.asks) in record {
+      sum : l.count + length (named (drop l.slot slots)) ≡ length (named slots);
+      small : l.count ≤ l.slot;
+    }
