@@ -1,16 +1,16 @@
 -- when the slots of an account name its orders, and that they still do when orders leave
 use Rattle.std.proofs.Common.{ℕ, ◌≡◌, true, eqb, List, [], ◌∷◌, Option, Some, sym, ap, ◌∙◌, subst}
 use Rattle.std.specs.List.{All}
-use Rattle.std.proofs.lemmas.Bool.{and_parts, eqb-true}
+use Rattle.std.proofs.lemmas.Bool.{and_parts, cond_both, eqb-true}
 use Rattle.std.proofs.lemmas.List.Elements.{All-weaker}
 use Rattle.dex_types.specs.declared.addresses.Address.{Address}
 use Rattle.dex_types.specs.declared.orders.Order.{Order}
+use Rattle.dex_types.specs.declared.terms.Lots.{Lots}
 use Rattle.dex_types.specs.declared.terms.Side.{Side}
 use Rattle.dex_types.specs.declared.terms.Side.TheVariants.{Bid, Ask}
 use Rattle.dex_types.specs.Addresses.{is_same}
 use Rattle.dex_types.specs.Cancel.{RestingOrder, without_order}
 use Rattle.dex_types.specs.Market.{Market, orders}
-use Rattle.dex_types.specs.Posting.{InBookOrder}
 use Rattle.dex_types.specs.Side.{by_side, sequence_of}
 use Rattle.dex_types.specs.Soundness.{IsSound, held_at, held_by, order_holding}
 use Rattle.dex_types.specs.Tokens.{is_same_side}
@@ -21,13 +21,11 @@ use Rattle.dex_accounts.proofs.PartLaws.{trader_at-open}
 use Rattle.dex_laws.proofs.TraderLaws.{is_same-true, is_same-refl}
 use Rattle.dex_sound.proofs.PlaceLaws.{is_same_side-true}
 use Rattle.dex_sound.proofs.WithoutLaws.{All-without, InBookOrder-without_order}
-use Rattle.dex_cancel.specs.Leaving.{without_all, without_one}
-use Rattle.dex_cancel_slots.specs.Slots.{DoSlotsName, IsAsHeld, IsHeldIn, held_in}
-
--- what holds of the bids and of the asks holds of each side
-each-side : (P : Side → List Order → Type 0) (bids asks : List Order) → P Bid bids → P Ask asks → (side : Side) → P side (by_side side bids asks)
-each-side P bids asks bid ask Bid = bid
-each-side P bids asks bid ask Ask = ask
+use Rattle.dex_cancel.specs.Leaving.{CancelGiven, Queue, without_all, without_one}
+use Rattle.dex_cancel.specs.Parts.{AreOfSoundMarket, cancel_given}
+use Rattle.dex_cancel.proofs.LeavingLaws.{IsLeft}
+use Rattle.dex_cancel_slots.specs.Given.{IsGiven, TwoSides, sides_by, sides_given}
+use Rattle.dex_cancel_slots.specs.Slots.{DoSlotsName, DoSlotsNameOn, IsAsHeld, IsHeldIn, held_in}
 
 -- ---- a sound market
 
@@ -54,17 +52,16 @@ module _ (owner : Address) (account : Account) (m : Market) (sound : IsSound m) 
       let both : Some held ≡ Some (order_holding side order) =
       sym holds ∙ ap (held_in account.slots) places.1 ∙ is-held side order rests own in (own, cc)
 
-  all-held : (side : Side) → All (IsHeldIn owner account.slots side) (orders side m)
-  all-held side = All-weaker (Rests side) (IsHeldIn owner account.slots side) (is-held side) (orders side m) (sound.slots.resting side)
-
-  all-as-held : (side : Side) → All (IsAsHeld owner account.slots side) (orders side m)
-  all-as-held side = All-weaker (Rests side) (IsAsHeld owner account.slots side) (is-as-held side) (orders side m) (sound.slots.resting side)
+  sound-on : (side : Side) → DoSlotsNameOn owner account.slots side (orders side m)
+  sound-on side = record {
+    in_order = sound.form.in_order side;
+    held = All-weaker (Rests side) (IsHeldIn owner account.slots side) (is-held side) (orders side m) (sound.slots.resting side);
+    as_held = All-weaker (Rests side) (IsAsHeld owner account.slots side) (is-as-held side) (orders side m) (sound.slots.resting side);
+  }
 
   pub sound-names : DoSlotsName owner account.slots m.bids m.asks
   sound-names = record {
-    in_order = each-side InBookOrder m.bids m.asks (sound.form.in_order Bid) (sound.form.in_order Ask);
-    held = each-side (λ side. All (IsHeldIn owner account.slots side)) m.bids m.asks (all-held Bid) (all-held Ask);
-    as_held = each-side (λ side. All (IsAsHeld owner account.slots side)) m.bids m.asks (all-as-held Bid) (all-as-held Ask);
+    on = sound-on;
     once = λ slot at held same holds also sequence.
         (sound.slots.once owner owner slot at held same (held-at slot ∙ holds) (held-at at ∙ also) sequence).1;
   }
@@ -77,48 +74,51 @@ parts-name owner bytes whole sound has =
     subst (λ bids. DoSlotsName owner (account_of bytes).slots bids whole.asks) (sym sound.are.bids)
     (subst (λ asks. DoSlotsName owner (account_of bytes).slots sound.market.bids asks) (sym sound.are.asks) names)
 
+-- what was given of them
+pub sides-name : (owner : Address) (bytes : List ℕ) (bids asks : List Order) → IsGiven sides_given (sides_by bids asks) owner bytes
+    → DoSlotsName owner (account_of bytes).slots bids asks
+sides-name owner bytes bids asks is =
+    subst (λ (s : TwoSides). DoSlotsName owner (account_of bytes).slots s.bids s.asks) is.is (parts-name owner bytes is.whole is.sound is.has)
+
+pub given-names : (owner : Address) (bytes : List ℕ) (given : CancelGiven) → IsGiven cancel_given given owner bytes
+    → DoSlotsName owner (account_of bytes).slots given.bids given.asks
+given-names owner bytes given is =
+    subst (λ (g : CancelGiven). DoSlotsName owner (account_of bytes).slots g.bids g.asks) is.is (parts-name owner bytes is.whole is.sound is.has)
+
+-- so these are of a sound market
+pub given-sound : (owner : Address) (bytes : List ℕ) (given : CancelGiven) → IsGiven cancel_given given owner bytes → AreOfSoundMarket given
+given-sound owner bytes given is = record { whole = is.whole; sound = is.sound; given_is = is.is }
+
 -- ---- orders leave
 
 module _ (owner : Address) (slots : List (Option Holding)) where
-  -- two sides, of each of which all is as before
-  others-stay : (bids asks left_bids left_asks : List Order) → DoSlotsName owner slots bids asks
-      → (InBookOrder Bid left_bids) × (All (IsHeldIn owner slots Bid) left_bids) × (All (IsAsHeld owner slots Bid) left_bids)
-      → (InBookOrder Ask left_asks) × (All (IsHeldIn owner slots Ask) left_asks) × (All (IsAsHeld owner slots Ask) left_asks)
-      → DoSlotsName owner slots left_bids left_asks
-  others-stay bids asks left_bids left_asks names bid ask = record {
-    in_order = each-side InBookOrder left_bids left_asks bid.0 ask.0;
-    held = each-side (λ side. All (IsHeldIn owner slots side)) left_bids left_asks bid.1 ask.1;
-    as_held = each-side (λ side. All (IsAsHeld owner slots side)) left_bids left_asks bid.2 ask.2;
-    once = names.once;
+  -- an order leaves its side
+  pub on-without : (side : Side) (id : ℕ) (orders : List Order) → DoSlotsNameOn owner slots side orders → DoSlotsNameOn owner slots side (without_order id orders)
+  on-without side id orders names = record {
+    in_order = InBookOrder-without_order side id orders names.in_order;
+    held = All-without (IsHeldIn owner slots side) id orders names.held;
+    as_held = All-without (IsAsHeld owner slots side) id orders names.as_held;
   }
 
-  bid-leaves : (id : ℕ) (bids asks : List Order) → DoSlotsName owner slots bids asks → DoSlotsName owner slots (without_order id bids) asks
-  bid-leaves id bids asks names =
-      others-stay bids asks (without_order id bids) asks names (
-        InBookOrder-without_order Bid id bids (names.in_order Bid),
-        All-without (IsHeldIn owner slots Bid) id bids (names.held Bid),
-        All-without (IsAsHeld owner slots Bid) id bids (names.as_held Bid),
-      ) (names.in_order Ask, names.held Ask, names.as_held Ask)
-
-  ask-leaves : (id : ℕ) (bids asks : List Order) → DoSlotsName owner slots bids asks → DoSlotsName owner slots bids (without_order id asks)
-  ask-leaves id bids asks names =
-      others-stay bids asks bids (without_order id asks) names (names.in_order Bid, names.held Bid, names.as_held Bid) (
-        InBookOrder-without_order Ask id asks (names.in_order Ask),
-        All-without (IsHeldIn owner slots Ask) id asks (names.held Ask),
-        All-without (IsAsHeld owner slots Ask) id asks (names.as_held Ask),
-      )
-
-  one-leaves : (gone : RestingOrder) (bids asks : List Order) → DoSlotsName owner slots bids asks
-      → DoSlotsName owner slots (without_one Bid gone bids) (without_one Ask gone asks)
-  one-leaves gone bids asks names = on_its gone.side
-    where
-      on_its : (side : Side) → DoSlotsName owner slots
-          (without_one Bid (record { side = side; order = gone.order }) bids) (without_one Ask (record { side = side; order = gone.order }) asks)
-      on_its Bid = bid-leaves gone.order.id bids asks names
-      on_its Ask = ask-leaves gone.order.id bids asks names
+  -- orders leave a side, where they rest there
+  pub on-without_all : (side : Side) (gone : List RestingOrder) (orders : List Order) → DoSlotsNameOn owner slots side orders → DoSlotsNameOn owner slots side (without_all side gone orders)
+  on-without_all side [] orders names = names
+  on-without_all side (first ∷ gone) orders names =
+      on-without_all side gone (without_one side first orders)
+      (cond_both (is_same_side side first.side) (without_order first.order.id orders) orders (DoSlotsNameOn owner slots side)
+      (λ same. on-without side first.order.id orders names) (λ other. names))
 
   pub still-name : (gone : List RestingOrder) (bids asks : List Order) → DoSlotsName owner slots bids asks
       → DoSlotsName owner slots (without_all Bid gone bids) (without_all Ask gone asks)
-  still-name [] bids asks names = names
-  still-name (gone ∷ others) bids asks names =
-      still-name others (without_one Bid gone bids) (without_one Ask gone asks) (one-leaves gone bids asks names)
+  still-name gone bids asks names = record { on = each; once = names.once }
+    where
+      each : (side : Side) → DoSlotsNameOn owner slots side (by_side side (without_all Bid gone bids) (without_all Ask gone asks))
+      each Bid = on-without_all Bid gone bids (names.on Bid)
+      each Ask = on-without_all Ask gone asks (names.on Ask)
+
+  -- so where some of the owner's orders left
+  pub names-now : (sizes : Lots) (gone left : List RestingOrder) (bids asks : List Order) (ring : Queue) (bids_now asks_now : List Order) (ring_now : Queue)
+      → IsLeft sizes owner gone left bids asks ring bids_now asks_now ring_now → DoSlotsName owner slots bids asks → DoSlotsName owner slots bids_now asks_now
+  names-now sizes gone left bids asks ring bids_now asks_now ring_now held names =
+      subst (λ os. DoSlotsName owner slots os asks_now) (sym held.bids_are)
+      (subst (DoSlotsName owner slots (without_all Bid gone bids)) (sym held.asks_are) (still-name gone bids asks names))

@@ -1,2 +1,4 @@
 pub mod Slots
-pub mod Finding
+pub mod NextSlots
+pub mod Given
+pub mod Cancels

@@ -7,8 +7,9 @@ use Rattle.dex_types.specs.declared.terms.Side.{Side}
 use Rattle.dex_types.specs.Addresses.{is_same}
 use Rattle.dex_types.specs.Cancel.{RestingOrder, older, on_side, order_with}
 use Rattle.dex_types.specs.Posting.{InBookOrder}
-use Rattle.dex_types.specs.Side.{by_side, sequence_of}
+use Rattle.dex_types.specs.Side.{by_side, precedes, sequence_of}
 use Rattle.dex_types.specs.Soundness.{is_one_order, order_holding}
+use Rattle.dex_types.specs.Tokens.{is_same_side}
 use Rattle.dex_types.specs.Trader.{Holding}
 
 -- what the slot of this number holds
@@ -25,14 +26,32 @@ abbrev pub orders_in : (Holding → Bool) → List Order → List Order → List
 orders_in test bids asks [] = []
 orders_in test bids asks (slot ∷ others) = named_by_slot test bids asks slot ++ orders_in test bids asks others
 
--- the holding has the client id
+-- any holding; one with the client id; one of the side
+abbrev pub any_holding : Holding → Bool
+any_holding held = true
+
 abbrev pub has_client : ℕ → Holding → Bool
 has_client client held = held.client == client
+
+abbrev pub is_on : Side → Holding → Bool
+is_on side held = is_same_side held.side side
 
 -- of these orders the one with the least sequence number
 abbrev pub oldest_of : List RestingOrder → Option RestingOrder
 oldest_of [] = None
 oldest_of (first ∷ others) = Some (older first (oldest_of others))
+
+-- these orders of a side in book order
+abbrev pub put_in_order : Side → RestingOrder → List RestingOrder → List RestingOrder
+put_in_order side one [] = one ∷ []
+put_in_order side one (first ∷ others) =
+    if precedes side first.order.id one.order.id then first ∷ put_in_order side one others else one ∷ first ∷ others
+
+abbrev pub in_book_order : Side → List RestingOrder → List RestingOrder
+in_book_order side [] = []
+in_book_order side (first ∷ others) = put_in_order side first (in_book_order side others)
+
+-- ---- when they are an account's orders
 
 -- where the order is the owner's, its slot holds it
 abbrev pub IsHeldIn : Address → List (Option Holding) → Side → Order → Type 0
@@ -43,11 +62,19 @@ abbrev pub IsAsHeld : Address → List (Option Holding) → Side → Order → T
 IsAsHeld owner slots side order = (slot : ℕ) (held : Holding) → held_in slots slot ≡ Some held → is_one_order held (order_holding side order) ≡ true
     → (is_same owner order.owner ≡ true) × (held ≡ order_holding side order)
 
--- the slots name the owner's orders on the two sides: the sides are in book order, an own order is held by its slot, an order that
--- a slot names is the owner's and as the slot says, and no two slots hold one sequence number
+-- the slots name the owner's orders of one side: it is in book order, an own order is held by its slot, and an order that a slot
+-- names is the owner's and as the slot says
+pub record DoSlotsNameOn (owner : Address) (slots : List (Option Holding)) (side : Side) (orders : List Order) : Type 0 where
+  pub in_order : InBookOrder side orders
+  pub held : All (IsHeldIn owner slots side) orders
+  pub as_held : All (IsAsHeld owner slots side) orders
+
+-- no two of the slots hold one sequence number
+abbrev pub AreApart : List (Option Holding) → Type 0
+AreApart slots = (slot at : ℕ) (held same : Holding) → held_in slots slot ≡ Some held → held_in slots at ≡ Some same
+    → sequence_of held.side held.id ≡ sequence_of same.side same.id → slot ≡ at
+
+-- the slots name the owner's orders on the two sides
 pub record DoSlotsName (owner : Address) (slots : List (Option Holding)) (bids asks : List Order) : Type 0 where
-  pub in_order : (side : Side) → InBookOrder side (by_side side bids asks)
-  pub held : (side : Side) → All (IsHeldIn owner slots side) (by_side side bids asks)
-  pub as_held : (side : Side) → All (IsAsHeld owner slots side) (by_side side bids asks)
-  pub once : (slot at : ℕ) (held same : Holding) → held_in slots slot ≡ Some held → held_in slots at ≡ Some same
-      → sequence_of held.side held.id ≡ sequence_of same.side same.id → slot ≡ at
+  pub on : (side : Side) → DoSlotsNameOn owner slots side (by_side side bids asks)
+  pub once : AreApart slots

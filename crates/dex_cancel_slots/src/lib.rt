@@ -1,10 +1,14 @@
-//! Which resting orders the 128 slots of an account name, so that a cancel need not walk along a side.
+//! Cancels that find an account's orders by its 128 slots, and walk along no side of the book.
 #![tactic(auto)]
 
+mod counting;
+mod deciding;
 mod finding;
-mod found;
 mod laws;
+mod leaving;
+mod next_slots;
+mod pruning;
 
-pub use finding::{count_client, find_oldest};
-pub use found::Found;
+pub use deciding::decide_cancel_by_slots;
 pub use laws::an_accounts_slots_name_its_orders;
+pub use leaving::apply_cancel_by_slots;
