@@ -10,5 +10,5 @@ mod next_slots;
 mod pruning;
 
 pub use deciding::decide_cancel_by_slots;
-pub use laws::an_accounts_slots_name_its_orders;
+pub use laws::{an_accounts_slots_name_its_orders, the_slots_tell_an_owners_orders};
 pub use leaving::apply_cancel_by_slots;
