@@ -1,14 +1,14 @@
 -- which id the slots of an account hold next on a side
-use Rattle.std.proofs.Common.{ℕ, zero, suc, ◌+◌, ◌-◌, ◌^◌, ◌≡◌, ◌≤◌, ◌<◌, ◌⊎◌, inl, inr, Bool, true, false, ◌&&◌, ltb, List, [], ◌∷◌, Option, Some, None, max, min, length, drop, get_or, refl, sym, ap, ◌∙◌, subst, arith, ⊎_elim}
-use Rattle.std.proofs.lemmas.Bool.{and_from, and_parts, cases_Bool, cases_lt, cond-true, cond-false, le-ltb, ltb-false, ltb-true}
+use Rattle.std.proofs.Common.{ℕ, zero, suc, ◌+◌, ◌≡◌, ◌≤◌, ◌<◌, ◌⊎◌, inl, inr, Bool, true, false, ◌&&◌, not, List, [], ◌∷◌, Option, Some, None, max, min, length, drop, get_or, refl, sym, ap, ◌∙◌, subst, arith, ⊎_elim}
+use Rattle.std.proofs.lemmas.Bool.{and_from, and_parts, and_right, both_ways, cases_Bool, cases_lt, cond-true, cond-false, false_from_ne_true, le-ltb, ltb-false, not-true, not_from_false, not_from_true}
 use Rattle.std.proofs.lemmas.List.{at_drop_more}
 use Rattle.dex_types.specs.declared.terms.Side.{Side}
 use Rattle.dex_types.specs.declared.terms.Side.TheVariants.{Bid, Ask}
-use Rattle.dex_types.specs.Side.{by_side, precedes}
+use Rattle.dex_types.specs.Side.{precedes}
 use Rattle.dex_types.specs.Tokens.{is_same_side}
 use Rattle.dex_types.specs.Trader.{Holding}
-use Rattle.dex_laws.proofs.IdLaws.{precedes-irreflexive}
-use Rattle.dex_sound.proofs.PlaceLaws.{is_same_side-true}
+use Rattle.dex_laws.proofs.IdLaws.{precedes-irreflexive, precedes-transitive}
+use Rattle.dex_sound.proofs.PlaceLaws.{is_same_side-refl, is_same_side-true}
 use Rattle.dex_cancel_slots.specs.NextSlots.{first_of_two, follows, id_behind, is_behind, next_behind}
 use Rattle.dex_cancel_slots.specs.Slots.{held_in}
 
@@ -120,20 +120,78 @@ next-held side last (first ∷ slots) id is =
 
 -- ---- so a walk from id to id ends
 
--- how far a walk still has to go: bids go down to 0, asks up to the end of 128 bits
-abbrev pub way_left : Side → Option ℕ → ℕ
-way_left side None = 0
-way_left side (Some id) = by_side side (id + 1) (2 ^ 128 - id)
+-- the slot holds an id of the side that does not come before this one
+abbrev is_waiting : Side → ℕ → Option Holding → Bool
+is_waiting side id None = false
+is_waiting side id (Some held) = is_same_side held.side side && not (precedes side held.id id)
 
-pub way-shorter : (side : Side) (slots : List (Option Holding)) (id : ℕ) (next : Option ℕ) → id < 2 ^ 128 → next ≡ next_behind side (Some id) slots
-    → way_left side next < way_left side (Some id)
-way-shorter side slots id None small is = by side
+-- how many slots pass a test
+abbrev one_if : Bool → ℕ
+one_if true = 1
+one_if false = 0
+
+abbrev counted : (Option Holding → Bool) → List (Option Holding) → ℕ
+counted test [] = 0
+counted test (slot ∷ slots) = one_if (test slot) + counted test slots
+
+-- how many slots a walk still has before it
+abbrev pub waiting : Side → Option ℕ → List (Option Holding) → ℕ
+waiting side None slots = 0
+waiting side (Some id) slots = counted (is_waiting side id) slots
+
+counted-some : (test : Option Holding → Bool) (slots : List (Option Holding)) (slot : ℕ) (held : Holding) → held_in slots slot ≡ Some held → test (Some held) ≡ true
+    → 0 < counted test slots
+counted-some test [] slot held is pass = absurd (cc)
+counted-some test (first ∷ slots) zero held is pass = omega (arith, ap (λ o. one_if (test o)) is, ap one_if pass)
+counted-some test (first ∷ slots) (suc slot) held is pass = omega (arith, counted-some test slots slot held is pass)
+
+one_if-le : (a b : Bool) → (a ≡ true → b ≡ true) → one_if a ≤ one_if b
+one_if-le false b within = omega arith
+one_if-le true b within = omega (arith, ap one_if (within refl))
+
+counted-le : (test other : Option Holding → Bool) (slots : List (Option Holding)) → ((slot : Option Holding) → other slot ≡ true → test slot ≡ true)
+    → counted other slots ≤ counted test slots
+counted-le test other [] within = omega arith
+counted-le test other (first ∷ slots) within = omega (arith, one_if-le (other first) (test first) (within first), counted-le test other slots within)
+
+counted-lt : (test other : Option Holding → Bool) (slots : List (Option Holding)) (slot : ℕ) (held : Holding) → ((slot : Option Holding) → other slot ≡ true → test slot ≡ true)
+    → held_in slots slot ≡ Some held → test (Some held) ≡ true → other (Some held) ≡ false → counted other slots < counted test slots
+counted-lt test other [] slot held within is pass fail = absurd (cc)
+counted-lt test other (first ∷ slots) zero held within is pass fail =
+    omega (
+      arith,
+      ap (λ o. one_if (test o)) is,
+      ap (λ o. one_if (other o)) is,
+      ap one_if pass,
+      ap one_if fail,
+      counted-le test other slots within,
+    )
+counted-lt test other (first ∷ slots) (suc slot) held within is pass fail =
+    omega (arith, one_if-le (other first) (test first) (within first), counted-lt test other slots slot held within is pass fail)
+
+pub waiting-fewer : (side : Side) (last : Option ℕ) (slots : List (Option Holding)) (id : ℕ) (next : Option ℕ) → HoldsBehind side last slots id
+    → next ≡ next_behind side (Some id) slots → waiting side next slots < waiting side (Some id) slots
+waiting-fewer side last slots id next at is = by next is
   where
-    by : (side : Side) → 0 < way_left side (Some id)
-    by Bid = omega arith
-    by Ask = omega arith
-way-shorter side slots id (Some next) small is = by side (next-held side (Some id) slots next (sym is)).behind
-  where
-    by : (side : Side) → precedes side id next ≡ true → way_left side (Some next) < way_left side (Some id)
-    by Bid behind = omega (arith, ltb-true next id behind)
-    by Ask behind = omega (arith, ltb-true id next behind)
+    here : is_waiting side id (Some at.held) ≡ true
+    here =
+        and_from (is_same_side at.held.side side) (not (precedes side at.held.id id)) (ap (λ s. is_same_side s side) at.side_is ∙ is_same_side-refl side)
+        (ap (λ i. not (precedes side i id)) at.id_is ∙ ap not (precedes-irreflexive side id))
+
+    by : (next : Option ℕ) → next ≡ next_behind side (Some id) slots → waiting side next slots < waiting side (Some id) slots
+    by None is = counted-some (is_waiting side id) slots at.slot at.held at.holds here
+    by (Some next) is =
+        let before : precedes side id next ≡ true = (next-held side (Some id) slots next (sym is)).behind in
+        let passed : is_waiting side next (Some at.held) ≡ false =
+        and_right (is_same_side at.held.side side) (not (precedes side at.held.id next))
+        (not_from_true (precedes side at.held.id next) (ap (λ i. precedes side i next) at.id_is ∙ before)) in
+        counted-lt (is_waiting side id) (is_waiting side next) slots at.slot at.held (still next before) at.holds here passed
+      where
+        still : (next : ℕ) → precedes side id next ≡ true → (slot : Option Holding) → is_waiting side next slot ≡ true → is_waiting side id slot ≡ true
+        still next before None none = none
+        still next before (Some held) waits =
+            let parts = and_parts (is_same_side held.side side) (not (precedes side held.id next)) waits in
+            and_from (is_same_side held.side side) (not (precedes side held.id id)) parts.0
+            (not_from_false (precedes side held.id id)
+            (false_from_ne_true (precedes side held.id id)
+            (λ earlier. both_ways (precedes side held.id next) (not-true (precedes side held.id next) parts.1) (precedes-transitive side held.id id next earlier before))))

@@ -1,6 +1,5 @@
 -- when the slots of an account name its orders, and that they still do when orders leave
 use Rattle.std.proofs.Common.{ℕ, ◌≡◌, true, eqb, List, [], ◌∷◌, Option, Some, sym, ap, ◌∙◌, subst}
-use Rattle.std.specs.List.{All}
 use Rattle.std.proofs.lemmas.Bool.{and_parts, cond_both, eqb-true}
 use Rattle.std.proofs.lemmas.List.Elements.{All-weaker}
 use Rattle.dex_types.specs.declared.addresses.Address.{Address}

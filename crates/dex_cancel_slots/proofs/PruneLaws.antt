@@ -1,8 +1,8 @@
 -- taking an owner's first orders off a side from slot to slot
-use Rattle.std.proofs.Common.{ℕ, ◌+◌, ◌-◌, ◌≤◌, ◌<◌, ◌^◌, ◌≡◌, ◌≢◌, true, false, eqb, List, [], ◌∷◌, ◌++◌, Option, Some, None, length, take, drop, refl, sym, ap, ◌∙◌, subst, arith, ⊎_elim}
+use Rattle.std.proofs.Common.{ℕ, ◌+◌, ◌≤◌, ◌<◌, ◌^◌, ◌≡◌, ◌≢◌, true, false, eqb, List, [], ◌∷◌, ◌++◌, Option, Some, None, length, take, drop, refl, sym, ap, ◌∙◌, subst, arith, ⊎_elim}
 use Rattle.std.specs.List.{All}
 use Rattle.std.proofs.lemmas.Bool.{and_from, both_ways, cases_Bool, cond_both, cond-true, cond-false, eq-eqb, eqb-false, eqb-true}
-use Rattle.std.proofs.lemmas.List.{length-drop, length-take, take_all}
+use Rattle.std.proofs.lemmas.List.{length-drop, take_all}
 use Rattle.std.proofs.lemmas.List.Elements.{All-cons, All-head, All-nil, All-tail, All-weaker}
 use Rattle.dex_types.specs.declared.addresses.Address.{Address}
 use Rattle.dex_types.specs.declared.orders.Order.{Order}
@@ -13,7 +13,7 @@ use Rattle.dex_types.specs.Cancel.{RestingOrder, on_side, order_with, orders_of,
 use Rattle.dex_types.specs.Owed.{order_lock}
 use Rattle.dex_types.specs.Posting.{InBookOrder}
 use Rattle.dex_types.specs.Side.{precedes}
-use Rattle.dex_types.specs.Soundness.{is_one_order, order_holding}
+use Rattle.dex_types.specs.Soundness.{order_holding}
 use Rattle.dex_types.specs.Tokens.{is_same_side}
 use Rattle.dex_types.specs.Trader.{Holding}
 use Rattle.dex_laws.proofs.BestFirstLaws.{All-PrecedesAll}
@@ -26,7 +26,7 @@ use Rattle.dex_cancel.proofs.LeavingLaws.{All-without_all, with_outs-append, wit
 use Rattle.dex_cancel.proofs.PruneLaws.{IsNext, next-taken}
 use Rattle.dex_cancel.proofs.WalkSteps.{on, orders_of-other, orders_of-own}
 use Rattle.dex_cancel_slots.specs.NextSlots.{follows, next_behind}
-use Rattle.dex_cancel_slots.specs.Slots.{DoSlotsNameOn, IsAsHeld, IsHeldIn, held_in}
+use Rattle.dex_cancel_slots.specs.Slots.{DoSlotsNameOn, IsAsHeld, IsHeldIn}
 use Rattle.dex_cancel_slots.proofs.NextLaws.{ComesTo, HoldsBehind, next-first, next-held}
 use Rattle.dex_cancel_slots.proofs.PremiseLaws.{on-without_all}
 

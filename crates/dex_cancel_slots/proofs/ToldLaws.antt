@@ -1,5 +1,5 @@
 -- the slots of an account name its resting orders, each once
-use Rattle.std.proofs.Common.{ℕ, zero, suc, ◌+◌, ◌≡◌, ◌≢◌, Bool, true, false, ◌&&◌, cond, eqb, List, [], ◌∷◌, ◌++◌, Option, Some, None, filter, length, refl, sym, ap, ◌∙◌, subst, arith, append_assoc, ⊎_elim}
+use Rattle.std.proofs.Common.{ℕ, zero, suc, ◌≡◌, ◌≢◌, Bool, true, false, ◌&&◌, cond, eqb, List, [], ◌∷◌, ◌++◌, Option, Some, None, filter, refl, sym, ap, ◌∙◌, subst, arith, append_assoc, ⊎_elim}
 use Rattle.std.specs.List.{All}
 use Rattle.std.proofs.lemmas.Bool.{and_parts, both_ways, cases_Bool, cond_both, cond-true, cond-false, eq-eqb, eqb-true, false_from_ne_true, false≢true}
 use Rattle.std.proofs.lemmas.List.Elements.{All-append, All-head, All-nil, All-cons, All-tail}
@@ -10,14 +10,13 @@ use Rattle.dex_types.specs.declared.terms.Side.TheVariants.{Bid, Ask}
 use Rattle.dex_types.specs.Addresses.{is_same}
 use Rattle.dex_types.specs.Cancel.{RestingOrder, age_of, all_orders_of, on_side, order_with, orders_of}
 use Rattle.dex_types.specs.Posting.{InBookOrder, PrecedesAll}
-use Rattle.dex_types.specs.Side.{by_side, precedes, sequence_of}
+use Rattle.dex_types.specs.Side.{by_side, sequence_of}
 use Rattle.dex_types.specs.Soundness.{is_one_order, order_holding}
 use Rattle.dex_types.specs.Tokens.{is_same_side}
 use Rattle.dex_types.specs.Trader.{Holding}
-use Rattle.dex_laws.proofs.BestFirstLaws.{All-PrecedesAll}
 use Rattle.dex_laws.proofs.IdLaws.{precedes-apart}
-use Rattle.dex_sound.proofs.PlaceLaws.{is_same_side-true, is_same_side-refl}
-use Rattle.dex_sound.proofs.WithoutLaws.{found-All, found-id, order_with-behind, order_with-first}
+use Rattle.dex_sound.proofs.PlaceLaws.{is_same_side-true}
+use Rattle.dex_sound.proofs.WithoutLaws.{found-id, order_with-behind, order_with-first}
 use Rattle.dex_cancel.proofs.WalkSteps.{on, orders_of-other, orders_of-own}
 use Rattle.dex_cancel_slots.specs.Slots.{AreApart, DoSlotsName, DoSlotsNameOn, IsAsHeld, IsHeldIn, held_in, named_by_slot, orders_in}
 use Rattle.dex_cancel_slots.proofs.MixedLaws.{AreAgesApart, IsInserted, IsMixed}
@@ -198,8 +197,8 @@ passing-first : (test : Holding → Bool) (side : Side) (first : Order) (rest wh
     → (own ≡ true → whole ≡ on side first ∷ rest) → (own ≡ false → whole ≡ rest)
     → filter (passes test) whole
     ≡ cond own (cond (test (order_holding side first)) (on side first ∷ filter (passes test) rest) (filter (passes test) rest)) (filter (passes test) rest)
-passing-first test side first rest whole true yes no = ap (filter (passes test)) (yes refl)
-passing-first test side first rest whole false yes no = ap (filter (passes test)) (no refl)
+passing-first test side first rest whole true is other = ap (filter (passes test)) (is refl)
+passing-first test side first rest whole false is other = ap (filter (passes test)) (other refl)
 
 mixed-more : (own pass : Bool) (one : RestingOrder) (old new rest : List RestingOrder) → IsAdded (own && pass) one old new → IsMixed old rest
     → IsMixed new (cond own (cond pass (one ∷ rest) rest) rest)
@@ -269,8 +268,11 @@ ages-apart test bids asks (slot ∷ slots) once =
     found held here None is apart = apart
     found held here (Some order) is apart = (
       All-named (λ (other : RestingOrder). sequence_of held.side order.id ≢ age_of other) test bids asks slots (λ there same later at ids ages.
-          absurd (omega (arith, once zero (suc there) held same here at
-          (ap (sequence_of held.side) (sym (found-id held.id order (by_side held.side bids asks) is)) ∙ ages ∙ ap (sequence_of same.side) ids)))),
+          absurd (omega (
+            arith,
+            once zero (suc there) held same here at
+                (ap (sequence_of held.side) (sym (found-id held.id order (by_side held.side bids asks) is)) ∙ ages ∙ ap (sequence_of same.side) ids),
+          ))),
       apart,
     )
 

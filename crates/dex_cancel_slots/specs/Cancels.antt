@@ -4,9 +4,9 @@ use Rattle.dex_types.specs.declared.addresses.Address.{Address}
 use Rattle.dex_types.specs.Cancel.{RestingOrder, all_orders_of, at_most_one, taken_by}
 use Rattle.dex_cancel.specs.Leaving.{CancelGiven, HaveLeft}
 
--- these orders left, each with an out, and this is how many they are
-pub record HaveLeftSo (gone : List RestingOrder) (before after : CancelGiven) (count : ℕ) : Type 0 where
-  pub count : count ≡ length gone
+-- these orders left, each with an out, and they are as many as told
+pub record HaveLeftSo (gone : List RestingOrder) (before after : CancelGiven) (told : ℕ) : Type 0 where
+  pub count : told ≡ length gone
   pub left : HaveLeft gone before after
 
 -- the order that one client id of a list takes of what was handed, if it takes one

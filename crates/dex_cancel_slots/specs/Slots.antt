@@ -78,3 +78,7 @@ AreApart slots = (slot at : ℕ) (held same : Holding) → held_in slots slot �
 pub record DoSlotsName (owner : Address) (slots : List (Option Holding)) (bids asks : List Order) : Type 0 where
   pub on : (side : Side) → DoSlotsNameOn owner slots side (by_side side bids asks)
   pub once : AreApart slots
+
+-- what holds of every owner, slots and sides where they do
+abbrev pub WhereNamed : (Address → List (Option Holding) → List Order → List Order → Type 0) → Type 0
+WhereNamed Holds = (owner : Address) (slots : List (Option Holding)) (bids asks : List Order) → DoSlotsName owner slots bids asks → Holds owner slots bids asks

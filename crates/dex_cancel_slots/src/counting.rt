@@ -1,6 +1,7 @@
 //! How many orders of an account a cancel takes.
 
-ghost use Rattle.std.specs.Prelude.{◌≡◌, ◌≤◌, ◌<◌, ◌&&◌, ◌==◌, None, length, nat_lt, not, slice_index, slice_index_or, take};
+ghost use Rattle.std.specs.Prelude.{◌≡◌, ◌≤◌, ◌<◌, ◌&&◌, ◌==◌, None, length, nat_lt, not, take};
+ghost use Rattle.std.specs.Prelude.{slice_index, slice_index_or};
 ghost use Rattle.dex_types.specs.Cancel as cancel;
 ghost use Rattle.dex_types.specs.Cancel.{all_orders_of, cancelled};
 ghost use Rattle.dex_orders.specs.OrdersAccount.{IsOpen};
@@ -14,17 +15,12 @@ use dex_orders::OrdersRef;
 use dex_types::{Address, ClientIds, SideRead};
 
 /// How many orders a slot names: one where it is taken and its order rests.
-fn count_at<B: SideRead, A: SideRead>(
-    orders: &OrdersRef<'_>,
-    bids: &B,
-    asks: &A,
-    slot: u8,
-) -> u32
+fn count_at<B: SideRead, A: SideRead>(orders: &OrdersRef<'_>, bids: &B, asks: &A, slot: u8) -> u32
     requires open { IsOpen orders.now.bytes.now }
     requires bids { B.holds bids.now }
     requires asks { A.holds asks.now }
-    ensures count { result ≡ length (named_by_slot any_holding (B.orders bids.now) (A.orders asks.now)
-        (slice_index_or (slots_in orders.now) slot None)) }
+    ensures count { let held = slice_index_or (slots_in orders.now) slot None in
+        result ≡ length (named_by_slot any_holding (B.orders bids.now) (A.orders asks.now) held) }
     ensures one { result ≤ 1 }
 {
     let Some((id, side, _)) = orders.slot(slot) else {
@@ -67,8 +63,8 @@ fn count_client_at<B: SideRead, A: SideRead>(
     requires open { IsOpen orders.now.bytes.now }
     requires bids { B.holds bids.now }
     requires asks { A.holds asks.now }
-    ensures count { result ≡ length (named_by_slot (has_client client) (B.orders bids.now) (A.orders asks.now)
-        (slice_index_or (slots_in orders.now) slot None)) }
+    ensures count { let held = slice_index_or (slots_in orders.now) slot None in
+        result ≡ length (named_by_slot (has_client client) (B.orders bids.now) (A.orders asks.now) held) }
     ensures one { result ≤ 1 }
 {
     match named_at(orders, bids, asks, slot, client) {
@@ -98,8 +94,8 @@ fn count_client<B: SideRead, A: SideRead>(
     count
 }
 
-/// The client id at this place takes an order: it is not 0, and the account has more orders of it than the same client id
-/// in front of this place took.
+/// The client id at this place takes an order: it is not 0, and the account has more orders of it than the same client
+/// id in front of this place took.
 fn takes_one<B: SideRead, A: SideRead>(
     account: Address,
     orders: &OrdersRef<'_>,

@@ -72,7 +72,8 @@ pub fn decide_cancel_by_slots<B: SideRead>(
 ) -> Result<u32, Refusal>
     requires bids { B.holds bids.now }
     requires asks { B.holds asks.now }
-    requires market { IsGiven sides_given (sides_by (B.orders bids.now) (B.orders asks.now)) account orders.now.bytes.now }
+    requires market { let sides = sides_by (B.orders bids.now) (B.orders asks.now) in
+        IsGiven sides_given sides account orders.now.bytes.now }
     ensures { result ≡ decided (named_by what.now) account (B.orders bids.now) (B.orders asks.now) room }
 {
     match what {

@@ -22,8 +22,9 @@ pub fn named_at<B: SideRead, A: SideRead>(
     requires open { IsOpen orders.now.bytes.now }
     requires bids { B.holds bids.now }
     requires asks { A.holds asks.now }
-    ensures { at_most_one (maybe_resting result) ≡ named_by_slot (has_client client) (B.orders bids.now) (A.orders asks.now)
-        (slice_index_or (slots_in orders.now) slot None) }
+    ensures { let held = slice_index_or (slots_in orders.now) slot None in
+        at_most_one (maybe_resting result)
+        ≡ named_by_slot (has_client client) (B.orders bids.now) (A.orders asks.now) held }
 {
     let (id, side, held) = orders.slot(slot)?;
     if held != client {

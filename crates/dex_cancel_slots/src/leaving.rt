@@ -20,7 +20,8 @@ use dex_orders::OrdersRef;
 use dex_ring::RingView;
 use dex_types::{Address, ClientIds, Lots, SideBook};
 
-/// Takes the account's oldest order of a client id, if it has one, and appends its out. It answers how many orders that is.
+/// Takes the account's oldest order of a client id, if it has one, and appends its out. It answers how many orders that
+/// is.
 fn cancel_oldest<B: SideBook, A: SideBook>(
     client: u64,
     account: Address,
@@ -76,8 +77,8 @@ fn cancel_named<B: SideBook, A: SideBook>(
     cancel_oldest(client, account, orders, sizes, bids, asks, ring)
 }
 
-/// Takes the account's oldest order of each of the client ids in order, and appends their outs. It passes over zeros, and
-/// over client ids without a resting order, and answers how many orders there were.
+/// Takes the account's oldest order of each of the client ids in order, and appends their outs. It passes over zeros,
+/// and over client ids without a resting order, and answers how many orders there were.
 fn cancel_listed<B: SideBook, A: SideBook>(
     ids: &ClientIds,
     account: Address,
@@ -142,9 +143,9 @@ fn cancel_all<B: SideBook, A: SideBook>(
     }
 }
 
-/// Takes the orders that a cancel names off the two sides, one after the other, appends for each an out that releases all
-/// that it locked, and answers how many they were: all as `apply_cancel` does it, the orders found by the slots of the
-/// account, whose bytes are `orders`. `sizes` are the market's lot sizes.
+/// Takes the orders that a cancel names off the two sides, one after the other, appends for each an out that releases
+/// all that it locked, and answers how many they were: all as `apply_cancel` does it, the orders found by the slots of
+/// the account, whose bytes are `orders`. `sizes` are the market's lot sizes.
 pub fn apply_cancel_by_slots<B: SideBook, A: SideBook>(
     what: &CancelWhat,
     account: Address,
@@ -166,7 +167,8 @@ pub fn apply_cancel_by_slots<B: SideBook, A: SideBook>(
         let after = handed sizes B.orders A.orders bids.new asks.new ring.new in
         after ≡ left_by (named_in (named_by what.now) account before) before }
     ensures events { let before = handed sizes B.orders A.orders bids.old asks.old ring.old in
-        ring_of ring.new.bytes.now ≡ (with_outs sizes (named_in (named_by what.now) account before) (queue_of before.queue)).list }
+        let gone = named_in (named_by what.now) account before in
+        ring_of ring.new.bytes.now ≡ (with_outs sizes gone (queue_of before.queue)).list }
     ensures bids { KeepsSide B.holds B.same_place B.side B.room bids.old bids.new }
     ensures asks { KeepsSide A.holds A.same_place A.side A.room asks.old asks.new }
     ensures ring { KeepsEvents ring.old ring.new }

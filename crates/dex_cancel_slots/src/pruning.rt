@@ -45,7 +45,8 @@ fn take_named<S: SideBook>(
     }
 }
 
-/// Takes the account's first orders on a side, at most so many, and appends their outs. It answers how many orders there were.
+/// Takes the account's first orders on a side, at most so many, and appends their outs. It answers how many orders
+/// there were.
 fn prune_side<S: SideBook>(
     side: Side,
     limit: u32,

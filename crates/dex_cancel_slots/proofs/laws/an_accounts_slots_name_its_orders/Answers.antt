@@ -8,4 +8,4 @@ pub returns-clause-parts : goal.returns-clause-parts
 returns-clause-parts c = parts-name
 
 pub returns-clause-stays : goal.returns-clause-stays
-returns-clause-stays c = still-name
+returns-clause-stays c = λ owner slots bids asks names gone. still-name owner slots gone bids asks names

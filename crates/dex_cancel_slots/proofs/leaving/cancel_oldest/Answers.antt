@@ -1,5 +1,5 @@
-use Rattle.std.proofs.Common.{◌≡◌, List, length, sym, ap, ◌∙◌, subst}
-use Rattle.dex_types.specs.Cancel.{RestingOrder, all_orders_of, at_most_one, oldest}
+use Rattle.std.proofs.Common.{List, sym, ap, subst}
+use Rattle.dex_types.specs.Cancel.{RestingOrder, at_most_one}
 use Rattle.dex_cancel.specs.Finding.{maybe_resting}
 use Rattle.dex_cancel.specs.Leaving.{CanLeave, DoRest, handed}
 use Rattle.dex_cancel.proofs.OwnLaws.{all-mine, oldest-rests}

@@ -61,12 +61,13 @@ returns-clause-does g c =
             length-append own later,
           );
       left = record {
-      bids = first.orders ∙ ap (λ n. without_all Bid (take n own) bids) c.from-limit.ensures ∙ sym (bids-pruned c.args.account c.args.limit bids asks);
-      asks = second.orders ∙ ap (λ n. without_all Ask (take n later) asks) left ∙ sym (asks-pruned c.args.account c.args.limit bids asks);
-      queue =
-          second.queue
-          ∙ ap (λ n. with_outs c.args.sizes (take n later) (queue_of c.prune_side-taken.new.ring.bytes.now)) left
-          ∙ ap (with_outs c.args.sizes (take (asks_of_first c.args.account c.args.limit bids) later)) outs
-          ∙ sym (outs-pruned c.args.sizes c.args.account c.args.limit bids asks ring);
-      accepted = second.accepted;
-    }; }
+        bids = first.orders ∙ ap (λ n. without_all Bid (take n own) bids) c.from-limit.ensures ∙ sym (bids-pruned c.args.account c.args.limit bids asks);
+        asks = second.orders ∙ ap (λ n. without_all Ask (take n later) asks) left ∙ sym (asks-pruned c.args.account c.args.limit bids asks);
+        queue =
+            second.queue
+            ∙ ap (λ n. with_outs c.args.sizes (take n later) (queue_of c.prune_side-taken.new.ring.bytes.now)) left
+            ∙ ap (with_outs c.args.sizes (take (asks_of_first c.args.account c.args.limit bids) later)) outs
+            ∙ sym (outs-pruned c.args.sizes c.args.account c.args.limit bids asks ring);
+        accepted = second.accepted;
+      };
+    }

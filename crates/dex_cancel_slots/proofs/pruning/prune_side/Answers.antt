@@ -1,10 +1,10 @@
-use Rattle.std.proofs.Common.{◌+◌, length, take, refl, sym, ap, ◌∙◌, arith}
+use Rattle.std.proofs.Common.{◌+◌, ◌<◌, length, take, refl, sym, ap, ◌∙◌, subst, arith}
 use Rattle.std.proofs.lemmas.List.{length-take, length-take-le}
 use Rattle.dex_types.specs.Cancel.{on_side, order_with, orders_of}
 use Rattle.dex_cancel.specs.Leaving.{queue_of, with_outs, without_all}
 use Rattle.dex_cancel.proofs.LeavingLaws.{room-now}
 use Rattle.dex_cancel_slots.specs.Given.{slots_in}
-use Rattle.dex_cancel_slots.proofs.NextLaws.{way-shorter}
+use Rattle.dex_cancel_slots.proofs.NextLaws.{next-held, waiting, waiting-fewer}
 use Rattle.dex_cancel_slots.proofs.PruneLaws.{fit-now, one-named, pruned-all, pruned-more, pruned-next, pruned-none}
 use Rattle.dex_cancel_slots.proofs.pruning.prune_side.Goals as goal
 
@@ -42,7 +42,12 @@ take_named-count-requires-clause-can g c =
     }
 
 pub slots-smaller : goal.slots-smaller
-slots-smaller g c = ?
+slots-smaller g c =
+    let slots = slots_in c.args.orders.now in
+    let held = c.slots.invariant.pruned in
+    let at = next-held c.args.side held.last slots c.in-Some.id (sym held.next_is ∙ c.in-Some.is) in
+    subst (λ o. waiting c.args.side c.next_slot-next-in-Some.result slots < waiting c.args.side o slots) (sym c.in-Some.is)
+    (waiting-fewer c.args.side held.last slots c.in-Some.id c.next_slot-next-in-Some.result at c.next_slot-next-in-Some.ensures)
 
 pub slots-preserved : goal.slots-preserved
 slots-preserved g c =
@@ -53,8 +58,8 @@ slots-preserved g c =
       pruned =
           pruned-more c.args.sizes c.args.account (slots_in c.args.orders.now) c.args.side c.slots.count (g.S.SideRead.orders c.args.book.now) (queue_of c.args.ring.now.bytes.now)
           c.slots.next now (queue_of c.slots.ring.bytes.now) held.pruned c.in-Some.id c.in-Some.is
-          c.next_slot-next-2.result (g.S.SideRead.orders c.take_named-count.new.book) (queue_of c.take_named-count.new.ring.bytes.now) (c.slots.count + c.take_named-count.result)
-          c.next_slot-next-2.ensures (ap (λ n. c.slots.count + n) after.count) after.left.orders after.left.queue;
+          c.next_slot-next-in-Some.result (g.S.SideRead.orders c.take_named-count.new.book) (queue_of c.take_named-count.new.ring.bytes.now) (c.slots.count + c.take_named-count.result)
+          c.next_slot-next-in-Some.ensures (ap (λ n. c.slots.count + n) after.count) after.left.orders after.left.queue;
       most = omega (arith, held.most, c.if-count-limit.false, after.count, one-named c.args.side (order_with c.in-Some.id now));
       accepted = after.left.accepted;
       book = record {

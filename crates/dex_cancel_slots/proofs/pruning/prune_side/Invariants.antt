@@ -3,7 +3,7 @@ use Rattle.dex_ring.specs.Ring.{IsEventQueue}
 use Rattle.dex_accounts.specs.Keeps.{KeepsSide}
 use Rattle.dex_cancel.specs.Leaving.{queue_of}
 use Rattle.dex_cancel_slots.specs.Given.{slots_in}
-use Rattle.dex_cancel_slots.proofs.NextLaws.{way_left}
+use Rattle.dex_cancel_slots.proofs.NextLaws.{waiting}
 use Rattle.dex_cancel_slots.proofs.PruneLaws.{IsPrunedTo}
 use Rattle.dex_cancel_slots.proofs.pruning.prune_side.Given as goal
 
@@ -18,4 +18,4 @@ invariant-slots g l = record {
 }
 
 abbrev pub decreases-slots : goal.decreases-slots
-decreases-slots g l = way_left l.fn.side l.next
+decreases-slots g l = waiting l.fn.side l.next (slots_in l.orders)
