@@ -1,0 +1,16 @@
+use Rattle.std.proofs.Common.{rules}
+use Rattle.dex_slab.proofs.FrameKept.{account_kept}
+use Rattle.dex_slab.specs.StandsFor.{IsSideAccount}
+use Rattle.dex_types.specs.Side.{opposite}
+use Rattle.dex_step.proofs.acting_orders.order_on_bytes.Goals as goal
+
+pub returns-clause-own : goal.returns-clause-own
+returns-clause-own c =
+    let there : IsSideAccount c.args.taker.id_side c.apply_order.new.own.bytes.now = account_kept _ _ _ c.requires.own c.apply_order.ensures.own.place.1 c.apply_order.ensures.own.holding in
+    search (rules, there)
+
+pub returns-clause-opposite : goal.returns-clause-opposite
+returns-clause-opposite c =
+    let there : IsSideAccount (opposite c.args.taker.id_side) c.apply_order.new.opposite.bytes.now =
+    account_kept _ _ _ c.requires.opposite c.apply_order.ensures.opposite.place.1 c.apply_order.ensures.opposite.holding in
+    search (rules, there)
