@@ -1,1 +1,9 @@
 pub mod ActLaws
+pub mod CancelRowLaws
+pub mod ConsumeRowLaws
+pub mod LeavingLaws
+pub mod OrderRowLaws
+pub mod OwnerParts
+pub mod PlannedLaws
+pub mod SoundParts
+pub mod TakeRowLaws

@@ -1,1 +1,9 @@
+pub mod Acting
+pub mod CancelActs
+pub mod ConsumeActs
+pub mod FundActs
 pub mod OrderActs
+pub mod OrderRows
+pub mod Planned
+pub mod TakeActs
+pub mod TakeRows

@@ -1,6 +1,11 @@
-//! New orders and takes over a market's account bytes.
+//! What a row does, once it was decided, over a market's account bytes.
 #![tactic(auto)]
 
+mod acting_cancels;
+mod acting_events;
 mod acting_orders;
+mod acting_takes;
+mod laws;
+mod vaults;
 
-pub use acting_orders::{order_on_bytes, take_on_bytes};
+pub use laws::{what_is_decided_is_planned, what_is_left_is_the_steps};

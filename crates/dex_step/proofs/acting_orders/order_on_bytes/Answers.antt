@@ -4,13 +4,19 @@ use Rattle.dex_slab.specs.StandsFor.{IsSideAccount}
 use Rattle.dex_types.specs.Side.{opposite}
 use Rattle.dex_step.proofs.acting_orders.order_on_bytes.Goals as goal
 
-pub returns-clause-own : goal.returns-clause-own
-returns-clause-own c =
-    let there : IsSideAccount c.args.taker.id_side c.apply_order.new.own.bytes.now = account_kept _ _ _ c.requires.own c.apply_order.ensures.own.place.1 c.apply_order.ensures.own.holding in
-    search (rules, there)
-
-pub returns-clause-opposite : goal.returns-clause-opposite
-returns-clause-opposite c =
-    let there : IsSideAccount (opposite c.args.taker.id_side) c.apply_order.new.opposite.bytes.now =
-    account_kept _ _ _ c.requires.opposite c.apply_order.ensures.opposite.place.1 c.apply_order.ensures.opposite.holding in
-    search (rules, there)
+pub returns : goal.returns
+returns c =
+    let own : IsSideAccount c.args.taker.id_side c.apply_order.new.own.bytes.now =
+    account_kept _ _ _ c.requires.own c.apply_order.ensures.own.place.1 c.apply_order.ensures.own.holding in
+    let met : IsSideAccount (opposite c.args.taker.id_side) c.apply_order.new.opposite.bytes.now =
+    account_kept _ _ _ c.requires.met c.apply_order.ensures.opposite.place.1 c.apply_order.ensures.opposite.holding in
+    record {
+      reply_is = search rules;
+      does = search rules;
+      list = search rules;
+      queue = search rules;
+      account = search rules;
+      own = search (rules, own);
+      met = search (rules, met);
+      room = search rules;
+    }
