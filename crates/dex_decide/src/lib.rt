@@ -1,4 +1,5 @@
-//! Whether a row is refused by its market, and what it is to do there else, decided over the bytes of the market's accounts.
+//! Whether a row is refused by its market, and what it is to do there else, decided over the bytes of the market's
+//! accounts.
 #![tactic(auto)]
 
 mod deciding;

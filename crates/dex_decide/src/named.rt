@@ -23,7 +23,8 @@ pub struct Acting<'a> {
 /// The account that is named first, if it is one of these.
 pub fn named_first<'a>(accounts: &'a [OrdersAccount], named: &[Address]) -> Option<Acting<'a>>
     ensures { MatchOption result (named_in named.now (map orders_account_of accounts.now) ≡ None)
-        (λ acting. named_in named.now (map orders_account_of accounts.now) ≡ Some (account_by acting.address acting.bytes.now)) }
+        (λ acting. named_in named.now (map orders_account_of accounts.now)
+        ≡ Some (account_by acting.address acting.bytes.now)) }
 {
     let address = first_of(named)?;
     match find_bytes(accounts, address) {
@@ -63,7 +64,8 @@ fn only_open<'a>(
     acting: Acting<'a>,
 ) -> Option<Acting<'a>>
     requires accepted { All (λ (account : PlainAccount). IsOrders account.bytes) (map orders_account_of accounts.now) }
-    requires first { named_in named.now (map orders_account_of accounts.now) ≡ Some (account_by acting.address acting.bytes.now) }
+    requires first { named_in named.now (map orders_account_of accounts.now)
+        ≡ Some (account_by acting.address acting.bytes.now) }
     ensures { MatchOption result (party_of named.now (traders_of (map orders_account_of accounts.now)) ≡ None)
         (λ acting. IsActing named.now (map orders_account_of accounts.now) acting.address acting.bytes.now) }
 {

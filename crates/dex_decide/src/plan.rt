@@ -26,8 +26,8 @@ pub enum Plan {
     Disable,
     /// Pay out all pc fees, which are these, in native pc.
     Sweep(u64),
-    /// A new order of the named account, as its trader states it; what it does; and what pending makers' fills are to take
-    /// off totals once it is done.
+    /// A new order of the named account, as its trader states it; what it does; and what pending makers' fills are to
+    /// take off totals once it is done.
     Order {
         taker: Taker,
         plan: OrderPlan,
@@ -71,8 +71,8 @@ fn deposit_on(side: Side, amount: u64) -> Deposit
 }
 
 impl Plan {
-    /// What the plan takes into the vaults, in native amounts: what a new order or a take deposits, a bid in quote and an ask
-    /// in base; all other plans take nothing.
+    /// What the plan takes into the vaults, in native amounts: what a new order or a take deposits, a bid in quote and
+    /// an ask in base; all other plans take nothing.
     pub fn deposit(&self) -> Deposit
         ensures { result ≡ deposit_of self.now }
     {

@@ -176,12 +176,12 @@ fn decide_instruction(
     }
 }
 
-/// Whether the row is refused by its market, or what it is to do there. It reads only. `leaving` are the native base and the
-/// native quote that pending makers' fills are still to take off their owners' totals, so that no row goes through the event
-/// queue for them.
+/// Whether the row is refused by its market, or what it is to do there. It reads only. `leaving` are the native base
+/// and the native quote that pending makers' fills are still to take off their owners' totals, so that no row goes
+/// through the event queue for them.
 ///
-/// It answers the first reason that holds against the row, with its values, and else the plan; with the plan of an order or a
-/// take come the same sums as they are after it.
+/// It answers the first reason that holds against the row, with its values, and else the plan; with the plan of an
+/// order or a take come the same sums as they are after it.
 pub fn decide(
     accounts: &MarketAccounts,
     row: &Row,

@@ -1,6 +1,8 @@
 pub mod ActLaws
+pub mod ApplyLaws
 pub mod CancelRowLaws
 pub mod ConsumeRowLaws
+pub mod FundLaws
 pub mod LeavingLaws
 pub mod OrderRowLaws
 pub mod OwnerParts

@@ -45,7 +45,7 @@ pub names-same : (market : Address) (before after : List PlainAccount) → after
 names-same market before after same = subst (KeepNames market before) (sym same) (record { addresses = refl; named = λ all. all })
 
 -- a vault that is as it was holds what it held
-held-same : (before after : List ℕ) → IsWallet before → after ≡ before → Holds before after (wallet_words before).amount
+pub held-same : (before after : List ℕ) → IsWallet before → after ≡ before → Holds before after (wallet_words before).amount
 held-same before after accepted same =
     subst (λ (b : List ℕ). Holds before b (wallet_words before).amount) (sym same) (record { accepted = accepted; words = refl })
 
