@@ -1,5 +1,5 @@
 -- A cell with a call more is a cell again.
-use Rattle.std.proofs.Common.{◌≡◌, ℕ, ◌+◌, ◌-◌, ◌≤◌, ◌<◌, ◌^◌, List, [], ◌∷◌, ◌++◌, length, refl, sym, ap, subst, ◌∙◌, arith, length-append}
+use Rattle.std.proofs.Common.{◌≡◌, [], ◌∷◌, ◌++◌, refl, sym, ap, subst, ◌∙◌, arith, length-append}
 use Rattle.dex_types.specs.declared.refusals.Refusal.{Refusal}
 use Rattle.dex_types.specs.declared.replies.Reply.{Reply}
 use Rattle.dex_types.specs.declared.replies.Reply.TheVariants.{Refused}
@@ -10,7 +10,7 @@ use Rattle.dex_types.specs.Market.{Market}
 use Rattle.dex_types.specs.Rows.{PlainRow, row_of}
 use Rattle.dex_types.specs.Steps.{Step, refused}
 use Rattle.dex_accounts.specs.Decoded.{market_in}
-use Rattle.dex_history.specs.Journal.{Call, IsLegal, Sees, Stands, asked_of, market_after, row_step}
+use Rattle.dex_history.specs.Journal.{Call, Sees, Stands, asked_of, market_after, row_step}
 use Rattle.dex_history.proofs.HistoryLaws.{IsLegal-one, market_after-one}
 use Rattle.dex_history.proofs.PriceLaws.{decoded-priced}
 use Rattle.dex_ring.specs.declared.leaving.Leaving.{Leaving}
@@ -32,7 +32,7 @@ called cell row seen accounts reply leaving coin pc is for spare stepped coin_is
     let m : Market = market_in cell.accounts in
     let call : Call = call_on row seen cell in
     let standing : Stands call (market_after (market_in cell.start) cell.calls) =
-        subst (λ (x : Market). Stands call x) is.end_is (stands (row_of row) seen m (for.market ∙ is.sound.stands.address) for.sees) in
+    subst (λ (x : Market). Stands call x) is.end_is (stands (row_of row) seen m (for.market ∙ is.sound.stands.address) for.sees) in
     record {
       sound = stepped.sound;
       accepted = stepped.kept.accepted is.accepted;

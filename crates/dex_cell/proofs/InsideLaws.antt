@@ -9,7 +9,7 @@ use Rattle.dex_history.specs.Journal.{Call}
 use Rattle.dex_movements.specs.Entries.{entry_by}
 use Rattle.dex_cell.specs.declared.told.Told.{Told}
 use Rattle.dex_cell.specs.CellInside.{call_of}
-use Rattle.dex_cell.specs.CellState.{MarketCellState, call_on, entries_of, step_on}
+use Rattle.dex_cell.specs.CellState.{MarketCellState, call_on, step_on}
 
 -- the call of a row at the end, told with its entry, stands behind the others
 pub calls-grow : (told more : List (Row × Told)) (row : Row) (seen : Seen) (entry : Entry) (cell : MarketCellState)

@@ -1,12 +1,12 @@
 -- A cell's parcels move as its row's step says.
-use Rattle.std.proofs.Common.{◌≡◌, ℕ, ◌+◌, ◌-◌, ◌≤◌, ◌<◌, ◌^◌, Option, refl, sym, ap, subst, ◌∙◌, arith}
+use Rattle.std.proofs.Common.{◌≡◌, ℕ, ◌+◌, ◌<◌, ◌^◌, Option, sym, ap, subst, ◌∙◌, arith}
 use Rattle.dex_types.specs.declared.addresses.Address.{Address}
 use Rattle.dex_types.specs.declared.rows.Row.{Row}
 use Rattle.dex_types.specs.declared.rows.Seen.{Seen}
 use Rattle.dex_types.specs.Accounts.{PlainMarketAccounts}
 use Rattle.dex_types.specs.Market.{Listing, Market}
 use Rattle.dex_types.specs.Rows.{row_of}
-use Rattle.dex_types.specs.Side.{Token, Coin, Pc}
+use Rattle.dex_types.specs.Side.{Coin, Pc}
 use Rattle.dex_types.specs.Soundness.{IsSound}
 use Rattle.dex_types.specs.Steps.{Step}
 use Rattle.dex_types.specs.Transfers.{Transfers}
@@ -18,7 +18,7 @@ use Rattle.dex_history.proofs.PriceLaws.{row-sound}
 use Rattle.dex_history.proofs.StepConserves.{row-paid}
 use Rattle.dex_sound.specs.Kept.{KeepsMarket}
 use Rattle.dex_sound.proofs.KeepLaws.{step-keeps}
-use Rattle.dex_token.specs.TokenAccount.{WalletWords, wallet_words}
+use Rattle.dex_token.specs.TokenAccount.{WalletWords}
 use Rattle.dex_wallet.specs.TokenAmount.{TokenAmount, held_in}
 use Rattle.dex_cell.specs.declared.payouts.Payouts.{Payouts}
 use Rattle.dex_cell.specs.CellState.{IsMarketCell, MarketCellState, market_at, step_on}

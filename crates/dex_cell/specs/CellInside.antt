@@ -1,6 +1,5 @@
 -- What the fields of a market's cell stand for.
-use Rattle.std.specs.Prelude.{ℕ, ◌≡◌, ◌≤◌, List, map, vec_capacity}
-use Rattle.dex_types.specs.declared.movements.Entry.{Entry}
+use Rattle.std.specs.Prelude.{◌≡◌, ◌≤◌, map, vec_capacity}
 use Rattle.dex_types.specs.declared.rows.Row.{Row}
 use Rattle.dex_types.specs.Accounts.{market_accounts_of}
 use Rattle.dex_types.specs.Rows.{row_of}

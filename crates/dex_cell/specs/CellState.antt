@@ -1,6 +1,5 @@
 -- What a market's cell keeps.
 use Rattle.std.specs.Prelude.{ℕ, ◌≡◌, ◌<◌, ◌≤◌, List, [], ◌∷◌, ◌++◌, length, map, Result}
-use Rattle.dex_types.specs.declared.addresses.Address.{Address}
 use Rattle.dex_types.specs.declared.movements.Entry.{Entry}
 use Rattle.dex_types.specs.declared.refusals.Refusal.{Refusal}
 use Rattle.dex_types.specs.declared.replies.Reply.{Reply}
@@ -12,13 +11,11 @@ use Rattle.dex_types.specs.Market.{Market}
 use Rattle.dex_types.specs.Rows.{PlainRow, row_of}
 use Rattle.dex_types.specs.Soundness.{IsSound}
 use Rattle.dex_types.specs.Steps.{Step}
-use Rattle.dex_types.specs.Transfers.{Transfers}
-use Rattle.dex_types.specs.Wallets.{movements}
 use Rattle.dex_accounts.specs.Accepted.{IsAccepted}
 use Rattle.dex_accounts.specs.Decoded.{AreSound, market_in}
 use Rattle.dex_decide.specs.declared.plan.Plan.{Plan}
 use Rattle.dex_decide.specs.Plans.{decided}
-use Rattle.dex_history.specs.Journal.{Call, IsLegal, Sees, asked_of, market_after, places, request_of, row_step}
+use Rattle.dex_history.specs.Journal.{Call, IsLegal, Sees, asked_of, market_after, request_of, row_step}
 use Rattle.dex_movements.specs.Entries.{entry_by}
 use Rattle.dex_step.specs.Acting.{addresses_of}
 use Rattle.dex_wallet.specs.TokenAmount.{TokenAmount, held_in}

@@ -1,5 +1,4 @@
 -- What a plan moves.
-use Rattle.std.specs.Prelude.{ℕ}
 use Rattle.dex_types.specs.Side.{locked_token}
 use Rattle.dex_types.specs.Transfers.{Transfers, deposit, exchange, no_transfers, payout}
 use Rattle.dex_decide.specs.declared.plan.Plan.{Plan}

@@ -7,7 +7,6 @@ use Rattle.dex_types.specs.declared.rows.Seen.{Seen}
 use Rattle.dex_types.specs.Addresses.{is_same}
 use Rattle.dex_types.specs.Market.{Market}
 use Rattle.dex_types.specs.Rows.{PlainRow}
-use Rattle.dex_types.specs.Steps.{Step}
 use Rattle.dex_types.specs.Transfers.{Transfers}
 use Rattle.dex_types.specs.Wallets.{movement_of, row_wallets}
 use Rattle.dex_types.specs.WalletJournal.{moved_balance}

@@ -1,5 +1,5 @@
 -- What a row moves, and what its movements need.
-use Rattle.std.specs.Prelude.{◌<◌, ◌^◌, Option, Some, None}
+use Rattle.std.specs.Prelude.{Option, Some, None}
 use Rattle.dex_types.specs.declared.addresses.Address.{Address}
 use Rattle.dex_types.specs.declared.movements.Movement.{Movement}
 use Rattle.dex_types.specs.declared.rows.Seen.{Seen}

@@ -7,4 +7,3 @@ mod places;
 
 pub use amounts::Amounts;
 pub use places::moves_of;
-

@@ -40,7 +40,8 @@ fn brought_to(seen: &Seen, amounts: &Amounts, wallet: Address) -> u128
 
 /// The balance of a wallet in the first of two roles that is it, else what stands in the others.
 fn balance_in(wallet: Address, role: Option<WalletSeen>, others: u64) -> u64
-    ensures { (roles : List (Option WalletSeen)) → others ≡ wallets.balance_in wallet roles → result ≡ wallets.balance_in wallet (role ∷ roles) }
+    ensures { (roles : List (Option WalletSeen)) → others ≡ wallets.balance_in wallet roles
+        → result ≡ wallets.balance_in wallet (role ∷ roles) }
 {
     match role {
         Some(other) if is_same(wallet, other.address) => other.balance,

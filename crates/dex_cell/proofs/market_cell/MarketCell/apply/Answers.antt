@@ -1,4 +1,4 @@
-use Rattle.std.proofs.Common.{◌≡◌, ◌+◌, ◌<◌, ◌≤◌, List, [], ◌∷◌, ◌++◌, Ok, map, refl, sym, ap, subst, ◌∙◌, arith}
+use Rattle.std.proofs.Common.{◌≡◌, ◌+◌, List, [], ◌∷◌, ◌++◌, Ok, map, refl, sym, ap, subst, ◌∙◌, arith}
 use Rattle.dex_types.specs.declared.movements.Entry.{Entry}
 use Rattle.dex_types.specs.declared.replies.Reply.{Reply}
 use Rattle.dex_types.specs.Accounts.{market_accounts_of}
@@ -8,12 +8,11 @@ use Rattle.dex_types.specs.Steps.{Step}
 use Rattle.dex_types.specs.Transfers.{Transfers}
 use Rattle.dex_history.specs.Balances.{mint_of}
 use Rattle.dex_history.specs.Journal.{Call, asked_of, request_of}
-use Rattle.dex_history.specs.Moves.{Moves}
 use Rattle.dex_history.proofs.StepMoves.{row-moves}
 use Rattle.dex_movements.specs.Entries.{entry_by}
 use Rattle.dex_movements.specs.Amounts.{CanMoveEach, transfers_of}
 use Rattle.dex_step.specs.Acting.{HasStepped}
-use Rattle.dex_wallet.specs.TokenAmount.{TokenAmount, held_in}
+use Rattle.dex_wallet.specs.TokenAmount.{held_in}
 use Rattle.dex_cell.specs.CellInside.{call_of, cell_inside}
 use Rattle.dex_cell.specs.CellState.{HasActed, HasSpare, IsDone, IsFor, IsMarketCell, MarketCellState, answer_on, call_on, market_at, step_on}
 use Rattle.dex_cell.specs.Paying.{CanMoveShare, moved_share, paid_in, paid_out, parcel_of}

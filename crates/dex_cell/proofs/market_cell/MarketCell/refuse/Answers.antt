@@ -1,7 +1,5 @@
-use Rattle.std.proofs.Common.{◌≡◌, ◌+◌, ◌<◌, ◌≤◌, List, [], ◌∷◌, ◌++◌, map, refl, sym, ap, subst, ◌∙◌, arith}
-use Rattle.dex_types.specs.declared.replies.Reply.{Reply}
+use Rattle.std.proofs.Common.{◌≡◌, List, [], ◌∷◌, ◌++◌, map, refl, sym, ap, subst, ◌∙◌, arith}
 use Rattle.dex_types.specs.declared.replies.Reply.TheVariants.{Refused}
-use Rattle.dex_types.specs.Accounts.{market_accounts_of}
 use Rattle.dex_types.specs.Rows.{row_of}
 use Rattle.dex_types.specs.Steps.{Step, refused}
 use Rattle.dex_types.specs.Transfers.{Transfers}
@@ -9,7 +7,7 @@ use Rattle.dex_history.specs.Journal.{request_of}
 use Rattle.dex_movements.specs.Entries.{entry_by}
 use Rattle.dex_movements.specs.Amounts.{transfers_of}
 use Rattle.dex_cell.specs.CellInside.{call_of, cell_inside}
-use Rattle.dex_cell.specs.CellState.{HasActed, HasSpare, IsFor, IsMarketCell, MarketCellState, answer_on, call_on, market_at, refused_on, step_on}
+use Rattle.dex_cell.specs.CellState.{HasActed, HasSpare, IsFor, IsMarketCell, MarketCellState, call_on, market_at, refused_on, step_on}
 use Rattle.dex_cell.proofs.CallLaws.{refused-called}
 use Rattle.dex_cell.proofs.InsideLaws.{calls-grow, entries-grow}
 use Rattle.dex_cell.proofs.PlanLaws.{refused-step}
