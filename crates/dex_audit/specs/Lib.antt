@@ -7,3 +7,4 @@ pub mod Reading
 pub mod Tallies
 pub mod Weights
 pub mod Books
+pub mod RulesOf

@@ -2,12 +2,14 @@
 #![tactic(auto)]
 
 mod amounts;
+mod auditing;
 mod book;
 mod finals;
 mod finding;
 mod held;
 mod laws;
 mod locks;
+mod market;
 mod pending;
 mod resting;
 mod slots;
@@ -17,6 +19,7 @@ mod totals;
 mod traders;
 mod weights;
 
+pub use auditing::audit;
 pub use finding::Finding;
 pub use laws::{
     accounts_without_findings_are_of_sound_markets, mints_without_findings_are_conserved,
