@@ -24,12 +24,12 @@ use Rattle.dex_token.specs.StandsFor.{vault_words}
 use Rattle.dex_accounts.specs.Decoded.{AreSound, market_in}
 use Rattle.dex_accounts.specs.StandsFor.{StandsFor}
 use Rattle.dex_audit.specs.Audited.{AreWords, IsAuditable}
-use Rattle.dex_audit.specs.Funds.{beyond_in, deposited, deposits_in, deposits_off, deposits_word, rebates_in, too_large, too_large_in, totals_in, vaults_in}
-use Rattle.dex_audit.specs.Lists.{numbered}
-use Rattle.dex_audit.specs.Slots.{astray_in, homeless, homeless_in, is_opened, misheld, misheld_in, or_else, repeated_in, ungiven_in, unheld, unpaired_in}
+use Rattle.dex_audit_rules.specs.Funds.{beyond_in, deposited, deposits_in, deposits_off, deposits_word, rebates_in, too_large, too_large_in, totals_in, vaults_in}
+use Rattle.dex_audit_rules.specs.Lists.{numbered}
+use Rattle.dex_audit_rules.specs.Slots.{astray_in, homeless, homeless_in, is_opened, misheld, misheld_in, or_else, repeated_in, ungiven_in, unheld, unpaired_in}
 use Rattle.dex_audit.proofs.EventLaws.{events-held}
 use Rattle.dex_audit.proofs.FundLaws.{IsSmall, differs-none, funds-agree, locks-fit, vault-is}
-use Rattle.dex_audit.proofs.ListLaws.{append-none, numbered-each, unless-none}
+use Rattle.dex_audit_rules.proofs.ListLaws.{append-none, numbered-each, unless-none}
 use Rattle.dex_audit.proofs.MarketForm.{book-side, slots, well-formed, word-lt}
 use Rattle.dex_audit.proofs.SlotLaws.{or_else-none, rests-held, taken-ends, taken-given, taken-once, unheld_finding-none}
 use Rattle.dex_audit.proofs.TraderFrom.{open-from}

@@ -1,5 +1,5 @@
 -- Which accounts can be audited, and what accounts without findings are.
-use Rattle.std.specs.Prelude.{◌≡◌}
+use Rattle.std.specs.Prelude.{◌≡◌, List, map}
 use Rattle.std.specs.List.{All}
 use Rattle.dex_fields.specs.Bytes.{AreBytes}
 use Rattle.dex_types.specs.Accounts.{PlainAccount, PlainAccounts, PlainMarketAccounts}
@@ -8,7 +8,9 @@ use Rattle.dex_accounts.specs.Accepted.{IsAccepted}
 use Rattle.dex_orders.specs.StandsFor.{traders_of}
 use Rattle.dex_token.specs.MintAccount.{IsMint, mint_words}
 use Rattle.dex_token.specs.TokenAccount.{IsWallet}
-use Rattle.dex_audit.specs.Funds.{held_of}
+use Rattle.dex_audit.specs.Supplies.{held_of}
+use Rattle.dex_audit_rules.specs.declared.gathered.Gathered.{Gathered}
+use Rattle.dex_audit_rules.specs.Books.{gathered_in, plain_gathered}
 
 -- the words of the market are bytes: of its market account, vaults, queues and open-orders accounts
 pub record AreWords (accounts : PlainMarketAccounts) : Type 0 where
@@ -38,3 +40,7 @@ pub record HoldBytes (accounts : PlainAccounts) : Type 0 where
 -- a mint's supply is what wallets and vaults hold of it
 abbrev pub IsConserved : PlainAccounts → PlainAccount → Type 0
 IsConserved accounts mint = (mint_words mint.bytes).supply ≡ held_of mint.address accounts
+
+-- this was gathered of these markets
+abbrev pub AreGathered : List Gathered → List PlainMarketAccounts → Type 0
+AreGathered gathered markets = map plain_gathered gathered ≡ map gathered_in markets

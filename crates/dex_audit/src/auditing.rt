@@ -1,62 +1,94 @@
 //! The audit of all accounts.
 
-ghost use Rattle.std.specs.Prelude.{◌≡◌, ◌++◌, OnOk, IfOk};
+ghost use Rattle.std.specs.Prelude.{◌≡◌, [], ◌∷◌, ◌++◌, All, map, OnOk, IfOk};
 ghost use Rattle.std.specs.List.{flat_map};
 ghost use Rattle.dex_types.specs.Accounts.{accounts_of, market_accounts_of};
 ghost use Rattle.dex_accounts.specs.Accepted.{IsAccepted};
-ghost use Rattle.dex_audit.specs.Audited.{AreAuditable};
+ghost use Rattle.dex_audit.specs.Audited.{AreAuditable, AreGathered};
 ghost use Rattle.dex_audit.specs.Findings as audits;
-ghost use Rattle.dex_audit.specs.Funds as rules;
-ghost use Rattle.dex_audit.specs.Lists.{capped};
-ghost use Rattle.dex_audit.specs.RulesOf.{told_by};
+ghost use Rattle.dex_audit_rules.specs.RulesOf.{told_by};
 
-use crate::finding::Finding;
-use crate::market::{Rule, tell_rule};
-use crate::totals::tell_differs;
-use dex_token::{MintRef, WalletRef};
-use dex_types::{Accounts, Address, MarketAccounts, Named, NoMemory, is_same};
+use crate::supplies::tell_supplies;
+use dex_audit_rules::{Finding, Gathered, Rule, gather, tell_rule};
+use dex_types::{Accounts, MarketAccounts, NoMemory};
 use std::alloc::Global;
 
-/// Tells what breaks a rule, market by market.
-fn tell_markets(alloc: Global, found: &mut Vec<Finding>, markets: &[MarketAccounts], rule: Rule) -> Result<(), NoMemory>
+/// Adds what was gathered of a market behind the others.
+fn add_gathered(all: &mut Vec<Gathered>, one: Gathered) -> Result<(), NoMemory>
+    ensures { OnOk result (all.new.items ≡ all.old.items ++ one ∷ []) }
 {
-    for market in markets {
-        tell_rule(alloc, found, market, rule)?;
+    match all.push(one) {
+        Ok(()) => Ok(()),
+        Err(_) => Err(NoMemory),
+    }
+}
+
+/// The orders and events of each market.
+fn gather_all(alloc: Global, markets: &[MarketAccounts]) -> Result<Vec<Gathered>, NoMemory>
+    requires { All IsAccepted (map market_accounts_of markets.now) }
+    ensures { IfOk result (λ all. AreGathered all.items (map market_accounts_of markets.now)) }
+{
+    let mut all = Vec::new(alloc);
+    for place in 0..markets.len() {
+        let one = gather(alloc, &markets[place])?;
+        add_gathered(&mut all, one)?;
+    }
+    Ok(all)
+}
+
+/// Tells what breaks a rule, market by market.
+fn tell_markets(
+    alloc: Global,
+    found: &mut Vec<Finding>,
+    markets: &[MarketAccounts],
+    gathered: &[Gathered],
+    rule: Rule,
+) -> Result<(), NoMemory>
+    requires accepted { All IsAccepted (map market_accounts_of markets.now) }
+    requires gathered { AreGathered gathered.now (map market_accounts_of markets.now) }
+    ensures { OnOk result (found.new.items ≡ found.old.items ++ flat_map (told_by rule) (map market_accounts_of markets.now)) }
+{
+    for place in 0..markets.len() {
+        tell_rule(alloc, found, &markets[place], &gathered[place], rule)?;
     }
     Ok(())
 }
 
-/// The amount of a token account, where it is of the mint.
-fn amount_of(mint: Address, bytes: &[u8]) -> u128 {
-    let wallet = WalletRef { bytes };
-    if is_same(mint, wallet.mint()) {
-        u128::from(wallet.amount())
-    } else {
-        0
-    }
+/// Tells what breaks the rules of orders, events and slots.
+fn tell_slot_rules(
+    alloc: Global,
+    found: &mut Vec<Finding>,
+    markets: &[MarketAccounts],
+    gathered: &[Gathered],
+) -> Result<(), NoMemory>
+    requires accepted { All IsAccepted (map market_accounts_of markets.now) }
+    requires gathered { AreGathered gathered.now (map market_accounts_of markets.now) }
+    ensures { OnOk result (found.new.items ≡ found.old.items ++ audits.slot_findings (map market_accounts_of markets.now)) }
+{
+    tell_markets(alloc, found, markets, gathered, Rule::Homeless)?;
+    tell_markets(alloc, found, markets, gathered, Rule::Misheld)?;
+    tell_markets(alloc, found, markets, gathered, Rule::Unpaired)?;
+    tell_markets(alloc, found, markets, gathered, Rule::Astray)?;
+    tell_markets(alloc, found, markets, gathered, Rule::Ungiven)?;
+    tell_markets(alloc, found, markets, gathered, Rule::Repeated)
 }
 
-/// What wallets and vaults hold of a mint.
-fn held_of(mint: Address, accounts: &Accounts) -> u128 {
-    let mut sum: u128 = 0;
-    for wallet in &accounts.wallets {
-        sum = sum.saturating_add(amount_of(mint, &wallet.bytes));
-    }
-    for market in &accounts.markets {
-        let coin = amount_of(mint, &market.coin_vault);
-        let pc = amount_of(mint, &market.pc_vault);
-        sum = sum.saturating_add(coin).saturating_add(pc);
-    }
-    sum
-}
-
-/// Tells the mints whose supply is not what wallets and vaults hold.
-fn tell_supplies(found: &mut Vec<Finding>, accounts: &Accounts) -> Result<(), NoMemory> {
-    for mint in &accounts.mints {
-        let supply = MintRef { bytes: &mint.bytes }.supply();
-        tell_differs(found, 12, mint.address, 36, supply, held_of(mint.address, accounts))?;
-    }
-    Ok(())
+/// Tells what breaks the rules of funds, but for those of single mints and orders.
+fn tell_fund_rules(
+    alloc: Global,
+    found: &mut Vec<Finding>,
+    markets: &[MarketAccounts],
+    gathered: &[Gathered],
+) -> Result<(), NoMemory>
+    requires accepted { All IsAccepted (map market_accounts_of markets.now) }
+    requires gathered { AreGathered gathered.now (map market_accounts_of markets.now) }
+    ensures { OnOk result (found.new.items ≡ found.old.items ++ audits.fund_findings (map market_accounts_of markets.now)) }
+{
+    tell_markets(alloc, found, markets, gathered, Rule::Totals)?;
+    tell_markets(alloc, found, markets, gathered, Rule::Deposits)?;
+    tell_markets(alloc, found, markets, gathered, Rule::Vaults)?;
+    tell_markets(alloc, found, markets, gathered, Rule::Rebates)?;
+    tell_markets(alloc, found, markets, gathered, Rule::Beyond)
 }
 
 /// What an audit finds of accounts: each place where a rule over several accounts fails, by the rule, then by the accounts'
@@ -65,19 +97,12 @@ pub fn audit(alloc: Global, accounts: &Accounts) -> Result<Vec<Finding>, NoMemor
     requires { AreAuditable (accounts_of accounts.now) }
     ensures { IfOk result (λ found. found.items ≡ audits.findings (accounts_of accounts.now)) }
 {
+    let markets = &accounts.markets;
+    let gathered = gather_all(alloc, markets)?;
     let mut found = Vec::new(alloc);
-    tell_markets(alloc, &mut found, &accounts.markets, Rule::Homeless)?;
-    tell_markets(alloc, &mut found, &accounts.markets, Rule::Misheld)?;
-    tell_markets(alloc, &mut found, &accounts.markets, Rule::Unpaired)?;
-    tell_markets(alloc, &mut found, &accounts.markets, Rule::Astray)?;
-    tell_markets(alloc, &mut found, &accounts.markets, Rule::Ungiven)?;
-    tell_markets(alloc, &mut found, &accounts.markets, Rule::Repeated)?;
-    tell_markets(alloc, &mut found, &accounts.markets, Rule::Totals)?;
-    tell_markets(alloc, &mut found, &accounts.markets, Rule::Deposits)?;
-    tell_markets(alloc, &mut found, &accounts.markets, Rule::Vaults)?;
-    tell_markets(alloc, &mut found, &accounts.markets, Rule::Rebates)?;
-    tell_markets(alloc, &mut found, &accounts.markets, Rule::Beyond)?;
+    tell_slot_rules(alloc, &mut found, markets, &gathered)?;
+    tell_fund_rules(alloc, &mut found, markets, &gathered)?;
     tell_supplies(&mut found, accounts)?;
-    tell_markets(alloc, &mut found, &accounts.markets, Rule::TooLarge)?;
+    tell_markets(alloc, &mut found, markets, &gathered, Rule::TooLarge)?;
     Ok(found)
 }

@@ -1,0 +1,4 @@
+pub mod ListLaws
+pub mod ReadLaws
+pub mod FinalLaws
+pub mod SumLaws
