@@ -6,3 +6,4 @@ mod MarketForm
 mod SoundLaw
 mod NoneLaw
 mod SupplyLaws
+mod OnceLaws

@@ -6,7 +6,8 @@ use Rattle.dex_types.specs.Accounts.{PlainAccount, PlainAccounts, PlainMarketAcc
 use Rattle.dex_token.specs.MintAccount.{IsMint, mint_words}
 use Rattle.dex_accounts.specs.Decoded.{AreSound}
 use Rattle.dex_audit_rules.specs.declared.finding.Finding.{Finding}
-use Rattle.dex_audit.specs.Audited.{AreAuditable, HoldBytes, IsConserved}
+use Rattle.dex_dump.specs.Accepted.{AreAccepted, HoldBytes}
+use Rattle.dex_audit.specs.Audited.{IsConserved}
 use Rattle.dex_audit.specs.Findings.{findings, fund_findings, slot_findings, told}
 use Rattle.dex_audit.specs.Supplies.{held_of, supplies_off, supply_off}
 use Rattle.dex_audit_rules.specs.declared.market.Rule.{Rule}
@@ -15,6 +16,7 @@ use Rattle.dex_audit_rules.specs.RulesOf.{told_by}
 use Rattle.dex_audit.proofs.FundLaws.{differs-none}
 use Rattle.dex_audit_rules.proofs.ListLaws.{append-none, flat_map-none}
 use Rattle.dex_audit.proofs.MarketForm.{word-lt}
+use Rattle.dex_audit.proofs.OnceLaws.{accounts-distinct}
 use Rattle.dex_audit.proofs.SoundLaw.{IsClean, are-sound}
 
 -- a rule finds nothing in each market
@@ -59,15 +61,15 @@ clean accounts none =
       mints = last.0;
     }
 
-pub markets-sound : (accounts : PlainAccounts) → AreAuditable accounts → HoldBytes accounts → findings accounts ≡ [] → All AreSound accounts.markets
+pub markets-sound : (accounts : PlainAccounts) → AreAccepted accounts → HoldBytes accounts → findings accounts ≡ [] → All AreSound accounts.markets
 markets-sound accounts can bytes none k d lt =
-    are-sound (get_or accounts.markets k d) (can.markets k d lt) (bytes.markets k d lt) ((clean accounts none).markets k d lt)
+    are-sound (get_or accounts.markets k d) (record { accepted = can.markets k d lt; distinct = accounts-distinct accounts can k d lt }) (bytes.markets k d lt) ((clean accounts none).markets k d lt)
 
-pub mints-conserved : (accounts : PlainAccounts) → AreAuditable accounts → HoldBytes accounts → findings accounts ≡ [] → All (IsConserved accounts) accounts.mints
+pub mints-conserved : (accounts : PlainAccounts) → AreAccepted accounts → HoldBytes accounts → findings accounts ≡ [] → All (IsConserved accounts) accounts.mints
 mints-conserved accounts can bytes none k d lt =
     let mint : PlainAccount = get_or accounts.mints k d in
     let is : IsMint mint.bytes = can.mints k d lt in
     let size : length mint.bytes ≡ 82 = is.size in
     differs-none 12 mint.address 36 (mint_words mint.bytes).supply (held_of mint.address accounts)
-    (word-lt mint.bytes SUPPLY (bytes.mints k d lt) (omega arith) refl)
+    (word-lt mint.bytes SUPPLY (bytes.mints k d lt).bytes (omega arith) refl)
     (flat_map-none (supply_off accounts) accounts.mints (clean accounts none).mints k d lt)

@@ -4,7 +4,8 @@ ghost use Rattle.std.specs.Prelude.{◌≡◌, [], ◌∷◌, ◌++◌, All, map
 ghost use Rattle.std.specs.List.{flat_map};
 ghost use Rattle.dex_types.specs.Accounts.{accounts_of, market_accounts_of};
 ghost use Rattle.dex_accounts.specs.Accepted.{IsAccepted};
-ghost use Rattle.dex_audit.specs.Audited.{AreAuditable, AreGathered};
+ghost use Rattle.dex_audit.specs.Audited.{AreGathered};
+ghost use Rattle.dex_dump.specs.Accepted.{AreAccepted};
 ghost use Rattle.dex_audit.specs.Findings as audits;
 ghost use Rattle.dex_audit_rules.specs.RulesOf.{told_by};
 
@@ -94,7 +95,7 @@ fn tell_fund_rules(
 /// What an audit finds of accounts: each place where a rule over several accounts fails, by the rule, then by the accounts'
 /// order, then by place. Only want of memory can come in the place of the findings.
 pub fn audit(alloc: Global, accounts: &Accounts) -> Result<Vec<Finding>, NoMemory>
-    requires { AreAuditable (accounts_of accounts.now) }
+    requires { AreAccepted (accounts_of accounts.now) }
     ensures { IfOk result (λ found. found.items ≡ audits.findings (accounts_of accounts.now)) }
 {
     let markets = &accounts.markets;

@@ -4,6 +4,8 @@
 mod auditing;
 mod laws;
 mod supplies;
+#[cfg(test)]
+mod tests;
 
 pub use auditing::audit;
 pub use dex_audit_rules::Finding;

@@ -4,7 +4,7 @@ ghost use Rattle.std.specs.Prelude.{◌≡◌, ◌<◌, ◌^◌, ◌++◌, All, 
 ghost use Rattle.dex_types.specs.Accounts.{PlainAccount, PlainMarketAccounts, accounts_of, market_accounts_of, named_of};
 ghost use Rattle.dex_token.specs.TokenAccount.{IsWallet};
 ghost use Rattle.dex_accounts.specs.Accepted.{IsAccepted};
-ghost use Rattle.dex_audit.specs.Audited.{AreAuditable};
+ghost use Rattle.dex_dump.specs.Accepted.{AreAccepted};
 ghost use Rattle.dex_audit.specs.Supplies as rules;
 ghost use Rattle.dex_audit_rules.specs.Lists.{capped};
 
@@ -63,7 +63,7 @@ fn in_vaults(mint: Address, markets: &[MarketAccounts]) -> u128
 
 /// What the accounts hold of a mint.
 fn held_of(mint: Address, accounts: &Accounts) -> u128
-    requires { AreAuditable (accounts_of accounts.now) }
+    requires { AreAccepted (accounts_of accounts.now) }
     ensures { result ≡ capped (rules.held_of mint (accounts_of accounts.now)) }
 {
     let wallets = in_wallets(mint, &accounts.wallets);
@@ -72,7 +72,7 @@ fn held_of(mint: Address, accounts: &Accounts) -> u128
 
 /// Tells the mints whose supply is not what wallets and vaults hold.
 pub fn tell_supplies(found: &mut Vec<Finding>, accounts: &Accounts) -> Result<(), NoMemory>
-    requires { AreAuditable (accounts_of accounts.now) }
+    requires { AreAccepted (accounts_of accounts.now) }
     ensures { OnOk result (found.new.items ≡ found.old.items ++ rules.supplies_off (accounts_of accounts.now)) }
 {
     for place in 0..accounts.mints.len() {

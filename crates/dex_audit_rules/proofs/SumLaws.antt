@@ -17,15 +17,19 @@ total-more weight xs i d lt = omega (arith, ap (total weight) (take_more xs i d 
 
 -- ---- resting orders of an id
 
-one-of : (b same : Bool) → same ≡ true → cond (b && same) 1 0 ≡ cond b 1 0
-one-of true same is = rw is refl
+-- one where it is so
+abbrev one : Bool → ℕ
+one b = cond b 1 0
+
+one-of : (b same : Bool) → same ≡ true → one (b && same) ≡ one b
+one-of true same is = ap one is
 one-of false same is = refl
 
 -- of a side's orders the id alone tells which is counted
-pub counts-id : (side : Side) (id client : ℕ) (order : Order) → counts_order side (record { id = id; side = side; client = client }) order ≡ cond (eqb id order.id) 1 0
+pub counts-id : (side : Side) (id client : ℕ) (order : Order) → counts_order side (record { id = id; side = side; client = client }) order ≡ one (eqb id order.id)
 counts-id side id client order = one-of (eqb id order.id) (is_same_side side side) (is_same_side-refl side)
 
-one-le : (b : Bool) → cond b 1 0 ≤ 1
+one-le : (b : Bool) → one b ≤ 1
 one-le true = omega arith
 one-le false = omega arith
 

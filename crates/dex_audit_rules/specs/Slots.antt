@@ -1,5 +1,5 @@
 -- What an audit finds of orders, events and the slots that they stand for: the rules 1 to 6.
-use Rattle.std.specs.Prelude.{ℕ, ◌+◌, List, [], ◌∷◌, ◌++◌, Option, Some, None, Bool, true, false, ◌&&◌, ◌==◌, not, nat_lt, take, if◌then◌else◌}
+use Rattle.std.specs.Prelude.{ℕ, ◌+◌, List, [], ◌∷◌, ◌++◌, Option, Some, None, Bool, true, false, ◌&&◌, ◌==◌, not, nat_lt, take, slice_index_or, if◌then◌else◌}
 use Rattle.std.specs.List.{flat_map}
 use Rattle.dex_types.specs.declared.addresses.Address.{Address}
 use Rattle.dex_types.specs.declared.orders.Order.{Order}
@@ -57,6 +57,10 @@ abbrev pub unheld : Address → ℕ → Option Holding → Side → List Order �
 unheld owner slot held side [] = None
 unheld owner slot held side (order ∷ others) =
     if is_order_at owner slot order && not (is_held held (order_holding side order)) then Some order.id else unheld owner slot held side others
+
+-- the same, of what the slot of an account holds
+abbrev pub unheld_in : Address → Account → Side → ℕ → List Order → Option ℕ
+unheld_in owner account side slot orders = unheld owner slot (slice_index_or account.slots slot None) side orders
 
 -- the first of two, if there is one, else the second
 abbrev pub or_else : Option ℕ → Option ℕ → Option ℕ

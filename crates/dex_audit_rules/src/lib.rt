@@ -9,6 +9,7 @@ mod gathered;
 mod held;
 mod locks;
 mod market;
+mod misheld;
 mod pending;
 mod resting;
 mod slots;

@@ -2,6 +2,7 @@
 
 ghost use Rattle.std.specs.Prelude.{◌≡◌, ◌++◌, OnOk};
 ghost use Rattle.dex_types.specs.Accounts.{market_accounts_of};
+ghost use Rattle.dex_types.specs.Market.{Market};
 ghost use Rattle.dex_accounts.specs.Accepted.{IsAccepted};
 ghost use Rattle.dex_accounts.specs.Decoded.{market_in};
 ghost use Rattle.dex_audit_rules.specs.Books.{IsBook, IsOf, gathered_in, plain_gathered};
@@ -14,8 +15,9 @@ use crate::counts::{all_finals, all_resting};
 use crate::finding::Finding;
 use crate::gathered::Gathered;
 use crate::locks::{tell_exceeds, tell_too_large};
+use crate::misheld::tell_misheld;
 use crate::pending::tell_astray;
-use crate::resting::{tell_homeless, tell_misheld};
+use crate::resting::tell_homeless;
 use crate::slots::{tell_repeated, tell_ungiven, tell_unpaired};
 use crate::taken::taken_slots;
 use crate::totals::{coin_deposits, pc_deposits, rebates, tell_differs, tell_totals, with_leaving};
@@ -132,57 +134,43 @@ fn tell_beyond(found: &mut Vec<Finding>, market: &MarketAccounts, book: &Book<'_
     tell_exceeds(found, 11, words.pc_vault(), 64, pc)
 }
 
-/// Tells what breaks a rule on slots.
-fn tell_slots(alloc: Global, found: &mut Vec<Finding>, market: &MarketAccounts, book: &Book<'_>, rule: Rule) -> Result<(), NoMemory>
-    requires accepted { IsAccepted (market_accounts_of market.now) }
-    requires book { IsBook book.now }
-    requires of { IsOf book.now (market_in (market_accounts_of market.now)) }
-    ensures { OnOk result (found.new.items ≡ found.old.items ++ told_by rule (market_accounts_of market.now)) }
+/// Tells the taken slots whose order does not rest or is not ended once.
+fn tell_ends(alloc: Global, found: &mut Vec<Finding>, book: &Book<'_>) -> Result<(), NoMemory>
+    requires { IsBook book.now }
+    ensures { (m : Market) → IsOf book.now m → OnOk result (found.new.items ≡ found.old.items ++ rules.unpaired_in m) }
 {
-    let words = MarketRef { bytes: &market.market };
-    match rule {
-        Rule::Misheld => tell_misheld(found, book.accounts, book.bids, book.asks),
-        Rule::Unpaired => {
-            let taken = taken_slots(alloc, book.accounts)?;
-            let resting = all_resting(alloc, book.bids, book.asks)?;
-            let finals = all_finals(alloc, book.events)?;
-            tell_unpaired(found, &resting, &finals, &taken)
-        }
-        Rule::Astray => tell_astray(alloc, found, book.accounts, book.events, words.event_q()),
-        Rule::Ungiven => {
-            let taken = taken_slots(alloc, book.accounts)?;
-            tell_ungiven(found, get_u64(&market.requests, NEXT_SEQ_NUM), &taken)
-        }
-        Rule::Repeated => {
-            let taken = taken_slots(alloc, book.accounts)?;
-            tell_repeated(alloc, found, &taken)
-        }
-        Rule::Homeless
-        | Rule::Totals
-        | Rule::Deposits
-        | Rule::Vaults
-        | Rule::Rebates
-        | Rule::Beyond
-        | Rule::TooLarge => tell_funds(found, market, book, rule),
-    }
+    let taken = taken_slots(alloc, book.accounts)?;
+    let resting = all_resting(alloc, book.bids, book.asks)?;
+    let finals = all_finals(alloc, book.events)?;
+    tell_unpaired(found, &resting, &finals, &taken)
 }
 
-/// Tells what breaks a rule on orders and funds.
-fn tell_funds(found: &mut Vec<Finding>, market: &MarketAccounts, book: &Book<'_>, rule: Rule) -> Result<(), NoMemory>
+fn tell_events(alloc: Global, found: &mut Vec<Finding>, market: &MarketAccounts, book: &Book<'_>) -> Result<(), NoMemory>
     requires accepted { IsAccepted (market_accounts_of market.now) }
     requires book { IsBook book.now }
     requires of { IsOf book.now (market_in (market_accounts_of market.now)) }
-    ensures { OnOk result (found.new.items ≡ found.old.items ++ told_by rule (market_accounts_of market.now)) }
+    ensures { OnOk result (found.new.items ≡ found.old.items ++ rules.astray_in (market_in (market_accounts_of market.now))) }
 {
-    match rule {
-        Rule::Homeless => tell_orders(found, market, book),
-        Rule::Totals => tell_totals(found, book),
-        Rule::Deposits => tell_deposits(found, market, book),
-        Rule::Vaults => tell_vaults(found, market, book),
-        Rule::Rebates => tell_rebates(found, market, book),
-        Rule::Beyond => tell_beyond(found, market, book),
-        _ => tell_locks(found, market, book),
-    }
+    let words = MarketRef { bytes: &market.market };
+    tell_astray(alloc, found, book.accounts, book.events, words.event_q())
+}
+
+fn tell_numbers(alloc: Global, found: &mut Vec<Finding>, market: &MarketAccounts, book: &Book<'_>) -> Result<(), NoMemory>
+    requires accepted { IsAccepted (market_accounts_of market.now) }
+    requires book { IsBook book.now }
+    requires of { IsOf book.now (market_in (market_accounts_of market.now)) }
+    ensures { OnOk result (found.new.items ≡ found.old.items ++ rules.ungiven_in (market_in (market_accounts_of market.now))) }
+{
+    let taken = taken_slots(alloc, book.accounts)?;
+    tell_ungiven(found, get_u64(&market.requests, NEXT_SEQ_NUM), &taken)
+}
+
+fn tell_doubles(alloc: Global, found: &mut Vec<Finding>, book: &Book<'_>) -> Result<(), NoMemory>
+    requires { IsBook book.now }
+    ensures { (m : Market) → IsOf book.now m → OnOk result (found.new.items ≡ found.old.items ++ rules.repeated_in m) }
+{
+    let taken = taken_slots(alloc, book.accounts)?;
+    tell_repeated(alloc, found, &taken)
 }
 
 /// What the rules read of a market.
@@ -215,5 +203,18 @@ pub fn tell_rule(
     ensures { OnOk result (found.new.items ≡ found.old.items ++ told_by rule (market_accounts_of market.now)) }
 {
     let book = book_of(market, gathered);
-    tell_slots(alloc, found, market, &book, rule)
+    match rule {
+        Rule::Homeless => tell_orders(found, market, &book),
+        Rule::Misheld => tell_misheld(found, book.accounts, book.bids, book.asks),
+        Rule::Unpaired => tell_ends(alloc, found, &book),
+        Rule::Astray => tell_events(alloc, found, market, &book),
+        Rule::Ungiven => tell_numbers(alloc, found, market, &book),
+        Rule::Repeated => tell_doubles(alloc, found, &book),
+        Rule::Totals => tell_totals(found, &book),
+        Rule::Deposits => tell_deposits(found, market, &book),
+        Rule::Vaults => tell_vaults(found, market, &book),
+        Rule::Rebates => tell_rebates(found, market, &book),
+        Rule::Beyond => tell_beyond(found, market, &book),
+        Rule::TooLarge => tell_locks(found, market, &book),
+    }
 }

@@ -1,4 +1,4 @@
-use Rattle.std.proofs.Common.{◌≡◌, ℕ}
+use Rattle.std.proofs.Common.{◌≡◌, ℕ, List}
 use Rattle.dex_types.specs.declared.orders.Order.{Order}
 use Rattle.dex_types.specs.declared.terms.Side.{Side}
 use Rattle.dex_types.specs.declared.terms.Side.TheVariants.{Bid, Ask}
@@ -19,11 +19,11 @@ resting-of counts bids asks for_bids for_asks id Ask client = for_asks Ask id cl
 pub returns : goal.returns
 returns c = λ held.
     resting-of
-    (record { bids = c.in_ok-count_ids-bids.value; asks = c.in_ok-count_ids-asks.value })
+    (record { bids = c.in_ok-bids.bids; asks = c.in_ok-asks.asks })
     c.args.bids.now
     c.args.asks.now
-    c.in_ok-count_ids-bids.ensures
-    c.in_ok-count_ids-asks.ensures
+    c.in_ok-bids.ensures
+    c.in_ok-asks.ensures
     held.id
     held.side
     held.client

@@ -1,4 +1,4 @@
-use Rattle.std.proofs.Common.{◌≡◌, ◌++◌, [], get_or, length, map, sym, ap, ◌∙◌, arith, take}
+use Rattle.std.proofs.Common.{◌≡◌, ◌<◌, ◌++◌, [], get_or, length, map, sym, ap, ◌∙◌, arith, take}
 use Rattle.std.proofs.lemmas.List.{get_or-map, length-map}
 use Rattle.dex_types.specs.declared.orders.Event.{Event}
 use Rattle.dex_types.specs.QueuedEvent.{QueuedEvent, decoded_event}
@@ -19,7 +19,7 @@ loop-number-preserved c =
     let events = map decoded_event c.args.events.now in
     let number = c.loop-number.number in
     let event = get_or-map decoded_event c.args.events.now number d (decoded_event d) (omega arith) in
-    let lt = omega (arith, length-map c.args.events.now decoded_event) in
+    let lt : number < length events = omega (arith, length-map c.args.events.now decoded_event) in
     record {
       told =
           told-more (astray (traders c.args.accounts.now) events c.args.queue) events number (decoded_event d)

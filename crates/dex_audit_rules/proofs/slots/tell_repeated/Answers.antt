@@ -4,7 +4,7 @@ use Rattle.dex_audit_rules.specs.declared.taken.Taken.{Taken}
 use Rattle.dex_audit_rules.specs.Slots.{is_number_of, number_of, repeated}
 use Rattle.dex_audit_rules.specs.Tallies.{times}
 use Rattle.dex_audit_rules.proofs.ListLaws.{told-more}
-use Rattle.dex_audit_rules.proofs.SlotLaws.{is_number_of-more, met-more}
+use Rattle.dex_audit_rules.proofs.MetLaws.{is_number_of-more, met-more}
 use Rattle.dex_audit_rules.proofs.slots.tell_repeated.Goals as goal
 
 pub loop-place-preserved : goal.loop-place-preserved

@@ -2,7 +2,7 @@ use Rattle.std.proofs.Common.{◌≡◌, ◌++◌, take}
 use Rattle.dex_orders.specs.OrdersAccount.{account_of}
 use Rattle.dex_audit_rules.specs.Lists.{numbered}
 use Rattle.dex_audit_rules.specs.Slots.{misheld}
-use Rattle.dex_audit_rules.proofs.resting.tell_slots.Given as goal
+use Rattle.dex_audit_rules.proofs.misheld.tell_slots.Given as goal
 
 abbrev pub invariant-loop-slot : goal.invariant-loop-slot
 invariant-loop-slot l =
