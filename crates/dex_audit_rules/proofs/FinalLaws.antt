@@ -1,17 +1,12 @@
 -- final outs of pending events, event by event
-use Rattle.std.proofs.Common.{◌≡◌, ℕ, ◌+◌, ◌-◌, ◌^◌, ◌<◌, ◌≤◌, Bool, true, false, ◌&&◌, cond, List, [], ◌∷◌, ◌++◌, length, get_or, take, refl, sym, ap, ◌∙◌, subst, arith}
+use Rattle.std.proofs.Common.{◌≡◌, ℕ, ◌+◌, ◌<◌, ◌≤◌, Bool, true, false, ◌&&◌, cond, List, [], ◌∷◌, length, get_or, take, refl, ap, ◌∙◌, arith}
 use Rattle.std.proofs.lemmas.List.{length-take, take_more}
-use Rattle.dex_fields.specs.declared.event_queue.TheConstants.{COUNT}
-use Rattle.dex_fields.specs.Bytes.{number_in}
 use Rattle.dex_types.specs.declared.orders.Event.{Event}
 use Rattle.dex_types.specs.declared.terms.Side.TheVariants.{Bid, Ask}
 use Rattle.dex_types.specs.QueuedEvent.{EventKind, MakerFill, TakerFill, PlainOut, ReleasingOut, QueuedEvent, decoded_event, encoded_event, flags_of, kind_of}
 use Rattle.dex_types.specs.Soundness.{counts_final, event_holding, finals_of, is_final, is_one_order}
-use Rattle.dex_types.specs.Totals.{total}
 use Rattle.dex_types.specs.Trader.{Holding}
 use Rattle.dex_laws.proofs.TotalLaws.{total-append}
-use Rattle.dex_ring.specs.Ring.{IsEventQueue, capacity_of, events_of}
-use Rattle.dex_ring.proofs.RingLaw.{capacity_of-le, length-events_of}
 
 -- an event is what is decoded of its code
 kind-of_flags : (kind : EventKind) → kind_of (flags_of kind) ≡ kind

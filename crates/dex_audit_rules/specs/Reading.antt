@@ -1,11 +1,11 @@
 -- What the calls of an audit read: the traders of open-orders accounts, and slots as an account tells them.
-use Rattle.std.specs.Prelude.{◌≡◌, ℕ, List, Option, map}
+use Rattle.std.specs.Prelude.{ℕ, List, Option, map}
 use Rattle.std.specs.List.{All}
 use Rattle.std.specs.Option.{option_map}
 use Rattle.dex_types.specs.declared.account_bytes.MarketAccounts.{MarketAccounts}
 use Rattle.dex_types.specs.declared.account_bytes.OrdersAccount.{OrdersAccount}
 use Rattle.dex_types.specs.declared.terms.Side.{Side}
-use Rattle.dex_types.specs.Accounts.{PlainAccount, market_accounts_of, orders_account_of}
+use Rattle.dex_types.specs.Accounts.{market_accounts_of, orders_account_of}
 use Rattle.dex_types.specs.Market.{Market}
 use Rattle.dex_types.specs.Trader.{Holding, Traders}
 use Rattle.dex_accounts.specs.Decoded.{market_in}

@@ -1,4 +1,4 @@
-use Rattle.std.proofs.Common.{◌≡◌, ◌<◌, ℕ, length, get_or, take, sym, ap, ◌∙◌, arith, map}
+use Rattle.std.proofs.Common.{◌≡◌, get_or, take, sym, ap, ◌∙◌, arith, map}
 use Rattle.std.proofs.lemmas.List.{take_all}
 use Rattle.dex_types.specs.declared.account_bytes.OrdersAccount.{OrdersAccount}
 use Rattle.dex_types.specs.declared.addresses.Address.{Address}

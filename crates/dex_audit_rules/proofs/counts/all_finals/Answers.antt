@@ -1,9 +1,8 @@
-use Rattle.std.proofs.Common.{◌≡◌, ◌+◌, ◌<◌, [], map, take, length, get_or, sym, ap, ◌∙◌, arith}
+use Rattle.std.proofs.Common.{[], map, sym, ap, arith}
 use Rattle.std.proofs.lemmas.List.{get_or-map, length-map}
 use Rattle.dex_types.specs.declared.orders.Event.{Event}
 use Rattle.dex_types.specs.QueuedEvent.{decoded_event}
-use Rattle.dex_types.specs.Soundness.{counts_final, finals_of}
-use Rattle.dex_audit_rules.specs.Tallies.{times_of}
+use Rattle.dex_types.specs.Soundness.{counts_final}
 use Rattle.dex_audit_rules.proofs.FinalLaws.{finals-few, finals-more}
 use Rattle.dex_audit_rules.proofs.counts.all_finals.Goals as goal
 

@@ -5,9 +5,8 @@ use Rattle.dex_types.specs.declared.terms.Side.TheVariants.{Bid, Ask}
 use Rattle.dex_types.specs.Side.{by_side}
 use Rattle.dex_types.specs.Soundness.{counts_order}
 use Rattle.dex_types.specs.Totals.{total}
-use Rattle.dex_types.specs.Trader.{Holding}
 use Rattle.dex_audit_rules.specs.declared.counts.Counts.{Counts}
-use Rattle.dex_audit_rules.specs.Tallies.{AreIds, AreResting, times_of}
+use Rattle.dex_audit_rules.specs.Tallies.{AreIds, times_of}
 use Rattle.dex_audit_rules.proofs.counts.all_resting.Goals as goal
 
 resting-of : (counts : Counts) (bids asks : List Order) → AreIds counts.bids bids → AreIds counts.asks asks → (id : ℕ) (side : Side) (client : ℕ)

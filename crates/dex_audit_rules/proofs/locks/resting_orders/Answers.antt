@@ -1,7 +1,6 @@
-use Rattle.std.proofs.Common.{◌≡◌, ◌∷◌, [], ◌++◌, length, Option, Some, refl, sym, ap, ◌∙◌, subst, arith}
+use Rattle.std.proofs.Common.{◌∷◌, [], ◌++◌, Option, Some, sym, ap, ◌∙◌, subst, arith}
 use Rattle.std.proofs.lemmas.List.{append_assoc}
 use Rattle.dex_types.specs.declared.orders.Order.{Order}
-use Rattle.dex_types.specs.BookSide.{order_after}
 use Rattle.dex_laws.specs.Walks.{orders_from, IsReached}
 use Rattle.dex_laws.proofs.WalkLaws.{walk-step}
 use Rattle.dex_slab.specs.Slab.{resting}

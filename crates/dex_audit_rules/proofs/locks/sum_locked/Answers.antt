@@ -1,7 +1,6 @@
 use Rattle.std.proofs.Common.{ℕ, [], arith}
 use Rattle.dex_types.specs.declared.orders.Order.{Order}
-use Rattle.dex_types.specs.Owed.{is_order_of, order_lock}
-use Rattle.dex_types.specs.Totals.{weighed_where}
+use Rattle.dex_types.specs.Owed.{order_lock}
 use Rattle.dex_audit_rules.proofs.SumLaws.{capped-total}
 use Rattle.dex_audit_rules.proofs.locks.sum_locked.Goals as goal
 

@@ -1,6 +1,6 @@
 use Rattle.std.proofs.Common.{◌≡◌, take}
-use Rattle.dex_types.specs.Owed.{is_order_of, order_lock}
-use Rattle.dex_types.specs.Totals.{total, weighed_where}
+use Rattle.dex_types.specs.Owed.{order_lock}
+use Rattle.dex_types.specs.Totals.{total}
 use Rattle.dex_audit_rules.specs.Lists.{capped}
 use Rattle.dex_audit_rules.proofs.locks.sum_locked.Given as goal
 

@@ -1,4 +1,4 @@
-use Rattle.std.proofs.Common.{◌≡◌, ◌<◌, ◌++◌, ℕ, None, Option, length, refl, sym, ap, ◌∙◌, arith, get_or, replicate, take}
+use Rattle.std.proofs.Common.{◌≡◌, ◌<◌, ◌++◌, ℕ, None, Option, ap, ◌∙◌, arith, get_or}
 use Rattle.std.proofs.lemmas.List.{get_or-replicate, take_all}
 use Rattle.dex_types.specs.declared.terms.Side.TheVariants.{Bid, Ask}
 use Rattle.dex_types.specs.Trader.{Holding}

@@ -1,4 +1,4 @@
-use Rattle.std.proofs.Common.{◌≡◌, ◌<◌, ◌++◌, [], get_or, length, map, sym, ap, ◌∙◌, arith, take}
+use Rattle.std.proofs.Common.{◌<◌, ◌++◌, [], length, map, sym, ap, ◌∙◌, arith, take}
 use Rattle.std.proofs.lemmas.List.{get_or-map, length-map}
 use Rattle.dex_types.specs.declared.orders.Event.{Event}
 use Rattle.dex_types.specs.QueuedEvent.{QueuedEvent, decoded_event}

@@ -1,6 +1,4 @@
-use Rattle.std.proofs.Common.{◌++◌, refl, sym, ap, ◌∙◌, arith, get_or}
-use Rattle.dex_types.specs.Trader.{trader_at}
-use Rattle.dex_audit_rules.specs.Lists.{unless}
+use Rattle.std.proofs.Common.{arith}
 use Rattle.dex_audit_rules.specs.Reading.{traders}
 use Rattle.dex_audit_rules.specs.Slots.{homeless}
 use Rattle.dex_audit_rules.proofs.ListLaws.{told-more}

@@ -1,4 +1,4 @@
-use Rattle.std.proofs.Common.{◌≡◌, ◌<◌, ◌++◌, ℕ, [], length, eqb, not, take, get_or, refl, sym, ap, ◌∙◌, arith, cond}
+use Rattle.std.proofs.Common.{◌≡◌, ℕ, [], eqb, not, take, get_or, sym, ap, ◌∙◌, arith, cond}
 use Rattle.dex_types.specs.declared.terms.Side.TheVariants.{Bid}
 use Rattle.dex_audit_rules.specs.declared.taken.Taken.{Taken}
 use Rattle.dex_audit_rules.specs.Slots.{is_number_of, number_of, repeated}

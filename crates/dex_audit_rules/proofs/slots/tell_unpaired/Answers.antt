@@ -1,5 +1,5 @@
-use Rattle.std.proofs.Common.{◌≡◌, ◌∙◌, arith}
-use Rattle.dex_audit_rules.specs.Slots.{ends_of, unpaired}
+use Rattle.std.proofs.Common.{◌∙◌, arith}
+use Rattle.dex_audit_rules.specs.Slots.{unpaired}
 use Rattle.dex_audit_rules.proofs.ListLaws.{joined-more}
 use Rattle.dex_audit_rules.proofs.slots.tell_unpaired.Goals as goal
 

@@ -1,4 +1,4 @@
-use Rattle.std.proofs.Common.{◌≡◌, ◌++◌, None, length, refl, sym, ap, ◌∙◌, arith, get_or, take}
+use Rattle.std.proofs.Common.{◌≡◌, ◌++◌, None, ap, ◌∙◌, arith, get_or}
 use Rattle.std.proofs.lemmas.List.{take_all}
 use Rattle.dex_orders.proofs.SlotLaw.{length-slots_of}
 use Rattle.dex_orders.specs.OrdersAccount.{account_of}

@@ -1,8 +1,8 @@
-use Rattle.std.proofs.Common.{◌≡◌, ℕ, inl, inr, ◌⊎◌, eqb, ap, refl, sym, arith, cond, List}
+use Rattle.std.proofs.Common.{◌≡◌, ℕ, inl, inr, refl, arith, List}
 use Rattle.std.proofs.lemmas.Bool.{eq-eqb}
 use Rattle.dex_fields.specs.declared.open_orders.TheConstants.{ACCOUNT_FLAGS}
 use Rattle.dex_fields.specs.Bytes.{number_in}
-use Rattle.dex_types.specs.Trader.{Trader, Blank, Closed, Open}
+use Rattle.dex_types.specs.Trader.{Open}
 use Rattle.dex_orders.proofs.Verdicts.{not_blank}
 use Rattle.dex_orders.specs.OrdersAccount.{IsOpen, IsOrders, account_of}
 use Rattle.dex_orders.specs.StandsFor.{trader_of}

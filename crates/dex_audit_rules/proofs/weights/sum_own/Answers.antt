@@ -1,4 +1,4 @@
-use Rattle.std.proofs.Common.{◌≡◌, [], ◌<◌, length, get_or, map, sym, ap, ◌∙◌, arith}
+use Rattle.std.proofs.Common.{[], ◌<◌, length, get_or, map, sym, ap, ◌∙◌, arith}
 use Rattle.std.proofs.lemmas.List.{get_or-map, length-map}
 use Rattle.dex_types.specs.declared.orders.Event.{Event}
 use Rattle.dex_types.specs.QueuedEvent.{QueuedEvent, decoded_event}
