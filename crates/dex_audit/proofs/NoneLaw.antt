@@ -1,11 +1,10 @@
 -- where an audit of all accounts finds nothing, it finds nothing by any rule in any market, and each mint is conserved
 use Rattle.std.proofs.Common.{◌≡◌, List, [], length, get_or, refl, arith}
-use Rattle.std.specs.List.{All, flat_map}
+use Rattle.std.specs.List.{All}
 use Rattle.dex_fields.specs.declared.mint.TheConstants.{SUPPLY}
 use Rattle.dex_types.specs.Accounts.{PlainAccount, PlainAccounts, PlainMarketAccounts}
 use Rattle.dex_token.specs.MintAccount.{IsMint, mint_words}
 use Rattle.dex_accounts.specs.Decoded.{AreSound}
-use Rattle.dex_audit_rules.specs.declared.finding.Finding.{Finding}
 use Rattle.dex_dump.specs.Accepted.{AreAccepted, HoldBytes}
 use Rattle.dex_audit.specs.Audited.{IsConserved}
 use Rattle.dex_audit.specs.Findings.{findings, fund_findings, slot_findings, told}

@@ -1,6 +1,5 @@
 -- among accepted accounts no open-orders account of a market stands twice
-use Rattle.std.proofs.Common.{◌≡◌, ℕ, zero, suc, ◌+◌, ◌<◌, ◌≤◌, Bool, true, false, cond, List, [], ◌∷◌, ◌++◌, length, get_or, map, Option, None, refl, ap, arith, inl, inr}
-use Rattle.std.proofs.lemmas.Bool.{cases_eq}
+use Rattle.std.proofs.Common.{◌≡◌, ℕ, zero, suc, ◌+◌, ◌<◌, ◌≤◌, Bool, true, false, cond, List, [], ◌∷◌, ◌++◌, length, get_or, map, None, refl, ap, arith, ◌⊎◌, inl, inr}
 use Rattle.std.proofs.lemmas.List.Sums.{sum_by-append, sum_by-cons}
 use Rattle.std.specs.List.{All, flat_map}
 use Rattle.dex_types.specs.declared.addresses.Address.{Address}
@@ -10,7 +9,7 @@ use Rattle.dex_types.specs.Soundness.{AreDistinct}
 use Rattle.dex_types.specs.Trader.{trader_at}
 use Rattle.dex_laws.proofs.TraderLaws.{is_same-refl}
 use Rattle.dex_orders.specs.StandsFor.{traders_of}
-use Rattle.dex_dump.specs.Accepted.{AreAccepted, address_of, addresses_of, all_of_market, times}
+use Rattle.dex_dump.specs.Accepted.{AreAccepted, address_of, all_of_market, times}
 use Rattle.dex_dump.specs.Reading.{market_addresses}
 
 -- one where it is so
@@ -23,12 +22,16 @@ times-cons address x xs = sum_by-cons (λ (y : Address). one (is_same address y)
 times-append : (address : Address) (xs ys : List Address) → times address (xs ++ ys) ≡ times address xs + times address ys
 times-append address xs ys = sum_by-append (λ (y : Address). one (is_same address y)) xs ys
 
+by_test : (b : Bool) → (b ≡ true) ⊎ (b ≡ false)
+by_test true = inl refl
+by_test false = inr refl
+
 -- an address that does not stand there has no trader
 none-at : (address : Address) (accounts : List PlainAccount) → times address (map address_of accounts) ≡ 0 → trader_at address (traders_of accounts) ≡ None
 none-at address [] none = refl
 none-at address (account ∷ accounts) none =
     let more = times-cons address account.address (map address_of accounts) in
-    elim cases_eq (is_same address account.address) [
+    elim (by_test (is_same address account.address)) [
       | inl same ↦ absurd (omega (arith, more, ap one same))
       | inr apart ↦ rw apart (none-at address accounts (omega arith))
     ]

@@ -103,7 +103,7 @@ pub fn audit(alloc: Global, accounts: &Accounts) -> Result<Vec<Finding>, NoMemor
     let mut found = Vec::new(alloc);
     tell_slot_rules(alloc, &mut found, markets, &gathered)?;
     tell_fund_rules(alloc, &mut found, markets, &gathered)?;
-    tell_supplies(&mut found, accounts)?;
+    tell_supplies(&mut found, &accounts.mints, accounts)?;
     tell_markets(alloc, &mut found, markets, &gathered, Rule::TooLarge)?;
     Ok(found)
 }

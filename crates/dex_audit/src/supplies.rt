@@ -1,7 +1,9 @@
 //! The rule of mints: a mint's supply is what wallets and vaults hold of it.
 
-ghost use Rattle.std.specs.Prelude.{◌≡◌, ◌<◌, ◌^◌, ◌++◌, All, map, OnOk};
+ghost use Rattle.std.specs.Prelude.{◌≡◌, ◌+◌, ◌<◌, ◌^◌, ◌++◌, All, map, OnOk};
+ghost use Rattle.std.specs.List.{flat_map};
 ghost use Rattle.dex_types.specs.Accounts.{PlainAccount, PlainMarketAccounts, accounts_of, market_accounts_of, named_of};
+ghost use Rattle.dex_token.specs.MintAccount.{IsMint};
 ghost use Rattle.dex_token.specs.TokenAccount.{IsWallet};
 ghost use Rattle.dex_accounts.specs.Accepted.{IsAccepted};
 ghost use Rattle.dex_dump.specs.Accepted.{AreAccepted};
@@ -70,13 +72,14 @@ fn held_of(mint: Address, accounts: &Accounts) -> u128
     wallets.saturating_add(in_vaults(mint, &accounts.markets))
 }
 
-/// Tells the mints whose supply is not what wallets and vaults hold.
-pub fn tell_supplies(found: &mut Vec<Finding>, accounts: &Accounts) -> Result<(), NoMemory>
-    requires { AreAccepted (accounts_of accounts.now) }
-    ensures { OnOk result (found.new.items ≡ found.old.items ++ rules.supplies_off (accounts_of accounts.now)) }
+/// Tells which of these mints have another supply than what wallets and vaults hold.
+pub fn tell_supplies(found: &mut Vec<Finding>, mints: &[Named], accounts: &Accounts) -> Result<(), NoMemory>
+    requires mints { All (λ (mint : PlainAccount). IsMint mint.bytes) (map named_of mints.now) }
+    requires accounts { AreAccepted (accounts_of accounts.now) }
+    ensures { OnOk result (found.new.items ≡ found.old.items ++ flat_map (rules.supply_off (accounts_of accounts.now)) (map named_of mints.now)) }
 {
-    for place in 0..accounts.mints.len() {
-        let mint = &accounts.mints[place];
+    for place in 0..mints.len() {
+        let mint = &mints[place];
         let supply = MintRef { bytes: &mint.bytes }.supply();
         let held = held_of(mint.address, accounts);
         tell_differs(found, 12, mint.address, 36, supply, held)?;

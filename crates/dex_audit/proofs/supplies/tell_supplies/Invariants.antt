@@ -5,5 +5,4 @@ use Rattle.dex_audit.specs.Supplies.{supply_off}
 use Rattle.dex_audit.proofs.supplies.tell_supplies.Given as goal
 
 abbrev pub invariant-loop-place : goal.invariant-loop-place
-invariant-loop-place l =
-    l.found.items ≡ l.initial.found.items ++ flat_map (supply_off (accounts_of l.accounts)) (take l.place (map named_of l.accounts.mints.items))
+invariant-loop-place l = l.found.items ≡ l.initial.found.items ++ flat_map (supply_off (accounts_of l.accounts)) (take l.place (map named_of l.mints))
