@@ -38,10 +38,11 @@ none-at address (account ∷ accounts) none =
 
 distinct-of : (accounts : List PlainAccount) → ((address : Address) → times address (map address_of accounts) ≤ 1) → AreDistinct (traders_of accounts)
 distinct-of [] once = tt
-distinct-of (account ∷ accounts) once =
-    (none-at account.address accounts
-    (omega (arith, once account.address, times-cons account.address account.address (map address_of accounts), ap one (is_same-refl account.address))),
-    distinct-of accounts (λ address. omega (arith, once address, times-cons address account.address (map address_of accounts))))
+distinct-of (account ∷ accounts) once = (
+  none-at account.address accounts
+      (omega (arith, once account.address, times-cons account.address account.address (map address_of accounts), ap one (is_same-refl account.address))),
+  distinct-of accounts (λ address. omega (arith, once address, times-cons address account.address (map address_of accounts))),
+)
 
 -- a market's addresses are among those of all markets
 among-all : (address : Address) (markets : List PlainMarketAccounts) (k : ℕ) (d : PlainMarketAccounts) → k < length markets
@@ -56,10 +57,11 @@ accounts-distinct accounts accepted k d lt =
     let market : PlainMarketAccounts = get_or accounts.markets k d in
     distinct-of market.orders
     (λ address.
-    omega
-    (arith,
-     accepted.once address,
-     times-append address (map address_of accounts.mints) (map address_of accounts.wallets ++ flat_map all_of_market accounts.markets),
-     times-append address (map address_of accounts.wallets) (flat_map all_of_market accounts.markets),
-     among-all address accounts.markets k d lt,
-     times-append address (market_addresses market) (map address_of market.orders)))
+    omega (
+      arith,
+      accepted.once address,
+      times-append address (map address_of accounts.mints) (map address_of accounts.wallets ++ flat_map all_of_market accounts.markets),
+      times-append address (map address_of accounts.wallets) (flat_map all_of_market accounts.markets),
+      among-all address accounts.markets k d lt,
+      times-append address (market_addresses market) (map address_of market.orders),
+    ))

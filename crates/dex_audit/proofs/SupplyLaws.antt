@@ -24,8 +24,8 @@ gathered-more all after markets i market one lt is so gathered here =
     ∙ ap (λ (l : List PlainGathered). l ++ plain_gathered one ∷ []) so
     ∙ ap (λ (g : PlainGathered). map gathered_in (take i markets) ++ g ∷ []) gathered
     ∙ sym
-      (ap (map gathered_in) (take_more markets i market lt ∙ ap (λ (m : PlainMarketAccounts). take i markets ++ m ∷ []) here)
-      ∙ map-append gathered_in (take i markets) (market ∷ []))
+    (ap (map gathered_in) (take_more markets i market lt ∙ ap (λ (m : PlainMarketAccounts). take i markets ++ m ∷ []) here)
+    ∙ map-append gathered_in (take i markets) (market ∷ []))
 
 pub gathered-at : (gathered : List Gathered) (markets : List PlainMarketAccounts) (i : ℕ) (one : Gathered) (market : PlainMarketAccounts) → AreGathered gathered markets
     → i < length markets → one ≡ get_or gathered i one → get_or markets i market ≡ market → plain_gathered one ≡ gathered_in market

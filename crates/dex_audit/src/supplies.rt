@@ -73,7 +73,11 @@ fn held_of(mint: Address, accounts: &Accounts) -> u128
 }
 
 /// Tells which of these mints have another supply than what wallets and vaults hold.
-pub fn tell_supplies(found: &mut Vec<Finding>, mints: &[Named], accounts: &Accounts) -> Result<(), NoMemory>
+pub fn tell_supplies(
+    found: &mut Vec<Finding>,
+    mints: &[Named],
+    accounts: &Accounts,
+) -> Result<(), NoMemory>
     requires mints { All (λ (mint : PlainAccount). IsMint mint.bytes) (map named_of mints.now) }
     requires accounts { AreAccepted (accounts_of accounts.now) }
     ensures { OnOk result (found.new.items ≡ found.old.items ++ flat_map (rules.supply_off (accounts_of accounts.now)) (map named_of mints.now)) }

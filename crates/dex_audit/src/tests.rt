@@ -194,7 +194,10 @@ fn exchange(alloc: Global) -> Result<Accounts, Fail> {
         mints: vec![in alloc; mint(alloc, b'b', 1_000)?, mint(alloc, b'q', 5_000)?]?,
         srm: None,
         msrm: None,
-        wallets: vec![in alloc; wallet(alloc, b'c', b'b', 600)?, wallet(alloc, b'd', b'q', 3_000)?]?,
+        wallets: vec![in alloc;
+            wallet(alloc, b'c', b'b', 600)?,
+            wallet(alloc, b'd', b'q', 3_000)?,
+        ]?,
         markets: vec![in alloc; market]?,
     };
     for word in TRADE {
@@ -238,10 +241,13 @@ fn a_trade_has_no_findings(rt: HostRuntime) -> Result<(), Fail> {
 #[test]
 fn an_order_of_nobody(rt: HostRuntime) -> Result<(), Fail> {
     let found = found_with(rt.alloc(), Word(Part::Asks, 69, b'z' as u64))?;
-    assert_eq!(rt; found.as_slice(), [
-        finding(1, part_of_market(6), 0, 0, ASK),
-        finding(7, address(b'x'), 85, 400, 300),
-    ]);
+    assert_eq!(rt;
+        found.as_slice(),
+        [
+            finding(1, part_of_market(6), 0, 0, ASK),
+            finding(7, address(b'x'), 85, 400, 300),
+        ]
+    );
     Ok(())
 }
 
@@ -262,10 +268,13 @@ fn an_order_that_is_gone_without_its_out(rt: HostRuntime) -> Result<(), Fail> {
 #[test]
 fn an_event_of_another_order(rt: HostRuntime) -> Result<(), Fail> {
     let found = found_with(rt.alloc(), Word(Part::Events, 117, 9))?;
-    assert_eq!(rt; found.as_slice(), [
-        finding(4, part_of_market(4), 0, ASK, ASK),
-        finding(7, address(b'x'), 85, 400, 100),
-    ]);
+    assert_eq!(rt;
+        found.as_slice(),
+        [
+            finding(4, part_of_market(4), 0, ASK, ASK),
+            finding(7, address(b'x'), 85, 400, 100),
+        ]
+    );
     Ok(())
 }
 
@@ -279,10 +288,13 @@ fn a_number_that_was_not_given_out(rt: HostRuntime) -> Result<(), Fail> {
 #[test]
 fn a_second_slot_of_one_number(rt: HostRuntime) -> Result<(), Fail> {
     let found = found_with(rt.alloc(), Word(Part::Maker, 109, u64::MAX - 3))?;
-    assert_eq!(rt; found.as_slice(), [
-        finding(3, address(b'x'), 1, 0, 1),
-        finding(6, address(b'x'), 1, 2, 1),
-    ]);
+    assert_eq!(rt;
+        found.as_slice(),
+        [
+            finding(3, address(b'x'), 1, 0, 1),
+            finding(6, address(b'x'), 1, 2, 1),
+        ]
+    );
     Ok(())
 }
 
@@ -296,44 +308,59 @@ fn a_total_that_is_too_high(rt: HostRuntime) -> Result<(), Fail> {
 #[test]
 fn deposits_that_are_too_high(rt: HostRuntime) -> Result<(), Fail> {
     let found = found_with(rt.alloc(), Word(Part::Market, 149, 401))?;
-    assert_eq!(rt; found.as_slice(), [finding(8, address(b'm'), 149, 401, 400)]);
+    assert_eq!(rt;
+        found.as_slice(),
+        [finding(8, address(b'm'), 149, 401, 400)]
+    );
     Ok(())
 }
 
 #[test]
 fn a_vault_with_one_more(rt: HostRuntime) -> Result<(), Fail> {
     let found = found_with(rt.alloc(), Word(Part::CoinVault, 64, 401))?;
-    assert_eq!(rt; found.as_slice(), [
-        finding(9, part_of_market(1), 64, 401, 400),
-        finding(12, address(b'b'), 36, 1_000, 1_001),
-    ]);
+    assert_eq!(rt;
+        found.as_slice(),
+        [
+            finding(9, part_of_market(1), 64, 401, 400),
+            finding(12, address(b'b'), 36, 1_000, 1_001),
+        ]
+    );
     Ok(())
 }
 
 #[test]
 fn rebates_of_nobody(rt: HostRuntime) -> Result<(), Fail> {
     let found = found_with(rt.alloc(), Word(Part::Market, 373, 1))?;
-    assert_eq!(rt; found.as_slice(), [
-        finding(9, part_of_market(2), 64, 2_000, 2_001),
-        finding(10, address(b'm'), 373, 1, 0),
-    ]);
+    assert_eq!(rt;
+        found.as_slice(),
+        [
+            finding(9, part_of_market(2), 64, 2_000, 2_001),
+            finding(10, address(b'm'), 373, 1, 0),
+        ]
+    );
     Ok(())
 }
 
 #[test]
 fn a_fill_that_takes_too_much(rt: HostRuntime) -> Result<(), Fail> {
     let found = found_with(rt.alloc(), Word(Part::Events, 53, u64::MAX))?;
-    assert_eq!(rt; found.as_slice(), [
-        finding(7, address(b'x'), 85, 400, BEYOND + 100),
-        finding(11, part_of_market(1), 64, BEYOND + 400, BEYOND),
-    ]);
+    assert_eq!(rt;
+        found.as_slice(),
+        [
+            finding(7, address(b'x'), 85, 400, BEYOND + 100),
+            finding(11, part_of_market(1), 64, BEYOND + 400, BEYOND),
+        ]
+    );
     Ok(())
 }
 
 #[test]
 fn a_supply_that_is_too_high(rt: HostRuntime) -> Result<(), Fail> {
     let found = found_with(rt.alloc(), Word(Part::Quote, 36, 5_001))?;
-    assert_eq!(rt; found.as_slice(), [finding(12, address(b'q'), 36, 5_001, 5_000)]);
+    assert_eq!(rt;
+        found.as_slice(),
+        [finding(12, address(b'q'), 36, 5_001, 5_000)]
+    );
     Ok(())
 }
 
@@ -341,11 +368,14 @@ fn a_supply_that_is_too_high(rt: HostRuntime) -> Result<(), Fail> {
 fn an_order_that_locks_too_much(rt: HostRuntime) -> Result<(), Fail> {
     let found = found_with(rt.alloc(), Word(Part::Asks, 101, 1 << 60))?;
     let locked = 100 << 60;
-    assert_eq!(rt; found.as_slice(), [
-        finding(7, address(b'x'), 85, 400, locked + 300),
-        finding(8, address(b'm'), 149, 400, locked + 300),
-        finding(9, part_of_market(1), 64, 400, locked + 300),
-        finding(13, part_of_market(6), 0, locked, BEYOND),
-    ]);
+    assert_eq!(rt;
+        found.as_slice(),
+        [
+            finding(7, address(b'x'), 85, 400, locked + 300),
+            finding(8, address(b'm'), 149, 400, locked + 300),
+            finding(9, part_of_market(1), 64, 400, locked + 300),
+            finding(13, part_of_market(6), 0, locked, BEYOND),
+        ]
+    );
     Ok(())
 }

@@ -37,7 +37,7 @@ unheld-more owner slot held side orders i d before now after lt told one =
     one ∙ ap (λ (o : Option ℕ). or_else o (unheld owner slot held side (get_or orders i d ∷ []))) told
     ∙ or_else-assoc before (unheld owner slot held side (take i orders)) (unheld owner slot held side (get_or orders i d ∷ []))
     ∙ ap (or_else before)
-      (sym (ap (unheld owner slot held side) (take_more orders i d lt) ∙ unheld-append owner slot held side (take i orders) (get_or orders i d ∷ [])))
+    (sym (ap (unheld owner slot held side) (take_more orders i d lt) ∙ unheld-append owner slot held side (take i orders) (get_or orders i d ∷ [])))
 
 -- ---- one order
 

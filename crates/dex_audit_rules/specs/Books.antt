@@ -5,6 +5,8 @@ use Rattle.dex_types.specs.declared.terms.Side.TheVariants.{Bid, Ask}
 use Rattle.dex_types.specs.Accounts.{PlainMarketAccounts}
 use Rattle.dex_types.specs.Market.{Market}
 use Rattle.dex_types.specs.QueuedEvent.{QueuedEvent, decoded_event}
+use Rattle.dex_accounts.specs.Accepted.{IsAccepted}
+use Rattle.dex_accounts.specs.Decoded.{market_in}
 use Rattle.dex_ring.specs.Ring.{ring_of}
 use Rattle.dex_slab.specs.Slab.{resting}
 use Rattle.dex_audit_rules.specs.declared.book.Book.{Book}
@@ -25,6 +27,12 @@ pub record IsOf (book : Book) (m : Market) : Type 0 where
   pub events : map decoded_event book.events.now ≡ m.events
   pub traders : traders book.accounts.now ≡ m.traders
   pub sizes : book.sizes ≡ m.listing.sizes
+
+-- the book is that of these accounts, which are accepted
+pub record IsBookOf (read : Book) (accounts : PlainMarketAccounts) : Type 0 where
+  pub accepted : IsAccepted accounts
+  pub book : IsBook read
+  pub of : IsOf read (market_in accounts)
 
 -- the orders and events of a market, as lists
 pub record PlainGathered : Type 0 where

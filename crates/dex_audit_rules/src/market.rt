@@ -5,7 +5,7 @@ ghost use Rattle.dex_types.specs.Accounts.{market_accounts_of};
 ghost use Rattle.dex_types.specs.Market.{Market};
 ghost use Rattle.dex_accounts.specs.Accepted.{IsAccepted};
 ghost use Rattle.dex_accounts.specs.Decoded.{market_in};
-ghost use Rattle.dex_audit_rules.specs.Books.{IsBook, IsOf, gathered_in, plain_gathered};
+ghost use Rattle.dex_audit_rules.specs.Books.{IsBook, IsBookOf, IsOf, gathered_in, plain_gathered};
 ghost use Rattle.dex_audit_rules.specs.Funds as funds;
 ghost use Rattle.dex_audit_rules.specs.RulesOf.{told_by};
 ghost use Rattle.dex_audit_rules.specs.Slots as rules;
@@ -58,76 +58,122 @@ pub enum Rule {
     TooLarge,
 }
 
-fn tell_orders(found: &mut Vec<Finding>, market: &MarketAccounts, book: &Book<'_>) -> Result<(), NoMemory>
-    requires accepted { IsAccepted (market_accounts_of market.now) }
-    requires book { IsBook book.now }
-    requires of { IsOf book.now (market_in (market_accounts_of market.now)) }
+fn tell_orders(
+    found: &mut Vec<Finding>,
+    market: &MarketAccounts,
+    book: &Book<'_>,
+) -> Result<(), NoMemory>
+    requires { IsBookOf book.now (market_accounts_of market.now) }
     ensures { OnOk result (found.new.items ≡ found.old.items ++ rules.homeless_in (market_in (market_accounts_of market.now))) }
 {
-    let words = MarketRef { bytes: &market.market };
+    let words = MarketRef {
+        bytes: &market.market,
+    };
     tell_homeless(found, book.accounts, words.bids(), book.bids)?;
     tell_homeless(found, book.accounts, words.asks(), book.asks)
 }
 
-fn tell_locks(found: &mut Vec<Finding>, market: &MarketAccounts, book: &Book<'_>) -> Result<(), NoMemory>
-    requires accepted { IsAccepted (market_accounts_of market.now) }
-    requires book { IsBook book.now }
-    requires of { IsOf book.now (market_in (market_accounts_of market.now)) }
+fn tell_locks(
+    found: &mut Vec<Finding>,
+    market: &MarketAccounts,
+    book: &Book<'_>,
+) -> Result<(), NoMemory>
+    requires { IsBookOf book.now (market_accounts_of market.now) }
     ensures { OnOk result (found.new.items ≡ found.old.items ++ funds.too_large_in (market_in (market_accounts_of market.now))) }
 {
-    let words = MarketRef { bytes: &market.market };
+    let words = MarketRef {
+        bytes: &market.market,
+    };
     tell_too_large(found, book.bids, Side::Bid, book.sizes, words.bids())?;
     tell_too_large(found, book.asks, Side::Ask, book.sizes, words.asks())
 }
 
-fn tell_deposits(found: &mut Vec<Finding>, market: &MarketAccounts, book: &Book<'_>) -> Result<(), NoMemory>
-    requires accepted { IsAccepted (market_accounts_of market.now) }
-    requires book { IsBook book.now }
-    requires of { IsOf book.now (market_in (market_accounts_of market.now)) }
+fn tell_deposits(
+    found: &mut Vec<Finding>,
+    market: &MarketAccounts,
+    book: &Book<'_>,
+) -> Result<(), NoMemory>
+    requires { IsBookOf book.now (market_accounts_of market.now) }
     ensures { OnOk result (found.new.items ≡ found.old.items ++ funds.deposits_in (market_accounts_of market.now)) }
 {
-    let words = MarketRef { bytes: &market.market };
+    let words = MarketRef {
+        bytes: &market.market,
+    };
     let coin = coin_deposits(book);
     let pc = pc_deposits(book);
-    tell_differs(found, 8, market.address, 149, words.coin_deposits_total(), coin)?;
+    tell_differs(
+        found,
+        8,
+        market.address,
+        149,
+        words.coin_deposits_total(),
+        coin,
+    )?;
     tell_differs(found, 8, market.address, 197, words.pc_deposits_total(), pc)
 }
 
-fn tell_vaults(found: &mut Vec<Finding>, market: &MarketAccounts, book: &Book<'_>) -> Result<(), NoMemory>
-    requires accepted { IsAccepted (market_accounts_of market.now) }
-    requires book { IsBook book.now }
-    requires of { IsOf book.now (market_in (market_accounts_of market.now)) }
+fn tell_vaults(
+    found: &mut Vec<Finding>,
+    market: &MarketAccounts,
+    book: &Book<'_>,
+) -> Result<(), NoMemory>
+    requires { IsBookOf book.now (market_accounts_of market.now) }
     ensures { OnOk result (found.new.items ≡ found.old.items ++ funds.vaults_in (market_in (market_accounts_of market.now))) }
 {
-    let words = MarketRef { bytes: &market.market };
+    let words = MarketRef {
+        bytes: &market.market,
+    };
     let coin = coin_deposits(book).saturating_add(u128::from(words.coin_fees_accrued()));
     let earned = u128::from(words.pc_fees_accrued()) + u128::from(words.referrer_rebates_accrued());
     let pc = pc_deposits(book).saturating_add(earned);
-    let coin_vault = WalletRef { bytes: &market.coin_vault };
-    let pc_vault = WalletRef { bytes: &market.pc_vault };
+    let coin_vault = WalletRef {
+        bytes: &market.coin_vault,
+    };
+    let pc_vault = WalletRef {
+        bytes: &market.pc_vault,
+    };
     tell_differs(found, 9, words.coin_vault(), 64, coin_vault.amount(), coin)?;
     tell_differs(found, 9, words.pc_vault(), 64, pc_vault.amount(), pc)
 }
 
-fn tell_rebates(found: &mut Vec<Finding>, market: &MarketAccounts, book: &Book<'_>) -> Result<(), NoMemory>
-    requires accepted { IsAccepted (market_accounts_of market.now) }
-    requires book { IsBook book.now }
-    requires of { IsOf book.now (market_in (market_accounts_of market.now)) }
+fn tell_rebates(
+    found: &mut Vec<Finding>,
+    market: &MarketAccounts,
+    book: &Book<'_>,
+) -> Result<(), NoMemory>
+    requires { IsBookOf book.now (market_accounts_of market.now) }
     ensures { OnOk result (found.new.items ≡ found.old.items ++ funds.rebates_in (market_in (market_accounts_of market.now))) }
 {
-    let words = MarketRef { bytes: &market.market };
-    tell_differs(found, 10, market.address, 373, words.referrer_rebates_accrued(), rebates(book))
+    let words = MarketRef {
+        bytes: &market.market,
+    };
+    tell_differs(
+        found,
+        10,
+        market.address,
+        373,
+        words.referrer_rebates_accrued(),
+        rebates(book),
+    )
 }
 
-fn tell_beyond(found: &mut Vec<Finding>, market: &MarketAccounts, book: &Book<'_>) -> Result<(), NoMemory>
-    requires accepted { IsAccepted (market_accounts_of market.now) }
-    requires book { IsBook book.now }
-    requires of { IsOf book.now (market_in (market_accounts_of market.now)) }
+fn tell_beyond(
+    found: &mut Vec<Finding>,
+    market: &MarketAccounts,
+    book: &Book<'_>,
+) -> Result<(), NoMemory>
+    requires { IsBookOf book.now (market_accounts_of market.now) }
     ensures { OnOk result (found.new.items ≡ found.old.items ++ funds.beyond_in (market_in (market_accounts_of market.now))) }
 {
-    let words = MarketRef { bytes: &market.market };
-    let coin_vault = WalletRef { bytes: &market.coin_vault };
-    let pc_vault = WalletRef { bytes: &market.pc_vault };
+    let words = MarketRef {
+        bytes: &market.market,
+    };
+    let coin_vault = WalletRef {
+        bytes: &market.coin_vault,
+    };
+    let pc_vault = WalletRef {
+        bytes: &market.pc_vault,
+    };
     let coin = with_leaving(book, coin_vault.amount(), Weight::LeavingCoin);
     let pc = with_leaving(book, pc_vault.amount(), Weight::LeavingPc);
     tell_exceeds(found, 11, words.coin_vault(), 64, coin)?;
@@ -145,20 +191,28 @@ fn tell_ends(alloc: Global, found: &mut Vec<Finding>, book: &Book<'_>) -> Result
     tell_unpaired(found, &resting, &finals, &taken)
 }
 
-fn tell_events(alloc: Global, found: &mut Vec<Finding>, market: &MarketAccounts, book: &Book<'_>) -> Result<(), NoMemory>
-    requires accepted { IsAccepted (market_accounts_of market.now) }
-    requires book { IsBook book.now }
-    requires of { IsOf book.now (market_in (market_accounts_of market.now)) }
+fn tell_events(
+    alloc: Global,
+    found: &mut Vec<Finding>,
+    market: &MarketAccounts,
+    book: &Book<'_>,
+) -> Result<(), NoMemory>
+    requires { IsBookOf book.now (market_accounts_of market.now) }
     ensures { OnOk result (found.new.items ≡ found.old.items ++ rules.astray_in (market_in (market_accounts_of market.now))) }
 {
-    let words = MarketRef { bytes: &market.market };
+    let words = MarketRef {
+        bytes: &market.market,
+    };
     tell_astray(alloc, found, book.accounts, book.events, words.event_q())
 }
 
-fn tell_numbers(alloc: Global, found: &mut Vec<Finding>, market: &MarketAccounts, book: &Book<'_>) -> Result<(), NoMemory>
-    requires accepted { IsAccepted (market_accounts_of market.now) }
-    requires book { IsBook book.now }
-    requires of { IsOf book.now (market_in (market_accounts_of market.now)) }
+fn tell_numbers(
+    alloc: Global,
+    found: &mut Vec<Finding>,
+    market: &MarketAccounts,
+    book: &Book<'_>,
+) -> Result<(), NoMemory>
+    requires { IsBookOf book.now (market_accounts_of market.now) }
     ensures { OnOk result (found.new.items ≡ found.old.items ++ rules.ungiven_in (market_in (market_accounts_of market.now))) }
 {
     let taken = taken_slots(alloc, book.accounts)?;
@@ -180,13 +234,18 @@ fn book_of<'a>(market: &'a MarketAccounts, gathered: &'a Gathered) -> Book<'a>
     ensures book { IsBook result }
     ensures of { IsOf result (market_in (market_accounts_of market.now)) }
 {
-    let words = MarketRef { bytes: &market.market };
+    let words = MarketRef {
+        bytes: &market.market,
+    };
     Book {
         bids: &gathered.bids,
         asks: &gathered.asks,
         events: &gathered.events,
         accounts: &market.orders,
-        sizes: Lots { coin: words.coin_lot_size(), pc: words.pc_lot_size() },
+        sizes: Lots {
+            coin: words.coin_lot_size(),
+            pc: words.pc_lot_size(),
+        },
     }
 }
 

@@ -29,7 +29,13 @@ fn is_unheld(
 }
 
 /// Notes the order at its slot, where the slot does not hold it and none is noted there.
-fn note_own(first: &mut [Option<u128>], view: OrdersRef<'_>, owner: Address, side: Side, order: &Order)
+fn note_own(
+    first: &mut [Option<u128>],
+    view: OrdersRef<'_>,
+    owner: Address,
+    side: Side,
+    order: &Order,
+)
     requires open { IsOpen view.bytes.now }
     requires long { length first.old ≡ 128 }
     requires slot { order.now.slot < 128 }
@@ -59,7 +65,13 @@ fn note(first: &mut [Option<u128>], view: OrdersRef<'_>, owner: Address, side: S
 
 /// Notes at each slot of an open account the first order of a side that rests for it and that it does not hold, where none is noted
 /// there.
-fn note_side(first: &mut [Option<u128>], view: OrdersRef<'_>, owner: Address, side: Side, orders: &[Order])
+fn note_side(
+    first: &mut [Option<u128>],
+    view: OrdersRef<'_>,
+    owner: Address,
+    side: Side,
+    orders: &[Order],
+)
     requires open { IsOpen view.bytes.now }
     requires long { length first.old ≡ 128 }
     ensures long { length first.new ≡ 128 }

@@ -24,4 +24,4 @@ loop-place-preserved c =
     c.args.found.now.items c.loop-place.found.items c.tell_rule.new.found.items (omega (arith, length-map c.args.markets.now market_accounts_of)) c.loop-place.invariant
     (c.in_ok-tell_rule.ensures
     ∙ ap (λ (m : PlainMarketAccounts). c.loop-place.found.items ++ told_by c.args.rule m)
-      (sym (here-map market_accounts_of c.args.markets.now c.loop-place.place c.index-markets-place.result (omega arith) c.index-markets-place.is)))
+    (sym (here-map market_accounts_of c.args.markets.now c.loop-place.place c.index-markets-place.result (omega arith) c.index-markets-place.is)))

@@ -25,4 +25,4 @@ loop-place-preserved c =
     (c.in_ok-tell_differs.ensures held c.held_of-held.ensures
     ∙ ap (λ n. c.loop-place.found.items ++ differs 12 mint.address 36 n held) supply
     ∙ ap (λ (m : PlainAccount). c.loop-place.found.items ++ supply_off accounts m)
-      (sym (here-map named_of c.args.mints.now c.loop-place.place c.index-mints-place.result (omega arith) c.index-mints-place.is)))
+    (sym (here-map named_of c.args.mints.now c.loop-place.place c.index-mints-place.result (omega arith) c.index-mints-place.is)))

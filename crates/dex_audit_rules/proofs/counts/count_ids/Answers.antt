@@ -17,12 +17,13 @@ pub loop-place-preserved : goal.loop-place-preserved
 loop-place-preserved c = λ side id client.
     let d : Order = record { id = 0; owner = record { 0 = [] }; slot = 0; tier = 0; lots = 0; client = 0 } in
     let order : Order = get_or c.args.orders.now c.loop-place.place d in
-    omega
-    (arith,
-     c.in_ok-count.ensures id,
-     c.loop-place.invariant side id client,
-     counts-id side id client order,
-     total-more (counts_order side (record { id = id; side = side; client = client })) c.args.orders.now c.loop-place.place d (omega arith))
+    omega (
+      arith,
+      c.in_ok-count.ensures id,
+      c.loop-place.invariant side id client,
+      counts-id side id client order,
+      total-more (counts_order side (record { id = id; side = side; client = client })) c.args.orders.now c.loop-place.place d (omega arith),
+    )
 
 pub returns : goal.returns
 returns c = λ side id client.

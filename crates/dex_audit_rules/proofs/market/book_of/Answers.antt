@@ -15,12 +15,13 @@ returns-clause-book c =
     record {
       accounts = subst AreOrders (sym c.deref-5.ensures.value) (orders-accepted market.orders.items c.requires.accepted.orders);
       events =
-          omega
-          (arith,
-           ap length c.deref-4.ensures.value,
-           length-map c.args.gathered.now.events.items decoded_event,
-           ap (λ (g : PlainGathered). length g.events) c.requires.gathered,
-           events-few market.events.items c.requires.accepted.events);
+          omega (
+            arith,
+            ap length c.deref-4.ensures.value,
+            length-map c.args.gathered.now.events.items decoded_event,
+            ap (λ (g : PlainGathered). length g.events) c.requires.gathered,
+            events-few market.events.items c.requires.accepted.events,
+          );
       bids =
           omega
           (arith, ap length c.deref-2.ensures.value, ap (λ (g : PlainGathered). length g.bids) c.requires.gathered, side-few Bid market.bids.items c.requires.accepted.bids.slab);

@@ -18,21 +18,23 @@ returns c =
     let m = market_in (market_accounts_of c.args.market.now) in
     let words = market_words c.args.market.now.market.items in
     let coin_sum : c.saturating_add-coin.result ≡ capped (deposited Coin m + earned Coin m) =
-    omega
-    (arith,
-     c.saturating_add-coin.ensures,
-     c.from.ensures,
-     c.coin_deposits.ensures m c.requires.of,
-     c.coin_fees_accrued.ensures ∙ ap (λ b. (market_words b).coin_fees_accrued) c.deref.ensures.value) in
+    omega (
+      arith,
+      c.saturating_add-coin.ensures,
+      c.from.ensures,
+      c.coin_deposits.ensures m c.requires.of,
+      c.coin_fees_accrued.ensures ∙ ap (λ b. (market_words b).coin_fees_accrued) c.deref.ensures.value,
+    ) in
     let pc_sum : c.saturating_add-pc.result ≡ capped (deposited Pc m + earned Pc m) =
-    omega
-    (arith,
-     c.saturating_add-pc.ensures,
-     c.from-2.ensures,
-     c.from-3.ensures,
-     c.pc_deposits.ensures m c.requires.of,
-     c.pc_fees_accrued.ensures ∙ ap (λ b. (market_words b).pc_fees_accrued) c.deref.ensures.value,
-     c.referrer_rebates_accrued.ensures ∙ ap (λ b. (market_words b).referrer_rebates_accrued) c.deref.ensures.value) in
+    omega (
+      arith,
+      c.saturating_add-pc.ensures,
+      c.from-2.ensures,
+      c.from-3.ensures,
+      c.pc_deposits.ensures m c.requires.of,
+      c.pc_fees_accrued.ensures ∙ ap (λ b. (market_words b).pc_fees_accrued) c.deref.ensures.value,
+      c.referrer_rebates_accrued.ensures ∙ ap (λ b. (market_words b).referrer_rebates_accrued) c.deref.ensures.value,
+    ) in
     let first =
     differs-one 9 64 (deposited Coin m + earned Coin m) c.coin_vault.result m.listing.coin_vault c.amount.result m.coin_vault
     c.args.found.now.items c.tell_differs.new.found.items
