@@ -8,3 +8,4 @@ pub mod RowLaws
 pub mod StatedLaws
 pub mod OneText
 pub mod BehindLaws
+pub mod CheckLaws
