@@ -9,3 +9,9 @@ pub mod StatedLaws
 pub mod OneText
 pub mod BehindLaws
 pub mod CheckLaws
+pub mod LineLaws
+pub mod TakenLaws
+pub mod SoFarLaws
+pub mod PassLaws
+pub mod OneAnswer
+pub mod BackLaws
