@@ -1,7 +1,7 @@
 -- What is written of accepted accounts is read back as them.
-use Rattle.std.proofs.Common.{◌≡◌, ◌<◌, ◌≤◌, ◌+◌, ◌∷◌, ◌++◌, ◌∙◌, [], ℕ, List, Bool, All, IfSome, true, false, not, cond, Option, Some, None, Result, Ok, Err, append_assoc, append-nil, arith, codes, refl, sym, ap, subst, inl, inr, length, map, nat_lt}
+use Rattle.std.proofs.Common.{◌≡◌, ◌≤◌, ◌+◌, ◌∷◌, ◌++◌, ◌∙◌, [], ℕ, List, All, IfSome, true, false, Option, Some, None, Ok, append_assoc, append-nil, arith, codes, refl, sym, ap, subst, inl, inr, length, map, nat_lt}
 use Rattle.std.specs.List.{flat_map}
-use Rattle.std.proofs.lemmas.Bool.{and_from, cases_Bool, false≢true, lt-ltb, not_from_false, or_from}
+use Rattle.std.proofs.lemmas.Bool.{and_from, cases_Bool, lt-ltb, not_from_false}
 use Rattle.std.proofs.lemmas.List.{length-append, map-append}
 use Rattle.std.proofs.lemmas.List.Elements.{All-head, All-tail}
 use Rattle.dex_types.specs.declared.addresses.Address.{Address}
@@ -9,7 +9,7 @@ use Rattle.dex_types.specs.declared.terms.Side.TheVariants.{Bid, Ask}
 use Rattle.dex_types.specs.Accounts.{PlainAccount, PlainAccounts, PlainMarketAccounts}
 use Rattle.dex_types.specs.Addresses.{is_same}
 use Rattle.dex_laws.proofs.TraderLaws.{is_same-refl, is_same-sym}
-use Rattle.dex_market.specs.MarketAccount.{market_terms, market_words}
+use Rattle.dex_market.specs.MarketAccount.{market_terms}
 use Rattle.dex_market.proofs.Verdicts.{none_from_requests}
 use Rattle.dex_orders.specs.OrdersAccount.{IsOrders}
 use Rattle.dex_ring.proofs.Verdicts.{none_from_queue}
@@ -17,15 +17,14 @@ use Rattle.dex_token.specs.MintAccount.{IsMint}
 use Rattle.dex_token.specs.TokenAccount.{IsWallet, wallet_words}
 use Rattle.dex_token.proofs.TokenRules.{none_from_mint}
 use Rattle.dex_accounts.specs.Accepted.{IsAccepted, NamesMarket}
-use Rattle.dex_rows.specs.Records.{rows_of}
 use Rattle.dex_dump.specs.Accepted.{AreAccepted, AreApart as NamesApart, HasMints, HoldBytes, IsAddress, IsHeld, IsHeldMarket, IsMintOf, address_of, all_of_market, times}
-use Rattle.dex_dump.specs.Answers.{Answers, AnswersDump, AnswersText, AreReadAs, IsReadAs, PlainAnswer, PlainDump, next_number}
+use Rattle.dex_dump.specs.Answers.{Answers, AnswersDump, AnswersText, AreReadAs, IsReadAs, PlainDump, next_number}
 use Rattle.dex_dump.specs.Answers.Ends.{AtEnd}
 use Rattle.dex_dump.specs.Checks.{AllHold, checks}
 use Rattle.dex_dump.specs.DumpText.{Fields, account_rows, dump_rows, dump_text, first_row, last_row, market_row, market_rows, mint_row, named_rows, orders_row, wallet_row}
 use Rattle.dex_dump.specs.Lines.{PlainLine, is_first_row, line_of}
 use Rattle.dex_dump.specs.Lines.PlainLine.{Mint, Srm, Msrm, Wallet, Market, Orders, End}
-use Rattle.dex_dump.specs.Reading.{PlainReading, after_line, has_room, is_allowed, is_among, is_mint, is_name, market_addresses, parts_of, start, with_orders}
+use Rattle.dex_dump.specs.Reading.{PlainReading, after_line, has_room, is_allowed, is_among, is_name, market_addresses, parts_of, start, with_orders}
 use Rattle.dex_dump.proofs.AnswerLaws.{stated-allowed}
 use Rattle.dex_dump.proofs.CheckLaws.{IsMarketHere}
 use Rattle.dex_dump.proofs.OneAnswer.{dump-once, text-once}
@@ -109,14 +108,20 @@ module _ (whole : PlainAccounts) (behind : List Fields) where
   back-row : (reading : PlainReading) (row : Fields) (line : PlainLine) (rows : List Fields) → line_of row ≡ Some line → (line ≡ End → ⊥)
       → is_allowed reading line ≡ true → AllHold (checks reading line) → Back (after_line reading line) rows → Back reading (row ∷ rows)
   back-row reading row line rows states goes allowed hold next = λ number.
-      let more = next (next_number number) in
-      (more.0, inr (after_line reading line, record {
-        line = line;
-        states = stated-allowed reading row line states allowed;
-        goes_on = goes;
-        hold = hold;
-        adds = refl;
-      }, more.1))
+      let more = next (next_number number) in (
+        more.0,
+        inr (
+          after_line reading line,
+          record {
+            line = line;
+            states = stated-allowed reading row line states allowed;
+            goes_on = goes;
+            hold = hold;
+            adds = refl;
+          },
+          more.1,
+        ),
+      )
 
   -- ---- mints
 
@@ -218,9 +223,9 @@ module _ (whole : PlainAccounts) (behind : List Fields) where
       let moved : FewLeft (taken ++ account.address ∷ []) (map address_of orders ++ left) = few-moved taken (account.address ∷ []) (map address_of orders ++ left) few in
       let more : Back (with_last done market (before ++ account ∷ []) (taken ++ account.address ∷ [])) (map (orders_row market.address) orders ++ rows) =
       back-orders done market none at orders (before ++ account ∷ []) (taken ++ account.address ∷ []) left rows (All-tail IsHeld account orders held)
-          (All-tail (λ (other : PlainAccount). IsOrders other.bytes) account orders are) (All-tail (NamesMarket market.address) account orders named) moved
-          (omega (arith, length-append before (account ∷ [])))
-          (rw (append_assoc before (account ∷ []) orders, append_assoc taken (account.address ∷ []) (map address_of orders)) next) in
+      (All-tail (λ (other : PlainAccount). IsOrders other.bytes) account orders are) (All-tail (NamesMarket market.address) account orders named) moved
+      (omega (arith, length-append before (account ∷ [])))
+      (rw (append_assoc before (account ∷ []) orders, append_assoc taken (account.address ∷ []) (map address_of orders)) next) in
       back-row here (orders_row market.address account) (Orders market.address account) (map (orders_row market.address) orders ++ rows)
       (orders_stated market.address at account (All-head IsHeld account orders held)) (λ e. cc e) allowed hold
       (subst (λ (markets : List PlainMarketAccounts). Back (with_markets markets (taken ++ account.address ∷ [])) (map (orders_row market.address) orders ++ rows))
@@ -260,16 +265,31 @@ module _ (whole : PlainAccounts) (behind : List Fields) where
       → FewLeft taken (market_addresses market ++ left) → AllHold (checks (with_markets done taken) (Market (record market { orders = [] })))
   unfolding checks
   market-holds done taken left market accepted mints few =
-      let t = market_terms market.market in
-      (market_passes (with_markets done taken) market.address market.market (market-here done taken left market accepted mints few),
-      (vault_passes t.coin_mint market.coin_vault accepted.coin_vault accepted.coin_mint,
-      (vault_passes t.pc_mint market.pc_vault accepted.pc_vault accepted.pc_mint,
-      (none_from_requests market.requests accepted.requests,
-      (none_from_queue market.events accepted.events,
-      (side_passes Bid market.bids accepted.bids,
-      (accepted.bids.slab,
-      (side_passes Ask market.asks accepted.asks,
-      (accepted.asks.slab, tt)))))))))
+      let t = market_terms market.market in (
+        market_passes (with_markets done taken) market.address market.market (market-here done taken left market accepted mints few),
+        (
+          vault_passes t.coin_mint market.coin_vault accepted.coin_vault accepted.coin_mint,
+          (
+            vault_passes t.pc_mint market.pc_vault accepted.pc_vault accepted.pc_mint,
+            (
+              none_from_requests market.requests accepted.requests,
+              (
+                none_from_queue market.events accepted.events,
+                (
+                  side_passes Bid market.bids accepted.bids,
+                  (
+                    accepted.bids.slab,
+                    (
+                      side_passes Ask market.asks accepted.asks,
+                      (accepted.asks.slab, tt),
+                    ),
+                  ),
+                ),
+              ),
+            ),
+          ),
+        ),
+      )
 
   abbrev HasFew : PlainMarketAccounts → Type 0
   HasFew market = length market.orders ≤ 64
@@ -289,8 +309,15 @@ module _ (whole : PlainAccounts) (behind : List Fields) where
       → AreTaken (done ++ market ∷ []) (taken ++ all_of_market market)
   taken-more done market taken are = λ address.
       let all = ap (times address) (map-append (λ (m : PlainMarketAccounts). m.address) done (market ∷ [])) in
-      omega (arith, are address, all, times-append address (names done) (market.address ∷ []), times-cons address market.address [],
-        times-append address taken (all_of_market market), times-cons address market.address (parts_of (market_terms market.market) ++ map address_of market.orders))
+      omega (
+        arith,
+        are address,
+        all,
+        times-append address (names done) (market.address ∷ []),
+        times-cons address market.address [],
+        times-append address taken (all_of_market market),
+        times-cons address market.address (parts_of (market_terms market.market) ++ map address_of market.orders),
+      )
 
   back-markets : (markets done : List PlainMarketAccounts) (taken : List Address) (rows : List Fields) → Markets markets → AreTaken done taken
       → FewLeft taken (flat_map all_of_market markets) → length done + length markets ≤ 16
@@ -317,11 +344,11 @@ module _ (whole : PlainAccounts) (behind : List Fields) where
         mints = All-tail (HasMints whole) market markets are.mints;
         few = All-tail HasFew market markets are.few;
       }) (taken-more done market taken at) (few-moved taken (all_of_market market) left few) (omega (arith, length-append done (market ∷ [])))
-          (λ end. rw (append_assoc done (market ∷ []) markets) (next end)) in
+      (λ end. rw (append_assoc done (market ∷ []) markets) (next end)) in
       let accounts : Back (with_last done market [] (taken ++ market_addresses market)) (map (orders_row market.address) market.orders ++ (flat_map market_rows markets ++ rows)) =
       back-orders done market none held.address market.orders [] (taken ++ market_addresses market) left (flat_map market_rows markets ++ rows) held.orders
-          accepted.orders accepted.named (few-moved taken (market_addresses market) (orders ++ left) split) room
-          (rw (append_assoc taken (market_addresses market) orders) more) in
+      accepted.orders accepted.named (few-moved taken (market_addresses market) (orders ++ left) split) room
+      (rw (append_assoc taken (market_addresses market) orders) more) in
       back-row here (market_row market) (Market bare) ((map (orders_row market.address) market.orders ++ flat_map market_rows markets) ++ rows)
       (market_stated market held) (λ e. cc e) allowed
       (market-holds done taken (orders ++ left) market accepted (All-head (HasMints whole) market markets are.mints) split)
@@ -352,11 +379,11 @@ accounts-back accounts are held behind =
       few = are.few_orders;
     }) (λ address. omega arith) few_markets (omega (arith, are.few_markets)) (λ end. back-last accounts behind end) in
     let from_wallets = back-wallets accounts behind accounts.wallets [] of_mints of_markets (markets ++ last) held.wallets are.wallets are.wallet_mints
-        few_wallets (omega (arith, are.few_wallets)) from_markets in
+    few_wallets (omega (arith, are.few_wallets)) from_markets in
     let from_msrm = back-msrm accounts behind accounts.srm accounts.msrm of_mints (wallets ++ (markets ++ last)) held.msrm are.msrm are.apart from_wallets in
     let from_srm = back-srm accounts behind accounts.srm of_mints (msrms ++ (wallets ++ (markets ++ last))) held.srm are.srm from_msrm in
     let all = back-mints accounts behind accounts.mints [] [] (of_wallets ++ of_markets) (srms ++ (msrms ++ (wallets ++ (markets ++ last)))) held.mints are.mints few
-        (omega (arith, are.few_mints)) from_srm in
+    (omega (arith, are.few_mints)) from_srm in
     rw (
       append_assoc mints (srms ++ (msrms ++ (wallets ++ markets))) last,
       append_assoc srms (msrms ++ (wallets ++ markets)) last,
@@ -393,8 +420,10 @@ pub rows-read : (accounts : PlainAccounts) (behind : List Fields) → AreAccepte
     → AreReadAs (dump_rows accounts ++ behind) accounts behind
 rows-read accounts behind are held =
     let back = rows-back accounts are held behind in
-    let dump : PlainDump = record { accounts = accounts; count = back.0; behind = behind } in
-    (back.0, λ answer. (
-      λ is. dump-once (dump_rows accounts ++ behind) dump answer back.1 is,
-      λ same. subst (AnswersDump (dump_rows accounts ++ behind)) (sym same) back.1,
-    ))
+    let dump : PlainDump = record { accounts = accounts; count = back.0; behind = behind } in (
+      back.0,
+      λ answer. (
+        λ is. dump-once (dump_rows accounts ++ behind) dump answer back.1 is,
+        λ same. subst (AnswersDump (dump_rows accounts ++ behind)) (sym same) back.1,
+      ),
+    )

@@ -1,8 +1,7 @@
 -- An account passes the checks of its row exactly where it is accepted, by itself and with the others.
-use Rattle.std.proofs.Common.{◌≡◌, ℕ, ◌+◌, ◌-◌, ◌*◌, ◌/◌, ◌<◌, ◌≤◌, ◌∙◌, ◌==◌, List, [], ◌∷◌, length, cond, eqb, ltb, Option, Some, None, true, false, not, arith, refl, sym, ap, inl, inr, slice_index}
-use Rattle.std.specs.List.{list_all}
-use Rattle.std.specs.Option.{option_map, option_or}
-use Rattle.std.proofs.lemmas.Bool.{cases_Bool, cases_eq, cond-false, cond-true, eq-eqb, eqb-true, le-ltb, ltb-false, ne_eqb}
+use Rattle.std.proofs.Common.{◌≡◌, ℕ, ◌≤◌, ◌∙◌, List, length, cond, eqb, ltb, Option, Some, None, false, arith, refl, sym, ap, inl, inr, slice_index}
+use Rattle.std.specs.Option.{option_or}
+use Rattle.std.proofs.lemmas.Bool.{cases_Bool, cases_eq, cond-false, cond-true, eq-eqb, eqb-true, ltb-false, ne_eqb}
 use Rattle.dex_fields.specs.declared.field.Field.{Field}
 use Rattle.dex_fields.specs.declared.frame.Difference.{Difference}
 use Rattle.dex_fields.specs.declared.frame.TheConstants.{FRONT, FRONT_TEXT}
@@ -103,12 +102,14 @@ pub orders_held : (market : Address) (bytes : List ℕ) → length market.0 ≡ 
     → IsOrders bytes × (IsOpened bytes → market_of bytes ≡ market)
 unfolding orders_rule
 orders_held market bytes size h =
-    let both = with_none bytes 3228 (orders_fault bytes) (orders_others market bytes) h in
-    (orders_from_none bytes both.0, λ opened.
-      let rule : address_rule bytes open_orders.MARKET market ≡ None =
-      sym (cond-false (are_zeros bytes) None (address_rule bytes open_orders.MARKET market) (opened_zeros bytes opened)) ∙ both.1 opened.size in
-      let none = mapped_none word_differs (difference_from open_orders.MARKET.at (bytes_in bytes open_orders.MARKET) market.0) rule in
-      address_held bytes open_orders.MARKET market (omega (arith, opened.size)) refl size none)
+    let both = with_none bytes 3228 (orders_fault bytes) (orders_others market bytes) h in (
+      orders_from_none bytes both.0,
+      λ opened.
+          let rule : address_rule bytes open_orders.MARKET market ≡ None =
+          sym (cond-false (are_zeros bytes) None (address_rule bytes open_orders.MARKET market) (opened_zeros bytes opened)) ∙ both.1 opened.size in
+          let none = mapped_none word_differs (difference_from open_orders.MARKET.at (bytes_in bytes open_orders.MARKET) market.0) rule in
+          address_held bytes open_orders.MARKET market (omega (arith, opened.size)) refl size none,
+    )
 
 -- ---- a side
 
@@ -118,7 +119,7 @@ side_held side bytes h is =
     let rules = or_none (side_size_rule bytes) (option_or (text_rule bytes) (side_flags_rule side bytes)) h in
     let inner = or_none (text_rule bytes) (side_flags_rule side bytes) rules.1 in
     let sized = cond_none (ltb (length bytes) 124) (size_fault (length bytes) 124)
-        (cond (ltb 4718715 (length bytes)) (Some (size_fault (length bytes) 4718715)) None) rules.0 in
+    (cond (ltb 4718715 (length bytes)) (Some (size_fault (length bytes) 4718715)) None) rules.0 in
     let long : 124 ≤ length bytes = ltb-false (length bytes) 124 sized.0 in
     let flags = cond_holds (eqb (number_in bytes slab.ACCOUNT_FLAGS) (side_flags side)) (flags_fault (number_in bytes slab.ACCOUNT_FLAGS) (side_flags side)) None inner.1 in
     record {

@@ -1,14 +1,14 @@
 -- What is known of a line that a row states: its addresses have 32 bytes, and a market has no open-orders accounts so far.
-use Rattle.std.proofs.Common.{◌≡◌, ◌<◌, ◌≤◌, ◌+◌, ◌-◌, ◌∷◌, ◌++◌, ◌∙◌, ◌==◌, ◌&&◌, [], ℕ, List, Bool, true, false, cond, Option, Some, None, Result, Ok, Err, arith, refl, sym, subst, inl, inr, length, replicate, eqb, leb, codes}
+use Rattle.std.proofs.Common.{◌≡◌, ◌≤◌, ◌+◌, ◌-◌, ◌∷◌, ◌++◌, ◌∙◌, ◌==◌, ◌&&◌, [], ℕ, List, Bool, true, false, cond, Option, Some, None, Result, Ok, Err, arith, refl, sym, subst, inl, inr, length, replicate, eqb, leb, codes}
 use Rattle.std.specs.List.{list_all}
 use Rattle.std.specs.Option.{option_map}
 use Rattle.std.specs.Result.{result_ok}
 use Rattle.std.specs.Str.{bytes_eq}
 use Rattle.std.proofs.lemmas.Bool.{and_parts, cases_Bool, leb-true}
 use Rattle.std.proofs.lemmas.List.{length-append, length-replicate}
-use Rattle.std.proofs.lemmas.Option.{cond_some, none-some, same_Some}
+use Rattle.std.proofs.lemmas.Option.{none-some, same_Some}
 use Rattle.dex_types.specs.declared.addresses.Address.{Address}
-use Rattle.dex_types.specs.Accounts.{PlainAccount, PlainMarketAccounts}
+use Rattle.dex_types.specs.Accounts.{PlainAccount}
 use Rattle.dex_types.specs.Text.{is_label, is_label_character, label_address}
 use Rattle.hex.specs.Hex.{decode_sized}
 use Rattle.hex.proofs.HexLemmas.{decode_of-ok, decode_sized-ok, decode_sized-twice}
@@ -116,22 +116,22 @@ msrm-read row = gives-fields IsRead row 2 _ (gives-found IsRead (address_of (fie
 orders-read : (row : Fields) → Gives IsRead (orders_of row)
 unfolding orders_of
 orders-read row = gives-fields IsRead row 4 _ (gives-found IsRead (address_of (field_at row 1)) _ (λ market h.
-  gives-found IsRead (account_at row 2) (λ (account : PlainAccount). Some (Orders market account)) (λ account k.
+    gives-found IsRead (account_at row 2) (λ (account : PlainAccount). Some (Orders market account)) (λ account k.
     gives-some IsRead (Orders market account) (address_of-size (field_at row 1) market h))))
 
 market-read : (row : Fields) → Gives IsRead (market_of row)
 unfolding market_of
 market-read row = gives-fields IsRead row 10 _ (gives-found IsRead (address_of (field_at row 1)) _ (λ address h.
-  let size : HasSize address = address_of-size (field_at row 1) address h in
-  gives-found IsRead (address_of (field_at row 2)) _ (λ authority h2.
-  gives-found IsRead (base64_of (field_at row 3)) _ (λ market h3.
-  gives-found IsRead (base64_of (field_at row 4)) _ (λ coin_vault h4.
-  gives-found IsRead (base64_of (field_at row 5)) _ (λ pc_vault h5.
-  gives-found IsRead (base64_of (field_at row 6)) _ (λ requests h6.
-  gives-found IsRead (base64_of (field_at row 7)) _ (λ events h7.
-  gives-found IsRead (base64_of (field_at row 8)) _ (λ bids h8.
-  gives-found IsRead (base64_of (field_at row 9)) _ (λ asks h9.
-  gives-some IsRead _ (size, refl)))))))))))
+    let size : HasSize address = address_of-size (field_at row 1) address h in
+    gives-found IsRead (address_of (field_at row 2)) _ (λ authority h2.
+    gives-found IsRead (base64_of (field_at row 3)) _ (λ market h3.
+    gives-found IsRead (base64_of (field_at row 4)) _ (λ coin_vault h4.
+    gives-found IsRead (base64_of (field_at row 5)) _ (λ pc_vault h5.
+    gives-found IsRead (base64_of (field_at row 6)) _ (λ requests h6.
+    gives-found IsRead (base64_of (field_at row 7)) _ (λ events h7.
+    gives-found IsRead (base64_of (field_at row 8)) _ (λ bids h8.
+    gives-found IsRead (base64_of (field_at row 9)) _ (λ asks h9.
+    gives-some IsRead _ (size, refl)))))))))))
 
 end-read : (row : Fields) → Gives IsRead (end_of row)
 unfolding end_of

@@ -1,5 +1,5 @@
 -- What is read is read in one way: rows that give accounts give no others, and no fault.
-use Rattle.std.proofs.Common.{◌≡◌, ◌∷◌, ◌⊎◌, [], ℕ, List, true, false, Option, Some, None, Result, Ok, Err, refl, sym, ap, subst, inl, inr, ◌∙◌}
+use Rattle.std.proofs.Common.{◌≡◌, ◌∷◌, [], ℕ, List, Some, Result, Ok, Err, sym, ap, subst, inl, inr, ◌∙◌}
 use Rattle.std.proofs.lemmas.Bool.{false≢true}
 use Rattle.std.proofs.lemmas.Option.{none-some, same_Some}
 use Rattle.dex_types.specs.declared.addresses.Address.{Address}
@@ -7,12 +7,12 @@ use Rattle.dex_types.specs.declared.faults.AccountFault.{AccountFault}
 use Rattle.dex_types.specs.Accounts.{PlainAccounts}
 use Rattle.dex_dump.specs.declared.faults.DumpFault.{DumpFault}
 use Rattle.dex_rows.specs.Records.{rows_of}
-use Rattle.dex_dump.specs.Answers.{Adds, Answers, AnswersDump, AnswersText, Ends, PlainAnswer, PlainDump, grammar_fault, if_over, next_number, stated, with_end}
+use Rattle.dex_dump.specs.Answers.{Adds, Answers, AnswersDump, AnswersText, Ends, PlainAnswer, PlainDump, next_number, stated, with_end}
 use Rattle.dex_dump.specs.Answers.Ends.{AtEnd, AtRow, AtAccount}
 use Rattle.dex_dump.specs.Checks.{AccountCheck, AllHold, Check, Fails, FirstFails, Holds, checks}
 use Rattle.dex_dump.specs.Checks.Check.{Rules, Slab}
 use Rattle.dex_dump.specs.DumpText.{Fields}
-use Rattle.dex_dump.specs.Lines.{PlainLine, is_first_row}
+use Rattle.dex_dump.specs.Lines.{PlainLine}
 use Rattle.dex_dump.specs.Lines.PlainLine.{End}
 use Rattle.dex_dump.specs.Reading.{PlainReading, after_line, start}
 
@@ -87,8 +87,8 @@ pub text-once : (text : List ℕ) (accounts : PlainAccounts) (answer : Result Pl
     → answer ≡ Ok accounts
 text-once text accounts answer h k = from h.0 h.1 h.2
   where
-  from : (first : PlainAnswer) → AnswersDump (rows_of text) first → Ok accounts ≡ with_end first → answer ≡ Ok accounts
-  from (Err fault) of is = absurd cc
-  from (Ok dump) of is =
-      let same : k.0 ≡ Ok dump = dump-once (rows_of text) dump k.0 of k.1 in
-      k.2 ∙ ap with_end same ∙ sym is
+    from : (first : PlainAnswer) → AnswersDump (rows_of text) first → Ok accounts ≡ with_end first → answer ≡ Ok accounts
+    from (Err fault) of is = absurd cc
+    from (Ok dump) of is =
+        let same : k.0 ≡ Ok dump = dump-once (rows_of text) dump k.0 of k.1 in
+        k.2 ∙ ap with_end same ∙ sym is

@@ -1,8 +1,7 @@
 -- An accepted account passes the checks of its row.
-use Rattle.std.proofs.Common.{◌≡◌, ℕ, Bool, ◌+◌, ◌-◌, ◌*◌, ◌/◌, ◌<◌, ◌≤◌, ◌∙◌, ◌==◌, ◌⊎◌, List, [], ◌∷◌, length, cond, eqb, ltb, Option, Some, None, true, false, not, arith, refl, sym, ap, inl, inr, slice_index}
-use Rattle.std.specs.List.{list_all}
+use Rattle.std.proofs.Common.{◌≡◌, ℕ, Bool, ◌∙◌, List, length, cond, eqb, ltb, Option, Some, None, true, false, arith, refl, sym, ap, inl, inr, slice_index}
 use Rattle.std.specs.Option.{option_map, option_or}
-use Rattle.std.proofs.lemmas.Bool.{cases_Bool, cases_eq, cond-false, cond-true, eq-eqb, le-ltb, ne_eqb}
+use Rattle.std.proofs.lemmas.Bool.{cases_eq, cond-false, cond-true, eq-eqb, le-ltb, ne_eqb}
 use Rattle.dex_fields.specs.declared.field.Field.{Field}
 use Rattle.dex_fields.specs.declared.frame.Difference.{Difference}
 use Rattle.dex_fields.specs.declared.market.TheConstants.{OWN_ADDRESS, COIN_MINT, PC_MINT, COIN_VAULT, PC_VAULT, REQ_Q, EVENT_Q, BIDS, ASKS}
@@ -16,17 +15,16 @@ use Rattle.dex_fields.proofs.Rules.{none_or}
 use Rattle.dex_types.specs.declared.addresses.Address.{Address}
 use Rattle.dex_types.specs.declared.faults.AccountFault.{AccountFault}
 use Rattle.dex_types.specs.declared.terms.Side.{Side}
-use Rattle.dex_types.specs.AccountFaults.{flags_fault, size_fault, text_fault}
+use Rattle.dex_types.specs.AccountFaults.{text_fault}
 use Rattle.dex_types.specs.Accounts.{PlainAccounts}
 use Rattle.dex_market.specs.Faults.{address_fault, market_fault}
-use Rattle.dex_market.specs.MarketAccount.{IsMarket, address_in, market_words}
+use Rattle.dex_market.specs.MarketAccount.{address_in}
 use Rattle.dex_market.proofs.Verdicts.{none_from_market}
 use Rattle.dex_orders.specs.Faults.{are_zeros, orders_fault}
-use Rattle.dex_orders.specs.OrdersAccount.{IsBlank, IsOpened, IsOrders, market_of}
+use Rattle.dex_orders.specs.OrdersAccount.{IsOpened, IsOrders, market_of}
 use Rattle.dex_orders.proofs.BlankLaw.{test_from_zeros}
 use Rattle.dex_orders.proofs.Verdicts.{none_from_orders}
 use Rattle.dex_slab.specs.Blank.{side_flags}
-use Rattle.dex_slab.specs.Slab.{IsSlabSize}
 use Rattle.dex_slab.specs.StandsFor.{IsSideAccount}
 use Rattle.dex_token.specs.Faults.{token_fault, wallet_fault}
 use Rattle.dex_token.specs.TokenAccount.{IsWallet, wallet_words}
@@ -74,21 +72,21 @@ pub orders_pass : (market : Address) (bytes : List ℕ) → IsOrders bytes → (
 unfolding orders_rule
 orders_pass market bytes is named =
     let opened = λ (opened : IsOpened bytes).
-        let rule : address_rule bytes open_orders.MARKET market ≡ None =
-        ap (option_map word_differs) (address_same bytes open_orders.MARKET market open_orders.MARKET.at (named opened)) in
-        rule in
+    let rule : address_rule bytes open_orders.MARKET market ≡ None =
+    ap (option_map word_differs) (address_same bytes open_orders.MARKET market open_orders.MARKET.at (named opened)) in
+    rule in
     let others : orders_others market bytes ≡ None = elim is [
       | inl blank ↦ cond-true (are_zeros bytes) None (address_rule bytes open_orders.MARKET market) (test_from_zeros bytes blank.zeros)
       | inr used ↦ elim used [
-          | inl opened_now ↦ either_none (are_zeros bytes) (address_rule bytes open_orders.MARKET market) (opened opened_now.opened)
-          | inr closed ↦ either_none (are_zeros bytes) (address_rule bytes open_orders.MARKET market) (opened closed.opened)
-        ]
+        | inl opened_now ↦ either_none (are_zeros bytes) (address_rule bytes open_orders.MARKET market) (opened opened_now.opened)
+        | inr closed ↦ either_none (are_zeros bytes) (address_rule bytes open_orders.MARKET market) (opened closed.opened)
+      ]
     ] in
     none_with bytes 3228 (orders_fault bytes) (orders_others market bytes) (none_from_orders bytes is) others
   where
-  either_none : (b : Bool) (x : Option AccountFault) → x ≡ None → cond b None x ≡ None
-  either_none true x h = refl
-  either_none false x h = h
+    either_none : (b : Bool) (x : Option AccountFault) → x ≡ None → cond b None x ≡ None
+    either_none true x h = refl
+    either_none false x h = h
 
 -- ---- a side
 

@@ -1,18 +1,18 @@
 -- The accounts read so far are accepted: each row that is added keeps that, so what a dump is read as is accepted.
-use Rattle.std.proofs.Common.{◌≡◌, ◌<◌, ◌≤◌, ◌+◌, ◌∷◌, ◌++◌, ◌∙◌, ◌⊎◌, ◌||◌, ◌&&◌, [], ℕ, zero, suc, get_or, List, Bool, All, IfSome, true, false, not, cond, Option, Some, None, Result, Ok, Err, arith, refl, sym, ap, subst, inl, inr, length, map, nat_lt}
+use Rattle.std.proofs.Common.{◌≡◌, ◌<◌, ◌≤◌, ◌+◌, ◌∷◌, ◌++◌, ◌∙◌, [], ℕ, zero, suc, get_or, List, Bool, All, IfOk, IfSome, true, false, not, Option, Some, None, Result, Ok, Err, arith, refl, sym, ap, subst, inl, inr, length, nat_lt}
 use Rattle.std.specs.List.{list_any}
 use Rattle.std.proofs.lemmas.Bool.{and_parts, cases_Bool, false≢true, ltb-true, not-true}
 use Rattle.std.proofs.lemmas.List.{length-append}
 use Rattle.std.proofs.lemmas.List.Elements.{All-cons, All-head, All-nil, All-push, All-same, All-tail, All-weaker}
 use Rattle.std.proofs.lemmas.Option.{cond_some, none-some}
 use Rattle.dex_fields.proofs.Reading.{length-bytes_in}
-use Rattle.dex_fields.specs.declared.market.TheConstants.{OWN_ADDRESS, COIN_MINT, PC_MINT, COIN_VAULT, PC_VAULT, REQ_Q, EVENT_Q, BIDS, ASKS}
+use Rattle.dex_fields.specs.declared.market.TheConstants.{COIN_MINT, PC_MINT}
 use Rattle.dex_types.specs.declared.addresses.Address.{Address}
 use Rattle.dex_types.specs.declared.terms.Side.TheVariants.{Bid, Ask}
-use Rattle.dex_types.specs.Accounts.{PlainAccount, PlainAccounts, PlainMarketAccounts}
+use Rattle.dex_types.specs.Accounts.{PlainAccount, PlainAccounts, PlainMarketAccounts, accounts_of}
 use Rattle.dex_types.specs.Addresses.{is_same}
 use Rattle.dex_laws.proofs.TraderLaws.{is_same-sym, is_same-true}
-use Rattle.dex_market.specs.MarketAccount.{AreTerms, MarketTerms, addresses_of as addresses_in, market_terms, market_words}
+use Rattle.dex_market.specs.MarketAccount.{AreTerms, MarketTerms, market_terms, market_words}
 use Rattle.dex_market.proofs.Verdicts.{requests_from_none}
 use Rattle.dex_orders.specs.OrdersAccount.{IsOrders}
 use Rattle.dex_ring.proofs.Verdicts.{queue_from_none}
@@ -21,14 +21,17 @@ use Rattle.dex_token.specs.TokenAccount.{IsWallet, wallet_words}
 use Rattle.dex_token.proofs.TokenRules.{mint_from_none}
 use Rattle.dex_accounts.specs.Accepted.{IsAccepted, NamesMarket}
 use Rattle.dex_rows.specs.Records.{rows_of}
+use Rattle.dex_dump.specs.declared.faults.DumpError.{DumpError}
+use Rattle.dex_dump.specs.declared.reader.DumpRead.{DumpRead}
 use Rattle.dex_dump.specs.Accepted.{AreAccepted, AreApart as NamesApart, HasMints, IsMintOf, addresses_of, times}
-use Rattle.dex_dump.specs.Answers.{Adds, Answers, AnswersDump, AnswersText, Ends, PlainAnswer, PlainDump, grammar_fault, if_allowed, if_over, next_number, with_end}
+use Rattle.dex_dump.specs.Answers.{Adds, Answers, AnswersDump, AnswersText, Ends, PlainAnswer, PlainDump, if_allowed, if_over, next_number, with_end}
 use Rattle.dex_dump.specs.Answers.Ends.{AtEnd, AtRow, AtAccount}
 use Rattle.dex_dump.specs.Checks.{AllHold, checks}
 use Rattle.dex_dump.specs.DumpText.{Fields}
-use Rattle.dex_dump.specs.Lines.{PlainLine, is_first_row, line_of}
+use Rattle.dex_dump.specs.Lines.{PlainLine, line_of}
 use Rattle.dex_dump.specs.Lines.PlainLine.{Mint, Srm, Msrm, Wallet, Market, Orders, End}
-use Rattle.dex_dump.specs.Reading.{PlainReading, after_line, has_room, is_allowed, is_among, is_mint, is_name, market_addresses, parts_of, start, taken_by, with_line, with_orders}
+use Rattle.dex_dump.specs.Reading.{PlainReading, has_room, is_allowed, is_among, is_mint, is_name, market_addresses, parts_of, start, taken_by, with_line, with_orders}
+use Rattle.dex_dump.specs.Telling.{TellsAccounts, plain_dump}
 use Rattle.dex_dump.proofs.CheckLaws.{IsMarketHere, market_held, orders_held, side_held, vault_held, wallet_held}
 use Rattle.dex_dump.proofs.LineLaws.{IsRead, line-read}
 use Rattle.dex_dump.proofs.TakenLaws.{AreApart, AreFree, line-adds, times-append, times-new}
@@ -129,21 +132,23 @@ market-accepted reading market read hold =
     let here = market_held reading market.address market.market read.0 hold.0 in
     let terms = market_terms market.market in
     let coin = vault_held terms.coin_mint market.coin_vault (length-bytes_in market.market COIN_MINT (omega (arith, here.market.size))) hold.1.0 in
-    let pc = vault_held terms.pc_mint market.pc_vault (length-bytes_in market.market PC_MINT (omega (arith, here.market.size))) hold.1.1.0 in
-    (here, record {
-      market = here.market;
-      requests = requests_from_none market.requests hold.1.1.1.0;
-      events = queue_from_none market.events hold.1.1.1.1.0;
-      bids = side_held Bid market.bids hold.1.1.1.1.1.0 hold.1.1.1.1.1.1.0;
-      asks = side_held Ask market.asks hold.1.1.1.1.1.1.1.0 hold.1.1.1.1.1.1.1.1.0;
-      coin_vault = coin.0;
-      pc_vault = pc.0;
-      orders = All-same (λ (other : PlainAccount). IsOrders other.bytes) market.orders [] read.1 (All-nil (λ (other : PlainAccount). IsOrders other.bytes));
-      own_address = here.own_address;
-      coin_mint = coin.1;
-      pc_mint = pc.1;
-      named = All-same (NamesMarket market.address) market.orders [] read.1 (All-nil (NamesMarket market.address));
-    })
+    let pc = vault_held terms.pc_mint market.pc_vault (length-bytes_in market.market PC_MINT (omega (arith, here.market.size))) hold.1.1.0 in (
+      here,
+      record {
+        market = here.market;
+        requests = requests_from_none market.requests hold.1.1.1.0;
+        events = queue_from_none market.events hold.1.1.1.1.0;
+        bids = side_held Bid market.bids hold.1.1.1.1.1.0 hold.1.1.1.1.1.1.0;
+        asks = side_held Ask market.asks hold.1.1.1.1.1.1.1.0 hold.1.1.1.1.1.1.1.1.0;
+        coin_vault = coin.0;
+        pc_vault = pc.0;
+        orders = All-same (λ (other : PlainAccount). IsOrders other.bytes) market.orders [] read.1 (All-nil (λ (other : PlainAccount). IsOrders other.bytes));
+        own_address = here.own_address;
+        coin_mint = coin.1;
+        pc_mint = pc.1;
+        named = All-same (NamesMarket market.address) market.orders [] read.1 (All-nil (NamesMarket market.address));
+      },
+    )
 
 -- addresses of which none stands at two places
 among-none : (x : Address) (xs : List Address) → ((k : ℕ) (d : Address) → k < length xs → is_same (get_or xs k d) x ≡ false) → is_among x xs ≡ false
@@ -209,7 +214,7 @@ line-taken : (reading : PlainReading) (line : PlainLine) → IsSoFar reading →
 line-taken reading line so read allowed hold =
     let same : (address : Address) → times address (reading.taken ++ taken_by line) ≡ times address (addresses_of (with_line reading.accounts line)) =
     λ address. times-append address reading.taken (taken_by line) ∙ ap (λ (n : ℕ). n + times address (taken_by line)) (so.taken address)
-        ∙ sym (line-adds reading line read allowed address) in
+    ∙ sym (line-adds reading line read allowed address) in
     record {
       taken = same;
       once = λ address.
@@ -222,7 +227,7 @@ line-taken reading line so read allowed hold =
 same-mints : (old new : PlainAccounts) → new.mints ≡ old.mints → (markets : List PlainMarketAccounts) → All (HasMints old) markets → All (HasMints new) markets
 same-mints old new same markets h =
     let stays = λ (address : Address) (is : IsMintOf old address).
-        subst (λ (mints : List PlainAccount). list_any (λ (mint : PlainAccount). is_same address mint.address) mints ≡ true) (sym same) is in
+    subst (λ (mints : List PlainAccount). list_any (λ (mint : PlainAccount). is_same address mint.address) mints ≡ true) (sym same) is in
     All-weaker (HasMints old) (HasMints new) (λ market has. record {
       coin = stays (market_words market.market).terms.coin_mint has.coin;
       pc = stays (market_words market.market).terms.pc_mint has.pc;
@@ -441,3 +446,9 @@ answer-accepted rows (Ok dump) accounts h is = subst AreAccepted (sym (ended acc
 -- what a text is read as
 pub text-accepted : (text : List ℕ) (accounts : PlainAccounts) → AnswersText text (Ok accounts) → AreAccepted accounts
 text-accepted text accounts h = answer-accepted (rows_of text) h.0 accounts h.1 h.2
+
+-- what the rows behind the first are read as
+pub told-accepted : (result : Result DumpRead DumpError) (rows left : List Fields) → TellsAccounts result rows left
+    → IfOk result (λ (read : DumpRead). AreAccepted (accounts_of read.accounts))
+told-accepted (Ok read) rows left told = rows-accepted 2 start rows (plain_dump read left) start-so-far told
+told-accepted (Err error) rows left told = tt

@@ -255,7 +255,13 @@ fn open(accounts: &mut Accounts) {
     for (place, byte) in [(0, b's'), (1, b'e'), (2, b'r'), (3, b'u'), (4, b'm')] {
         damage(accounts, Part::Orders, place, byte);
     }
-    for (place, byte) in [(3221, b'p'), (3222, b'a'), (3223, b'd'), (3224, b'd'), (3225, b'i')] {
+    for (place, byte) in [
+        (3221, b'p'),
+        (3222, b'a'),
+        (3223, b'd'),
+        (3224, b'd'),
+        (3225, b'i'),
+    ] {
         damage(accounts, Part::Orders, place, byte);
     }
     for (place, byte) in [(3226, b'n'), (3227, b'g'), (5, 5), (13, b'm')] {
@@ -271,8 +277,14 @@ fn open(accounts: &mut Accounts) {
 fn funds_and_slots_that_disagree_are_faults(rt: HostRuntime) -> Result<(), Fail> {
     for (writes, told) in [
         ([(77, 0), (85, 0), (157, 7), (189, 7)], None),
-        ([(77, 2), (85, 1), (93, 3), (101, 2)], Some((9, 9, 77, 2, 1))),
-        ([(109, 0xf5), (93, 3), (157, 7), (189, 7)], Some((9, 9, 3, 7, 1))),
+        (
+            [(77, 2), (85, 1), (93, 3), (101, 2)],
+            Some((9, 9, 77, 2, 1)),
+        ),
+        (
+            [(109, 0xf5), (93, 3), (157, 7), (189, 7)],
+            Some((9, 9, 3, 7, 1)),
+        ),
         ([(109, 0xf5), (125, 2), (157, 7), (189, 7)], None),
     ] {
         let mut accounts = accounts(rt.alloc())?;

@@ -1,0 +1,5 @@
+use Rattle.dex_dump.proofs.SoFarLaws.{told-accepted}
+use Rattle.dex_dump.proofs.reader.read_rows.Goals as goal
+
+pub returns-clause-accepted : goal.returns-clause-accepted
+returns-clause-accepted c = told-accepted c.read_accounts.result _ _ c.read_accounts.ensures
