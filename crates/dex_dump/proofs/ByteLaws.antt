@@ -7,7 +7,6 @@ use Rattle.base64.specs.declared.decode.DecodeError.{DecodeError}
 use Rattle.base64.specs.declared.decode.DecodeError.TheVariants.{InvalidByte}
 use Rattle.base64.specs.declared.engine.DecodePaddingMode.{DecodePaddingMode}
 use Rattle.base64.specs.declared.engine.general_purpose.GeneralPurpose.{GeneralPurpose}
-use Rattle.base64.specs.declared.engine.general_purpose.decode_suffix.Leftover.{Leftover}
 use Rattle.base64.specs.Decode.{IsDecodeTable, decode_error, decode_group, decode_outcome, decoded_bytes, group_bytes, group_error, groups_before_last, groups_bytes, groups_error, leftover_bytes, lone_error, no_leftover, or_else, push_leftover, scan, scan_bytes, scan_last, suffix_bytes, suffix_error, symbol_error}
 use Rattle.base64.specs.Engines.{standard}
 use Rattle.base64.specs.GeneralPurpose.{decode_of, decoded_of}
@@ -19,8 +18,12 @@ use Rattle.dex_rows.specs.Base64.{base64_of}
 
 -- ---- bytes
 
+pub bytes-cons : (x : ℕ) (a : List ℕ) → x < 256 → IsBytes a → IsBytes (x ∷ a)
+bytes-cons x a hx ha zero = hx
+bytes-cons x a hx ha (suc i) = ha i
+
 pub bytes-append : (a b : List ℕ) → IsBytes a → IsBytes b → IsBytes (a ++ b)
-bytes-append [] b ha hb = hb
+bytes-append [] b ha hb i = hb i
 bytes-append (x ∷ a) b ha hb zero = ha 0
 bytes-append (x ∷ a) b ha hb (suc i) = bytes-append a b (λ k. ha (suc k)) hb i
 
@@ -78,30 +81,30 @@ module _ (dec s : List ℕ) (table : IsDecodeTable dec) (bytes : IsBytes s) wher
       let parts = neither (groups_error dec s count) (group_error dec s (4 * count)) h in
       bytes-append (groups_bytes dec s count) (group_bytes dec s (4 * count)) (groups-read count parts.0) (group-read (4 * count) parts.1)
 
-  -- the last symbols
-  abbrev AreSmall : Leftover → Type 0
-  AreSmall st = (k : ℕ) → slice_index st.morsels k < 64
-
-  scan-step : (pad at i b : ℕ) (st end : Leftover) (rest : List ℕ) (r : Result Leftover DecodeError) → push_leftover dec pad at st i b ≡ r
+  -- the last symbols: the values that were kept of them are of six bits
+  scan-step : (pad at i b : ℕ) (st end : _) (rest : List ℕ) (r : Result _ DecodeError) → push_leftover dec pad at st i b ≡ r
       → IsLeftover st i → b < 256 → scan dec pad at st i (b ∷ rest) ≡ Ok end
-      → ((next : Leftover) → IsLeftover next (i + 1) → scan dec pad at next (i + 1) rest ≡ Ok end → AreSmall end) → AreSmall end
+      → ((next : _) → IsLeftover next (i + 1) → scan dec pad at next (i + 1) rest ≡ Ok end → (count : ℕ) × IsLeftover end count)
+      → (count : ℕ) × IsLeftover end count
   scan-step pad at i b st end rest (Err e) is held byte h more = absurd (let no = scan-cons_err dec pad at st i b rest e is in cc)
   scan-step pad at i b st end rest (Ok next) is held byte h more =
       more next (IsLeftover_next dec pad at st i b next table held byte is) (sym (scan-cons_ok dec pad at st i b rest next is) ∙ h)
 
-  scan-small : (pad at : ℕ) (rest : List ℕ) → IsBytes rest → (i : ℕ) (st end : Leftover) → IsLeftover st i → scan dec pad at st i rest ≡ Ok end → AreSmall end
+  scan-small : (pad at : ℕ) (rest : List ℕ) → IsBytes rest → (i : ℕ) (st end : _) → IsLeftover st i → scan dec pad at st i rest ≡ Ok end
+      → (count : ℕ) × IsLeftover end count
   scan-small pad at [] byte i st end held h =
-      let same : st ≡ end = let nil = scan-nil dec pad at st i in cc in
-      subst AreSmall same held.3
+      let nil = scan-nil dec pad at st i in
+      let same : st ≡ end = cc in
+      (i, subst (λ (l : _). IsLeftover l i) same held)
   scan-small pad at (b ∷ rest) byte i st end held h =
       scan-step pad at i b st end rest (push_leftover dec pad at st i b) refl held (byte 0) h
       (λ next kept read. scan-small pad at rest (λ k. byte (suc k)) (i + 1) next end kept read)
 
-  last-read : (r : Result Leftover DecodeError) → ((end : Leftover) → r ≡ Ok end → AreSmall end) → IsBytes (scan_bytes r)
+  last-read : (r : Result _ DecodeError) → ((end : _) → r ≡ Ok end → (count : ℕ) × IsLeftover end count) → IsBytes (scan_bytes r)
   last-read (Err e) small = λ i. omega arith
   last-read (Ok end) small =
-      let all = small end refl in
-      bytes-take _ (decode_group (slice_index end.morsels 0) (slice_index end.morsels 1) (slice_index end.morsels 2) (slice_index end.morsels 3))
+      let all = (small end refl).1.3 in
+      bytes-take (end.morsels_count * 6 / 8) (decode_group (slice_index end.morsels 0) (slice_index end.morsels 1) (slice_index end.morsels 2) (slice_index end.morsels 3))
       (group-whole (slice_index end.morsels 0) (slice_index end.morsels 1) (slice_index end.morsels 2) (slice_index end.morsels 3) (all 0) (all 1) (all 2) (all 3))
 
   suffix-read : (pad at : ℕ) → IsBytes (suffix_bytes dec pad at s)

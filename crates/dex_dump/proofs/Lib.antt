@@ -9,6 +9,7 @@ pub mod StatedLaws
 pub mod OneText
 pub mod BehindLaws
 pub mod CheckLaws
+pub mod ByteLaws
 pub mod LineLaws
 pub mod TakenLaws
 pub mod SoFarLaws

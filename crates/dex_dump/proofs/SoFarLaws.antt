@@ -23,7 +23,7 @@ use Rattle.dex_accounts.specs.Accepted.{IsAccepted, NamesMarket}
 use Rattle.dex_rows.specs.Records.{rows_of}
 use Rattle.dex_dump.specs.declared.faults.DumpError.{DumpError}
 use Rattle.dex_dump.specs.declared.reader.DumpRead.{DumpRead}
-use Rattle.dex_dump.specs.Accepted.{AreAccepted, AreApart as NamesApart, HasMints, IsMintOf, addresses_of, times}
+use Rattle.dex_dump.specs.Accepted.{AreAccepted, AreApart as NamesApart, HasMints, HoldBytes, IsHeld, IsHeldMarket, IsMintOf, addresses_of, times}
 use Rattle.dex_dump.specs.Answers.{Adds, Answers, AnswersDump, AnswersText, Ends, PlainAnswer, PlainDump, if_allowed, if_over, next_number, with_end}
 use Rattle.dex_dump.specs.Answers.Ends.{AtEnd, AtRow, AtAccount}
 use Rattle.dex_dump.specs.Checks.{AllHold, checks}
@@ -39,6 +39,7 @@ use Rattle.dex_dump.proofs.TakenLaws.{AreApart, AreFree, line-adds, times-append
 -- the accounts so far are accepted, and their addresses are those that are taken
 pub record IsSoFar (reading : PlainReading) : Type 0 where
   pub accepted : AreAccepted reading.accounts
+  pub held : HoldBytes reading.accounts
   pub taken : (address : Address) → times address reading.taken ≡ times address (addresses_of reading.accounts)
 
 -- ---- mints that are declared stay declared
@@ -129,7 +130,7 @@ market-accepted : (reading : PlainReading) (market : PlainMarketAccounts) → Is
     → IsMarketHere reading market.address market.market × IsAccepted market
 unfolding checks
 market-accepted reading market read hold =
-    let here = market_held reading market.address market.market read.0 hold.0 in
+    let here = market_held reading market.address market.market read.0.address.size hold.0 in
     let terms = market_terms market.market in
     let coin = vault_held terms.coin_mint market.coin_vault (length-bytes_in market.market COIN_MINT (omega (arith, here.market.size))) hold.1.0 in
     let pc = vault_held terms.pc_mint market.pc_vault (length-bytes_in market.market PC_MINT (omega (arith, here.market.size))) hold.1.1.0 in (
@@ -353,7 +354,7 @@ line-accepted reading (Orders name account) so read allowed hold once =
     let accounts = reading.accounts in
     let new = with_line accounts (Orders name account) in
     let old = so.accepted in
-    let held = orders_held name account.bytes read hold.0 in
+    let held = orders_held name account.bytes read.0.size hold.0 in
     let room = (and_parts (not (is_among account.address reading.taken)) (has_room name accounts.markets) allowed).1 in
     record {
       mints = old.mints;
@@ -373,6 +374,53 @@ line-accepted reading (Orders name account) so read allowed hold once =
     }
 line-accepted reading End so read allowed hold once = so.accepted
 
+-- what a line holds is held with the accounts so far
+line-held : (accounts : PlainAccounts) (line : PlainLine) → HoldBytes accounts → IsRead line → HoldBytes (with_line accounts line)
+line-held accounts (Mint mint) held read = record {
+  mints = All-push IsHeld accounts.mints mint held.mints read;
+  srm = held.srm;
+  msrm = held.msrm;
+  wallets = held.wallets;
+  markets = held.markets;
+}
+line-held accounts (Srm mint) held read =
+    record { mints = held.mints; srm = read; msrm = held.msrm; wallets = held.wallets; markets = held.markets }
+line-held accounts (Msrm mint) held read =
+    record { mints = held.mints; srm = held.srm; msrm = read; wallets = held.wallets; markets = held.markets }
+line-held accounts (Wallet wallet) held read = record {
+  mints = held.mints;
+  srm = held.srm;
+  msrm = held.msrm;
+  wallets = All-push IsHeld accounts.wallets wallet held.wallets read;
+  markets = held.markets;
+}
+line-held accounts (Market market) held read = record {
+  mints = held.mints;
+  srm = held.srm;
+  msrm = held.msrm;
+  wallets = held.wallets;
+  markets = All-push IsHeldMarket accounts.markets market held.markets read.0;
+}
+line-held accounts (Orders name account) held read = record {
+  mints = held.mints;
+  srm = held.srm;
+  msrm = held.msrm;
+  wallets = held.wallets;
+  markets = orders-each IsHeldMarket name account (λ market here h. record {
+    address = h.address;
+    authority = h.authority;
+    market = h.market;
+    coin_vault = h.coin_vault;
+    pc_vault = h.pc_vault;
+    requests = h.requests;
+    events = h.events;
+    bids = h.bids;
+    asks = h.asks;
+    orders = All-push IsHeld market.orders account h.orders read.1;
+  }) accounts.markets held.markets;
+}
+line-held accounts End held read = held
+
 -- ---- rows
 
 allowed-parts : (reading : PlainReading) (found : Option PlainLine) (line : PlainLine) → if_allowed reading found ≡ Some line
@@ -389,24 +437,31 @@ row-so-far reading next row so adds =
     let new = line-taken reading adds.line so read of.1 adds.hold in
     subst IsSoFar (sym adds.adds) (record {
       accepted = line-accepted reading adds.line so read of.1 adds.hold new.once;
+      held = line-held reading.accounts adds.line so.held read;
       taken = new.taken;
     })
 
-ends-accepted : (number : ℕ) (reading : PlainReading) (row : Fields) (rows : List Fields) (dump : PlainDump) → IsSoFar reading
-    → Ends number reading row rows (Ok dump) → AreAccepted dump.accounts
-ends-accepted number reading row rows dump so (AtEnd states is) =
+-- accepted accounts that hold bytes
+pub record AreRead (accounts : PlainAccounts) : Type 0 where
+  pub accepted : AreAccepted accounts
+  pub held : HoldBytes accounts
+
+ends-read : (number : ℕ) (reading : PlainReading) (row : Fields) (rows : List Fields) (dump : PlainDump) → IsSoFar reading
+    → Ends number reading row rows (Ok dump) → AreRead dump.accounts
+ends-read number reading row rows dump so (AtEnd states is) =
     let same : dump ≡ record { accounts = reading.accounts; count = number; behind = rows } = cc in
-    subst (λ (d : PlainDump). AreAccepted d.accounts) (sym same) so.accepted
-ends-accepted number reading row rows dump so (AtRow states is) = absurd cc
-ends-accepted number reading row rows dump so (AtAccount line states account fault fails is) = absurd cc
+    let here : AreRead reading.accounts = record { accepted = so.accepted; held = so.held } in
+    subst (λ (d : PlainDump). AreRead d.accounts) (sym same) here
+ends-read number reading row rows dump so (AtRow states is) = absurd cc
+ends-read number reading row rows dump so (AtAccount line states account fault fails is) = absurd cc
 
 -- what rows give behind accounts that are accepted
-rows-accepted : (number : ℕ) (reading : PlainReading) (rows : List Fields) (dump : PlainDump) → IsSoFar reading → Answers number reading rows (Ok dump)
-    → AreAccepted dump.accounts
-rows-accepted number reading [] dump so h = absurd cc
-rows-accepted number reading (row ∷ rows) dump so (inl ends) = ends-accepted number reading row rows dump so ends
-rows-accepted number reading (row ∷ rows) dump so (inr more) =
-    rows-accepted (next_number number) more.0 rows dump (row-so-far reading more.0 row so more.1) more.2
+rows-read : (number : ℕ) (reading : PlainReading) (rows : List Fields) (dump : PlainDump) → IsSoFar reading → Answers number reading rows (Ok dump)
+    → AreRead dump.accounts
+rows-read number reading [] dump so h = absurd cc
+rows-read number reading (row ∷ rows) dump so (inl ends) = ends-read number reading row rows dump so ends
+rows-read number reading (row ∷ rows) dump so (inr more) =
+    rows-read (next_number number) more.0 rows dump (row-so-far reading more.0 row so more.1) more.2
 
 start-so-far : IsSoFar start
 start-so-far = record {
@@ -425,30 +480,36 @@ start-so-far = record {
     few_markets = omega arith;
     few_orders = All-nil HasFew;
   };
+  held = record { mints = All-nil IsHeld; srm = tt; msrm = tt; wallets = All-nil IsHeld; markets = All-nil IsHeldMarket };
   taken = λ address. refl;
 }
 
 -- what a dump is read as, whatever stands behind it
-pub dump-accepted : (rows : List Fields) (dump : PlainDump) → AnswersDump rows (Ok dump) → AreAccepted dump.accounts
-dump-accepted [] dump h = absurd cc
-dump-accepted (row ∷ rows) dump (inl first) = rows-accepted 2 start rows dump start-so-far first.1
-dump-accepted (row ∷ rows) dump (inr other) = absurd (let no = other.1 in cc)
+pub dump-read : (rows : List Fields) (dump : PlainDump) → AnswersDump rows (Ok dump) → AreRead dump.accounts
+dump-read [] dump h = absurd cc
+dump-read (row ∷ rows) dump (inl first) = rows-read 2 start rows dump start-so-far first.1
+dump-read (row ∷ rows) dump (inr other) = absurd (let no = other.1 in cc)
 
 ended : (accounts : PlainAccounts) (dump : PlainDump) (behind : List Fields) → Ok accounts ≡ if_over dump behind → accounts ≡ dump.accounts
 ended accounts dump [] h = cc
 ended accounts dump (row ∷ rows) h = absurd cc
 
-answer-accepted : (rows : List Fields) (answer : PlainAnswer) (accounts : PlainAccounts) → AnswersDump rows answer → Ok accounts ≡ with_end answer
-    → AreAccepted accounts
-answer-accepted rows (Err fault) accounts h is = absurd cc
-answer-accepted rows (Ok dump) accounts h is = subst AreAccepted (sym (ended accounts dump dump.behind is)) (dump-accepted rows dump h)
+answer-read : (rows : List Fields) (answer : PlainAnswer) (accounts : PlainAccounts) → AnswersDump rows answer → Ok accounts ≡ with_end answer
+    → AreRead accounts
+answer-read rows (Err fault) accounts h is = absurd cc
+answer-read rows (Ok dump) accounts h is = subst AreRead (sym (ended accounts dump dump.behind is)) (dump-read rows dump h)
 
 -- what a text is read as
-pub text-accepted : (text : List ℕ) (accounts : PlainAccounts) → AnswersText text (Ok accounts) → AreAccepted accounts
-text-accepted text accounts h = answer-accepted (rows_of text) h.0 accounts h.1 h.2
+pub text-read : (text : List ℕ) (accounts : PlainAccounts) → AnswersText text (Ok accounts) → AreRead accounts
+text-read text accounts h = answer-read (rows_of text) h.0 accounts h.1 h.2
 
 -- what the rows behind the first are read as
 pub told-accepted : (result : Result DumpRead DumpError) (rows left : List Fields) → TellsAccounts result rows left
     → IfOk result (λ (read : DumpRead). AreAccepted (accounts_of read.accounts))
-told-accepted (Ok read) rows left told = rows-accepted 2 start rows (plain_dump read left) start-so-far told
+told-accepted (Ok read) rows left told = (rows-read 2 start rows (plain_dump read left) start-so-far told).accepted
 told-accepted (Err error) rows left told = tt
+
+pub told-held : (result : Result DumpRead DumpError) (rows left : List Fields) → TellsAccounts result rows left
+    → IfOk result (λ (read : DumpRead). HoldBytes (accounts_of read.accounts))
+told-held (Ok read) rows left told = (rows-read 2 start rows (plain_dump read left) start-so-far told).held
+told-held (Err error) rows left told = tt

@@ -15,10 +15,11 @@ pub fn one_text_is_of_one_exchange()
         → dump_text accounts ++ rest ≡ dump_text others ++ more → (accounts ≡ others) × (rest ≡ more) }
 {}
 
-/// What is read is accepted: the accounts of a text that is a dump, and those of a dump behind which something stands.
+/// What is read is accepted, and holds bytes: the accounts of a text that is a dump, and those of a dump behind which
+/// something stands.
 pub fn what_is_read_is_accepted()
-    ensures alone { (text : List ℕ) (accounts : PlainAccounts) → AnswersText text (Ok accounts) → AreAccepted accounts }
-    ensures behind { (rows : List Fields) (dump : PlainDump) → AnswersDump rows (Ok dump) → AreAccepted dump.accounts }
+    ensures alone { (text : List ℕ) (accounts : PlainAccounts) → AnswersText text (Ok accounts) → AreAccepted accounts × HoldBytes accounts }
+    ensures behind { (rows : List Fields) (dump : PlainDump) → AnswersDump rows (Ok dump) → AreAccepted dump.accounts × HoldBytes dump.accounts }
 {}
 
 /// What is written of accepted accounts is read back as them, and as nothing else, also where rows stand behind it.

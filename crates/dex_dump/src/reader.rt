@@ -3,7 +3,7 @@
 ghost use Rattle.std.specs.Prelude.{◌≡◌, IfOk};
 ghost use Rattle.csv.specs.Records.{fields_of};
 ghost use Rattle.dex_types.specs.Accounts.{accounts_of};
-ghost use Rattle.dex_dump.specs.Accepted.{AreAccepted};
+ghost use Rattle.dex_dump.specs.Accepted.{AreAccepted, HoldBytes};
 ghost use Rattle.dex_dump.specs.Answers as spec;
 ghost use Rattle.dex_dump.specs.Telling.{TellsAccounts, TellsDump, TellsRow, TellsText, plain_reading};
 
@@ -28,6 +28,7 @@ pub struct DumpRead {
 pub fn read_dump(alloc: Global, bytes: &[u8]) -> Result<Accounts, DumpError>
     ensures answer { TellsText result bytes.now }
     ensures accepted { IfOk result (λ accounts. AreAccepted (accounts_of accounts)) }
+    ensures bytes { IfOk result (λ accounts. HoldBytes (accounts_of accounts)) }
 {
     let mut rows = Rows::new(alloc, bytes);
     let dump = read_rows(alloc, &mut rows)?;
@@ -42,6 +43,7 @@ pub fn read_dump(alloc: Global, bytes: &[u8]) -> Result<Accounts, DumpError>
 pub fn read_rows(alloc: Global, rows: &mut Rows<'_>) -> Result<DumpRead, DumpError>
     ensures answer { TellsDump result rows.old rows.new }
     ensures accepted { IfOk result (λ read. AreAccepted (accounts_of read.accounts)) }
+    ensures bytes { IfOk result (λ read. HoldBytes (accounts_of read.accounts)) }
 {
     let Some(first) = rows.next_row()? else {
         return Err(grammar_fault(1).into());
