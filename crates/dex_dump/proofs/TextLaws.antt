@@ -4,7 +4,8 @@ use Rattle.std.specs.List.{flat_map}
 use Rattle.std.proofs.lemmas.List.Elements.{All-push}
 use Rattle.std.proofs.lemmas.List.{map-append, map_more}
 use Rattle.std.proofs.lemmas.Grind.{flat_map-append}
-use Rattle.dex_dump.specs.DumpText.{Fields, line_text, lines_text}
+use Rattle.dex_dump_rows.specs.Lines.{Fields}
+use Rattle.dex_dump.specs.DumpText.{line_text, lines_text}
 
 -- the text of rows is that of a front and of the rest
 pub lines_text-append : (rows others : List Fields) → lines_text (rows ++ others) ≡ lines_text rows ++ lines_text others

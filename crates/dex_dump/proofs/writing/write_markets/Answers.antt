@@ -1,4 +1,4 @@
-use Rattle.std.proofs.Common.{All, append-nil, append_assoc, map, subst, sym, ap}
+use Rattle.std.proofs.Common.{All, append-nil, append_assoc, map, subst, sym}
 use Rattle.std.proofs.lemmas.List.Elements.{All-nil}
 use Rattle.dex_types.specs.Accounts.{market_accounts_of, orders_account_of}
 use Rattle.dex_dump.specs.Accepted.{IsHeld, IsHeldMarket}
