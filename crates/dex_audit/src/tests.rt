@@ -111,8 +111,8 @@ fn write_market(market: &mut MarketAccounts, part: Part, place: usize, value: u6
     }
 }
 
-/// An ask of four lots at 50 of which a bid took three: it rests with one lot, and the fills of both and the out of the bid are
-/// pending.
+/// An ask of four lots at 50 of which a bid took three: it rests with one lot, and the fills of both and the out of the
+/// bid are pending.
 const TRADE: [Word; 46] = [
     Word(Part::CoinVault, 64, 400),
     Word(Part::PcVault, 64, 2_000),
@@ -241,15 +241,32 @@ fn an_audit_tells_orders_and_slots(rt: HostRuntime) -> Result<(), Fail> {
         (Word(Part::Quote, 36, 5_000), [].as_slice()),
         (
             Word(Part::Asks, 69, b'z' as u64),
-            [finding(1, part_of_market(6), 0, 0, ASK), finding(7, maker, 85, 400, 300)].as_slice(),
+            [
+                finding(1, part_of_market(6), 0, 0, ASK),
+                finding(7, maker, 85, 400, 300),
+            ]
+            .as_slice(),
         ),
-        (Word(Part::Asks, 109, 9), [finding(2, maker, 0, ASK, ASK)].as_slice()),
-        (Word(Part::Events, 21, 2), [finding(3, taker, 0, 0, 1)].as_slice()),
+        (
+            Word(Part::Asks, 109, 9),
+            [finding(2, maker, 0, ASK, ASK)].as_slice(),
+        ),
+        (
+            Word(Part::Events, 21, 2),
+            [finding(3, taker, 0, 0, 1)].as_slice(),
+        ),
         (
             Word(Part::Events, 117, 9),
-            [finding(4, part_of_market(4), 0, ASK, ASK), finding(7, maker, 85, 400, 100)].as_slice(),
+            [
+                finding(4, part_of_market(4), 0, ASK, ASK),
+                finding(7, maker, 85, 400, 100),
+            ]
+            .as_slice(),
         ),
-        (Word(Part::Requests, 29, 1), [finding(5, taker, 0, 1, 1)].as_slice()),
+        (
+            Word(Part::Requests, 29, 1),
+            [finding(5, taker, 0, 1, 1)].as_slice(),
+        ),
         (
             Word(Part::Maker, 109, u64::MAX - 3),
             [finding(3, maker, 1, 0, 1), finding(6, maker, 1, 2, 1)].as_slice(),
@@ -267,21 +284,42 @@ fn an_audit_tells_funds(rt: HostRuntime) -> Result<(), Fail> {
     let vault = part_of_market(1);
     let locked = 100 << 60;
     for (word, wanted) in [
-        (Word(Part::Maker, 85, 401), [finding(7, maker, 85, 401, 400)].as_slice()),
-        (Word(Part::Market, 149, 401), [finding(8, market, 149, 401, 400)].as_slice()),
+        (
+            Word(Part::Maker, 85, 401),
+            [finding(7, maker, 85, 401, 400)].as_slice(),
+        ),
+        (
+            Word(Part::Market, 149, 401),
+            [finding(8, market, 149, 401, 400)].as_slice(),
+        ),
         (
             Word(Part::CoinVault, 64, 401),
-            [finding(9, vault, 64, 401, 400), finding(12, address(b'b'), 36, 1_000, 1_001)].as_slice(),
+            [
+                finding(9, vault, 64, 401, 400),
+                finding(12, address(b'b'), 36, 1_000, 1_001),
+            ]
+            .as_slice(),
         ),
         (
             Word(Part::Market, 373, 1),
-            [finding(9, part_of_market(2), 64, 2_000, 2_001), finding(10, market, 373, 1, 0)].as_slice(),
+            [
+                finding(9, part_of_market(2), 64, 2_000, 2_001),
+                finding(10, market, 373, 1, 0),
+            ]
+            .as_slice(),
         ),
         (
             Word(Part::Events, 53, u64::MAX),
-            [finding(7, maker, 85, 400, MOST + 100), finding(11, vault, 64, MOST + 400, MOST)].as_slice(),
+            [
+                finding(7, maker, 85, 400, MOST + 100),
+                finding(11, vault, 64, MOST + 400, MOST),
+            ]
+            .as_slice(),
         ),
-        (Word(Part::Quote, 36, 5_001), [finding(12, address(b'q'), 36, 5_001, 5_000)].as_slice()),
+        (
+            Word(Part::Quote, 36, 5_001),
+            [finding(12, address(b'q'), 36, 5_001, 5_000)].as_slice(),
+        ),
         (
             Word(Part::Asks, 101, 1 << 60),
             [
