@@ -78,12 +78,12 @@ module _ (nodes events : ℕ) where
         markets = each-migrated IsAccepted IsAccepted market-accepted old.markets new.markets are.markets kept.markets;
         wallet_mints = kept.wallet_mints;
         market_mints = each-migrated (HasMints here) (HasMints new) (λ before after is has.
-          let moved : HasMints here (with_old before after) = subst (HasMints here) (sym is.others) has in
-          record { coin = moved.coin; pc = moved.pc }) old.markets new.markets are.markets kept.market_mints;
+            let moved : HasMints here (with_old before after) = subst (HasMints here) (sym is.others) has in
+            record { coin = moved.coin; pc = moved.pc }) old.markets new.markets are.markets kept.market_mints;
         once = λ address.
             let same : times address (addresses_of new) ≡ times address (addresses_of here) =
             ap (λ (of_markets : List Address). times address (map address_of new.mints ++ (map address_of new.wallets ++ of_markets)))
-                (addresses-same old.markets new.markets are.markets) in
+            (addresses-same old.markets new.markets are.markets) in
             subst (λ (n : ℕ). n ≤ 1) (sym same) (kept.once address);
         srm = kept.srm;
         msrm = kept.msrm;
@@ -92,7 +92,7 @@ module _ (nodes events : ℕ) where
         few_wallets = kept.few_wallets;
         few_markets = subst (λ (n : ℕ). n ≤ 16) (sym (many-same old.markets new.markets are.markets)) kept.few_markets;
         few_orders = each-migrated HasFew HasFew (λ before after is few.
-          subst (λ (m : PlainMarketAccounts). HasFew m) (sym is.others) few) old.markets new.markets are.markets kept.few_orders;
+            subst (λ (m : PlainMarketAccounts). HasFew m) (sym is.others) few) old.markets new.markets are.markets kept.few_orders;
       }
 
   -- the market that a market's accounts stand for afterwards

@@ -2,5 +2,4 @@ pub mod CopyLaws
 pub mod FindingLaws
 pub mod TooSmallLaws
 pub mod MarketLaws
-pub mod AuditableLaws
 pub mod KeptLaws

@@ -1,8 +1,7 @@
-//! What migrating keeps, and what may be migrated and audited. A law is a function without a body, and its clause is the law.
+//! What migrating keeps. A law is a function without a body, and its clause is the law.
 
 ghost use Rattle.std.specs.Prelude.{◌≡◌, ◌≤◌, ℕ};
 ghost use Rattle.dex_accounts.specs.StandsFor.{StandsFor};
-ghost use Rattle.dex_audit.specs.Audited.{AreAuditable};
 ghost use Rattle.dex_audit.specs.Findings.{findings};
 ghost use Rattle.dex_dump.specs.Accepted.{AreAccepted};
 ghost use Rattle.dex_migrate.specs.Migrated.{AreMigrated, IsMigrated, with_capacities};
@@ -10,11 +9,6 @@ ghost use Rattle.dex_migrate.specs.TooSmall.{Fits};
 ghost use Rattle.dex_types.specs.Accounts.{PlainAccounts, PlainMarketAccounts};
 ghost use Rattle.dex_types.specs.Market.{Market};
 ghost use Rattle.dex_types.specs.Soundness.{IsSound};
-
-/// Accepted accounts can be audited: as addresses stand once, so do the open-orders accounts of each market.
-pub fn accepted_accounts_can_be_audited()
-    ensures { (accounts : PlainAccounts) → AreAccepted accounts → AreAuditable accounts }
-{}
 
 /// Migrated accounts are accepted, where the accounts were.
 pub fn migrated_accounts_are_accepted()

@@ -11,8 +11,7 @@ mod too_small;
 
 pub use faults::{MigrateError, MigrateFault, MigrateWhat};
 pub use laws::{
-    accepted_accounts_can_be_audited, migrated_accounts_are_accepted,
-    migrated_accounts_have_the_same_findings,
+    migrated_accounts_are_accepted, migrated_accounts_have_the_same_findings,
     migrated_accounts_stand_for_the_market_with_other_capacities,
 };
 pub use migrating::migrate;

@@ -172,7 +172,11 @@ fn dump(alloc: Global) -> Result<Vec<u8>, Fail> {
 }
 
 /// What of the market does not fit so many nodes and events: the account, how many it has, and how many would fit.
-fn too_small(alloc: Global, nodes: u32, events: u32) -> Result<Option<(MigrateWhat, u32, u32)>, Fail>
+fn too_small(
+    alloc: Global,
+    nodes: u32,
+    events: u32,
+) -> Result<Option<(MigrateWhat, u32, u32)>, Fail>
     requires nodes { (1 ≤ nodes) × (nodes ≤ 65536) }
     requires events { (1 ≤ events) × (events ≤ 65535) }
 {
@@ -187,10 +191,18 @@ fn too_small(alloc: Global, nodes: u32, events: u32) -> Result<Option<(MigrateWh
 #[test]
 fn accounts_are_migrated(rt: HostRuntime) -> Result<(), Fail> {
     let old = read_dump(rt.alloc(), &dump(rt.alloc())?)?;
-    let new = migrate(rt.alloc(), read_dump(rt.alloc(), &dump(rt.alloc())?)?, 5, 10)?;
+    let new = migrate(
+        rt.alloc(),
+        read_dump(rt.alloc(), &dump(rt.alloc())?)?,
+        5,
+        10,
+    )?;
     assert!(rt; new.mints == old.mints && new.wallets == old.wallets);
     for (old, new) in old.markets.iter().zip(new.markets.iter()) {
-        assert_eq!(rt; (new.bids.len(), new.asks.len(), new.events.len()), (412, 412, 924));
+        assert_eq!(rt;
+            (new.bids.len(), new.asks.len(), new.events.len()),
+            (412, 412, 924)
+        );
         assert!(rt; new.market == old.market && new.pc_vault == old.pc_vault);
     }
     let again = read_dump(rt.alloc(), &write_dump(rt.alloc(), &new)?)?;
@@ -200,8 +212,14 @@ fn accounts_are_migrated(rt: HostRuntime) -> Result<(), Fail> {
 
 #[test]
 fn what_does_not_fit_is_told(rt: HostRuntime) -> Result<(), Fail> {
-    assert_eq!(rt; too_small(rt.alloc(), 1, 10)?, Some((MigrateWhat::Bids, 2, 1)));
-    assert_eq!(rt; too_small(rt.alloc(), 3, 1)?, Some((MigrateWhat::Events, 2, 1)));
+    assert_eq!(rt;
+        too_small(rt.alloc(), 1, 10)?,
+        Some((MigrateWhat::Bids, 2, 1))
+    );
+    assert_eq!(rt;
+        too_small(rt.alloc(), 3, 1)?,
+        Some((MigrateWhat::Events, 2, 1))
+    );
     assert_eq!(rt; too_small(rt.alloc(), 3, 2)?, None);
     Ok(())
 }
