@@ -2,9 +2,10 @@
 
 ghost use Rattle.std.specs.Prelude.{◌≡◌, ℕ, List, ◌++◌, Ok};
 ghost use Rattle.dex_types.specs.Accounts.{PlainAccounts};
+ghost use Rattle.dex_dump_rows.specs.Lines.{Fields};
 ghost use Rattle.dex_dump.specs.Accepted.{AreAccepted, HoldBytes};
 ghost use Rattle.dex_dump.specs.Answers.{AnswersDump, AnswersText, AreReadAs, IsReadAs, PlainDump};
-ghost use Rattle.dex_dump.specs.DumpText.{Fields, dump_rows, dump_text};
+ghost use Rattle.dex_dump.specs.DumpText.{dump_rows, dump_text};
 
 /// One text is the dump of one exchange: accounts of bytes at addresses of 32 bytes that are written as one text are the
 /// same accounts, and where something stands behind two dumps, that is the same too.

@@ -6,14 +6,15 @@ ghost use Rattle.dex_types.specs.Accounts.{accounts_of, market_accounts_of, name
 ghost use Rattle.dex_types.specs.Addresses as addresses;
 ghost use Rattle.dex_market.specs.MarketAccount.{market_terms};
 ghost use Rattle.dex_dump.specs.Reading as spec;
-ghost use Rattle.dex_dump.specs.Lines.PlainLine.{Market, Mint, Orders, Wallet};
-ghost use Rattle.dex_dump.specs.Telling.{TakesLine, plain_line, plain_reading};
+ghost use Rattle.dex_dump_rows.specs.Lines.PlainLine.{Market, Mint, Orders, Wallet};
+ghost use Rattle.dex_dump.specs.Telling.{TakesLine, plain_reading};
+ghost use Rattle.dex_dump_rows.specs.Telling.{plain_line};
 ghost use Rattle.dex_dump.specs.declared.reading.Stop.TheVariants as stop;
 
 use crate::checks::{
     Failed, address_in, by_rules, check_parts, market_rule, orders_rule, wallet_rule,
 };
-use crate::lines::Line;
+use dex_dump_rows::Line;
 use dex_fields::market;
 use dex_token::check_mint;
 use dex_types::{Accounts, Address, MarketAccounts, Named, NoMemory, OrdersAccount, is_same};
