@@ -1,4 +1,5 @@
 pub mod ActLaws
+pub mod ApplyLaws
 pub mod CancelRowLaws
 pub mod ConsumeRowLaws
 pub mod FundLaws

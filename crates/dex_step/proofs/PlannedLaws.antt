@@ -13,12 +13,12 @@ use Rattle.dex_types.specs.declared.terms.Side.{Side}
 use Rattle.dex_types.specs.declared.terms.Side.TheVariants.{Bid, Ask}
 use Rattle.dex_types.specs.Cancel.{CancelBy, ByClient, ByClients, ById, First}
 use Rattle.dex_types.specs.Market.{Market}
-use Rattle.dex_types.specs.NewOrder.{NewOrder}
+use Rattle.dex_types.specs.NewOrder.{NewOrder, order_on}
 use Rattle.dex_types.specs.Reasons.{answered, disabled, first_of, missing, not_authority, not_blank, not_empty, not_owner, not_person, when_disabled}
 use Rattle.dex_types.specs.Requests.{HasPrice, Party, Request, open_party, party_of}
 use Rattle.dex_types.specs.Rows.{PlainRow}
 use Rattle.dex_types.specs.Soundness.{IsSound}
-use Rattle.dex_types.specs.Steps.{Step, act, act_cancel, act_close, act_decoded, act_init, act_order, act_settle, act_take, by_party, settled, unless_refused}
+use Rattle.dex_types.specs.Steps.{Step, act, act_cancel, act_close, act_decoded, act_init, act_order, act_settle, act_take, by_party, ordered, settled, unless_refused}
 use Rattle.dex_types.specs.Settle.{settlement}
 use Rattle.dex_types.specs.Take.{Take}
 use Rattle.dex_types.specs.Terms.{terms_order, terms_take}
@@ -98,21 +98,21 @@ module _ (side : Side) (request : Request) (seen : Seen) (price lots max_pc : �
   abbrev order : Address → NewOrder
   order = terms_order request seen price lots max_pc self_trade order_type client limit latest
 
-  order-planned : 1 ≤ price → first_of (disabled m ∷ of_party (why_order side order request seen m) (party_of request.named m.traders) ∷ []) ≡ None
-      → IsSound (by_party (act_order side order m) m (party_of request.named m.traders)).market
-      → IsPlanned (planning.by_party (planning.order_plan side order m) (party_of request.named m.traders)) request m
-      (by_party (act_order side order m) m (party_of request.named m.traders))
-  order-planned priced none sound =
-      let party = of-party (why_order side order request seen m) (party_of request.named m.traders)
-      (first_of-none (disabled m ∷ of_party (why_order side order request seen m) (party_of request.named m.traders) ∷ []) none).1.0 in
-      let acting : Party = party.acting in
+  order-at : (acting : Party) → trader_at acting.address m.traders ≡ Some (Open acting.account)
+      → order_step (planning.taker_of side (order acting.address)) m ≡ act_order side order m acting
+  order-at acting known =
+      ap (λ (t : Option Trader).
+      by_party (λ party. ordered side (order acting.address) m party (order_on side m party.account (order acting.address))) m (open_party acting.address t)) known
+
+  order-planned-at : (acting : Party) → trader_at acting.address m.traders ≡ Some (Open acting.account) → 1 ≤ price
+      → why_order side order request seen m acting ≡ None → IsSound (act_order side order m acting).market
+      → IsPlanned (planning.order_plan side order m acting) request m (act_order side order m acting)
+  order-planned-at acting known priced none sound =
       let n : NewOrder = order acting.address in
-      let reasons = first_of-none (why_order_early side request seen m acting ∷ why_ordering side n (order_reading side n seen m acting.account) ∷ []) party.none in
-      let pays = not-missing (payer side seen) (order-none side n request seen m acting party.none).asking.0 in
-      let known = party-found request.named m.traders acting party.is in
-      let steps : act_order side order m acting ≡ order_step (planning.taker_of side n) m =
-      sym (ap (λ (t : Option Trader). by_party (act_order side order m) m (open_party acting.address t)) known) in
-      by-found (planning.order_plan side order m) (act_order side order m) request m acting party.is (record {
+      let reasons = first_of-none (why_order_early side request seen m acting ∷ why_ordering side n (order_reading side n seen m acting.account) ∷ []) none in
+      let pays : Pays (payer side seen) = not-missing (payer side seen) (order-none side n request seen m acting none).asking.0 in
+      let steps = order-at acting known in
+      (record {
         account = acting.account;
         known = known;
         price = priced;
@@ -122,8 +122,19 @@ module _ (side : Side) (request : Request) (seen : Seen) (price lots max_pc : �
         accepted = reasons.1.0;
         planned = refl;
         sums = refl;
-        sound = subst (λ (s : Step). IsSound s.market) (ap (by_party (act_order side order m) m) party.is ∙ steps) sound;
-      }, steps)
+        sound = subst (λ (s : Step). IsSound s.market) (sym steps) sound;
+      }, sym steps)
+
+  order-planned : 1 ≤ price → first_of (disabled m ∷ of_party (why_order side order request seen m) (party_of request.named m.traders) ∷ []) ≡ None
+      → IsSound (by_party (act_order side order m) m (party_of request.named m.traders)).market
+      → IsPlanned (planning.by_party (planning.order_plan side order m) (party_of request.named m.traders)) request m
+      (by_party (act_order side order m) m (party_of request.named m.traders))
+  order-planned priced none sound =
+      let party = of-party (why_order side order request seen m) (party_of request.named m.traders)
+      (first_of-none (disabled m ∷ of_party (why_order side order request seen m) (party_of request.named m.traders) ∷ []) none).1.0 in
+      by-found (planning.order_plan side order m) (act_order side order m) request m party.acting party.is
+      (order-planned-at party.acting (party-found request.named m.traders party.acting party.is) priced party.none
+      (subst (λ (p : Option Party). IsSound (by_party (act_order side order m) m p).market) party.is sound))
 
 -- ---- a take
 
@@ -159,6 +170,8 @@ cancel-planned what reason request m tells none sound =
     let steps : by_party (act_cancel (named_by what) m) m (party_of request.named m.traders) ≡ cancel_step (named_by what) party.acting.address m =
     ap (by_party (act_cancel (named_by what) m) m) party.is in
     of-first request.named m.traders party.acting _ party.is (record {
+      account = party.acting.account;
+      known = party-found request.named m.traders party.acting party.is;
       accepted = tells party.acting party.none;
       sound = subst (λ (s : Step). IsSound s.market) steps sound;
     }, steps)

@@ -1,5 +1,5 @@
 -- What cancels are given of the bytes of a market's accounts, what they leave of them, and their step.
-use Rattle.std.specs.Prelude.{◌≡◌, ℕ, List, None, IsOk, length}
+use Rattle.std.specs.Prelude.{◌≡◌, ℕ, List, Some, None, IsOk, length}
 use Rattle.dex_types.specs.declared.addresses.Address.{Address}
 use Rattle.dex_types.specs.declared.terms.Lots.{Lots}
 use Rattle.dex_types.specs.declared.terms.Side.TheVariants.{Bid, Ask}
@@ -8,6 +8,7 @@ use Rattle.dex_types.specs.Cancel.{CancelBy, cancelled}
 use Rattle.dex_types.specs.Market.{Market}
 use Rattle.dex_types.specs.Soundness.{IsSound}
 use Rattle.dex_types.specs.Steps.{Step, cancelled_all}
+use Rattle.dex_types.specs.Trader.{Account, Open, trader_at}
 use Rattle.dex_types.specs.Why.{why_cancelled}
 use Rattle.dex_cancel.specs.Cancelling.{decided}
 use Rattle.dex_cancel.specs.Leaving.{CancelGiven, queue_of, with_outs}
@@ -57,7 +58,9 @@ pub record HasCancelled (by : CancelBy) (owner : Address) (count : ℕ) (before 
 abbrev pub cancel_step : CancelBy → Address → Market → Step
 cancel_step by owner m = cancelled_all (cancelled by owner m.bids m.asks) m
 
--- the cancel was decided on the market: no reason holds against it, and the market after it is sound
+-- the cancel was decided on the market: the owner's account is open, no reason holds against it, and the market after it is sound
 pub record IsCancelDecided (by : CancelBy) (owner : Address) (m : Market) : Type 0 where
+  pub account : Account
+  pub known : trader_at owner m.traders ≡ Some (Open account)
   pub accepted : why_cancelled by owner m ≡ None
   pub sound : IsSound (cancel_step by owner m).market
