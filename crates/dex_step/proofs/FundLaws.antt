@@ -1,26 +1,24 @@
 -- Settling, sweeping, disabling, opening and closing over a sound market's accounts: that each can be done as it was decided, and
 -- that what it leaves is the step's.
-use Rattle.std.proofs.Common.{◌≡◌, ℕ, ◌+◌, ◌-◌, ◌<◌, ◌≤◌, ◌^◌, Bool, true, false, List, Option, Some, None, length, ltb, map, get_or, refl, sym, ap, ◌∙◌, subst, arith, inl, inr}
+use Rattle.std.proofs.Common.{◌≡◌, ℕ, ◌+◌, ◌-◌, ◌<◌, ◌≤◌, ◌^◌, false, List, Option, Some, None, length, ltb, map, get_or, refl, sym, ap, ◌∙◌, subst, arith, inl, inr}
 use Rattle.std.proofs.lemmas.Bool.{or_parts, ltb-false}
 use Rattle.std.proofs.lemmas.List.{length-map}
 use Rattle.dex_types.specs.declared.account_bytes.OrdersAccount.{OrdersAccount}
 use Rattle.dex_types.specs.declared.addresses.Address.{Address}
-use Rattle.dex_types.specs.declared.replies.Reply.{Reply}
 use Rattle.dex_types.specs.declared.replies.Reply.TheVariants.{Done, Settled, Swept}
 use Rattle.dex_types.specs.declared.terms.Side.TheVariants.{Bid, Ask}
 use Rattle.dex_types.specs.Accounts.{PlainAccount, PlainMarketAccounts, orders_account_of}
-use Rattle.dex_types.specs.Market.{Market}
 use Rattle.dex_types.specs.Reasons.{not_empty}
 use Rattle.dex_types.specs.Requests.{open_party}
 use Rattle.dex_types.specs.Settle.{after_settle}
-use Rattle.dex_types.specs.Side.{Coin, Pc}
+use Rattle.dex_types.specs.Side.{Pc}
 use Rattle.dex_types.specs.Soundness.{IsSound}
 use Rattle.dex_types.specs.Steps.{Step, by_party, settled as step_settled}
 use Rattle.dex_types.specs.Trader.{Account, Blank, Closed, Open, Trader, trader_at}
 use Rattle.dex_types.specs.Upkeep.{all_funds, taken_slots}
 use Rattle.dex_accounts.specs.Decoded.{AreSound, market_in}
 use Rattle.dex_accounts.specs.Owners.{IsFirst, bytes_at, changed_at}
-use Rattle.dex_accounts.specs.Parts.{AreOf, MarketParts, parts_of, with_account}
+use Rattle.dex_accounts.specs.Parts.{AreOf, parts_of, with_account}
 use Rattle.dex_accounts.proofs.OwnerLaws.{All-bytes_at, Stands, owned_here, stands-of}
 use Rattle.dex_accounts.proofs.PartLaws.{StandsForTrader-open, trader_of-open}
 use Rattle.dex_market.specs.StandsFor.{words_of}

@@ -27,7 +27,7 @@ use Rattle.dex_types.specs.Why.{of_party, payer, why, why_cancel, why_cancelled,
 use Rattle.dex_cancel.specs.declared.what.CancelWhat.{CancelWhat}
 use Rattle.dex_cancel.specs.declared.what.CancelWhat.TheVariants as cancels
 use Rattle.dex_cancel.specs.Cancelling.{named_by}
-use Rattle.dex_sound.proofs.OrderSoundReasons.{NoneOf, first_of-none, order-none, take-none}
+use Rattle.dex_sound.proofs.OrderSoundReasons.{first_of-none, order-none, take-none}
 use Rattle.dex_sound.proofs.StepSound.{party-found}
 use Rattle.dex_history.specs.Journal.{request_of, row_step}
 use Rattle.dex_history.proofs.PriceLaws.{decoded-priced, row-sound}
@@ -39,10 +39,10 @@ use Rattle.dex_decide.specs.declared.plan.Plan.TheVariants as plans
 use Rattle.dex_decide.specs.Plans as planning
 use Rattle.dex_settle.specs.declared.plan.SettlePlan.{SettlePlan}
 use Rattle.dex_settle.specs.Leaving.{PaysOut, plan_of, settlement_by}
-use Rattle.dex_step.specs.CancelActs.{IsCancelDecided, cancel_step}
-use Rattle.dex_step.specs.FundActs.{IsCloseDecided, IsInitDecided, IsSettleDecided, close_step, init_step, settle_step}
-use Rattle.dex_step.specs.OrderRows.{IsOrderDecided, order_step}
-use Rattle.dex_step.specs.TakeRows.{IsTakeDecided, take_step}
+use Rattle.dex_step.specs.CancelActs.{cancel_step}
+use Rattle.dex_step.specs.FundActs.{IsInitDecided, close_step, init_step, settle_step}
+use Rattle.dex_step.specs.OrderRows.{order_step}
+use Rattle.dex_step.specs.TakeRows.{take_step}
 use Rattle.dex_step.specs.Planned.{IsPlanned, OfFirst}
 
 -- what is answered Ok was not refused
@@ -111,19 +111,21 @@ module _ (side : Side) (request : Request) (seen : Seen) (price lots max_pc : �
       let n : NewOrder = order acting.address in
       let reasons = first_of-none (why_order_early side request seen m acting ∷ why_ordering side n (order_reading side n seen m acting.account) ∷ []) none in
       let pays : Pays (payer side seen) = not-missing (payer side seen) (order-none side n request seen m acting none).asking.0 in
-      let steps = order-at acting known in
-      (record {
-        account = acting.account;
-        known = known;
-        price = priced;
-        seen = seen;
-        wallet = pays.wallet;
-        pays = pays.is;
-        accepted = reasons.1.0;
-        planned = refl;
-        sums = refl;
-        sound = subst (λ (s : Step). IsSound s.market) (sym steps) sound;
-      }, sym steps)
+      let steps = order-at acting known in (
+        record {
+          account = acting.account;
+          known = known;
+          price = priced;
+          seen = seen;
+          wallet = pays.wallet;
+          pays = pays.is;
+          accepted = reasons.1.0;
+          planned = refl;
+          sums = refl;
+          sound = subst (λ (s : Step). IsSound s.market) (sym steps) sound;
+        },
+        sym steps,
+      )
 
   order-planned : 1 ≤ price → first_of (disabled m ∷ of_party (why_order side order request seen m) (party_of request.named m.traders) ∷ []) ≡ None
       → IsSound (by_party (act_order side order m) m (party_of request.named m.traders)).market
@@ -147,16 +149,18 @@ take-planned : (side : Side) (t : Take) (request : Request) (seen : Seen) (m : M
     → IsPlanned (planning.take_plan side t request m) request m (act_take side t m)
 take-planned side t request seen m none sound =
     let taker : Taker = planning.taker_of_take side request t in
-    let same : act_take side t m ≡ take_step taker m = bare-step side taker t.min_lots t.min_pc m in
-    (record {
-      min_lots = t.min_lots;
-      min_pc = t.min_pc;
-      seen = seen;
-      accepted = (take-none side t request seen m none).accepted;
-      planned = refl;
-      sums = ap (λ (s : Step). leaving_of s.market.events) same;
-      sound = subst (λ (s : Step). IsSound s.market) same sound;
-    }, same)
+    let same : act_take side t m ≡ take_step taker m = bare-step side taker t.min_lots t.min_pc m in (
+      record {
+        min_lots = t.min_lots;
+        min_pc = t.min_pc;
+        seen = seen;
+        accepted = (take-none side t request seen m none).accepted;
+        planned = refl;
+        sums = ap (λ (s : Step). leaving_of s.market.events) same;
+        sound = subst (λ (s : Step). IsSound s.market) same sound;
+      },
+      same,
+    )
 
 -- ---- cancels
 
@@ -169,12 +173,15 @@ cancel-planned what reason request m tells none sound =
     let party = of-party reason (party_of request.named m.traders) none in
     let steps : by_party (act_cancel (named_by what) m) m (party_of request.named m.traders) ≡ cancel_step (named_by what) party.acting.address m =
     ap (by_party (act_cancel (named_by what) m) m) party.is in
-    of-first request.named m.traders party.acting _ party.is (record {
-      account = party.acting.account;
-      known = party-found request.named m.traders party.acting party.is;
-      accepted = tells party.acting party.none;
-      sound = subst (λ (s : Step). IsSound s.market) steps sound;
-    }, steps)
+    of-first request.named m.traders party.acting _ party.is (
+      record {
+        account = party.acting.account;
+        known = party-found request.named m.traders party.acting party.is;
+        accepted = tells party.acting party.none;
+        sound = subst (λ (s : Step). IsSound s.market) steps sound;
+      },
+      steps,
+    )
 
 cancel-none : (by : CancelBy) (request : Request) (m : Market) (acting : Party) → why_cancel by request m acting ≡ None → why_cancelled by acting.address m ≡ None
 cancel-none by request m acting none = (first_of-none (not_owner request acting.account ∷ why_cancelled by acting.address m ∷ []) none).1.0
@@ -204,12 +211,15 @@ settle-planned request seen m none sound =
     let plan : SettlePlan = plan_of (settlement (is_some seen.referrer) acting.account) in
     let steps : act_settle seen m acting ≡ settle_step plan acting.address m = sym (at-account (λ p. settled m p (settlement_by plan)) m acting known) in
     by-found (planning.settle_plan seen) (act_settle seen m) request m acting party.is
-    (of-first request.named m.traders acting _ party.is (record {
-      account = acting.account;
-      known = known;
-      out = pays-out (is_some seen.referrer) acting.account;
-      sound = subst (λ (s : Step). IsSound s.market) (ap (by_party (act_settle seen m) m) party.is ∙ steps) sound;
-    }, steps))
+    (of-first request.named m.traders acting _ party.is (
+      record {
+        account = acting.account;
+        known = known;
+        out = pays-out (is_some seen.referrer) acting.account;
+        sound = subst (λ (s : Step). IsSound s.market) (ap (by_party (act_settle seen m) m) party.is ∙ steps) sound;
+      },
+      steps,
+    ))
 
 close-planned : (request : Request) (m : Market) → of_party (why_close request) (party_of request.named m.traders) ≡ None
     → IsSound (by_party (act_close m) m (party_of request.named m.traders)).market
@@ -218,12 +228,15 @@ close-planned request m none sound =
     let party = of-party (why_close request) (party_of request.named m.traders) none in
     let acting : Party = party.acting in
     let steps : by_party (act_close m) m (party_of request.named m.traders) ≡ close_step acting.address m = ap (by_party (act_close m) m) party.is in
-    of-first request.named m.traders acting _ party.is (record {
-      account = acting.account;
-      known = party-found request.named m.traders acting party.is;
-      empty = (first_of-none (not_person acting.account.person request.signer ∷ not_empty acting.account ∷ []) party.none).1.0;
-      sound = subst (λ (s : Step). IsSound s.market) steps sound;
-    }, steps)
+    of-first request.named m.traders acting _ party.is (
+      record {
+        account = acting.account;
+        known = party-found request.named m.traders acting party.is;
+        empty = (first_of-none (not_person acting.account.person request.signer ∷ not_empty acting.account ∷ []) party.none).1.0;
+        sound = subst (λ (s : Step). IsSound s.market) steps sound;
+      },
+      steps,
+    )
 
 -- an account that is to be opened is blank
 blank-first : (trader : Option Trader) → not_blank trader ≡ None → trader ≡ Some Blank

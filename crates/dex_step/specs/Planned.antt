@@ -1,10 +1,9 @@
 -- What follows of a plan that was decided: what was decided of it on the market, and that the step is the plan's.
-use Rattle.std.specs.Prelude.{◌≡◌, ℕ, List, ◌∷◌, Result, Ok}
+use Rattle.std.specs.Prelude.{◌≡◌, List, ◌∷◌}
 use Rattle.dex_types.specs.declared.addresses.Address.{Address}
 use Rattle.dex_types.specs.Market.{Market}
 use Rattle.dex_types.specs.Requests.{Request}
 use Rattle.dex_types.specs.Steps.{Step, done}
-use Rattle.dex_cancel.specs.declared.what.CancelWhat.{CancelWhat}
 use Rattle.dex_cancel.specs.Cancelling.{named_by}
 use Rattle.dex_decide.specs.declared.plan.Plan.{Plan}
 use Rattle.dex_decide.specs.declared.plan.Plan.TheVariants as plans
