@@ -4,9 +4,9 @@ ghost use Rattle.std.specs.Prelude.{◌≤◌, IfOk, length};
 ghost use Rattle.std.specs.List.{All};
 ghost use Rattle.dex_step_bench.specs.Ready.{AreAgreed, IsReady, NamesSeen};
 
-use anyhow::Error;
 use crate::making::new_market;
 use crate::rows::{Stage, rows};
+use anyhow::Error;
 use dex_decide::decide;
 use dex_ring::Leaving;
 use dex_step::apply;

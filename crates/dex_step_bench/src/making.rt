@@ -24,10 +24,15 @@ pub fn address(kind: u8, number: u16) -> Address
 
 /// The kinds of addresses.
 pub const MARKET: u8 = 1;
+
 pub const PERSON: u8 = 2;
+
 pub const COIN: u8 = 3;
+
 pub const PC: u8 = 4;
+
 pub const ACCOUNT: u8 = 5;
+
 pub const WALLET: u8 = 6;
 
 /// A market of lots of 1, whose sides have so many nodes, with room for so many events.

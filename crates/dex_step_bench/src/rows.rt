@@ -5,12 +5,10 @@ ghost use Rattle.std.specs.List.{All};
 ghost use Rattle.dex_types.specs.Wallets.{address_seen};
 ghost use Rattle.dex_step_bench.specs.Ready.{AreAgreed, NamesSeen};
 
-use anyhow::Error;
 use crate::making::{ACCOUNT, COIN, MARKET, PC, PERSON, WALLET, address};
+use anyhow::Error;
 use dex_instruction::encode;
-use dex_types::{
-    Address, Ix, OrderType, Program, Row, Seen, SelfTrade, Side, WalletSeen,
-};
+use dex_types::{Address, Ix, OrderType, Program, Row, Seen, SelfTrade, Side, WalletSeen};
 use std::alloc::Global;
 
 /// How many orders rest for one account.
