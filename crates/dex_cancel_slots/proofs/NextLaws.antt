@@ -1,6 +1,6 @@
 -- which id the slots of an account hold next on a side
-use Rattle.std.proofs.Common.{ℕ, zero, suc, ◌+◌, ◌≡◌, ◌≤◌, ◌<◌, ◌⊎◌, inl, inr, Bool, true, false, ◌&&◌, not, List, [], ◌∷◌, Option, Some, None, max, min, length, drop, get_or, refl, sym, ap, ◌∙◌, subst, arith, ⊎_elim}
-use Rattle.std.proofs.lemmas.Bool.{and_from, and_parts, and_right, both_ways, cases_Bool, cases_lt, cond-true, cond-false, false_from_ne_true, le-ltb, ltb-false, not-true, not_from_false, not_from_true}
+use Rattle.std.proofs.Common.{ℕ, zero, suc, ◌+◌, ◌≡◌, ◌≤◌, ◌<◌, ◌⊎◌, inl, inr, Bool, true, false, List, [], ◌∷◌, Option, Some, None, max, min, length, drop, get_or, refl, sym, ap, ◌∙◌, subst, arith, ⊎_elim}
+use Rattle.std.proofs.lemmas.Bool.{and_from, and_parts, and_right, cases_Bool, cases_lt, cond-true, cond-false, le-ltb, ltb-false}
 use Rattle.std.proofs.lemmas.List.{at_drop_more}
 use Rattle.dex_types.specs.declared.terms.Side.{Side}
 use Rattle.dex_types.specs.declared.terms.Side.TheVariants.{Bid, Ask}
@@ -120,10 +120,10 @@ next-held side last (first ∷ slots) id is =
 
 -- ---- so a walk from id to id ends
 
--- the slot holds an id of the side that does not come before this one
-abbrev is_waiting : Side → ℕ → Option Holding → Bool
-is_waiting side id None = false
-is_waiting side id (Some held) = is_same_side held.side side && not (precedes side held.id id)
+-- what a slot holds follows a last id
+abbrev is_waiting : Side → Option ℕ → Option Holding → Bool
+is_waiting side last None = false
+is_waiting side last (Some held) = follows side last held
 
 -- how many slots pass a test
 abbrev one_if : Bool → ℕ
@@ -136,14 +136,7 @@ counted test (slot ∷ slots) = one_if (test slot) + counted test slots
 
 -- how many slots a walk still has before it
 abbrev pub waiting : Side → Option ℕ → List (Option Holding) → ℕ
-waiting side None slots = 0
-waiting side (Some id) slots = counted (is_waiting side id) slots
-
-counted-some : (test : Option Holding → Bool) (slots : List (Option Holding)) (slot : ℕ) (held : Holding) → held_in slots slot ≡ Some held → test (Some held) ≡ true
-    → 0 < counted test slots
-counted-some test [] slot held is pass = absurd (cc)
-counted-some test (first ∷ slots) zero held is pass = omega (arith, ap (λ o. one_if (test o)) is, ap one_if pass)
-counted-some test (first ∷ slots) (suc slot) held is pass = omega (arith, counted-some test slots slot held is pass)
+waiting side last slots = counted (is_waiting side last) slots
 
 one_if-le : (a b : Bool) → (a ≡ true → b ≡ true) → one_if a ≤ one_if b
 one_if-le false b within = omega arith
@@ -169,29 +162,21 @@ counted-lt test other (first ∷ slots) zero held within is pass fail =
 counted-lt test other (first ∷ slots) (suc slot) held within is pass fail =
     omega (arith, one_if-le (other first) (test first) (within first), counted-lt test other slots slot held within is pass fail)
 
-pub waiting-fewer : (side : Side) (last : Option ℕ) (slots : List (Option Holding)) (id : ℕ) (next : Option ℕ) → HoldsBehind side last slots id
-    → next ≡ next_behind side (Some id) slots → waiting side next slots < waiting side (Some id) slots
-waiting-fewer side last slots id next at is = by next is
-  where
-    here : is_waiting side id (Some at.held) ≡ true
-    here =
-        and_from (is_same_side at.held.side side) (not (precedes side at.held.id id)) (ap (λ s. is_same_side s side) at.side_is ∙ is_same_side-refl side)
-        (ap (λ i. not (precedes side i id)) at.id_is ∙ ap not (precedes-irreflexive side id))
+-- what stands behind an id stands behind the last one, which is before it
+still-behind : (side : Side) (last : Option ℕ) (id other : ℕ) → is_behind side last id ≡ true → precedes side id other ≡ true → is_behind side last other ≡ true
+still-behind side None id other before behind = refl
+still-behind side (Some last) id other before behind = precedes-transitive side last id other before behind
 
-    by : (next : Option ℕ) → next ≡ next_behind side (Some id) slots → waiting side next slots < waiting side (Some id) slots
-    by None is = counted-some (is_waiting side id) slots at.slot at.held at.holds here
-    by (Some next) is =
-        let before : precedes side id next ≡ true = (next-held side (Some id) slots next (sym is)).behind in
-        let passed : is_waiting side next (Some at.held) ≡ false =
-        and_right (is_same_side at.held.side side) (not (precedes side at.held.id next))
-        (not_from_true (precedes side at.held.id next) (ap (λ i. precedes side i next) at.id_is ∙ before)) in
-        counted-lt (is_waiting side id) (is_waiting side next) slots at.slot at.held (still next before) at.holds here passed
-      where
-        still : (next : ℕ) → precedes side id next ≡ true → (slot : Option Holding) → is_waiting side next slot ≡ true → is_waiting side id slot ≡ true
-        still next before None none = none
-        still next before (Some held) waits =
-            let parts = and_parts (is_same_side held.side side) (not (precedes side held.id next)) waits in
-            and_from (is_same_side held.side side) (not (precedes side held.id id)) parts.0
-            (not_from_false (precedes side held.id id)
-            (false_from_ne_true (precedes side held.id id)
-            (λ earlier. both_ways (precedes side held.id next) (not-true (precedes side held.id next) parts.1) (precedes-transitive side held.id id next earlier before))))
+pub waiting-fewer : (side : Side) (last : Option ℕ) (slots : List (Option Holding)) (id : ℕ) → HoldsBehind side last slots id
+    → waiting side (Some id) slots < waiting side last slots
+waiting-fewer side last slots id at =
+    counted-lt (is_waiting side last) (is_waiting side (Some id)) slots at.slot at.held still at.holds
+    (and_from (is_same_side at.held.side side) (is_behind side last at.held.id) (ap (λ s. is_same_side s side) at.side_is ∙ is_same_side-refl side)
+    (ap (is_behind side last) at.id_is ∙ at.behind))
+    (and_right (is_same_side at.held.side side) (precedes side id at.held.id) (ap (precedes side id) at.id_is ∙ precedes-irreflexive side id))
+  where
+    still : (slot : Option Holding) → is_waiting side (Some id) slot ≡ true → is_waiting side last slot ≡ true
+    still None none = none
+    still (Some held) waits =
+        let parts = and_parts (is_same_side held.side side) (precedes side id held.id) waits in
+        and_from (is_same_side held.side side) (is_behind side last held.id) parts.0 (still-behind side last id held.id at.behind parts.1)

@@ -111,45 +111,41 @@ slot-own owner side slots last id order orders as_held at found =
     (and_from (eqb at.held.id order.id) (is_same_side at.held.side side) (eq-eqb at.held.id order.id ids)
     (ap (λ s. is_same_side s side) at.side_is ∙ is_same_side-refl side))).0
 
--- the owner's first so many orders left a side, and the next id that the slots hold there comes no later than the others
-pub record IsPrunedTo (sizes : Lots) (owner : Address) (slots : List (Option Holding)) (side : Side) (count : ℕ) (orders : List Order) (ring : Queue) (next : Option ℕ) (now : List Order) (ring_now : Queue) : Type 0 where
+-- the owner's first so many orders left a side, and its others there stand behind the last id that was looked at
+pub record IsPrunedTo (sizes : Lots) (owner : Address) (slots : List (Option Holding)) (side : Side) (count : ℕ) (orders : List Order) (ring : Queue) (last : Option ℕ) (now : List Order) (ring_now : Queue) : Type 0 where
   pub orders_are : now ≡ without_all side (take count (orders_of owner side orders)) orders
   pub ring_is : ring_now ≡ with_outs sizes (take count (orders_of owner side orders)) ring
   pub rest : orders_of owner side now ≡ drop count (orders_of owner side orders)
   pub within : count ≤ length (orders_of owner side orders)
   pub names : DoSlotsNameOn owner slots side now
-  pub ahead : All (IsAhead owner side next) now
-  pub last : Option ℕ
-  pub next_is : next ≡ next_behind side last slots
+  pub behind : All (IsBehind owner side last) now
 
-pub pruned-none : (sizes : Lots) (owner : Address) (slots : List (Option Holding)) (side : Side) (orders : List Order) (ring : Queue) (next : Option ℕ)
-    → DoSlotsNameOn owner slots side orders → next ≡ next_behind side None slots → IsPrunedTo sizes owner slots side 0 orders ring next orders ring
-pruned-none sizes owner slots side orders ring next names is = record {
+pub pruned-none : (sizes : Lots) (owner : Address) (slots : List (Option Holding)) (side : Side) (orders : List Order) (ring : Queue)
+    → DoSlotsNameOn owner slots side orders → IsPrunedTo sizes owner slots side 0 orders ring None orders ring
+pruned-none sizes owner slots side orders ring names = record {
   orders_are = refl;
   ring_is = refl;
   rest = refl;
   within = omega arith;
   names = names;
-  ahead = ahead-of owner side slots None next orders is names.held (all-behind-none owner side orders);
-  last = None;
-  next_is = is;
+  behind = all-behind-none owner side orders;
 }
 
 -- one more step takes the order of the next id, if it rests
-module _ (sizes : Lots) (owner : Address) (slots : List (Option Holding)) (side : Side) (count : ℕ) (orders : List Order) (ring : Queue) (next : Option ℕ) (now : List Order) (ring_now : Queue)
-    (held : IsPrunedTo sizes owner slots side count orders ring next now ring_now) (id : ℕ) (next_id : next ≡ Some id) where
+module _ (sizes : Lots) (owner : Address) (slots : List (Option Holding)) (side : Side) (count : ℕ) (orders : List Order) (ring : Queue) (last : Option ℕ) (now : List Order) (ring_now : Queue)
+    (held : IsPrunedTo sizes owner slots side count orders ring last now ring_now) (id : ℕ) (next : Some id ≡ next_behind side last slots) where
   abbrev all : List RestingOrder
   all = orders_of owner side orders
 
   ahead-here : All (IsAhead owner side (Some id)) now
-  ahead-here = subst (λ o. All (IsAhead owner side o) now) next_id held.ahead
+  ahead-here = ahead-of owner side slots last (Some id) now next held.names.held held.behind
 
   -- what it takes comes first of the owner's orders that are left
   first-of : (found : Option Order) → order_with id now ≡ found
       → orders_of owner side now ≡ on_side side found ++ orders_of owner side (without_all side (on_side side found) now)
   first-of None none = refl
   first-of (Some order) some =
-      let own : is_same owner order.owner ≡ true = slot-own owner side slots held.last id order now held.names.as_held (next-held side held.last slots id (sym held.next_is ∙ next_id)) some in
+      let own : is_same owner order.owner ≡ true = slot-own owner side slots last id order now held.names.as_held (next-held side last slots id (sym next)) some in
       first-own owner side id order now own held.names.in_order some ahead-here
       ∙ ap (λ i. on side order ∷ orders_of owner side (without_order i now)) (sym (found-id id order now some))
       ∙ ap (λ os. on side order ∷ orders_of owner side os) (sym (without-on side order now))
@@ -168,13 +164,11 @@ module _ (sizes : Lots) (owner : Address) (slots : List (Option Holding)) (side 
   pub pruned-next : IsNext all count taken_now (orders_of owner side (without_all side taken_now now))
   pruned-next = next-taken all count taken_now (orders_of owner side (without_all side taken_now now)) held.within (sym held.rest ∙ first-of (order_with id now) refl)
 
-  pub pruned-more : (following : Option ℕ) (then : List Order) (ring_then : Queue) (more : ℕ) → following ≡ next_behind side (Some id) slots
-      → more ≡ count + length taken_now → then ≡ without_all side taken_now now → ring_then ≡ with_outs sizes taken_now ring_now
-      → IsPrunedTo sizes owner slots side more orders ring following then ring_then
-  pruned-more following then ring_then more is counted then_is outs =
+  pub pruned-more : (then : List Order) (ring_then : Queue) (more : ℕ) → more ≡ count + length taken_now → then ≡ without_all side taken_now now
+      → ring_then ≡ with_outs sizes taken_now ring_now → IsPrunedTo sizes owner slots side more orders ring (Some id) then ring_then
+  pruned-more then ring_then more counted then_is outs =
       let step = pruned-next in
-      let names : DoSlotsNameOn owner slots side then = subst (DoSlotsNameOn owner slots side) (sym then_is) (on-without_all owner slots side taken_now now held.names) in
-      subst (λ n. IsPrunedTo sizes owner slots side n orders ring following then ring_then) (sym counted) (record {
+      subst (λ n. IsPrunedTo sizes owner slots side n orders ring (Some id) then ring_then) (sym counted) (record {
         orders_are =
             then_is ∙ ap (without_all side taken_now) held.orders_are ∙ sym (without_all-append side (take count all) taken_now orders)
             ∙ ap (λ gone. without_all side gone orders) (sym step.taken);
@@ -183,12 +177,8 @@ module _ (sizes : Lots) (owner : Address) (slots : List (Option Holding)) (side 
             ∙ ap (λ gone. with_outs sizes gone ring) (sym step.taken);
         rest = ap (orders_of owner side) then_is ∙ sym step.left;
         within = step.within;
-        names = names;
-        ahead =
-            ahead-of owner side slots (Some id) following then is names.held
-            (subst (All (IsBehind owner side (Some id))) (sym then_is) (behind-it (order_with id now) refl));
-        last = Some id;
-        next_is = is;
+        names = subst (DoSlotsNameOn owner slots side) (sym then_is) (on-without_all owner slots side taken_now now held.names);
+        behind = subst (All (IsBehind owner side (Some id))) (sym then_is) (behind-it (order_with id now) refl);
       })
 
 -- at most one order has an id
@@ -196,7 +186,7 @@ pub one-named : (side : Side) (found : Option Order) → length (on_side side fo
 one-named side None = omega arith
 one-named side (Some order) = omega arith
 
--- where no slot holds an id any more, all of the owner's orders left
+-- where no slot holds a further id, all of the owner's orders left
 none-own : (owner : Address) (side : Side) (orders : List Order) → All (IsAhead owner side None) orders → orders_of owner side orders ≡ []
 none-own owner side [] ahead = refl
 none-own owner side (first ∷ others) ahead =
@@ -204,12 +194,12 @@ none-own owner side (first ∷ others) ahead =
     (λ own. absurd (All-head (IsAhead owner side None) first others ahead own))
     (λ other. none-own owner side others (All-tail (IsAhead owner side None) first others ahead))
 
-pub pruned-all : (sizes : Lots) (owner : Address) (slots : List (Option Holding)) (side : Side) (count limit : ℕ) (orders : List Order) (ring : Queue) (next : Option ℕ) (now : List Order) (ring_now : Queue)
-    → IsPrunedTo sizes owner slots side count orders ring next now ring_now → next ≡ None → count ≤ limit
+pub pruned-all : (sizes : Lots) (owner : Address) (slots : List (Option Holding)) (side : Side) (count limit : ℕ) (orders : List Order) (ring : Queue) (last : Option ℕ) (now : List Order) (ring_now : Queue)
+    → IsPrunedTo sizes owner slots side count orders ring last now ring_now → None ≡ next_behind side last slots → count ≤ limit
     → take count (orders_of owner side orders) ≡ take limit (orders_of owner side orders)
-pruned-all sizes owner slots side count limit orders ring next now ring_now held is most =
+pruned-all sizes owner slots side count limit orders ring last now ring_now held is most =
     let all : List RestingOrder = orders_of owner side orders in
-    let none : drop count all ≡ [] = sym held.rest ∙ none-own owner side now (subst (λ o. All (IsAhead owner side o) now) is held.ahead) in
+    let none : drop count all ≡ [] = sym held.rest ∙ none-own owner side now (ahead-of owner side slots last None now is held.names.held held.behind) in
     let gone : length all ≤ count = omega (arith, ap length none, length-drop count all) in
     take_all count all gone ∙ sym (take_all limit all (omega (arith, most, gone)))
 

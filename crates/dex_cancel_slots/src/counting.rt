@@ -32,21 +32,25 @@ fn count_at<B: SideRead, A: SideRead>(orders: &OrdersRef<'_>, bids: &B, asks: &A
     }
 }
 
-/// How many orders of the account rest.
-pub fn count_own<B: SideRead, A: SideRead>(
+/// How many orders of the account rest, at most so many. It looks up no more of them.
+pub fn count_first<B: SideRead, A: SideRead>(
     account: Address,
     orders: &OrdersRef<'_>,
     bids: &B,
     asks: &A,
+    limit: u32,
 ) -> u32
     requires open { IsOpen orders.now.bytes.now }
     requires bids { B.holds bids.now }
     requires asks { A.holds asks.now }
     requires names { DoSlotsName account (slots_in orders.now) (B.orders bids.now) (A.orders asks.now) }
-    ensures { result ≡ length (all_orders_of account (B.orders bids.now) (A.orders asks.now)) }
+    ensures { result ≡ length (cancelled (cancel.First limit) account (B.orders bids.now) (A.orders asks.now)) }
 {
     let mut count = 0;
     for slot in 0..128u8 {
+        if count == limit {
+            return count;
+        }
         count += count_at(orders, bids, asks, slot);
     }
     count

@@ -7,7 +7,7 @@ ghost use Rattle.dex_cancel.specs.Cancelling.{decided, named_by};
 ghost use Rattle.dex_cancel_slots.specs.Given.{IsGiven, sides_by, sides_given, slots_in};
 ghost use Rattle.dex_cancel_slots.specs.Slots.{DoSlotsName};
 
-use crate::counting::{count_listed, count_own};
+use crate::counting::{count_first, count_listed};
 use crate::finding::find_oldest;
 use dex_cancel::steps::with_room;
 use dex_cancel::{CancelWhat, decide_cancel};
@@ -53,8 +53,8 @@ fn decide_prune<B: SideRead, A: SideRead>(
     requires names { DoSlotsName account (slots_in orders.now) (B.orders bids.now) (A.orders asks.now) }
     ensures { result ≡ decided (cancel.First limit) account (B.orders bids.now) (A.orders asks.now) room }
 {
-    let own = count_own(account, orders, bids, asks);
-    with_room(own.min(u32::from(limit)), room)
+    let needed = count_first(account, orders, bids, asks, u32::from(limit));
+    with_room(needed, room)
 }
 
 /// Why a cancel is refused, else how many orders it takes: the answers of `decide_cancel`, found by the slots of the

@@ -70,13 +70,13 @@ fn prune_side<S: SideBook>(
     ensures place { ring.new.bytes.ghost_name ≡ ring.old.bytes.ghost_name }
 {
     let mut count = 0;
-    let mut next = next_slot(orders, side, None);
-    'slots: while let Some(id) = next {
-        if count == limit {
+    let mut last = None;
+    'slots: while count < limit {
+        let Some(id) = next_slot(orders, side, last) else {
             return count;
-        }
+        };
         count += take_named(id, side, sizes, book, ring);
-        next = next_slot(orders, side, Some(id));
+        last = Some(id);
     }
     count
 }
