@@ -19,7 +19,7 @@ use Rattle.dex_types.specs.Side.{opposite}
 use Rattle.dex_types.specs.Take.{Take, take_meeting}
 use Rattle.dex_types.specs.Terms.{terms_order, terms_take}
 use Rattle.dex_types.specs.Trader.{Account}
-use Rattle.dex_types.specs.Why.{of_party, why, why_order}
+use Rattle.dex_types.specs.Why.{of_party, why, why_order, why_take}
 use Rattle.dex_ring.specs.declared.leaving.Leaving.{Leaving}
 use Rattle.dex_ring.specs.Leaving.{leaving_of}
 use Rattle.dex_cancel.specs.declared.what.CancelWhat.TheVariants as cancels
@@ -107,6 +107,10 @@ abbrev pub take_planned : Side → Taker → Take → Market → Plan
 take_planned side taker t m =
     let met = take_meeting side m.listing.sizes t (orders (opposite side) m) in
     plans.Take taker (taking.plan_by side m.listing.sizes t met) (sums_with met.events m)
+
+-- what a take is answered
+abbrev pub take_answer : Taker → Take → Request → Seen → Market → Result Plan Refusal
+take_answer taker t request seen m = answered (why_take taker.id_side t request seen m) (take_planned taker.id_side taker t m)
 
 abbrev pub take_plan : Side → Take → Request → Market → Plan
 take_plan side t request m = take_planned side (taker_of_take side request t) t m

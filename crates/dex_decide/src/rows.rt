@@ -1,10 +1,10 @@
 //! Whether a row is refused, and what it is to do else.
 
-ghost use Rattle.std.specs.Prelude.{◌≡◌, ◌∷◌, []};
+ghost use Rattle.std.specs.Prelude.{◌≡◌, ℕ};
 ghost use Rattle.dex_types.specs.Accounts.{market_accounts_of};
 ghost use Rattle.dex_types.specs.Reasons as each;
 ghost use Rattle.dex_types.specs.Rows.{row_of};
-ghost use Rattle.dex_types.specs.Terms.{terms_order};
+ghost use Rattle.dex_types.specs.Terms.{terms_order, terms_take};
 ghost use Rattle.dex_types.specs.Why as reasons;
 ghost use Rattle.dex_ring.specs.Leaving.{leaving_of};
 ghost use Rattle.dex_accounts.specs.Decoded.{AreSound};
@@ -78,6 +78,36 @@ fn order_taker(
     }
 }
 
+/// A take as its row states it; the signer stands in the place of an account.
+fn take_taker(
+    row: &Row,
+    seen: &Seen,
+    side: Side,
+    price: u64,
+    lots: u64,
+    lock: u64,
+    limit: u16,
+) -> Taker
+    ensures { (min_lots min_pc : ℕ) → result ≡ planning.taker_of_take side (asked_by row.entry.now)
+        (terms_take seen.now price lots lock min_lots min_pc limit) }
+{
+    Taker {
+        id_side: side,
+        price,
+        lots,
+        lock,
+        self_trade: SelfTrade::Decrement,
+        order_type: OrderType::Ioc,
+        client: 0,
+        limit,
+        tier: tier_seen(seen),
+        account: row.signer,
+        now: row.now,
+        max_ts: None,
+        program: seen.program,
+    }
+}
+
 /// An instruction that was decoded.
 fn decide_instruction(
     accounts: &MarketAccounts,
@@ -111,13 +141,14 @@ fn decide_instruction(
             limit,
             max_ts,
         } => {
+            let lock = max_native_pc_qty_including_fees;
             let taker = order_taker(
                 row,
                 seen,
                 side,
                 limit_price,
                 max_coin_qty,
-                max_native_pc_qty_including_fees,
+                lock,
                 self_trade_behavior,
                 order_type,
                 client_order_id,
@@ -142,21 +173,8 @@ fn decide_instruction(
             min_native_pc_qty,
             limit,
         } => {
-            let taker = Taker {
-                id_side: side,
-                price: limit_price,
-                lots: max_coin_qty,
-                lock: max_native_pc_qty_including_fees,
-                self_trade: SelfTrade::Decrement,
-                order_type: OrderType::Ioc,
-                client: 0,
-                limit,
-                tier: tier_seen(seen),
-                account: row.signer,
-                now: row.now,
-                max_ts: None,
-                program: seen.program,
-            };
+            let lock = max_native_pc_qty_including_fees;
+            let taker = take_taker(row, seen, side, limit_price, max_coin_qty, lock, limit);
             decide_take_row(
                 accounts,
                 row,

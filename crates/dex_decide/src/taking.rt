@@ -10,7 +10,7 @@ ghost use Rattle.dex_take.specs.TakeTerms.{take_of};
 ghost use Rattle.dex_take.specs.Taking.{take_outcome};
 ghost use Rattle.dex_accounts.specs.Decoded.{AreSound};
 ghost use Rattle.dex_decide.specs.Given.{asked_by, market_of, take_given_on};
-ghost use Rattle.dex_decide.specs.Plans.{take_planned};
+ghost use Rattle.dex_decide.specs.Plans.{take_answer};
 
 use crate::ordering::side_of;
 use crate::plan::Plan;
@@ -89,9 +89,8 @@ pub fn decide_take_row(
 ) -> Result<Plan, Refusal>
     requires sound { AreSound (market_accounts_of accounts.now) }
     requires leaving { leaving.now ≡ leaving_of (market_of accounts.now).events }
-    ensures { result ≡ each.answered (reasons.why_take taker.id_side (take_of taker min_lots min_pc)
-        (asked_by row.entry.now) seen.now (market_of accounts.now))
-        (take_planned taker.id_side taker (take_of taker min_lots min_pc) (market_of accounts.now)) }
+    ensures { result ≡ take_answer taker (take_of taker min_lots min_pc) (asked_by row.entry.now)
+        seen.now (market_of accounts.now) }
 {
     if let Some(why) = wallet_reason(accounts, row, seen, taker.id_side) {
         return Err(why);
