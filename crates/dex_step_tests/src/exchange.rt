@@ -3,13 +3,14 @@
 ghost use Rattle.dex_accounts.specs.Decoded.{AreSound};
 ghost use Rattle.dex_decide.specs.Given.{market_of};
 ghost use Rattle.dex_history.specs.Journal.{Sees, asked_of, row_step};
+ghost use Rattle.dex_make.specs.Blanks.{blank_account};
 ghost use Rattle.dex_make.specs.MarketSet.{CanTrade, IsMarketSet};
 ghost use Rattle.dex_ring.specs.Leaving.{leaving_of};
-ghost use Rattle.dex_types.specs.Accounts.{market_accounts_of};
+ghost use Rattle.dex_types.specs.Accounts.{market_accounts_of, orders_account_of};
 ghost use Rattle.dex_types.specs.Addresses.{is_same};
 ghost use Rattle.dex_types.specs.Rows.{row_of};
 ghost use Rattle.dex_step_tests.specs.Made.{IsMade};
-ghost use Rattle.std.specs.Prelude.{◌≡◌, IfOk, false};
+ghost use Rattle.std.specs.Prelude.{◌≡◌, [], ◌∷◌, ◌++◌, IfOk, OnOk, false, map};
 
 use dex_decide::decide;
 use dex_make::{MarketSet, make_market, make_orders};
@@ -27,6 +28,22 @@ pub struct Exchange {
     ghost sums: { leaving ≡ leaving_of (market_of accounts).events },
 }
 
+/// Reserves an open-orders account at an address: it is blank.
+fn add_blank(
+    alloc: Global,
+    orders: &mut Vec<OrdersAccount>,
+    address: Address,
+) -> Result<(), NoMemory>
+    ensures { OnOk result (map orders_account_of orders.new.items
+        ≡ map orders_account_of orders.old.items ++ (blank_account address ∷ [])) }
+{
+    let bytes = make_orders(alloc)?;
+    match orders.push(OrdersAccount { address, bytes }) {
+        Ok(()) => Ok(()),
+        Err(_) => Err(NoMemory),
+    }
+}
+
 /// A market as it is made, with two open-orders accounts that are reserved and not opened.
 fn accounts_made(
     alloc: Global,
@@ -40,10 +57,8 @@ fn accounts_made(
     ensures { IfOk result (λ accounts. IsMade set.now first second (market_accounts_of accounts)) }
 {
     let mut accounts = make_market(alloc, set)?;
-    accounts.orders = vec![in alloc;
-        OrdersAccount { address: first, bytes: make_orders(alloc)? },
-        OrdersAccount { address: second, bytes: make_orders(alloc)? },
-    ]?;
+    add_blank(alloc, &mut accounts.orders, first)?;
+    add_blank(alloc, &mut accounts.orders, second)?;
     Ok(accounts)
 }
 
