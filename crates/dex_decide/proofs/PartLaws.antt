@@ -26,6 +26,7 @@ use Rattle.dex_settle.specs.SettleGiven.{HasOneCoinMint, HaveOneMint, IsOfSound,
 use Rattle.dex_settle.proofs.ModelLaws.{close-is, disable-is, init-is, settle-is}
 use Rattle.dex_accounts.specs.Decoded.{AreSound, market_in}
 use Rattle.dex_accounts.specs.Parts.{AreOf, AreSoundParts, HasOpen, parts_of}
+use Rattle.dex_cancel_slots.specs.Given.{IsGiven, sides_by, sides_given}
 use Rattle.dex_history.specs.Journal.{Agree, Asked, Sees}
 use Rattle.dex_decide.specs.Named.{IsActing, account_by, named_in}
 use Rattle.dex_decide.proofs.NamedLaws.{is-named, none-first}
@@ -76,6 +77,18 @@ module _ (accounts : PlainMarketAccounts) (sound : AreSound accounts) where
   pub has-open : (named : List Address) (address : Address) (bytes : List ℕ) → IsActing named accounts.orders address bytes → HasOpen address bytes (parts_of accounts)
   has-open named address bytes acting =
       record { found = (is-named named accounts.orders (account_by address bytes) acting.first).at; accepted = acting.accepted }
+
+  -- what a cancel is given
+  pub cancel-given : (owner : Address) (account bids asks : List ℕ) → HasOpen owner account (parts_of accounts) → bids ≡ accounts.bids → asks ≡ accounts.asks
+      → IsGiven sides_given (sides_by (resting Bid bids) (resting Ask asks)) owner account
+  cancel-given owner account bids asks has bids_are asks_are = record {
+    whole = parts_of accounts;
+    sound = sound-parts;
+    has = has;
+    is =
+        ap (λ (b : List ℕ). sides_by (resting Bid b) (resting Ask accounts.asks)) (sym bids_are)
+        ∙ ap (λ (a : List ℕ). sides_by (resting Bid bids) (resting Ask a)) (sym asks_are);
+  }
 
   -- what settling is given
   pub settle-given : (named : List Address) (address : Address) (bytes : List ℕ) → IsActing named accounts.orders address bytes

@@ -11,6 +11,7 @@ ghost use Rattle.dex_cancel.specs.Cancelling.{named_by};
 ghost use Rattle.dex_cancel.specs.declared.what.CancelWhat.TheVariants as cancels;
 ghost use Rattle.dex_market.specs.MarketAccount.{IsMarket, market_words};
 ghost use Rattle.dex_accounts.specs.Decoded.{AreSound};
+ghost use Rattle.dex_accounts.specs.Parts.{HasOpen, parts_of};
 ghost use Rattle.dex_history.specs.Journal.{Sees, asked_of};
 ghost use Rattle.dex_types.specs.Rows.{row_of};
 ghost use Rattle.dex_decide.specs.declared.plan.Plan.TheVariants as plans;
@@ -20,7 +21,8 @@ ghost use Rattle.dex_decide.specs.Plans as planning;
 
 use crate::named::{Acting, named_first, open_named};
 use crate::plan::Plan;
-use dex_cancel::{CancelWhat, decide_cancel};
+use dex_cancel::CancelWhat;
+use dex_cancel_slots::decide_cancel_by_slots;
 use dex_market::MarketRef;
 use dex_orders::OrdersRef;
 use dex_reasons::{disabled, not_authority, not_owner};
@@ -167,10 +169,14 @@ fn decide_cancel_of(
     acting: Acting<'_>,
     what: CancelWhat,
 ) -> Result<Plan, Refusal>
-    requires { AreSound (market_accounts_of accounts.now) }
+    requires sound { AreSound (market_accounts_of accounts.now) }
+    requires acting { HasOpen acting.address acting.bytes.now (parts_of (market_accounts_of accounts.now)) }
     ensures { result ≡ answered (reasons.why_cancelled (named_by what) acting.entry.address (market_of accounts.now))
         (plans.Cancel what) }
 {
+    let orders = OrdersRef {
+        bytes: acting.bytes,
+    };
     let bids = SlabRef {
         bytes: &accounts.bids,
         side: Side::Bid,
@@ -179,11 +185,12 @@ fn decide_cancel_of(
         bytes: &accounts.asks,
         side: Side::Ask,
     };
-    match decide_cancel(
+    match decide_cancel_by_slots(
         &bids,
         &asks,
         room_in(&accounts.events),
         acting.address,
+        &orders,
         &what,
     ) {
         Ok(_) => Ok(Plan::Cancel(what)),
@@ -199,7 +206,8 @@ fn decide_cancel_by(
     what: CancelWhat,
 ) -> Result<Plan, Refusal>
     requires sound { AreSound (market_accounts_of accounts.now) }
-    requires acting { IsOpen acting.bytes.now }
+    requires acting { IsActing row.now.named.items (market_accounts_of accounts.now).orders
+        acting.address acting.bytes.now }
     ensures { result ≡ answered (reasons.why_cancel (named_by what) (asked_by row.entry.now) (market_of accounts.now)
         (party_by acting.entry.address acting.entry.bytes.now)) (plans.Cancel what) }
 {
@@ -236,7 +244,9 @@ fn decide_prune_by(
     acting: Acting<'_>,
     limit: u16,
 ) -> Result<Plan, Refusal>
-    requires { AreSound (market_accounts_of accounts.now) }
+    requires sound { AreSound (market_accounts_of accounts.now) }
+    requires acting { IsActing row.now.named.items (market_accounts_of accounts.now).orders
+        acting.address acting.bytes.now }
     ensures { result ≡ answered (reasons.why_prune (First limit) (asked_by row.entry.now) (market_of accounts.now)
         (party_by acting.entry.address acting.entry.bytes.now)) (plans.Cancel (cancels.Prune limit)) }
 {

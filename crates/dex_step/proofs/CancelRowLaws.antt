@@ -1,5 +1,5 @@
 -- A cancel over a sound market's accounts: that it can be done as it was decided, and that what it leaves is the step's.
-use Rattle.std.proofs.Common.{◌≡◌, ℕ, List, [], ◌∷◌, Option, Some, None, IsOk, length, rules, refl, sym, ap, ◌∙◌, subst, arith}
+use Rattle.std.proofs.Common.{◌≡◌, ℕ, List, [], ◌∷◌, Option, Some, None, IsOk, IsSome, is_some, length, rules, refl, sym, ap, ◌∙◌, subst, arith}
 use Rattle.dex_types.specs.declared.addresses.Address.{Address}
 use Rattle.dex_types.specs.declared.orders.Order.{Order}
 use Rattle.dex_types.specs.declared.refusals.Refusal.{Refusal}
@@ -16,7 +16,8 @@ use Rattle.dex_types.specs.Solvency.{all_leaving}
 use Rattle.dex_types.specs.Why.{why_cancelling}
 use Rattle.dex_laws.proofs.TotalLaws.{total-append}
 use Rattle.dex_accounts.specs.Decoded.{AreSound, market_in}
-use Rattle.dex_accounts.specs.Parts.{AreOf, parts_of}
+use Rattle.dex_accounts.specs.Owners.{bytes_at}
+use Rattle.dex_accounts.specs.Parts.{AreOf, HasOpen, parts_of}
 use Rattle.dex_cancel.specs.Leaving.{CancelGiven, out_of, queue_of, with_outs}
 use Rattle.dex_cancel.specs.Parts.{cancel_given, left_by, named_in, with_cancelled}
 use Rattle.dex_cancel.proofs.LeavingLaws.{market-left}
@@ -27,6 +28,7 @@ use Rattle.dex_ring.specs.Ring.{IsEventQueue, Ring, ring_of, room_of}
 use Rattle.dex_slab.specs.Slab.{resting}
 use Rattle.dex_step.specs.Acting.{HasStepped, HaveVaults, coin_held, pc_held}
 use Rattle.dex_step.specs.CancelActs.{CanCancel, HasCancelled, IsCancelDecided, cancel_bytes, cancel_bytes_of, cancel_step}
+use Rattle.dex_step.proofs.OwnerParts.{OpenAt, open-at}
 use Rattle.dex_step.proofs.LeavingLaws.{leaves-stepped}
 use Rattle.dex_step.proofs.SoundParts.{coin-held, names-same, pc-held, same-parts, sound-are, sound-on, sound-parts}
 
@@ -61,13 +63,23 @@ module _ (accounts : PlainMarketAccounts) (by : CancelBy) (owner : Address) (siz
       ∙ ap (λ (r : Ring). why_cancelling by owner (market_in accounts).bids (market_in accounts).asks (room_of r)) sound.stands.events.ring
       ∙ made.accepted
 
+  -- the owner's account is there, and open
+  at : OpenAt owner made.account accounts
+  at = open-at owner made.account accounts sound made.known
+
+  pub cancel-found : IsSome (bytes_at owner accounts.orders)
+  cancel-found = ap is_some at.has.found
+
   -- it can be done
-  pub cancel-can : CanCancel by owner (cancel_bytes sizes accounts.bids accounts.asks accounts.events)
-  cancel-can =
-      subst (λ (l : Lots). CanCancel by owner (cancel_bytes l accounts.bids accounts.asks accounts.events)) (sym sizes_is) (record {
+  pub cancel-can : (held : List ℕ) → bytes_at owner accounts.orders ≡ Some held → CanCancel by owner held (cancel_bytes sizes accounts.bids accounts.asks accounts.events)
+  cancel-can held found =
+      let both : Some at.bytes ≡ Some held = sym at.has.found ∙ found in
+      let same : at.bytes ≡ held = cc in
+      let has : HasOpen owner held (parts_of accounts) = subst (λ (b : List ℕ). HasOpen owner b (parts_of accounts)) same at.has in
+      subst (λ (l : Lots). CanCancel by owner held (cancel_bytes l accounts.bids accounts.asks accounts.events)) (sym sizes_is) (record {
         bids = sound-on accounts sound Bid;
         asks = sound-on accounts sound Ask;
-        market = record { whole = parts_of accounts; sound = sound-parts accounts sound; given_is = refl };
+        market = record { whole = parts_of accounts; sound = sound-parts accounts sound; has = has; is = refl };
         decided_is = ok-answered _ _ reason;
       })
 

@@ -12,7 +12,8 @@ use Rattle.dex_types.specs.Trader.{Account, Open, trader_at}
 use Rattle.dex_types.specs.Why.{why_cancelled}
 use Rattle.dex_cancel.specs.Cancelling.{decided}
 use Rattle.dex_cancel.specs.Leaving.{CancelGiven, queue_of, with_outs}
-use Rattle.dex_cancel.specs.Parts.{AreOfSoundMarket, left_by, named_in}
+use Rattle.dex_cancel.specs.Parts.{cancel_given, left_by, named_in}
+use Rattle.dex_cancel_slots.specs.Given.{IsGiven}
 use Rattle.dex_market.specs.MarketAccount.{market_words, sizes_of}
 use Rattle.dex_ring.specs.Ring.{IsEventQueue, ring_of, room_of}
 use Rattle.dex_slab.specs.Slab.{resting, room_in}
@@ -36,11 +37,12 @@ cancel_bytes_of accounts = cancel_bytes (sizes_of (market_words accounts.market)
 abbrev pub cancel_of : CancelBytes → CancelGiven
 cancel_of bytes = record { sizes = bytes.sizes; bids = resting Bid bytes.bids; asks = resting Ask bytes.asks; queue = bytes.events }
 
--- a cancel can be done: both sides are accepted, the bytes are of one sound market, and it is not refused by them
-pub record CanCancel (by : CancelBy) (owner : Address) (bytes : CancelBytes) : Type 0 where
+-- a cancel can be done: both sides are accepted, the bytes are of one sound market, in which the owner's account is open with
+-- these bytes, and it is not refused by them
+pub record CanCancel (by : CancelBy) (owner : Address) (account : List ℕ) (bytes : CancelBytes) : Type 0 where
   pub bids : IsSideAccount Bid bytes.bids
   pub asks : IsSideAccount Ask bytes.asks
-  pub market : AreOfSoundMarket (cancel_of bytes)
+  pub market : IsGiven cancel_given (cancel_of bytes) owner account
   pub decided_is : IsOk (decided by owner (resting Bid bytes.bids) (resting Ask bytes.asks) (room_of (ring_of bytes.events)))
 
 -- it was done: so many orders left the sides, which are accepted and have their room, and their outs are in the queue

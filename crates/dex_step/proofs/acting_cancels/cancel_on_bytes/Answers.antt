@@ -6,10 +6,10 @@ use Rattle.dex_step.proofs.acting_cancels.cancel_on_bytes.Goals as goal
 
 pub returns : goal.returns
 returns c =
-    let bids : IsSideAccount Bid c.apply_cancel.new.bids.bytes.now =
-    account_kept _ _ _ c.requires.bids c.apply_cancel.ensures.bids.place.1 c.apply_cancel.ensures.bids.holding in
-    let asks : IsSideAccount Ask c.apply_cancel.new.asks.bytes.now =
-    account_kept _ _ _ c.requires.asks c.apply_cancel.ensures.asks.place.1 c.apply_cancel.ensures.asks.holding in
+    let bids : IsSideAccount Bid c.apply_cancel_by_slots.new.bids.bytes.now =
+    account_kept _ _ _ c.requires.bids c.apply_cancel_by_slots.ensures.bids.place.1 c.apply_cancel_by_slots.ensures.bids.holding in
+    let asks : IsSideAccount Ask c.apply_cancel_by_slots.new.asks.bytes.now =
+    account_kept _ _ _ c.requires.asks c.apply_cancel_by_slots.ensures.asks.place.1 c.apply_cancel_by_slots.ensures.asks.holding in
     record {
       count_is = search rules;
       does = search rules;
