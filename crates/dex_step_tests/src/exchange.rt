@@ -1,15 +1,13 @@
 //! A market on which rows act, one after the other.
 
-ghost use Rattle.dex_accounts.specs.Decoded.{AreSound};
 ghost use Rattle.dex_decide.specs.Given.{market_of};
 ghost use Rattle.dex_history.specs.Journal.{Sees, asked_of, row_step};
 ghost use Rattle.dex_make.specs.Blanks.{blank_account};
 ghost use Rattle.dex_make.specs.MarketSet.{CanTrade, IsMarketSet};
-ghost use Rattle.dex_ring.specs.Leaving.{leaving_of};
+ghost use Rattle.dex_step_tests.specs.Made.{IsMade, IsReady, market_made};
 ghost use Rattle.dex_types.specs.Accounts.{market_accounts_of, orders_account_of};
 ghost use Rattle.dex_types.specs.Addresses.{is_same};
 ghost use Rattle.dex_types.specs.Rows.{row_of};
-ghost use Rattle.dex_step_tests.specs.Made.{IsMade};
 ghost use Rattle.std.specs.Prelude.{◌≡◌, [], ◌∷◌, ◌++◌, IfOk, OnOk, false, map};
 
 use dex_decide::decide;
@@ -19,13 +17,11 @@ use dex_step::apply;
 use dex_types::{Address, MarketAccounts, NoMemory, OrdersAccount, Reply, Row, Seen};
 use std::alloc::Global;
 
-/// The accounts of a sound market, and what pending makers' fills are still to take off totals there.
+/// A market's accounts, and what pending makers' fills are still to take off totals there.
 #[derive(Debug, Drop)]
 pub struct Exchange {
     pub accounts: MarketAccounts,
     pub leaving: Leaving,
-    ghost sound: { AreSound (market_accounts_of accounts) },
-    ghost sums: { leaving ≡ leaving_of (market_of accounts).events },
 }
 
 /// Reserves an open-orders account at an address: it is blank.
@@ -44,7 +40,7 @@ fn add_blank(
     }
 }
 
-/// A market as it is made, with two open-orders accounts that are reserved and not opened.
+/// The accounts of a market as it is made, with two open-orders accounts that are reserved and not opened.
 fn accounts_made(
     alloc: Global,
     set: &MarketSet,
@@ -53,7 +49,6 @@ fn accounts_made(
 ) -> Result<MarketAccounts, NoMemory>
     requires set { IsMarketSet set.now }
     requires trades { CanTrade set.now }
-    requires apart { is_same first second ≡ false }
     ensures { IfOk result (λ accounts. IsMade set.now first second (market_accounts_of accounts)) }
 {
     let mut accounts = make_market(alloc, set)?;
@@ -72,6 +67,8 @@ pub fn open(
     requires set { IsMarketSet set.now }
     requires trades { CanTrade set.now }
     requires apart { is_same first second ≡ false }
+    ensures ready { IfOk result (λ exchange. IsReady exchange) }
+    ensures market { IfOk result (λ exchange. market_of exchange.accounts ≡ market_made set.now first second) }
 {
     let accounts = accounts_made(alloc, set, first, second)?;
     let leaving = Leaving { coin: 0, pc: 0 };
@@ -79,13 +76,15 @@ pub fn open(
 }
 
 impl Exchange {
-    /// Decides a row, and does it unless it is refused; answers its reply. It is the step of the market.
+    /// Decides a row, and does it unless it is refused; answers its reply. That is its step on the market.
     pub fn act(&mut self, row: &Row, seen: &Seen) -> Reply
-        requires { Sees (asked_of (row_of row.now)) seen.now }
+        requires ready { IsReady self.old }
+        requires sees { Sees (asked_of (row_of row.now)) seen.now }
         ensures reply { result
             ≡ (row_step (row_of row.entry.now) seen.entry.now (market_of self.old.accounts)).reply }
         ensures market { market_of self.new.accounts
             ≡ (row_step (row_of row.entry.now) seen.entry.now (market_of self.old.accounts)).market }
+        ensures ready { IsReady self.new }
     {
         match decide(&self.accounts, row, seen, &self.leaving) {
             Ok(plan) => apply(&mut self.accounts, row, seen, &plan, &mut self.leaving),
