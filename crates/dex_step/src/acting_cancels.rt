@@ -38,7 +38,8 @@ fn bytes_of(accounts: &[OrdersAccount], address: Address) -> &[u8]
     }
 }
 
-/// A cancel, on the bytes of the accounts that it is handed: `held` are the owner's. It answers how many orders it took.
+/// A cancel, on the bytes of the accounts that it is handed: `held` are the owner's. It answers how many orders it
+/// took.
 fn cancel_on_bytes(
     what: &CancelWhat,
     owner: Address,

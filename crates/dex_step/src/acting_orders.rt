@@ -4,7 +4,14 @@ ghost use Rattle.std.specs.Prelude.{◌≡◌, map};
 ghost use Rattle.dex_accounts.specs.Decoded.{AreSound, market_in};
 ghost use Rattle.dex_step.specs.Acting.{CanTakeIn, HasStepped, HaveTakenIn};
 ghost use Rattle.dex_step.specs.OrderActs.{
-    CanOrder, CanOrderAt, HasOrdered, HasOrderedIn, among, among_of, order_bytes};
+  CanOrder,
+  CanOrderAt,
+  HasOrdered,
+  HasOrderedIn,
+  among,
+  among_of,
+  order_bytes,
+};
 ghost use Rattle.dex_step.specs.OrderRows.{IsOrderDecided, order_step};
 ghost use Rattle.dex_types.specs.Accounts.{market_accounts_of, orders_account_of};
 ghost use Rattle.dex_types.specs.declared.terms.Side.TheVariants as sides;

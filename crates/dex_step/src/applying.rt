@@ -66,8 +66,8 @@ fn do_plan(
 
 /// Does on a market's accounts what was decided of a row, and answers its reply. The accounts are then those of the
 /// market that the row's step leaves, which is sound; and `leaving`, what pending makers' fills are still to take off
-/// totals, is what it is there. Addresses and the authority stay, and accounts that were accepted are accepted still. It
-/// is never refused.
+/// totals, is what it is there. Addresses and the authority stay, and accounts that were accepted are accepted still.
+/// It is never refused.
 pub fn apply(
     accounts: &mut MarketAccounts,
     row: &Row,

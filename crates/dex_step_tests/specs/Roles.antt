@@ -9,6 +9,6 @@ Begins first (Some wallet) = slice_index wallet.address.0 0 ≡ first
 
 -- those of base with c, those of quote with p, and those of referrers with r
 pub record AreOfRoles (coin pc referrer : Option WalletSeen) : Type 0 where
-  pub coin : Begins 99 coin
-  pub pc : Begins 112 pc
-  pub referrer : Begins 114 referrer
+  pub base : Begins 99 coin
+  pub quote : Begins 112 pc
+  pub third : Begins 114 referrer

@@ -1,4 +1,4 @@
-//! A market's accounts on which rows are decided and done, one after the other; the worked rows of a market are its tests.
+//! A market's accounts on which rows are decided and done, one after the other; its tests are worked rows of a market.
 #![tactic(auto)]
 
 mod exchange;

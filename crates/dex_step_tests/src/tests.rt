@@ -182,7 +182,14 @@ fn opened(alloc: Global) -> Result<Exchange, Fail>
     let first = vec![in alloc; address(b'x')]?;
     act(&mut exchange, alloc, b'n', first, NONE, &Ix::InitOpenOrders)?;
     let second = vec![in alloc; address(b'y')]?;
-    act(&mut exchange, alloc, b'o', second, NONE, &Ix::InitOpenOrders)?;
+    act(
+        &mut exchange,
+        alloc,
+        b'o',
+        second,
+        NONE,
+        &Ix::InitOpenOrders,
+    )?;
     Ok(exchange)
 }
 
@@ -258,7 +265,14 @@ fn crank(exchange: &mut Exchange, alloc: Global) -> Result<Reply, Fail>
     ensures { IsReady exchange.new }
 {
     let named = vec![in alloc; address(b'x'), address(b'y')]?;
-    act(exchange, alloc, b'o', named, NONE, &Ix::ConsumeEvents { limit: 10 })
+    act(
+        exchange,
+        alloc,
+        b'o',
+        named,
+        NONE,
+        &Ix::ConsumeEvents { limit: 10 },
+    )
 }
 
 /// The account `y` is settled to these wallets.
@@ -275,8 +289,12 @@ fn settle(exchange: &mut Exchange, alloc: Global, roles: Roles) -> Result<Reply,
 fn vaults(exchange: &Exchange) -> (u64, u64)
     requires { IsReady exchange.now }
 {
-    let coin = WalletRef { bytes: &exchange.accounts.coin_vault };
-    let pc = WalletRef { bytes: &exchange.accounts.pc_vault };
+    let coin = WalletRef {
+        bytes: &exchange.accounts.coin_vault,
+    };
+    let pc = WalletRef {
+        bytes: &exchange.accounts.pc_vault,
+    };
     (coin.amount(), pc.amount())
 }
 
@@ -294,7 +312,15 @@ fn a_bid_fills_part_of_an_ask(rt: HostRuntime) -> Result<(), Fail> {
     };
     assert_eq!(rt; asked, resting);
     assert_eq!(rt; vaults(&exchange), (400, 0));
-    let got = bid(&mut exchange, rt.alloc(), 60, 3, 2_000, OrderType::Ioc, 5_000)?;
+    let got = bid(
+        &mut exchange,
+        rt.alloc(),
+        60,
+        3,
+        2_000,
+        OrderType::Ioc,
+        5_000,
+    )?;
     let filled = Reply::Ordered {
         id: 1_125_251_388_496_282_648_574,
         slot: 0,
@@ -313,9 +339,24 @@ fn a_bid_fills_part_of_an_ask(rt: HostRuntime) -> Result<(), Fail> {
 fn events_are_consumed_of_those_named(rt: HostRuntime) -> Result<(), Fail> {
     let mut exchange = opened(rt.alloc())?;
     ask(&mut exchange, rt.alloc(), 50, 4, 1_000)?;
-    bid(&mut exchange, rt.alloc(), 60, 3, 2_000, OrderType::Ioc, 5_000)?;
+    bid(
+        &mut exchange,
+        rt.alloc(),
+        60,
+        3,
+        2_000,
+        OrderType::Ioc,
+        5_000,
+    )?;
     let named = vec![in rt.alloc(); address(b'x')]?;
-    let first = act(&mut exchange, rt.alloc(), b'o', named, NONE, &Ix::ConsumeEvents { limit: 10 })?;
+    let first = act(
+        &mut exchange,
+        rt.alloc(),
+        b'o',
+        named,
+        NONE,
+        &Ix::ConsumeEvents { limit: 10 },
+    )?;
     assert_eq!(rt; first, Reply::Consumed(1));
     assert_eq!(rt; exchange.leaving, Leaving { coin: 0, pc: 0 });
     let rest = crank(&mut exchange, rt.alloc())?;
@@ -374,7 +415,15 @@ fn a_take_trades_from_wallet_to_wallet(rt: HostRuntime) -> Result<(), Fail> {
 fn what_is_free_is_settled_and_fees_are_swept(rt: HostRuntime) -> Result<(), Fail> {
     let mut exchange = opened(rt.alloc())?;
     ask(&mut exchange, rt.alloc(), 100, 200, 20_000)?;
-    bid(&mut exchange, rt.alloc(), 100, 200, 200_440, OrderType::Limit, 300_000)?;
+    bid(
+        &mut exchange,
+        rt.alloc(),
+        100,
+        200,
+        200_440,
+        OrderType::Limit,
+        300_000,
+    )?;
     crank(&mut exchange, rt.alloc())?;
     let roles = Roles {
         coin: coin_wallet(b'o', 0),
@@ -401,7 +450,14 @@ fn what_is_free_is_settled_and_fees_are_swept(rt: HostRuntime) -> Result<(), Fai
         referrer: None,
     };
     let named = Vec::new(rt.alloc());
-    let swept = act(&mut exchange, rt.alloc(), b'a', named, quote, &Ix::SweepFees)?;
+    let swept = act(
+        &mut exchange,
+        rt.alloc(),
+        b'a',
+        named,
+        quote,
+        &Ix::SweepFees,
+    )?;
     assert_eq!(rt; swept, Reply::Swept(292));
     assert_eq!(rt; vaults(&exchange), (0, 200_060));
     Ok(())
@@ -411,13 +467,34 @@ fn what_is_free_is_settled_and_fees_are_swept(rt: HostRuntime) -> Result<(), Fai
 fn an_empty_account_is_closed_and_a_market_disabled(rt: HostRuntime) -> Result<(), Fail> {
     let mut exchange = opened(rt.alloc())?;
     let named = vec![in rt.alloc(); address(b'y')]?;
-    let closed = act(&mut exchange, rt.alloc(), b'o', named, NONE, &Ix::CloseOpenOrders)?;
+    let closed = act(
+        &mut exchange,
+        rt.alloc(),
+        b'o',
+        named,
+        NONE,
+        &Ix::CloseOpenOrders,
+    )?;
     assert_eq!(rt; closed, Reply::Done);
     let named = vec![in rt.alloc(); address(b'y')]?;
-    let again = act(&mut exchange, rt.alloc(), b'o', named, NONE, &Ix::InitOpenOrders)?;
+    let again = act(
+        &mut exchange,
+        rt.alloc(),
+        b'o',
+        named,
+        NONE,
+        &Ix::InitOpenOrders,
+    )?;
     assert_eq!(rt; again, Reply::Refused(Refusal::AccountExists));
     let none = Vec::new(rt.alloc());
-    let disabled = act(&mut exchange, rt.alloc(), b'a', none, NONE, &Ix::DisableMarket)?;
+    let disabled = act(
+        &mut exchange,
+        rt.alloc(),
+        b'a',
+        none,
+        NONE,
+        &Ix::DisableMarket,
+    )?;
     assert_eq!(rt; disabled, Reply::Done);
     let refused = ask(&mut exchange, rt.alloc(), 50, 4, 1_000)?;
     assert_eq!(rt; refused, Reply::Refused(Refusal::MarketDisabled));
