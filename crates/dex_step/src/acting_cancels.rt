@@ -38,7 +38,8 @@ fn bytes_of(accounts: &[OrdersAccount], address: Address) -> &[u8]
     }
 }
 
-/// A cancel, on the bytes of the accounts that it is handed: `held` are the owner's. It answers how many orders it took.
+/// A cancel, on the bytes of the accounts that it is handed: `held` are the owner's. It answers how many orders it
+/// took.
 fn cancel_on_bytes(
     what: &CancelWhat,
     owner: Address,
@@ -69,8 +70,8 @@ fn cancel_on_bytes(
     )
 }
 
-/// Orders of an owner taken off the book, as it was decided: an out of each waits for it, and it is answered how many there
-/// were. What makers' fills are still to take off totals stays.
+/// Orders of an owner taken off the book, as it was decided: an out of each waits for it, and it is answered how many
+/// there were. What makers' fills are still to take off totals stays.
 pub(crate) fn cancel_row(accounts: &mut MarketAccounts, owner: Address, what: &CancelWhat) -> Reply
     requires sound { AreSound (market_accounts_of accounts.old) }
     requires decided { IsCancelDecided (named_by what.now) owner (market_in (market_accounts_of accounts.old)) }

@@ -21,13 +21,14 @@ fn consume_on_bytes(
     limit: u16,
 ) -> Consumed
     requires { AreOfSoundMarket (crank_bytes events.old accounts.old) }
-    ensures { HasConsumed limit named.entry.now result (crank_bytes events.old accounts.old) (crank_bytes events.new accounts.new) }
+    ensures { HasConsumed limit named.entry.now result (crank_bytes events.old accounts.old)
+        (crank_bytes events.new accounts.new) }
 {
     consume_with_leaving(&mut RingView { bytes: events }, accounts, named, limit)
 }
 
-/// Events consumed from the front of the queue, at most `limit`, up to the first whose owner is not named: each pays its
-/// owner's account, and it is answered how many there were. What they were to take off totals leaves the sums.
+/// Events consumed from the front of the queue, at most `limit`, up to the first whose owner is not named: each pays
+/// its owner's account, and it is answered how many there were. What they were to take off totals leaves the sums.
 pub(crate) fn consume_row(
     accounts: &mut MarketAccounts,
     leaving: &mut Leaving,

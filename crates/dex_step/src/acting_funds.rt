@@ -8,7 +8,15 @@ ghost use Rattle.dex_ring.specs.Leaving.{leaving_of};
 ghost use Rattle.dex_settle.specs.Leaving.{swept, with_disabled};
 ghost use Rattle.dex_step.specs.Acting.{HasStepped};
 ghost use Rattle.dex_step.specs.FundActs as acts;
-ghost use Rattle.dex_step.specs.FundBytes.{CanChange, CanClose, CanSettle, HasChanged, HasClosed, HasOpened, HasSettled};
+ghost use Rattle.dex_step.specs.FundBytes.{
+  CanChange,
+  CanClose,
+  CanSettle,
+  HasChanged,
+  HasClosed,
+  HasOpened,
+  HasSettled,
+};
 ghost use Rattle.dex_types.specs.Accounts.{market_accounts_of, orders_account_of};
 
 use crate::vaults::take_out;
@@ -53,8 +61,8 @@ fn settle_among(
     settle_in_buffer(plan, market, &mut accounts[place].bytes);
 }
 
-/// An account settled as it was decided: all its free funds and its referrer part leave the vaults, but for what of that goes
-/// to the fees.
+/// An account settled as it was decided: all its free funds and its referrer part leave the vaults, but for what of
+/// that goes to the fees.
 pub(crate) fn settle_row(accounts: &mut MarketAccounts, owner: Address, plan: &SettlePlan) -> Reply
     requires sound { AreSound (market_accounts_of accounts.old) }
     requires decided { acts.IsSettleDecided plan.now owner (market_in (market_accounts_of accounts.old)) }

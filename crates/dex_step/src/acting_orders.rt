@@ -3,7 +3,15 @@
 ghost use Rattle.std.specs.Prelude.{◌≡◌, map};
 ghost use Rattle.dex_accounts.specs.Decoded.{AreSound, market_in};
 ghost use Rattle.dex_step.specs.Acting.{CanTakeIn, HasStepped, HaveTakenIn};
-ghost use Rattle.dex_step.specs.OrderActs.{CanOrder, CanOrderAt, HasOrdered, HasOrderedIn, among, among_of, order_bytes};
+ghost use Rattle.dex_step.specs.OrderActs.{
+  CanOrder,
+  CanOrderAt,
+  HasOrdered,
+  HasOrderedIn,
+  among,
+  among_of,
+  order_bytes,
+};
 ghost use Rattle.dex_step.specs.OrderRows.{IsOrderDecided, order_step};
 ghost use Rattle.dex_types.specs.Accounts.{market_accounts_of, orders_account_of};
 ghost use Rattle.dex_types.specs.declared.terms.Side.TheVariants as sides;
@@ -28,7 +36,8 @@ fn order_on_bytes(
     own: &mut [u8],
     opposite: &mut [u8],
 ) -> Reply
-    requires { CanOrder plan.now taker (order_bytes market.old requests.old events.old account.old own.old opposite.old) }
+    requires { CanOrder plan.now taker
+        (order_bytes market.old requests.old events.old account.old own.old opposite.old) }
     ensures { HasOrdered taker result (order_bytes market.old requests.old events.old account.old own.old opposite.old)
         (order_bytes market.new requests.new events.new account.new own.new opposite.new) }
 {
@@ -165,8 +174,8 @@ fn order_at(accounts: &mut MarketAccounts, plan: &OrderPlan, taker: Taker, place
     }
 }
 
-/// A new order of an open account, as it was decided: it trades and rests, its deposit enters the vault, and it is answered
-/// what it did. `left` is what makers' fills are to take off totals after it.
+/// A new order of an open account, as it was decided: it trades and rests, its deposit enters the vault, and it is
+/// answered what it did. `left` is what makers' fills are to take off totals after it.
 pub(crate) fn order_row(
     accounts: &mut MarketAccounts,
     leaving: &mut Leaving,

@@ -102,8 +102,8 @@ fn take_by_side(accounts: &mut MarketAccounts, plan: &TakePlan, taker: Taker) ->
     }
 }
 
-/// A take, as it was decided: it meets the other side, what it pays enters one vault and what it gets leaves the other, and it
-/// is answered what it filled. `left` is what makers' fills are to take off totals after it.
+/// A take, as it was decided: it meets the other side, what it pays enters one vault and what it gets leaves the
+/// other, and it is answered what it filled. `left` is what makers' fills are to take off totals after it.
 pub(crate) fn take_row(
     accounts: &mut MarketAccounts,
     leaving: &mut Leaving,

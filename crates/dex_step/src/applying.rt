@@ -1,8 +1,9 @@
 //! What a row does, once it was decided.
 
-ghost use Rattle.dex_accounts.specs.Decoded.{AreSound, market_in};
+ghost use Rattle.dex_accounts.specs.Decoded.{AreSound};
+ghost use Rattle.dex_decide.specs.Given.{asked_by, market_of};
 ghost use Rattle.dex_decide.specs.Plans.{decided};
-ghost use Rattle.dex_history.specs.Journal.{request_of, row_step};
+ghost use Rattle.dex_history.specs.Journal.{row_step};
 ghost use Rattle.dex_ring.specs.Leaving.{leaving_of};
 ghost use Rattle.dex_step.specs.Acting.{HasStepped, KeepsAccounts};
 ghost use Rattle.dex_types.specs.Accounts.{market_accounts_of};
@@ -21,7 +22,8 @@ use dex_types::{Address, MarketAccounts, Reply, Row, Seen};
 /// The open-orders account that a row names first.
 fn first_named(row: &Row) -> Address
     requires { 0 < length row.now.named.items }
-    ensures { (address : Address) (others : List Address) → row.entry.now.named.items ≡ address ∷ others → result ≡ address }
+    ensures { (address : Address) (others : List Address) → row.entry.now.named.items ≡ address ∷ others
+        → result ≡ address }
 {
     row.named[0]
 }
@@ -35,11 +37,10 @@ fn do_plan(
     leaving: &mut Leaving,
 ) -> Reply
     requires sound { AreSound (market_accounts_of accounts.old) }
-    requires decided { Ok plan
-        ≡ decided (request_of (row_of row.now)) seen.now (market_in (market_accounts_of accounts.old)) }
-    requires leaving { leaving.old ≡ leaving_of (market_in (market_accounts_of accounts.old)).events }
+    requires decided { Ok plan ≡ decided (asked_by row.now) seen.now (market_of accounts.old) }
+    requires leaving { leaving.old ≡ leaving_of (market_of accounts.old).events }
     ensures { HasStepped (market_accounts_of accounts.old) (market_accounts_of accounts.new) result leaving.new
-        (row_step (row_of row.entry.now) seen.entry.now (market_in (market_accounts_of accounts.old))) }
+        (row_step (row_of row.entry.now) seen.entry.now (market_of accounts.old)) }
 {
     match plan {
         Plan::Nothing => Reply::Done,
@@ -63,9 +64,10 @@ fn do_plan(
     }
 }
 
-/// Does on a market's accounts what was decided of a row, and answers its reply. The accounts are those of the market that the
-/// row's step leaves, which is sound; `leaving`, what makers' fills that are pending are still to take off totals, is what it
-/// is there. Addresses and authority stay, and accounts that were accepted are accepted. It is never refused.
+/// Does on a market's accounts what was decided of a row, and answers its reply. The accounts are then those of the
+/// market that the row's step leaves, which is sound; and `leaving`, what pending makers' fills are still to take off
+/// totals, is what it is there. Addresses and the authority stay, and accounts that were accepted are accepted still.
+/// It is never refused.
 pub fn apply(
     accounts: &mut MarketAccounts,
     row: &Row,
@@ -74,15 +76,13 @@ pub fn apply(
     leaving: &mut Leaving,
 ) -> Reply
     requires sound { AreSound (market_accounts_of accounts.old) }
-    requires decided { Ok plan.now
-        ≡ decided (request_of (row_of row.now)) seen.now (market_in (market_accounts_of accounts.old)) }
-    requires leaving { leaving.old ≡ leaving_of (market_in (market_accounts_of accounts.old)).events }
-    ensures reply { result
-        ≡ (row_step (row_of row.entry.now) seen.entry.now (market_in (market_accounts_of accounts.old))).reply }
-    ensures market { market_in (market_accounts_of accounts.new)
-        ≡ (row_step (row_of row.entry.now) seen.entry.now (market_in (market_accounts_of accounts.old))).market }
+    requires decided { Ok plan.now ≡ decided (asked_by row.now) seen.now (market_of accounts.old) }
+    requires leaving { leaving.old ≡ leaving_of (market_of accounts.old).events }
+    ensures reply { result ≡ (row_step (row_of row.entry.now) seen.entry.now (market_of accounts.old)).reply }
+    ensures market { market_of accounts.new
+        ≡ (row_step (row_of row.entry.now) seen.entry.now (market_of accounts.old)).market }
     ensures sound { AreSound (market_accounts_of accounts.new) }
-    ensures leaving { leaving.new ≡ leaving_of (market_in (market_accounts_of accounts.new)).events }
+    ensures leaving { leaving.new ≡ leaving_of (market_of accounts.new).events }
     ensures kept { KeepsAccounts (market_accounts_of accounts.old) (market_accounts_of accounts.new) }
 {
     do_plan(accounts, row, seen, *plan, leaving)

@@ -1,5 +1,5 @@
-//! What a step leaves of a market's accounts is of the market after it. A law is a function without a body, and its clause is
-//! the law.
+//! What a step leaves of a market's accounts is of the market after it. A law is a function without a body, and its
+//! clause is the law.
 
 ghost use Rattle.std.specs.Prelude.{◌≡◌, ℕ, Ok};
 ghost use Rattle.dex_accounts.specs.Decoded.{AreSound, market_in};
@@ -19,17 +19,18 @@ ghost use Rattle.dex_types.specs.declared.replies.Reply.{Reply};
 ghost use Rattle.dex_types.specs.Soundness.{IsSound};
 ghost use Rattle.dex_types.specs.Steps.{Step};
 
-/// Where the accounts of a sound market have the parts and the vaults of a sound market that a step leaves, of the same listing,
-/// and the step's reply was answered, the step was done.
+/// Where the accounts of a sound market have the parts and the vaults of a sound market that a step leaves, of the same
+/// listing, and the step's reply was answered, the step was done.
 pub fn what_is_left_is_the_steps()
-    ensures { (before after : PlainMarketAccounts) (parts : MarketParts) (coin pc : ℕ) (reply : Reply) (leaving : Leaving) (s : Step)
-        → AreSound before → IsSound s.market → Leaves before after parts coin pc → AreOf parts s.market
-        → s.market.listing ≡ (market_in before).listing → s.market.coin_vault ≡ coin → s.market.pc_vault ≡ pc
-        → reply ≡ s.reply → leaving ≡ leaving_of s.market.events → HasStepped before after reply leaving s }
+    ensures { (before after : PlainMarketAccounts) (parts : MarketParts) (coin pc : ℕ) (reply : Reply)
+        (leaving : Leaving) (s : Step) → AreSound before → IsSound s.market → Leaves before after parts coin pc
+        → AreOf parts s.market → s.market.listing ≡ (market_in before).listing → s.market.coin_vault ≡ coin
+        → s.market.pc_vault ≡ pc → reply ≡ s.reply → leaving ≡ leaving_of s.market.events → HasStepped before after reply leaving s }
 {}
 
-/// A plan that was decided of a row on a sound market says what its kind needs there, and the row's step is that of its kind.
+/// A plan that was decided of a row on a sound market says what its kind needs there, and the row's step is that of its
+/// kind.
 pub fn what_is_decided_is_planned()
-    ensures { (row : PlainRow) (seen : Seen) (m : Market) (plan : Plan) → IsSound m → Ok plan ≡ decided (request_of row) seen m
-        → IsPlanned plan (request_of row) m (row_step row seen m) }
+    ensures { (row : PlainRow) (seen : Seen) (m : Market) (plan : Plan) → IsSound m
+        → Ok plan ≡ decided (request_of row) seen m → IsPlanned plan (request_of row) m (row_step row seen m) }
 {}
