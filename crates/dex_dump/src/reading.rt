@@ -101,8 +101,8 @@ impl Reading {
         }
     }
 
-    /// Whether a row may state this behind what was read: it declares no address twice, names what earlier rows declare,
-    /// and passes no limit.
+    /// Whether a row may state this behind what was read: it declares no address twice, names what earlier rows
+    /// declare, and passes no limit.
     pub fn is_allowed(&self, line: &Line) -> bool
         ensures { result ≡ spec.is_allowed (plain_reading self.now) (plain_line line.now) }
     {
@@ -170,7 +170,8 @@ impl Reading {
 
     #[tactic(auto, unfolding(crate::specs::Checks::checks))]
     fn take_market(&mut self, market: MarketAccounts) -> Result<(), Stop>
-        ensures { TakesLine result (plain_reading self.old) (plain_reading self.new) (Market (market_accounts_of market)) }
+        ensures { TakesLine result (plain_reading self.old) (plain_reading self.new)
+            (Market (market_accounts_of market)) }
     {
         let fault = market_rule(self, market.address, &market.market);
         by_rules(market.address, fault)?;
@@ -183,7 +184,8 @@ impl Reading {
 
     #[tactic(auto, unfolding(crate::specs::Checks::checks))]
     fn take_orders(&mut self, market: Address, account: OrdersAccount) -> Result<(), Stop>
-        ensures { TakesLine result (plain_reading self.old) (plain_reading self.new) (Orders market (orders_account_of account)) }
+        ensures { TakesLine result (plain_reading self.old) (plain_reading self.new)
+            (Orders market (orders_account_of account)) }
     {
         by_rules(account.address, orders_rule(market, &account.bytes))?;
         self.taken.push(account.address)?;

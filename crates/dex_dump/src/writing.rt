@@ -22,7 +22,8 @@ use std::fmt::Write;
 /// `msrm` stand behind the mints, where such a mint is named. Accepted accounts are read back from it.
 pub fn write_dump(alloc: Global, accounts: &Accounts) -> Result<Vec<u8>, NoMemory>
     ensures text { IfOk result (λ text. text.items ≡ dump_text (accounts_of accounts.now)) }
-    ensures read_back { IfOk result (λ text. AreAccepted (accounts_of accounts.now) → IsReadAs text.items (accounts_of accounts.now)) }
+    ensures read_back { IfOk result (λ text.
+        AreAccepted (accounts_of accounts.now) → IsReadAs text.items (accounts_of accounts.now)) }
 {
     let mut text = String::new(alloc);
     match append_dump(&mut text, accounts) {
@@ -48,7 +49,8 @@ pub fn append_dump(text: &mut String, accounts: &Accounts) -> Result<(), AllocEr
 }
 
 fn write_mints(text: &mut String, mints: &[Named]) -> Result<(), AllocError>
-    ensures text { OnOk result (string_bytes text.new ≡ string_bytes text.old ++ lines_text (map mint_row (map named_of mints.now))) }
+    ensures text { OnOk result (string_bytes text.new
+        ≡ string_bytes text.old ++ lines_text (map mint_row (map named_of mints.now))) }
     ensures held { OnOk result (All IsHeld (map named_of mints.now)) }
 {
     for mint in mints {
@@ -58,7 +60,8 @@ fn write_mints(text: &mut String, mints: &[Named]) -> Result<(), AllocError>
 }
 
 fn write_wallets(text: &mut String, wallets: &[Named]) -> Result<(), AllocError>
-    ensures text { OnOk result (string_bytes text.new ≡ string_bytes text.old ++ lines_text (map wallet_row (map named_of wallets.now))) }
+    ensures text { OnOk result (string_bytes text.new
+        ≡ string_bytes text.old ++ lines_text (map wallet_row (map named_of wallets.now))) }
     ensures held { OnOk result (All IsHeld (map named_of wallets.now)) }
 {
     for wallet in wallets {
@@ -96,7 +99,8 @@ fn write_orders(
 
 /// The row of a mint that has a name, if there is one.
 fn write_name(text: &mut String, word: &str, mint: Option<Address>) -> Result<(), AllocError>
-    ensures text { OnOk result (string_bytes text.new ≡ string_bytes text.old ++ lines_text (named_rows word.now mint)) }
+    ensures text { OnOk result (string_bytes text.new
+        ≡ string_bytes text.old ++ lines_text (named_rows word.now mint)) }
     ensures held { OnOk result (IfSome mint IsAddress) }
 {
     let Some(mint) = mint else {
