@@ -1,0 +1,30 @@
+-- What the rows of a script say so far.
+use Rattle.std.specs.Prelude.{ℕ, ℤ, Bool, true, false, List, [], Option, None}
+use Rattle.dex_types.specs.declared.addresses.Address.{Address}
+use Rattle.dex_types.specs.declared.terms.Program.{Program}
+use Rattle.dex_types.specs.declared.terms.Program.TheVariants.{Serum}
+use Rattle.dex_types.specs.Accounts.{PlainAccounts}
+use Rattle.dex_types.specs.Rows.{PlainRow}
+
+-- what a script says: the accounts with which it starts, its instruction rows, how many lanes it has, and its program
+pub record PlainScript : Type 0 where
+  pub start : PlainAccounts
+  pub rows : List PlainRow
+  pub lanes : ℕ
+  pub program : Program
+
+-- the script so far, with every address that is taken, the clock of the next instruction row, whether no row stands there but
+-- those of a dump, and whether setup rows come too late: behind a dump or an instruction row
+pub record PlainDraft : Type 0 where
+  pub script : PlainScript
+  pub taken : List Address
+  pub now : ℤ
+  pub is_first : Bool
+  pub is_late : Bool
+
+abbrev pub no_accounts : PlainAccounts
+no_accounts = record { mints = []; srm = None; msrm = None; wallets = []; markets = [] }
+
+-- before the first row
+abbrev pub no_rows : PlainDraft
+no_rows = record { script = record { start = no_accounts; rows = []; lanes = 1; program = Serum }; taken = []; now = 0; is_first = true; is_late = false }

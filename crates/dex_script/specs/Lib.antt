@@ -1,0 +1,4 @@
+pub mod Drafts
+pub mod Declared
+pub mod Rows
+pub mod Scripts
