@@ -1,4 +1,7 @@
 pub mod Drafts
-pub mod Declared
+pub mod Firsts
+pub mod Known
+pub mod Mints
 pub mod Rows
 pub mod Scripts
+pub mod Telling

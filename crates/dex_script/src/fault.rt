@@ -4,17 +4,9 @@ ghost use Rattle.std.specs.Prelude.{◌≡◌};
 ghost use Rattle.dex_script.specs.declared.fault.ScriptError.TheVariants.{NoMemory as OutOfMemory};
 
 use dex_audit::Finding;
-use dex_dump::{DumpError, DumpFault};
-use dex_statement::FaultKind;
+use dex_dump::DumpFault;
 use dex_types::NoMemory;
 use thiserror::Error;
-
-/// The first faulty row of a script, counted from 1, with the lowest of its faults.
-#[derive(Clone, Copy, Debug, PartialEq, Eq)]
-pub struct RowFault {
-    pub row: u32,
-    pub kind: FaultKind,
-}
 
 /// Why no script could be read.
 #[derive(Debug, Drop, Error)]

@@ -1,32 +1,40 @@
 //! Instruction rows, behind the rows before them.
 
-use crate::declared::{has_market, is_known_role};
-use crate::draft::Draft;
-use dex_statement::{FaultKind, InstructionWords, Parties, RowError};
-use dex_types::{Accounts, Row};
+ghost use Rattle.std.specs.Prelude.{◌≡◌};
+ghost use Rattle.dex_types.specs.Rows.{row_of};
+ghost use Rattle.dex_statement.specs.Telling.{TellsAs};
+ghost use Rattle.dex_script.specs.Rows as spec;
+ghost use Rattle.dex_script.specs.Telling.{draft_of, start_of};
 
-const MOST_ROWS: usize = 100_000;
+use crate::draft::{Draft, Start};
+use crate::known::{has_market, is_known_role};
+use dex_statement::{FaultKind, InstructionWords, Parties, RowError};
+use dex_types::Row;
 
 impl Draft {
-    pub(crate) fn with_instruction(mut self, number: u32, words: InstructionWords) -> Result<Draft, RowError> {
-        if is_unknown(&self.script.start, &words.parties) {
+    /// Behind an instruction row of this number.
+    #[tactic(auto, unfolding(crate::specs::Rows::with_instruction))]
+    pub(crate) fn with_instruction(mut self, number: u32, words: InstructionWords) -> Result<Draft, RowError>
+        ensures { TellsAs draft_of result (spec.with_instruction (draft_of self) number words) }
+    {
+        if is_unknown(&self.start, &words.parties) {
             return Err(RowError::Fault(FaultKind::UnknownLabel));
         }
-        if MOST_ROWS <= self.script.rows.len() || exceeds_row(&words) || number == u32::MAX {
+        if 100_000 <= self.rows.len() || exceeds_row(&words) || number == u32::MAX {
             return Err(RowError::Fault(FaultKind::OverLimit));
         }
-        if self.script.lanes <= words.lane {
-            self.script.lanes = words.lane + 1;
-        }
-        let now = self.now;
-        self.script.rows.push(row(number, now, words))?;
+        self.lanes = self.lanes.max(words.lane + 1);
+        self.rows.push(instruction_row(number, self.now, words))?;
         self.is_first = false;
         self.is_late = true;
         Ok(self)
     }
 }
 
-fn row(number: u32, now: i64, words: InstructionWords) -> Row {
+/// The row of this number, at this time.
+fn instruction_row(number: u32, now: i64, words: InstructionWords) -> Row
+    ensures { row_of result ≡ spec.instruction_row number now words }
+{
     Row {
         lane: words.lane,
         number,
@@ -42,11 +50,17 @@ fn row(number: u32, now: i64, words: InstructionWords) -> Row {
     }
 }
 
-fn exceeds_row(words: &InstructionWords) -> bool {
+/// Whether an instruction row passes a limit: 16 lanes, 16 named accounts, 256 bytes of data.
+fn exceeds_row(words: &InstructionWords) -> bool
+    ensures { result ≡ spec.exceeds_row words.now }
+{
     16 <= words.lane || 16 < words.parties.named.len() || 256 < words.bytes.len()
 }
 
-fn is_unknown(start: &Accounts, parties: &Parties) -> bool {
+/// Whether an instruction row names a market or a wallet that is not declared.
+fn is_unknown(start: &Start, parties: &Parties) -> bool
+    ensures { result ≡ spec.is_unknown (start_of start.now) parties.now }
+{
     !has_market(parties.market, &start.markets)
         || !is_known_role(&start.wallets, parties.coin)
         || !is_known_role(&start.wallets, parties.pc)

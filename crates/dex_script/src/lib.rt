@@ -1,14 +1,20 @@
 //! Scripts: accounts to start from, and the instruction rows that lanes hand in, read from comma-separated values.
 #![tactic(auto)]
 
-mod declared;
 mod draft;
 mod fault;
 mod instruction;
+mod known;
+mod markets;
+mod mints;
 mod reading;
 mod rows;
+mod script;
 mod setup;
 
-pub use draft::{Draft, Script};
-pub use fault::{RowFault, ScriptError};
+pub use fault::ScriptError;
 pub use reading::read_script;
+pub use script::Script;
+
+#[cfg(test)]
+mod tests;

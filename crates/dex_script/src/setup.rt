@@ -1,83 +1,115 @@
-//! Setup rows, behind the rows before them.
+//! Setup rows, and the rows that choose the program and set the clock, behind the rows before them.
 
-use crate::declared::{has_account, has_market, is_among, is_any_among, market_addresses};
+ghost use Rattle.std.specs.Prelude.{◌≡◌};
+ghost use Rattle.dex_statement.specs.Telling.{TellsAs};
+ghost use Rattle.dex_script.specs.Rows as spec;
+ghost use Rattle.dex_script.specs.Telling.{draft_of};
+
 use crate::draft::Draft;
-use dex_dump::{MarketSet, make_market, make_mint, make_orders, make_wallet};
-use dex_fields::{get_u64, mint, put_u64};
-use dex_instruction::decode;
+use crate::known::{is_among, is_any_among, made_addresses};
+use crate::markets::{add_orders, exceeds_market, orders_at, set_of};
+use dex_dump::{make_market, make_orders, make_wallet};
 use dex_statement::{FaultKind, MarketWords, RowError, SetupCode};
-use dex_token::MintRef;
-use dex_types::{Address, Ix, Named, OrdersAccount, Program};
+use dex_types::{Address, Named, OrdersAccount, Program};
 use std::alloc::Global;
 
-fn refused(code: SetupCode) -> RowError {
-    RowError::Fault(FaultKind::SetupRefused(code))
-}
-
 impl Draft {
-    pub(crate) fn with_program(mut self, program: Program) -> Result<Draft, RowError> {
+    /// Behind a `program` row.
+    #[tactic(auto, unfolding(crate::specs::Rows::with_program))]
+    pub(crate) fn with_program(mut self, program: Program) -> Result<Draft, RowError>
+        ensures { TellsAs draft_of result (spec.with_program (draft_of self) program) }
+    {
         if !self.is_first {
-            return Err(refused(SetupCode::Program));
+            return Err(RowError::Fault(FaultKind::SetupRefused(SetupCode::Program)));
         }
-        self.script.program = program;
+        self.program = program;
         self.is_first = false;
         Ok(self)
     }
 
-    pub(crate) fn with_clock(mut self, now: i64) -> Draft {
+    /// Behind a `clock` row.
+    pub(crate) fn with_clock(mut self, now: i64) -> Draft
+        ensures { draft_of result ≡ spec.with_clock (draft_of self) now }
+    {
         self.now = now;
         self.is_first = false;
         self
     }
 
-    pub(crate) fn with_mint(mut self, alloc: Global, address: Address, decimals: u8) -> Result<Draft, RowError> {
+    /// Behind a `mint` row.
+    #[tactic(auto, unfolding(crate::specs::Rows::with_mint))]
+    pub(crate) fn with_mint(
+        mut self,
+        alloc: Global,
+        address: Address,
+        decimals: u8,
+    ) -> Result<Draft, RowError>
+        ensures { TellsAs draft_of result (spec.with_mint (draft_of self) address decimals) }
+    {
         if is_among(address, &self.taken) {
             return Err(RowError::Fault(FaultKind::Duplicate));
         }
-        if 16 <= self.script.start.mints.len() {
+        if 16 <= self.start.mints.len() {
             return Err(RowError::Fault(FaultKind::OverLimit));
         }
         if self.is_late {
-            return Err(refused(SetupCode::Late));
+            return Err(RowError::Fault(FaultKind::SetupRefused(SetupCode::Late)));
         }
-        let bytes = make_mint(alloc, 0, decimals)?;
-        self.script.start.mints.push(Named { address, bytes })?;
+        self.start.mints.add(alloc, address, decimals)?;
         self.taken.push(address)?;
         self.is_first = false;
         Ok(self)
     }
 
-    pub(crate) fn with_srm(mut self, mint: Address) -> Result<Draft, RowError> {
-        self.check_discount(mint, self.script.start.srm.is_some(), 6)?;
-        self.script.start.srm = Some(mint);
+    /// Behind an `srm` row.
+    #[tactic(auto, unfolding(crate::specs::Rows::with_srm))]
+    pub(crate) fn with_srm(mut self, mint: Address) -> Result<Draft, RowError>
+        ensures { TellsAs draft_of result (spec.with_srm (draft_of self) mint) }
+    {
+        self.check_name(mint, self.start.srm, 6)?;
+        self.start.srm = Some(mint);
         self.is_first = false;
         Ok(self)
     }
 
-    pub(crate) fn with_msrm(mut self, mint: Address) -> Result<Draft, RowError> {
-        self.check_discount(mint, self.script.start.msrm.is_some(), 0)?;
-        self.script.start.msrm = Some(mint);
+    /// Behind an `msrm` row.
+    #[tactic(auto, unfolding(crate::specs::Rows::with_msrm))]
+    pub(crate) fn with_msrm(mut self, mint: Address) -> Result<Draft, RowError>
+        ensures { TellsAs draft_of result (spec.with_msrm (draft_of self) mint) }
+    {
+        self.check_name(mint, self.start.msrm, 0)?;
+        self.start.msrm = Some(mint);
         self.is_first = false;
         Ok(self)
     }
 
-    fn check_discount(&self, mint: Address, is_named: bool, decimals: u8) -> Result<(), RowError> {
-        let Some(place) = mint_place(&self.script.start.mints, mint) else {
-            return Err(RowError::Fault(FaultKind::UnknownLabel));
+    /// Whether a row may give a name to a mint, which must have so many decimals: `named` is who has it already.
+    #[tactic(auto, unfolding(crate::specs::Rows::checked_name))]
+    fn check_name(
+        &self,
+        mint: Address,
+        named: Option<Address>,
+        decimals: u8,
+    ) -> Result<(), FaultKind>
+        ensures { result ≡ spec.checked_name (draft_of self.now) mint named decimals }
+    {
+        let Some(words) = self.start.mints.find(mint) else {
+            return Err(FaultKind::UnknownLabel);
         };
-        if is_named {
-            return Err(RowError::Fault(FaultKind::Duplicate));
+        if named.is_some() {
+            return Err(FaultKind::Duplicate);
         }
         if self.is_late {
-            return Err(refused(SetupCode::Late));
+            return Err(FaultKind::SetupRefused(SetupCode::Late));
         }
-        let found = MintRef { bytes: &self.script.start.mints[place].bytes }.decimals();
-        if found != decimals {
-            return Err(refused(SetupCode::Decimals));
+        if words.decimals != decimals {
+            return Err(FaultKind::SetupRefused(SetupCode::Decimals));
         }
         Ok(())
     }
 
+    /// Behind a `wallet` row.
+    #[tactic(auto, unfolding(crate::specs::Rows::with_wallet))]
     pub(crate) fn with_wallet(
         mut self,
         alloc: Global,
@@ -85,113 +117,83 @@ impl Draft {
         mint: Address,
         owner: Address,
         amount: u64,
-    ) -> Result<Draft, RowError> {
-        let Some(place) = mint_place(&self.script.start.mints, mint) else {
+    ) -> Result<Draft, RowError>
+        ensures { TellsAs draft_of result (spec.with_wallet (draft_of self) address mint owner amount) }
+    {
+        let Some(words) = self.start.mints.find(mint) else {
             return Err(RowError::Fault(FaultKind::UnknownLabel));
         };
         if is_among(address, &self.taken) {
             return Err(RowError::Fault(FaultKind::Duplicate));
         }
-        if 256 <= self.script.start.wallets.len() {
+        if 256 <= self.start.wallets.len() {
             return Err(RowError::Fault(FaultKind::OverLimit));
         }
         if self.is_late {
-            return Err(refused(SetupCode::Late));
+            return Err(RowError::Fault(FaultKind::SetupRefused(SetupCode::Late)));
         }
-        let supply = MintRef { bytes: &self.script.start.mints[place].bytes }.supply();
-        let Some(sum) = supply.checked_add(amount) else {
-            return Err(refused(SetupCode::Supply));
-        };
-        put_u64(&mut self.script.start.mints[place].bytes, mint::SUPPLY, sum);
+        if words.supply.checked_add(amount).is_none() {
+            return Err(RowError::Fault(FaultKind::SetupRefused(SetupCode::Supply)));
+        }
+        self.start.mints.raise(mint, amount);
         let bytes = make_wallet(alloc, mint, owner, amount)?;
-        self.script.start.wallets.push(Named { address, bytes })?;
+        self.start.wallets.push(Named { address, bytes })?;
         self.taken.push(address)?;
         self.is_first = false;
         Ok(self)
     }
 
-    pub(crate) fn with_market(mut self, alloc: Global, words: MarketWords) -> Result<Draft, RowError> {
-        if !has_account(words.coin, &self.script.start.mints) || !has_account(words.pc, &self.script.start.mints) {
+    /// Behind a `market` row.
+    #[tactic(auto, unfolding(crate::specs::Rows::with_market))]
+    pub(crate) fn with_market(mut self, alloc: Global, words: MarketWords) -> Result<Draft, RowError>
+        ensures { TellsAs draft_of result (spec.with_market (draft_of self) words) }
+    {
+        if !self.start.mints.has(words.coin) || !self.start.mints.has(words.pc) {
             return Err(RowError::Fault(FaultKind::UnknownLabel));
         }
-        let new = market_addresses(words.address);
+        let new = made_addresses(words.address);
         if is_any_among(&new, &self.taken) {
             return Err(RowError::Fault(FaultKind::Duplicate));
         }
-        if 16 <= self.script.start.markets.len() || exceeds_market(&words) {
+        if 16 <= self.start.markets.len() || exceeds_market(&words) {
             return Err(RowError::Fault(FaultKind::OverLimit));
         }
         if self.is_late {
-            return Err(refused(SetupCode::Late));
+            return Err(RowError::Fault(FaultKind::SetupRefused(SetupCode::Late)));
         }
-        if words.coin == words.pc {
-            return Err(refused(SetupCode::OneMint));
-        }
-        let Some(ix) = market_ix(&words.bytes) else {
-            return Err(refused(SetupCode::Data));
-        };
-        if words.bid_nodes == 0 || words.ask_nodes == 0 || words.events == 0 {
-            return Err(refused(SetupCode::Capacity));
-        }
-        let set = MarketSet {
-            address: words.address,
-            authority: words.authority,
-            coin: words.coin,
-            pc: words.pc,
-            bid_nodes: words.bid_nodes,
-            ask_nodes: words.ask_nodes,
-            events: words.events,
-            ix,
-        };
-        let made = make_market(alloc, &set)?;
-        self.script.start.markets.push(made)?;
+        let set = set_of(&words)?;
+        self.start.markets.push(make_market(alloc, &set)?)?;
         self.taken.extend_from_slice(&new)?;
         self.is_first = false;
         Ok(self)
     }
 
-    pub(crate) fn with_orders(mut self, alloc: Global, market: Address, address: Address) -> Result<Draft, RowError> {
-        let Some(place) = market_place(&self.script.start.markets, market) else {
+    /// Behind an `orders` row.
+    #[tactic(auto, unfolding(crate::specs::Rows::with_orders_row))]
+    pub(crate) fn with_orders(
+        mut self,
+        alloc: Global,
+        market: Address,
+        address: Address,
+    ) -> Result<Draft, RowError>
+        ensures { TellsAs draft_of result (spec.with_orders_row (draft_of self) market address) }
+    {
+        let Some(count) = orders_at(market, &self.start.markets) else {
             return Err(RowError::Fault(FaultKind::UnknownLabel));
         };
         if is_among(address, &self.taken) {
             return Err(RowError::Fault(FaultKind::Duplicate));
         }
-        if 64 <= self.script.start.markets[place].orders.len() {
+        if 64 <= count {
             return Err(RowError::Fault(FaultKind::OverLimit));
         }
         if self.is_late {
-            return Err(refused(SetupCode::Late));
+            return Err(RowError::Fault(FaultKind::SetupRefused(SetupCode::Late)));
         }
         let bytes = make_orders(alloc)?;
-        self.script.start.markets[place].orders.push(OrdersAccount { address, bytes })?;
+        add_orders(&mut self.start.markets, market, OrdersAccount { address, bytes })?;
         self.taken.push(address)?;
         self.is_first = false;
         Ok(self)
     }
-}
-
-fn exceeds_market(words: &MarketWords) -> bool {
-    65_536 < words.bid_nodes || 65_536 < words.ask_nodes || 65_535 < words.events || 256 < words.bytes.len()
-}
-
-fn market_ix(bytes: &[u8]) -> Option<Ix> {
-    match decode(bytes) {
-        Ok(Ix::InitializeMarket { coin_lot, pc_lot, fee_rate_bps, nonce, dust }) => {
-            if fee_rate_bps < 100 {
-                Some(Ix::InitializeMarket { coin_lot, pc_lot, fee_rate_bps, nonce, dust })
-            } else {
-                None
-            }
-        }
-        _ => None,
-    }
-}
-
-fn mint_place(mints: &[Named], address: Address) -> Option<usize> {
-    mints.iter().position(|mint| mint.address == address)
-}
-
-fn market_place(markets: &[dex_types::MarketAccounts], address: Address) -> Option<usize> {
-    markets.iter().position(|market| market.address == address)
 }

@@ -1,16 +1,18 @@
 //! What earlier rows declared.
 
 ghost use Rattle.std.specs.Prelude.{◌≡◌, map};
-ghost use Rattle.dex_types.specs.Accounts.{market_accounts_of, named_of};
-ghost use Rattle.dex_script.specs.Declared as spec;
+ghost use Rattle.std.specs.List.{list_any, position};
+ghost use Rattle.dex_types.specs.Accounts.{market_accounts_of, named_of, orders_account_of};
+ghost use Rattle.dex_types.specs.Addresses as addresses;
+ghost use Rattle.dex_dump.specs.Reading as dumps;
+ghost use Rattle.dex_script.specs.Known as spec;
 
 use dex_dump::{MarketPart, derived};
-use dex_types::{Address, MarketAccounts, Named};
-
+use dex_types::{Address, MarketAccounts, Named, is_same};
 
 /// The addresses that a market row declares: the market's, and those of its vaults, queues, sides and the vaults' owner.
-pub(crate) fn market_addresses(market: Address) -> [Address; 8]
-    ensures { result ≡ spec.market_addresses market }
+pub(crate) fn made_addresses(market: Address) -> [Address; 8]
+    ensures { result ≡ spec.made_addresses market }
 {
     [
         market,
@@ -26,9 +28,9 @@ pub(crate) fn market_addresses(market: Address) -> [Address; 8]
 
 /// Whether an address is one of these.
 pub(crate) fn is_among(address: Address, addresses: &[Address]) -> bool
-    ensures { result ≡ spec.is_among address addresses.now }
+    ensures { result ≡ dumps.is_among address addresses.now }
 {
-    addresses.iter().any(|other| address == *other)
+    addresses.iter().any(|other| is_same(address, *other))
 }
 
 /// Whether one of these addresses is taken.
@@ -39,17 +41,35 @@ pub(crate) fn is_any_among(new: &[Address], taken: &[Address]) -> bool
 }
 
 /// Whether an account has this address.
+#[tactic(auto, using(dex_dump::proofs::ReadingLaws::list_any_map))]
 pub(crate) fn has_account(address: Address, accounts: &[Named]) -> bool
     ensures { result ≡ spec.has_account address (map named_of accounts.now) }
 {
-    accounts.iter().any(|account| address == account.address)
+    is_named(address, accounts)
+}
+
+fn is_named(address: Address, accounts: &[Named]) -> bool
+    ensures { result ≡ list_any (λ account. addresses.is_same address account.address) accounts.now }
+{
+    accounts
+        .iter()
+        .any(|account| is_same(address, account.address))
 }
 
 /// Whether a market has this address.
+#[tactic(auto, using(dex_dump::proofs::ReadingLaws::list_any_map))]
 pub(crate) fn has_market(address: Address, markets: &[MarketAccounts]) -> bool
     ensures { result ≡ spec.has_market address (map market_accounts_of markets.now) }
 {
-    markets.iter().any(|market| address == market.address)
+    is_market(address, markets)
+}
+
+fn is_market(address: Address, markets: &[MarketAccounts]) -> bool
+    ensures { result ≡ list_any (λ market. addresses.is_same address market.address) markets.now }
+{
+    markets
+        .iter()
+        .any(|market| is_same(address, market.address))
 }
 
 /// Whether a role names no wallet, or one that is declared.

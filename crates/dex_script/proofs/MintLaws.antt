@@ -1,0 +1,47 @@
+-- The first mint of an address, by its place among the mints.
+use Rattle.std.proofs.Common.{◌≡◌, ◌<◌, ◌≤◌, ◌+◌, ◌∙◌, ◌∷◌, [], ◌++◌, ℕ, Bool, List, Option, Some, None, ap, arith, get_or, length, map, refl, set, subst, sym}
+use Rattle.std.specs.List.{position}
+use Rattle.dex_types.specs.declared.account_bytes.Named.{Named}
+use Rattle.dex_types.specs.declared.addresses.Address.{Address}
+use Rattle.dex_types.specs.Accounts.{PlainAccount, named_of}
+use Rattle.dex_types.specs.Addresses.{is_same}
+use Rattle.dex_token.specs.MintAccount.{IsMint, mint_words}
+use Rattle.dex_script.proofs.FirstLaws.{IsFirst, changed-at, changed-none, first-at, first-none, is-first, none-passes}
+use Rattle.dex_script.specs.Known.{mint_at, raised, with_supply}
+use Rattle.dex_script.specs.Mints.{AreMints}
+
+-- an account has the address
+abbrev has : Address → PlainAccount → Bool
+has address mint = is_same address mint.address
+
+abbrev is_here : Address → Named → Bool
+is_here address mint = is_same address mint.address
+
+pub mint-found : (address : Address) (mints : List Named) (place : ℕ) (d : Named) → position (is_here address) mints ≡ Some place
+    → mint_at address (map named_of mints) ≡ Some (mint_words (get_or mints place d).bytes.items)
+mint-found address mints place d here =
+    let first = is-first (is_here address) mints place d here in
+    first-at (has address) (λ (mint : PlainAccount). mint_words mint.bytes) named_of mints place d first.within first.passes first.others
+
+pub no-mint : (address : Address) (mints : List Named) → position (is_here address) mints ≡ None → mint_at address (map named_of mints) ≡ None
+no-mint address mints none =
+    first-none (has address) (λ (mint : PlainAccount). mint_words mint.bytes) named_of mints (none-passes (is_here address) mints none)
+
+pub supply-raised : (address : Address) (more : ℕ) (mints : List Named) (place : ℕ) (d changed : Named)
+    → position (is_here address) mints ≡ Some place
+    → changed ≡ record (get_or mints place d) { bytes = changed.bytes }
+    → changed.bytes.items ≡ raised more (get_or mints place d).bytes.items
+    → map named_of (set mints place changed) ≡ with_supply address more (map named_of mints)
+supply-raised address more mints place d changed here only grown =
+    let first = is-first (is_here address) mints place d here in
+    let mint = get_or mints place d in
+    let plain : named_of changed ≡ record (named_of mint) { bytes = raised more mint.bytes.items } =
+    ap named_of only ∙ ap (λ (bytes : List ℕ). record (named_of mint) { bytes = bytes }) grown in
+    changed-at (has address) (λ (mint : PlainAccount). record mint { bytes = raised more mint.bytes }) named_of mints place d changed
+    first.within first.passes first.others plain
+
+pub none-raised : (address : Address) (more : ℕ) (mints : List Named) → position (is_here address) mints ≡ None
+    → map named_of mints ≡ with_supply address more (map named_of mints)
+none-raised address more mints none =
+    changed-none (has address) (λ (mint : PlainAccount). record mint { bytes = raised more mint.bytes }) named_of mints
+    (none-passes (is_here address) mints none)
