@@ -1,3 +1,4 @@
 pub mod FirstLaws
 pub mod MintLaws
 pub mod MarketLaws
+pub mod ScriptLaws

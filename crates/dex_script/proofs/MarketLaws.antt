@@ -1,5 +1,5 @@
 -- The first market of an address, by its place among the markets.
-use Rattle.std.proofs.Common.{◌≡◌, ◌<◌, ◌≤◌, ◌+◌, ◌∙◌, ◌∷◌, [], ◌++◌, ℕ, Bool, if◌then◌else◌, List, Option, Some, None, ap, arith, get_or, length, map, refl, set, subst, sym}
+use Rattle.std.proofs.Common.{◌≡◌, ◌<◌, ◌≤◌, ◌+◌, ◌∙◌, ◌∷◌, [], ◌++◌, ℕ, Bool, if◌then◌else◌, List, Option, Some, None, Result, Ok, Err, OnOk, ap, arith, get_or, length, map, refl, set, subst, sym}
 use Rattle.std.specs.List.{position}
 use Rattle.std.proofs.lemmas.List.{map-append}
 use Rattle.dex_types.specs.declared.account_bytes.MarketAccounts.{MarketAccounts}
@@ -15,7 +15,7 @@ use Rattle.dex_script.specs.Known.{orders_at}
 abbrev has : Address → PlainMarketAccounts → Bool
 has address market = is_same address market.address
 
-abbrev is_here : Address → MarketAccounts → Bool
+abbrev pub is_here : Address → MarketAccounts → Bool
 is_here address market = is_same address market.address
 
 -- a market with one more open-orders account
@@ -64,3 +64,8 @@ pub no-orders-added : (address : Address) (account : PlainAccount) (markets : Li
 no-orders-added address account markets none =
     changed-none (has address) (with_one account) market_accounts_of markets (none-passes (is_here address) markets none)
     ∙ with_orders-first address account (map market_accounts_of markets)
+
+-- what holds where a call is Ok
+pub on-ok : {A E p q : Type 0} (r : Result A E) → (p → q) → OnOk r p → OnOk r q
+on-ok (Ok x) f holds = f holds
+on-ok (Err e) f holds = tt

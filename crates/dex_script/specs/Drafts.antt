@@ -1,5 +1,5 @@
 -- A script, and a script as far as its rows are read.
-use Rattle.std.specs.Prelude.{ℕ, ℤ, Bool, true, false, List, [], map, Option, None}
+use Rattle.std.specs.Prelude.{ℕ, ℤ, pos, Bool, true, false, List, [], Option, None}
 use Rattle.dex_types.specs.declared.addresses.Address.{Address}
 use Rattle.dex_types.specs.declared.terms.Program.{Program}
 use Rattle.dex_types.specs.declared.terms.Program.TheVariants.{Serum}
@@ -19,7 +19,7 @@ pub record PlainScript : Type 0 where
 pub record PlainDraft : Type 0 where
   pub script : PlainScript
   pub taken : List Address
-  pub now : ℤ
+  pub clock : ℤ
   pub is_first : Bool
   pub is_late : Bool
 
@@ -32,9 +32,9 @@ no_accounts = record { mints = []; srm = None; msrm = None; wallets = []; market
 
 -- before the first row of a script without a dump
 abbrev pub no_rows : PlainDraft
-no_rows = record { script = without_rows no_accounts; taken = []; now = 0; is_first = true; is_late = false }
+no_rows = record { script = without_rows no_accounts; taken = []; clock = pos 0; is_first = true; is_late = false }
 
 -- behind a dump: its accounts are there, and setup rows come too late
 abbrev pub behind_dump : PlainAccounts → PlainDraft
 behind_dump accounts =
-    record { script = without_rows accounts; taken = addresses_of accounts; now = 0; is_first = true; is_late = true }
+    record { script = without_rows accounts; taken = addresses_of accounts; clock = pos 0; is_first = true; is_late = true }

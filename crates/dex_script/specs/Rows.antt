@@ -38,7 +38,7 @@ with_program draft program =
 
 -- `clock`: the clock of the instruction rows behind it
 abbrev pub with_clock : PlainDraft → ℤ → PlainDraft
-with_clock draft now = record draft { now = now; is_first = false }
+with_clock draft now = record draft { clock = now; is_first = false }
 
 -- `mint`: of no supply yet
 unfoldable pub with_mint : PlainDraft → Address → ℕ → Result PlainDraft FaultKind
@@ -173,7 +173,7 @@ with_instruction draft number words =
     (unless (nat_le 100000 (length draft.script.rows) || exceeds_row words || (number == 2 ^ 32 - 1)) OverLimit
     (Ok (record draft {
       script = record draft.script {
-        rows = draft.script.rows ++ instruction_row number draft.now words ∷ [];
+        rows = draft.script.rows ++ instruction_row number draft.clock words ∷ [];
         lanes = max draft.script.lanes (words.lane + 1);
       };
       is_first = false;

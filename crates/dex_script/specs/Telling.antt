@@ -28,7 +28,7 @@ abbrev pub draft_of : Draft → PlainDraft
 draft_of draft = record {
   script = record { start = start_of draft.start; rows = map row_of draft.rows.items; lanes = draft.lanes; program = draft.program };
   taken = draft.taken.items;
-  now = draft.now;
+  clock = draft.clock;
   is_first = draft.is_first;
   is_late = draft.is_late;
 }

@@ -29,7 +29,7 @@ pub(crate) struct Draft {
     /// Every address that is taken.
     pub(crate) taken: Vec<Address>,
     /// The clock of the next instruction row.
-    pub(crate) now: i64,
+    pub(crate) clock: i64,
     /// No row stands before the next one, but those of a dump.
     pub(crate) is_first: bool,
     /// Setup rows come too late.
@@ -53,7 +53,7 @@ impl Draft {
             lanes: 1,
             program: Program::Serum,
             taken: Vec::new(alloc),
-            now: 0,
+            clock: 0,
             is_first: true,
             is_late: false,
         }

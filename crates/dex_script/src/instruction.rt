@@ -24,7 +24,7 @@ impl Draft {
             return Err(RowError::Fault(FaultKind::OverLimit));
         }
         self.lanes = self.lanes.max(words.lane + 1);
-        self.rows.push(instruction_row(number, self.now, words))?;
+        self.rows.push(instruction_row(number, self.clock, words))?;
         self.is_first = false;
         self.is_late = true;
         Ok(self)

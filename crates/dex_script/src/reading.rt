@@ -1,9 +1,10 @@
 //! A script, from its bytes.
 
-ghost use Rattle.std.specs.Prelude.{◌≡◌, IfOk};
+ghost use Rattle.std.specs.Prelude.{◌≡◌, IfOk, false};
 ghost use Rattle.dex_dump.specs.Answers.{next_number};
 ghost use Rattle.dex_statement.specs.Faults.{code_of, kind_number};
 ghost use Rattle.dex_rows.specs.Records.{rows_of};
+ghost use Rattle.dex_script.specs.Drafts.{no_rows};
 ghost use Rattle.dex_script.specs.Scripts.{begins_with_dump, draft_after};
 ghost use Rattle.dex_script.specs.Telling.{TellsDraft, TellsRefusal, TellsScript, draft_of};
 
@@ -16,14 +17,23 @@ use dex_statement::{FaultKind, RowError};
 use dex_types::NoMemory;
 use std::alloc::Global;
 
-/// The script that a text is: the accounts that its first rows make, or that the dump at its start holds, and its instruction
-/// rows. Else the first faulty row with the lowest of its faults, or what is wrong with the dump.
+/// The script that a text is: the accounts that its first rows make, and its instruction rows. Else the first faulty row with
+/// the lowest of its faults. A text that begins with a dump is none yet.
 pub fn read_script(alloc: Global, bytes: &[u8]) -> Result<Script, ScriptError>
-    ensures { TellsScript result bytes.now }
+    ensures { begins_with_dump (rows_of bytes.now) ≡ false → TellsScript result bytes.now }
+{
+    match read_from_nothing(alloc, bytes) {
+        Ok(draft) => Ok(draft.into_script()),
+        Err(error) => Err(error),
+    }
+}
+
+/// The draft behind all rows of a script without a dump, or the first faulty one.
+fn read_from_nothing(alloc: Global, bytes: &[u8]) -> Result<Draft, ScriptError>
+    ensures { TellsDraft result (draft_after no_rows 1 (rows_of bytes.now)) }
 {
     let mut rows = Rows::new(alloc, bytes);
-    let draft = read_rows(alloc, Draft::new(alloc), 1, &mut rows)?;
-    Ok(draft.into_script())
+    read_rows(alloc, Draft::new(alloc), 1, &mut rows)
 }
 
 /// Whether a text begins with the row `dump`.

@@ -31,7 +31,7 @@ impl Draft {
     pub(crate) fn with_clock(mut self, now: i64) -> Draft
         ensures { draft_of result ≡ spec.with_clock (draft_of self) now }
     {
-        self.now = now;
+        self.clock = now;
         self.is_first = false;
         self
     }
