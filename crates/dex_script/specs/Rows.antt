@@ -166,11 +166,11 @@ instruction_row number now words = record {
   now = now;
 }
 
--- an instruction row, with the clock of the last `clock` row before it; 100,000 such rows, and numbers of rows below the largest u32
-unfoldable pub with_instruction : PlainDraft → ℕ → PlainInstruction → Result PlainDraft FaultKind
-with_instruction draft number words =
-    unless (is_unknown draft.script.start words.parties) UnknownLabel
-    (unless (nat_le 100000 (length draft.script.rows) || exceeds_row words || (number == 2 ^ 32 - 1)) OverLimit
+-- an instruction row of known names, with the clock of the last `clock` row before it; 100,000 such rows, and numbers of rows below
+-- the largest u32
+unfoldable pub with_known : PlainDraft → ℕ → PlainInstruction → Result PlainDraft FaultKind
+with_known draft number words =
+    unless (nat_le 100000 (length draft.script.rows) || exceeds_row words || (number == 2 ^ 32 - 1)) OverLimit
     (Ok (record draft {
       script = record draft.script {
         rows = draft.script.rows ++ instruction_row number draft.clock words ∷ [];
@@ -178,7 +178,11 @@ with_instruction draft number words =
       };
       is_first = false;
       is_late = true;
-    })))
+    }))
+
+-- an instruction row
+unfoldable pub with_instruction : PlainDraft → ℕ → PlainInstruction → Result PlainDraft FaultKind
+with_instruction draft number words = unless (is_unknown draft.script.start words.parties) UnknownLabel (with_known draft number words)
 
 -- the script with what a row of this number states
 abbrev pub with_statement : PlainDraft → ℕ → Statement → Result PlainDraft FaultKind

@@ -42,8 +42,8 @@ TellsRefusal (script.Audit found) meant = meant ≡ Err (InAudit found.items)
 TellsRefusal script.NoMemory meant = Unit {0}
 
 -- the draft behind rows, or their first faulty one
-abbrev pub TellsDraft : Result Draft ScriptError → Result PlainDraft Refusal → Type 0
-TellsDraft (Ok draft) meant = meant ≡ Ok (draft_of draft)
+abbrev pub TellsDraft : Result PlainDraft ScriptError → Result PlainDraft Refusal → Type 0
+TellsDraft (Ok draft) meant = meant ≡ Ok draft
 TellsDraft (Err error) meant = TellsRefusal error meant
 
 -- the text is this script, or it is refused so. Want of memory tells nothing

@@ -1,25 +1,22 @@
 //! Instruction rows, behind the rows before them.
 
-ghost use Rattle.std.specs.Prelude.{◌≡◌};
+ghost use Rattle.std.specs.Prelude.{◌≡◌, IfOk};
 ghost use Rattle.dex_types.specs.Rows.{row_of};
 ghost use Rattle.dex_statement.specs.Telling.{TellsAs};
 ghost use Rattle.dex_script.specs.Rows as spec;
 ghost use Rattle.dex_script.specs.Telling.{draft_of, start_of};
 
-use crate::draft::{Draft, Start};
-use crate::known::{has_market, is_known_role};
-use dex_statement::{FaultKind, InstructionWords, Parties, RowError};
+use crate::draft::Draft;
+use dex_statement::{FaultKind, InstructionWords, RowError};
 use dex_types::Row;
 
 impl Draft {
-    /// Behind an instruction row of this number.
-    #[tactic(auto, unfolding(crate::specs::Rows::with_instruction))]
-    pub(crate) fn with_instruction(mut self, number: u32, words: InstructionWords) -> Result<Draft, RowError>
-        ensures { TellsAs draft_of result (spec.with_instruction (draft_of self) number words) }
+    /// Behind an instruction row of this number, whose market and wallets are declared.
+    #[tactic(auto, unfolding(crate::specs::Rows::with_known))]
+    pub(crate) fn with_known(mut self, number: u32, words: InstructionWords) -> Result<Draft, RowError>
+        ensures row { TellsAs draft_of result (spec.with_known (draft_of self) number words) }
+        ensures start { IfOk result (λ next. start_of next.start ≡ start_of self.start) }
     {
-        if is_unknown(&self.start, &words.parties) {
-            return Err(RowError::Fault(FaultKind::UnknownLabel));
-        }
         if 100_000 <= self.rows.len() || exceeds_row(&words) || number == u32::MAX {
             return Err(RowError::Fault(FaultKind::OverLimit));
         }
@@ -55,15 +52,4 @@ fn exceeds_row(words: &InstructionWords) -> bool
     ensures { result ≡ spec.exceeds_row words.now }
 {
     16 <= words.lane || 16 < words.parties.named.len() || 256 < words.bytes.len()
-}
-
-/// Whether an instruction row names a market or a wallet that is not declared.
-fn is_unknown(start: &Start, parties: &Parties) -> bool
-    ensures { result ≡ spec.is_unknown (start_of start.now) parties.now }
-{
-    !has_market(parties.market, &start.markets)
-        || !is_known_role(&start.wallets, parties.coin)
-        || !is_known_role(&start.wallets, parties.pc)
-        || !is_known_role(&start.wallets, parties.discount)
-        || !is_known_role(&start.wallets, parties.referrer)
 }

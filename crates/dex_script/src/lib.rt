@@ -7,8 +7,9 @@ mod instruction;
 mod known;
 mod markets;
 mod mints;
+mod names;
+mod reader;
 mod reading;
-mod rows;
 mod script;
 mod setup;
 

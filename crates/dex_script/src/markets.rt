@@ -82,13 +82,15 @@ fn market_ix(bytes: &[u8]) -> Option<Ix>
     ensures { result ≡ spec.market_ix (decoded bytes.now) }
 {
     match decode(bytes) {
-        Ok(Ix::InitializeMarket {
-            coin_lot,
-            pc_lot,
-            fee_rate_bps,
-            nonce,
-            dust,
-        }) => {
+        Ok(
+            Ix::InitializeMarket {
+                coin_lot,
+                pc_lot,
+                fee_rate_bps,
+                nonce,
+                dust,
+            },
+        ) => {
             if fee_rate_bps < 100 {
                 Some(Ix::InitializeMarket {
                     coin_lot,

@@ -82,7 +82,12 @@ impl Mints {
     }
 
     /// One more mint, without supply.
-    pub(crate) fn add(&mut self, alloc: Global, address: Address, decimals: u8) -> Result<(), NoMemory>
+    pub(crate) fn add(
+        &mut self,
+        alloc: Global,
+        address: Address,
+        decimals: u8,
+    ) -> Result<(), NoMemory>
         ensures { OnOk result (self.new ≡ self.old ++ record { address = address; bytes = mint_bytes 0 decimals } ∷ []) }
     {
         let bytes = make_mint(alloc, 0, decimals)?;

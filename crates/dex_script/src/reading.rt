@@ -6,10 +6,10 @@ ghost use Rattle.dex_statement.specs.Faults.{code_of, kind_number};
 ghost use Rattle.dex_rows.specs.Records.{rows_of};
 ghost use Rattle.dex_script.specs.Drafts.{no_rows};
 ghost use Rattle.dex_script.specs.Scripts.{begins_with_dump, draft_after};
-ghost use Rattle.dex_script.specs.Telling.{TellsDraft, TellsRefusal, TellsScript, draft_of};
+ghost use Rattle.dex_script.specs.Telling.{TellsDraft, TellsRefusal, TellsScript};
 
-use crate::draft::Draft;
 use crate::fault::ScriptError;
+use crate::reader::Reader;
 use crate::script::Script;
 use dex_dump::is_first_row;
 use dex_rows::records::Rows;
@@ -29,11 +29,11 @@ pub fn read_script(alloc: Global, bytes: &[u8]) -> Result<Script, ScriptError>
 }
 
 /// The draft behind all rows of a script without a dump, or the first faulty one.
-fn read_from_nothing(alloc: Global, bytes: &[u8]) -> Result<Draft, ScriptError>
+fn read_from_nothing(alloc: Global, bytes: &[u8]) -> Result<Reader, ScriptError>
     ensures { TellsDraft result (draft_after no_rows 1 (rows_of bytes.now)) }
 {
     let mut rows = Rows::new(alloc, bytes);
-    read_rows(alloc, Draft::new(alloc), 1, &mut rows)
+    read_rows(alloc, Reader::new(alloc), 1, &mut rows)
 }
 
 /// Whether a text begins with the row `dump`.
@@ -49,11 +49,11 @@ fn begins_with_dump(alloc: Global, bytes: &[u8]) -> Result<bool, NoMemory>
 /// The draft behind the rows that are left, the first of which has this number, or the first faulty one.
 fn read_rows(
     alloc: Global,
-    before: Draft,
+    before: Reader,
     first: u32,
     rows: &mut Rows<'_>,
-) -> Result<Draft, ScriptError>
-    ensures { TellsDraft result (draft_after (draft_of before) first rows.old) }
+) -> Result<Reader, ScriptError>
+    ensures { TellsDraft result (draft_after before first rows.old) }
 {
     let mut draft = before;
     let mut number = first;

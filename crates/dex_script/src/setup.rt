@@ -3,7 +3,7 @@
 ghost use Rattle.std.specs.Prelude.{◌≡◌};
 ghost use Rattle.dex_statement.specs.Telling.{TellsAs};
 ghost use Rattle.dex_script.specs.Rows as spec;
-ghost use Rattle.dex_script.specs.Telling.{draft_of};
+ghost use Rattle.dex_script.specs.Telling.{draft_of, start_of};
 
 use crate::draft::Draft;
 use crate::known::{is_among, is_any_among, made_addresses};
@@ -29,7 +29,8 @@ impl Draft {
 
     /// Behind a `clock` row.
     pub(crate) fn with_clock(mut self, now: i64) -> Draft
-        ensures { draft_of result ≡ spec.with_clock (draft_of self) now }
+        ensures row { draft_of result ≡ spec.with_clock (draft_of self) now }
+        ensures start { start_of result.start ≡ start_of self.start }
     {
         self.clock = now;
         self.is_first = false;
@@ -145,7 +146,11 @@ impl Draft {
 
     /// Behind a `market` row.
     #[tactic(auto, unfolding(crate::specs::Rows::with_market))]
-    pub(crate) fn with_market(mut self, alloc: Global, words: MarketWords) -> Result<Draft, RowError>
+    pub(crate) fn with_market(
+        mut self,
+        alloc: Global,
+        words: MarketWords,
+    ) -> Result<Draft, RowError>
         ensures { TellsAs draft_of result (spec.with_market (draft_of self) words) }
     {
         if !self.start.mints.has(words.coin) || !self.start.mints.has(words.pc) {
@@ -191,7 +196,11 @@ impl Draft {
             return Err(RowError::Fault(FaultKind::SetupRefused(SetupCode::Late)));
         }
         let bytes = make_orders(alloc)?;
-        add_orders(&mut self.start.markets, market, OrdersAccount { address, bytes })?;
+        add_orders(
+            &mut self.start.markets,
+            market,
+            OrdersAccount { address, bytes },
+        )?;
         self.taken.push(address)?;
         self.is_first = false;
         Ok(self)

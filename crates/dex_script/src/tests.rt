@@ -78,7 +78,12 @@ fn names_the_first_faulty_row(rt: HostRuntime) -> Result<(), Fail> {
         (b"mint,a,2\nsrm,a", 2, 9, 2),
         (b"mint,a,6\nmsrm,a", 2, 9, 2),
         (b"mint,a,6\nsrm,a\nsrm,a\nsrm,b", 3, 7, 0),
-        (b"mint,a,6\nwallet,w,a,o,18446744073709551615\nwallet,v,a,o,1", 3, 9, 3),
+        (
+            b"mint,a,6\nwallet,w,a,o,18446744073709551615\nwallet,v,a,o,1",
+            3,
+            9,
+            3,
+        ),
         (b"mint,a,6\nmarket,m,a,a,o,1,1,1,", 2, 9, 4),
         (b"mint,a,6\nmint,b,6\nmarket,m,a,b,o,1,1,1,", 3, 9, 5),
         (
