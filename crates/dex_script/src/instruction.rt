@@ -13,7 +13,11 @@ use dex_types::Row;
 impl Draft {
     /// Behind an instruction row of this number, whose market and wallets are declared.
     #[tactic(auto, unfolding(crate::specs::Rows::with_known))]
-    pub(crate) fn with_known(mut self, number: u32, words: InstructionWords) -> Result<Draft, RowError>
+    pub(crate) fn with_known(
+        mut self,
+        number: u32,
+        words: InstructionWords,
+    ) -> Result<Draft, RowError>
         ensures row { TellsAs draft_of result (spec.with_known (draft_of self) number words) }
         ensures start { IfOk result (λ next. start_of next.start ≡ start_of self.start) }
     {

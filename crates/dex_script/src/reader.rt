@@ -62,7 +62,12 @@ impl Reader {
 
     /// The script with what the row of this number states.
     #[tactic(auto, unfolding(crate::specs::Rows::with_row))]
-    pub(crate) fn with_row(self, alloc: Global, number: u32, row: &ByteRecord) -> Result<Reader, RowError>
+    pub(crate) fn with_row(
+        self,
+        alloc: Global,
+        number: u32,
+        row: &ByteRecord,
+    ) -> Result<Reader, RowError>
         ensures { Tells result (spec.with_row self number (fields_of row.now)) }
     {
         let draft = self.draft;
