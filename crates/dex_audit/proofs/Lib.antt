@@ -1,11 +1,9 @@
-pub mod ListLaws
-pub mod SlotLaws
-pub mod EventLaws
-pub mod FundLaws
-pub mod TraderFrom
-pub mod MarketForm
-pub mod SoundLaw
-pub mod NoneLaw
-pub mod ReadLaws
-pub mod FinalLaws
-pub mod SumLaws
+mod SlotLaws
+mod EventLaws
+mod FundLaws
+mod TraderFrom
+mod MarketForm
+mod SoundLaw
+mod NoneLaw
+mod SupplyLaws
+mod OnceLaws

@@ -14,7 +14,7 @@ use Rattle.dex_types.specs.BookSide.{IsBookSide}
 use Rattle.dex_types.specs.Market.{capacity, orders}
 use Rattle.dex_types.specs.Owed.{order_lock}
 use Rattle.dex_types.specs.QueuedEvent.{QueuedEvent}
-use Rattle.dex_types.specs.Soundness.{HasSlots, IsProper, IsWellFormed}
+use Rattle.dex_types.specs.Soundness.{AreDistinct, HasSlots, IsProper, IsWellFormed}
 use Rattle.dex_types.specs.Trader.{Account}
 use Rattle.dex_laws.proofs.TraderLaws.{is_same-sym}
 use Rattle.dex_market.specs.MarketAccount.{market_words}
@@ -23,9 +23,16 @@ use Rattle.dex_orders.specs.OrdersAccount.{IsOrders}
 use Rattle.dex_ring.specs.Ring.{IsEventQueue, events_of}
 use Rattle.dex_ring.proofs.RingLaw.{get_or-events_of, length-events_of}
 use Rattle.dex_slab.specs.SlabSide.{slab_side}
+use Rattle.dex_accounts.specs.Accepted.{IsAccepted}
 use Rattle.dex_accounts.specs.Decoded.{market_in}
-use Rattle.dex_audit.specs.Audited.{AreWords, IsAuditable}
+use Rattle.dex_orders.specs.StandsFor.{traders_of}
+use Rattle.dex_dump.specs.Accepted.{IsHeldMarket}
 use Rattle.dex_audit.proofs.TraderFrom.{open-from}
+
+-- the accounts of a market are accepted, and no open-orders account stands twice
+pub record IsAuditable (accounts : PlainMarketAccounts) : Type 0 where
+  pub accepted : IsAccepted accounts
+  pub distinct : AreDistinct (traders_of accounts.orders)
 
 -- a word of 8 bytes is below 2^64
 pub word-lt : (bytes : List ℕ) (field : Field) → AreBytes bytes → end_of field ≤ length bytes → field.len ≡ 8 → number_in bytes field < 2 ^ 64
@@ -37,7 +44,7 @@ tiers-of bytes queue number d lt =
     let few : number < number_in bytes COUNT = omega (arith, length-events_of bytes) in
     subst (λ (event : QueuedEvent). event.tier < 7) (sym (get_or-events_of bytes number d few)) (queue.events number few).tier
 
-module _ (accounts : PlainMarketAccounts) (can : IsAuditable accounts) (words : AreWords accounts) where
+module _ (accounts : PlainMarketAccounts) (can : IsAuditable accounts) (words : IsHeldMarket accounts) where
   -- each side as a side of the book
   pub book-side : (side : Side) → IsBookSide side (capacity side (market_in accounts)) (orders side (market_in accounts))
   unfolding market_in

@@ -1,8 +1,7 @@
 -- where an audit finds nothing of rules 1 to 6, the slots of a market agree with its orders and events
 use Rattle.std.proofs.Common.{◌≡◌, ℕ, zero, suc, ◌+◌, ◌<◌, ◌⊎◌, inl, inr, Bool, true, false, ◌&&◌, not, cond, eqb, ltb, List, [], ◌∷◌, ◌++◌, length, get_or, take, Option, Some, None, refl, sym, ap, ◌∙◌, subst, arith}
-use Rattle.std.proofs.lemmas.List.{take_more}
 use Rattle.std.specs.List.{All, flat_map}
-use Rattle.std.proofs.lemmas.Bool.{cases_eq, ne_eqb, eq-eqb, and_parts, eqb-true, ltb-true, false≢true, cases_order}
+use Rattle.std.proofs.lemmas.Bool.{eq-eqb, and_parts, eqb-true, ltb-true, false≢true, cases_order}
 use Rattle.std.proofs.lemmas.List.Elements.{All-nil, All-cons}
 use Rattle.dex_types.specs.declared.addresses.Address.{Address}
 use Rattle.dex_types.specs.declared.orders.Order.{Order}
@@ -14,10 +13,10 @@ use Rattle.dex_types.specs.Trader.{Account, Holding, Trader, Blank, Closed, Open
 use Rattle.dex_laws.specs.Places.{is_order_at}
 use Rattle.dex_laws.proofs.TraderLaws.{is_same-true, is_same-refl, traders-induction, trader_at-here, trader_at-there}
 use Rattle.dex_sound.proofs.PlaceLaws.{is_same_side-true}
-use Rattle.dex_audit.specs.declared.taken.Taken.{Taken}
-use Rattle.dex_audit.specs.Slots.{is_held, is_number_of, is_opened, misheld, misheld_in, number_of, of_open, or_else, repeated, repeated_in, taken_here, taken_in, ungiven, ungiven_in, unheld, unheld_finding, unpaired, unpaired_in}
-use Rattle.dex_audit.specs.Lists.{numbered}
-use Rattle.dex_audit.proofs.ListLaws.{Among, Among-head, Among-left, Among-right, append-none, flat_map-none, numbered-none, unless-none}
+use Rattle.dex_audit_rules.specs.declared.taken.Taken.{Taken}
+use Rattle.dex_audit_rules.specs.Slots.{is_held, is_number_of, is_opened, misheld, misheld_in, number_of, of_open, or_else, repeated, repeated_in, taken_here, taken_in, ungiven, ungiven_in, unheld, unheld_finding, unpaired, unpaired_in}
+use Rattle.dex_audit_rules.specs.Lists.{numbered}
+use Rattle.dex_audit_rules.proofs.ListLaws.{Among, Among-head, Among-left, Among-right, append-none, flat_map-none, numbered-none, unless-none}
 
 -- ---- open accounts
 
@@ -256,35 +255,3 @@ taken-once m none owner other slot at held same here there equal =
     one-place all none first.place second.place d first.within second.within (ap number_of (first.here d) ∙ equal ∙ sym (ap number_of (second.here d))) in
     let both : listed owner slot held ≡ listed other at same = sym (first.here d) ∙ ap (λ (n : ℕ). get_or all n d) one ∙ second.here d in
     (ap (λ (t : Taken). t.owner) both, ap (λ (t : Taken). t.slot) both)
-
--- a number is that of one of some slots and one more, where it is that of one of them or of the last
-pub is_number_of-snoc : (number : ℕ) (all : List Taken) (taken : Taken) → is_number_of number (all ++ taken ∷ []) ≡ cond (eqb (number_of taken) number) true (is_number_of number all)
-is_number_of-snoc number [] taken = refl
-is_number_of-snoc number (first ∷ all) taken =
-    ap (cond (eqb (number_of first) number) true) (is_number_of-snoc number all taken)
-    ∙ swapped (eqb (number_of first) number) (eqb (number_of taken) number) (is_number_of number all)
-  where
-    swapped : (one other rest : Bool) → cond one true (cond other true rest) ≡ cond other true (cond one true rest)
-    swapped true true rest = refl
-    swapped true false rest = refl
-    swapped false true rest = refl
-    swapped false false rest = refl
-
-pub is_number_of-more : (number : ℕ) (all : List Taken) (i : ℕ) (d : Taken) → i < length all
-    → is_number_of number (take (i + 1) all) ≡ cond (eqb (number_of (get_or all i d)) number) true (is_number_of number (take i all))
-is_number_of-more number all i d lt = ap (is_number_of number) (take_more all i d lt) ∙ is_number_of-snoc number (take i all) (get_or all i d)
-
--- a number was met where one of the slots so far has it
-pub met-more : (number last before after : ℕ) (met : Bool) → not met ≡ eqb before 0 → after ≡ cond (eqb number last) 1 before
-    → not (cond (eqb last number) true met) ≡ eqb after 0
-met-more number last before after met so is =
-    by-test (eqb number last) (eqb last number) (eqb-same number last) is
-  where
-    eqb-same : (a b : ℕ) → eqb a b ≡ eqb b a
-    eqb-same a b = elim (cases_eq a b) [ inl e ↦ eq-eqb a b e ∙ sym (eq-eqb b a (sym e)) | inr ne ↦ ne_eqb a b ne ∙ sym (ne_eqb b a (λ e. ne (sym e))) ]
-
-    by-test : (here there : Bool) → here ≡ there → after ≡ cond here 1 before → not (cond there true met) ≡ eqb after 0
-    by-test true true same one = sym (ap (λ (n : ℕ). eqb n 0) one)
-    by-test false false same one = so ∙ sym (ap (λ (n : ℕ). eqb n 0) one)
-    by-test true false same one = absurd (false≢true (sym same))
-    by-test false true same one = absurd (false≢true same)

@@ -23,14 +23,14 @@ use Rattle.dex_token.specs.TokenAccount.{WalletWords, wallet_words}
 use Rattle.dex_token.specs.StandsFor.{vault_words}
 use Rattle.dex_accounts.specs.Decoded.{AreSound, market_in}
 use Rattle.dex_accounts.specs.StandsFor.{StandsFor}
-use Rattle.dex_audit.specs.Audited.{AreWords, IsAuditable}
-use Rattle.dex_audit.specs.Funds.{beyond_in, deposited, deposits_in, deposits_off, deposits_word, rebates_in, too_large, too_large_in, totals_in, vaults_in}
-use Rattle.dex_audit.specs.Lists.{numbered}
-use Rattle.dex_audit.specs.Slots.{astray_in, homeless, homeless_in, is_opened, misheld, misheld_in, or_else, repeated_in, ungiven_in, unheld, unpaired_in}
+use Rattle.dex_dump.specs.Accepted.{IsHeldMarket}
+use Rattle.dex_audit_rules.specs.Funds.{beyond_in, deposited, deposits_in, deposits_off, deposits_word, rebates_in, too_large, too_large_in, totals_in, vaults_in}
+use Rattle.dex_audit_rules.specs.Lists.{numbered}
+use Rattle.dex_audit_rules.specs.Slots.{astray_in, homeless, homeless_in, is_opened, misheld, misheld_in, or_else, repeated_in, ungiven_in, unheld, unpaired_in}
 use Rattle.dex_audit.proofs.EventLaws.{events-held}
 use Rattle.dex_audit.proofs.FundLaws.{IsSmall, differs-none, funds-agree, locks-fit, vault-is}
-use Rattle.dex_audit.proofs.ListLaws.{append-none, numbered-each, unless-none}
-use Rattle.dex_audit.proofs.MarketForm.{book-side, slots, well-formed, word-lt}
+use Rattle.dex_audit_rules.proofs.ListLaws.{append-none, numbered-each, unless-none}
+use Rattle.dex_audit.proofs.MarketForm.{IsAuditable, book-side, slots, well-formed, word-lt}
 use Rattle.dex_audit.proofs.SlotLaws.{or_else-none, rests-held, taken-ends, taken-given, taken-once, unheld_finding-none}
 use Rattle.dex_audit.proofs.TraderFrom.{open-from}
 
@@ -69,7 +69,7 @@ side-good m Ask owner slot held none =
     (or_else-none (unheld owner slot held Bid m.bids) (unheld owner slot held Ask m.asks)
     (unheld_finding-none owner slot held (or_else (unheld owner slot held Bid m.bids) (unheld owner slot held Ask m.asks)) none)).1
 
-module _ (accounts : PlainMarketAccounts) (can : IsAuditable accounts) (words : AreWords accounts) (clean : IsClean accounts) where
+module _ (accounts : PlainMarketAccounts) (can : IsAuditable accounts) (words : IsHeldMarket accounts) (clean : IsClean accounts) where
   resting : (side : Side) → All (λ (order : Order). held_at order.owner order.slot (market_in accounts).traders ≡ Some (order_holding side order)) (orders side (market_in accounts))
   resting side =
       rests-held (market_in accounts) (slots accounts can words) side (orders side (market_in accounts))
@@ -111,7 +111,7 @@ module _ (accounts : PlainMarketAccounts) (can : IsAuditable accounts) (words : 
   unfolding market_in
   totals-small owner account found token =
       let one = open-from (λ from. AreBytes from.bytes × IsOrders from.bytes) owner account accounts.orders
-      (λ k d lt. (words.orders k d lt, can.accepted.orders k d lt)) found in
+      (λ k d lt. ((words.orders k d lt).bytes, can.accepted.orders k d lt)) found in
       subst (λ (a : Account). (balance token a).total < 2 ^ 64) one.is (total-small one.from.bytes one.holds.0 one.holds.1 token)
 
   small : IsSmall (market_in accounts)

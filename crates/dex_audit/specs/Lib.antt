@@ -1,9 +1,3 @@
-pub mod Lists
-pub mod Slots
-pub mod Funds
 pub mod Findings
+pub mod Supplies
 pub mod Audited
-pub mod Reading
-pub mod Tallies
-pub mod Weights
-pub mod Books

@@ -4,15 +4,16 @@ ghost use Rattle.std.specs.Prelude.{◌≡◌, []};
 ghost use Rattle.std.specs.List.{All};
 ghost use Rattle.dex_types.specs.Accounts.{PlainAccounts};
 ghost use Rattle.dex_accounts.specs.Decoded.{AreSound};
-ghost use Rattle.dex_audit.specs.Audited.{AreAuditable, HoldBytes, IsConserved};
+ghost use Rattle.dex_dump.specs.Accepted.{AreAccepted, HoldBytes};
+ghost use Rattle.dex_audit.specs.Audited.{IsConserved};
 ghost use Rattle.dex_audit.specs.Findings.{findings};
 
 /// Accounts without findings are, market by market, those of a sound market.
 pub fn accounts_without_findings_are_of_sound_markets()
-    ensures { (accounts : PlainAccounts) → AreAuditable accounts → HoldBytes accounts → findings accounts ≡ [] → All AreSound accounts.markets }
+    ensures { (accounts : PlainAccounts) → AreAccepted accounts → HoldBytes accounts → findings accounts ≡ [] → All AreSound accounts.markets }
 {}
 
 /// Of accounts without findings each mint is conserved.
 pub fn mints_without_findings_are_conserved()
-    ensures { (accounts : PlainAccounts) → AreAuditable accounts → HoldBytes accounts → findings accounts ≡ [] → All (IsConserved accounts) accounts.mints }
+    ensures { (accounts : PlainAccounts) → AreAccepted accounts → HoldBytes accounts → findings accounts ≡ [] → All (IsConserved accounts) accounts.mints }
 {}

@@ -1,23 +1,14 @@
 //! What an audit of accounts finds: each place where a rule over several accounts fails.
 #![tactic(auto)]
 
-mod amounts;
-mod book;
-mod finals;
-mod finding;
-mod held;
+mod auditing;
 mod laws;
-mod locks;
-mod pending;
-mod resting;
-mod slots;
-mod taken;
-mod tally;
-mod totals;
-mod traders;
-mod weights;
+mod supplies;
+#[cfg(test)]
+mod tests;
 
-pub use finding::Finding;
+pub use auditing::audit;
+pub use dex_audit_rules::Finding;
 pub use laws::{
     accounts_without_findings_are_of_sound_markets, mints_without_findings_are_conserved,
 };

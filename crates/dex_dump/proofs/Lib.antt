@@ -8,3 +8,11 @@ pub mod RowLaws
 pub mod StatedLaws
 pub mod OneText
 pub mod BehindLaws
+pub mod CheckLaws
+pub mod ByteLaws
+pub mod LineLaws
+pub mod TakenLaws
+pub mod SoFarLaws
+pub mod PassLaws
+pub mod OneAnswer
+pub mod BackLaws

@@ -1,5 +1,5 @@
 -- What reading the rows of a dump answers: the accounts, or the first faulty row with its lowest fault.
-use Rattle.std.specs.Prelude.{◌≡◌, ℕ, ◌+◌, ◌^◌, ◌-◌, min, true, false, ◌⊎◌, if◌then◌else◌, List, [], ◌∷◌, Option, Some, None, Result, Ok, Err}
+use Rattle.std.specs.Prelude.{◌≡◌, ℕ, ◌+◌, ◌^◌, ◌-◌, min, true, false, ◌⊎◌, ◌↔◌, if◌then◌else◌, List, [], ◌∷◌, Option, Some, None, Result, Ok, Err}
 use Rattle.dex_types.specs.declared.addresses.Address.{Address}
 use Rattle.dex_types.specs.declared.faults.AccountFault.{AccountFault}
 use Rattle.dex_types.specs.Accounts.{PlainAccounts}
@@ -83,3 +83,12 @@ with_end (Ok dump) = if_over dump dump.behind
 -- a text that is a dump, and nothing else: its accounts, or the first faulty row
 abbrev pub AnswersText : List ℕ → Result PlainAccounts DumpFault → Type 0
 AnswersText text answer = (dump : PlainAnswer) × AnswersDump (rows_of text) dump × (answer ≡ with_end dump)
+
+-- a text that is read as these accounts, and as nothing else
+abbrev pub IsReadAs : List ℕ → PlainAccounts → Type 0
+IsReadAs text accounts = (answer : Result PlainAccounts DumpFault) → AnswersText text answer ↔ (answer ≡ Ok accounts)
+
+-- rows of which the first are read as these accounts, and as nothing else, and the others stand behind them
+abbrev pub AreReadAs : List Fields → PlainAccounts → List Fields → Type 0
+AreReadAs rows accounts behind =
+    (count : ℕ) × ((answer : PlainAnswer) → AnswersDump rows answer ↔ (answer ≡ Ok (record { accounts = accounts; count = count; behind = behind })))

@@ -15,7 +15,9 @@ pub use dex_make::{
     make_orders, make_wallet, parts_have_addresses_of_their_own,
 };
 pub use faults::{DumpError, DumpFault};
-pub use laws::one_text_is_of_one_exchange;
+pub use laws::{
+    one_text_is_of_one_exchange, what_is_read_is_accepted, what_is_written_is_read_back,
+};
 pub use lines::is_first_row;
 pub use reader::{DumpRead, read_dump, read_rows};
 pub use writing::{append_dump, write_dump};

@@ -1,7 +1,9 @@
 //! Reading a dump.
 
-ghost use Rattle.std.specs.Prelude.{◌≡◌};
+ghost use Rattle.std.specs.Prelude.{◌≡◌, IfOk};
 ghost use Rattle.csv.specs.Records.{fields_of};
+ghost use Rattle.dex_types.specs.Accounts.{accounts_of};
+ghost use Rattle.dex_dump.specs.Accepted.{AreAccepted, HoldBytes};
 ghost use Rattle.dex_dump.specs.Answers as spec;
 ghost use Rattle.dex_dump.specs.Telling.{TellsAccounts, TellsDump, TellsRow, TellsText, plain_reading};
 
@@ -24,7 +26,9 @@ pub struct DumpRead {
 
 /// The accounts of a dump, or its first faulty row.
 pub fn read_dump(alloc: Global, bytes: &[u8]) -> Result<Accounts, DumpError>
-    ensures { TellsText result bytes.now }
+    ensures answer { TellsText result bytes.now }
+    ensures accepted { IfOk result (λ accounts. AreAccepted (accounts_of accounts)) }
+    ensures bytes { IfOk result (λ accounts. HoldBytes (accounts_of accounts)) }
 {
     let mut rows = Rows::new(alloc, bytes);
     let dump = read_rows(alloc, &mut rows)?;
@@ -37,7 +41,9 @@ pub fn read_dump(alloc: Global, bytes: &[u8]) -> Result<Accounts, DumpError>
 /// The accounts of a dump that the next rows of a text are, up to the row `enddump`, or its first faulty row. What stands
 /// behind it is not looked at.
 pub fn read_rows(alloc: Global, rows: &mut Rows<'_>) -> Result<DumpRead, DumpError>
-    ensures { TellsDump result rows.old rows.new }
+    ensures answer { TellsDump result rows.old rows.new }
+    ensures accepted { IfOk result (λ read. AreAccepted (accounts_of read.accounts)) }
+    ensures bytes { IfOk result (λ read. HoldBytes (accounts_of read.accounts)) }
 {
     let Some(first) = rows.next_row()? else {
         return Err(grammar_fault(1).into());

@@ -234,6 +234,69 @@ fn each_kind_of_fault_is_told(rt: HostRuntime) -> Result<(), Fail> {
     Ok(())
 }
 
+/// An account of one byte less than its layout.
+#[test]
+fn an_account_of_another_length_is_a_fault(rt: HostRuntime) -> Result<(), Fail> {
+    let mut accounts = accounts(rt.alloc())?;
+    if let Some(market) = accounts.markets.first_mut() {
+        market.bids.truncate(123);
+        market.asks.truncate(0);
+    }
+    assert_eq!(rt; fault(rt.alloc(), &accounts)?, Some((8, 2, 0, 123, 124)));
+    if let Some(wallet) = accounts.wallets.first_mut() {
+        wallet.bytes.truncate(164);
+    }
+    assert_eq!(rt; fault(rt.alloc(), &accounts)?, Some((4, 2, 0, 164, 165)));
+    Ok(())
+}
+
+/// Opens the open-orders account: its texts, flags and market, and all slots free.
+fn open(accounts: &mut Accounts) {
+    for (place, byte) in [(0, b's'), (1, b'e'), (2, b'r'), (3, b'u'), (4, b'm')] {
+        damage(accounts, Part::Orders, place, byte);
+    }
+    for (place, byte) in [
+        (3221, b'p'),
+        (3222, b'a'),
+        (3223, b'd'),
+        (3224, b'd'),
+        (3225, b'i'),
+    ] {
+        damage(accounts, Part::Orders, place, byte);
+    }
+    for (place, byte) in [(3226, b'n'), (3227, b'g'), (5, 5), (13, b'm')] {
+        damage(accounts, Part::Orders, place, byte);
+    }
+    for place in 109..125 {
+        damage(accounts, Part::Orders, place, 0xff);
+    }
+}
+
+/// A free amount above its total, and two taken slots of one order.
+#[test]
+fn funds_and_slots_that_disagree_are_faults(rt: HostRuntime) -> Result<(), Fail> {
+    for (writes, told) in [
+        ([(77, 0), (85, 0), (157, 7), (189, 7)], None),
+        (
+            [(77, 2), (85, 1), (93, 3), (101, 2)],
+            Some((9, 9, 77, 2, 1)),
+        ),
+        (
+            [(109, 0xf5), (93, 3), (157, 7), (189, 7)],
+            Some((9, 9, 3, 7, 1)),
+        ),
+        ([(109, 0xf5), (125, 2), (157, 7), (189, 7)], None),
+    ] {
+        let mut accounts = accounts(rt.alloc())?;
+        open(&mut accounts);
+        for (place, byte) in writes {
+            damage(&mut accounts, Part::Orders, place, byte);
+        }
+        assert_eq!(rt; fault(rt.alloc(), &accounts)?, told);
+    }
+    Ok(())
+}
+
 /// A leaf of no lots: the one ask of a market.
 #[test]
 fn a_leaf_of_no_lots_is_a_fault(rt: HostRuntime) -> Result<(), Fail> {

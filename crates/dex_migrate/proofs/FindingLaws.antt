@@ -2,10 +2,11 @@
 use Rattle.std.proofs.Common.{◌≡◌, ℕ, ◌+◌, List, [], ◌∷◌, ◌++◌, refl, sym, ap, ◌∙◌}
 use Rattle.std.specs.List.{AllZip, flat_map}
 use Rattle.dex_accounts.specs.Decoded.{market_in}
-use Rattle.dex_audit.specs.declared.finding.Finding.{Finding}
-use Rattle.dex_audit.specs.Findings.{findings, of_markets, supplies_off}
-use Rattle.dex_audit.specs.Funds.{amount_of, beyond_in, deposits_in, differs, deposits_off, held_of, rebates_in, supply_off, too_large_in, totals_in, vaults_in}
-use Rattle.dex_audit.specs.Slots.{astray_in, homeless_in, misheld_in, repeated_in, ungiven_in, unpaired_in}
+use Rattle.dex_audit.specs.Findings.{findings, fund_findings, slot_findings}
+use Rattle.dex_audit.specs.Supplies.{amount_of, held_of, supplies_off, supply_off}
+use Rattle.dex_audit_rules.specs.declared.finding.Finding.{Finding}
+use Rattle.dex_audit_rules.specs.Funds.{beyond_in, deposits_in, differs, deposits_off, rebates_in, too_large_in, totals_in, vaults_in}
+use Rattle.dex_audit_rules.specs.Slots.{astray_in, homeless_in, misheld_in, repeated_in, ungiven_in, unpaired_in}
 use Rattle.dex_migrate.specs.Migrated.{AreMigrated, IsMigrated}
 use Rattle.dex_market.specs.MarketAccount.{market_words}
 use Rattle.dex_ring.specs.Ring.{ring_of}
@@ -67,8 +68,12 @@ same-rule rule nodes events same (old ∷ olds) (new ∷ news) all =
     ap (λ (l : List Finding). l ++ flat_map rule news) (same old new all.0)
     ∙ ap (λ (l : List Finding). rule old ++ l) (same-rule rule nodes events same olds news all.1)
 
+-- what a rule finds in markets
+abbrev of_markets : (Market → List Finding) → List PlainMarketAccounts → List Finding
+of_markets rule markets = flat_map (λ (market : PlainMarketAccounts). rule (market_in market)) markets
+
 all-of-markets : (rule : Market → List Finding) → ((m : Market) → rule (bare m) ≡ rule m) → (nodes events : ℕ) (old new : PlainAccounts) → AreMigrated nodes events old new
-    → of_markets rule new ≡ of_markets rule old
+    → of_markets rule new.markets ≡ of_markets rule old.markets
 all-of-markets rule apart nodes events old new migrated =
     same-rule (λ (market : PlainMarketAccounts). rule (market_in market)) nodes events
     (λ before after one. sym (apart (market_in after)) ∙ ap rule (same-bare nodes events before after one) ∙ apart (market_in before))
@@ -107,18 +112,14 @@ same-supplies nodes events old new migrated =
 pub same-findings : (nodes events : ℕ) (old new : PlainAccounts) → AreMigrated nodes events old new → findings new ≡ findings old
 unfolding findings
 same-findings nodes events old new migrated =
-    let each : (rule : Market → List Finding) → ((m : Market) → rule (bare m) ≡ rule m) → of_markets rule new ≡ of_markets rule old =
+    let each : (rule : Market → List Finding) → ((m : Market) → rule (bare m) ≡ rule m) → of_markets rule new.markets ≡ of_markets rule old.markets =
     λ rule apart. all-of-markets rule apart nodes events old new migrated in
     let deposits : flat_map deposits_in new.markets ≡ flat_map deposits_in old.markets =
     same-rule deposits_in nodes events (λ before after one. same-deposits nodes events before after one) old.markets new.markets migrated.markets in
+    let slots : slot_findings new.markets ≡ slot_findings old.markets =
     joined (each homeless_in (λ m. refl))
     (joined (each misheld_in (λ m. refl))
-    (joined (each unpaired_in (λ m. refl))
-    (joined (each astray_in (λ m. refl))
-    (joined (each ungiven_in (λ m. refl))
-    (joined (each repeated_in (λ m. refl))
-    (joined (each totals_in (λ m. refl))
-    (joined deposits
-    (joined (each vaults_in (λ m. refl))
-    (joined (each rebates_in (λ m. refl))
-    (joined (each beyond_in (λ m. refl)) (joined (same-supplies nodes events old new migrated) (each too_large_in (λ m. refl)))))))))))))
+    (joined (each unpaired_in (λ m. refl)) (joined (each astray_in (λ m. refl)) (joined (each ungiven_in (λ m. refl)) (each repeated_in (λ m. refl)))))) in
+    let funds : fund_findings new.markets ≡ fund_findings old.markets =
+    joined (each totals_in (λ m. refl)) (joined deposits (joined (each vaults_in (λ m. refl)) (joined (each rebates_in (λ m. refl)) (each beyond_in (λ m. refl))))) in
+    joined slots (joined funds (joined (same-supplies nodes events old new migrated) (each too_large_in (λ m. refl))))

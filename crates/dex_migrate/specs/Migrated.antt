@@ -13,6 +13,7 @@ use Rattle.dex_slab.specs.StandsFor.{IsSideAccount}
 use Rattle.dex_types.specs.declared.terms.Side.{Side}
 use Rattle.dex_types.specs.declared.terms.Side.TheVariants.{Bid, Ask}
 use Rattle.dex_types.specs.Accounts.{PlainAccounts, PlainMarketAccounts}
+use Rattle.dex_types.specs.Market.{Market}
 
 -- the bytes are an account of the side that is made with so many nodes, and holds the orders of another one
 pub record IsSideOf (side : Side) (nodes : ℕ) (old new : List ℕ) : Type 0 where
@@ -44,3 +45,8 @@ pub record IsMigrated (nodes events : ℕ) (old new : PlainMarketAccounts) : Typ
 pub record AreMigrated (nodes events : ℕ) (old new : PlainAccounts) : Type 0 where
   pub markets : AllZip (IsMigrated nodes events) old.markets new.markets
   pub others : record new { markets = old.markets } ≡ old
+
+-- the market with sides that have room for what so many nodes hold, and a queue with room for so many events
+abbrev pub with_capacities : ℕ → ℕ → Market → Market
+with_capacities nodes events m =
+    record m { listing = record m.listing { bid_capacity = room_of nodes; ask_capacity = room_of nodes; event_capacity = events } }

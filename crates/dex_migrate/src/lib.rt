@@ -10,7 +10,10 @@ mod sides;
 mod too_small;
 
 pub use faults::{MigrateError, MigrateFault, MigrateWhat};
-pub use laws::migrated_accounts_have_the_same_findings;
+pub use laws::{
+    migrated_accounts_are_accepted, migrated_accounts_have_the_same_findings,
+    migrated_accounts_stand_for_the_market_with_other_capacities,
+};
 pub use migrating::migrate;
 
 #[cfg(test)]

@@ -1,0 +1,17 @@
+use Rattle.std.proofs.Common.{map, arith}
+use Rattle.std.proofs.lemmas.List.{length-map}
+use Rattle.dex_types.specs.Accounts.{market_accounts_of}
+use Rattle.dex_accounts.specs.Accepted.{IsAccepted}
+use Rattle.dex_audit.proofs.SupplyLaws.{all-map, gathered-more, here-map}
+use Rattle.dex_audit.proofs.auditing.gather_all.Goals as goal
+
+pub gather-requires : goal.gather-requires
+gather-requires c =
+    all-map market_accounts_of IsAccepted c.args.markets.now c.loop-place.place c.index-markets-place.result c.requires (omega arith) c.index-markets-place.is
+
+pub loop-place-preserved : goal.loop-place-preserved
+loop-place-preserved c =
+    gathered-more c.loop-place.all.items c.add_gathered.new.all.items (map market_accounts_of c.args.markets.now) c.loop-place.place
+    (market_accounts_of c.index-markets-place.result) c.in_ok-one.one (omega (arith, length-map c.args.markets.now market_accounts_of)) c.in_ok-add_gathered.ensures
+    c.loop-place.invariant c.in_ok-one.ensures
+    (here-map market_accounts_of c.args.markets.now c.loop-place.place c.index-markets-place.result (omega arith) c.index-markets-place.is)

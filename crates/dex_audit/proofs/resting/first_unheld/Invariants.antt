@@ -1,8 +1,0 @@
-use Rattle.std.proofs.Common.{◌≡◌, drop}
-use Rattle.dex_audit.specs.Reading.{held_in}
-use Rattle.dex_audit.specs.Slots.{unheld}
-use Rattle.dex_audit.proofs.resting.first_unheld.Given as goal
-
-abbrev pub invariant-loop-order : goal.invariant-loop-order
-invariant-loop-order l =
-    unheld l.owner l.slot (held_in l.held) l.side l.orders ≡ unheld l.owner l.slot (held_in l.held) l.side (drop l.order-index l.orders)

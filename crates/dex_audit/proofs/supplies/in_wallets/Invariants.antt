@@ -1,0 +1,8 @@
+use Rattle.std.proofs.Common.{◌≡◌, map, take}
+use Rattle.dex_types.specs.Accounts.{named_of}
+use Rattle.dex_audit_rules.specs.Lists.{capped}
+use Rattle.dex_audit.specs.Supplies.{in_wallets}
+use Rattle.dex_audit.proofs.supplies.in_wallets.Given as goal
+
+abbrev pub invariant-loop-place : goal.invariant-loop-place
+invariant-loop-place l = l.sum ≡ capped (in_wallets l.mint (take l.place (map named_of l.wallets)))

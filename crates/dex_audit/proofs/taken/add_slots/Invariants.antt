@@ -1,8 +1,0 @@
-use Rattle.std.proofs.Common.{◌≡◌, ◌++◌, take}
-use Rattle.dex_orders.specs.OrdersAccount.{account_of}
-use Rattle.dex_audit.specs.Lists.{numbered}
-use Rattle.dex_audit.specs.Slots.{taken_here}
-use Rattle.dex_audit.proofs.taken.add_slots.Given as goal
-
-abbrev pub invariant-loop-slot : goal.invariant-loop-slot
-invariant-loop-slot l = l.taken.items ≡ l.initial.taken.items ++ numbered (taken_here l.owner) 0 (take l.slot (account_of l.view.bytes.now).slots)

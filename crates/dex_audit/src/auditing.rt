@@ -1,0 +1,109 @@
+//! The audit of all accounts.
+
+ghost use Rattle.std.specs.Prelude.{◌≡◌, [], ◌∷◌, ◌++◌, All, map, OnOk, IfOk};
+ghost use Rattle.std.specs.List.{flat_map};
+ghost use Rattle.dex_types.specs.Accounts.{accounts_of, market_accounts_of};
+ghost use Rattle.dex_accounts.specs.Accepted.{IsAccepted};
+ghost use Rattle.dex_audit.specs.Audited.{AreGathered};
+ghost use Rattle.dex_dump.specs.Accepted.{AreAccepted};
+ghost use Rattle.dex_audit.specs.Findings as audits;
+ghost use Rattle.dex_audit_rules.specs.RulesOf.{told_by};
+
+use crate::supplies::tell_supplies;
+use dex_audit_rules::{Finding, Gathered, Rule, gather, tell_rule};
+use dex_types::{Accounts, MarketAccounts, NoMemory};
+use std::alloc::Global;
+
+/// Adds what was gathered of a market behind the others.
+fn add_gathered(all: &mut Vec<Gathered>, one: Gathered) -> Result<(), NoMemory>
+    ensures { OnOk result (all.new.items ≡ all.old.items ++ one ∷ []) }
+{
+    match all.push(one) {
+        Ok(()) => Ok(()),
+        Err(_) => Err(NoMemory),
+    }
+}
+
+/// The orders and events of each market.
+fn gather_all(alloc: Global, markets: &[MarketAccounts]) -> Result<Vec<Gathered>, NoMemory>
+    requires { All IsAccepted (map market_accounts_of markets.now) }
+    ensures { IfOk result (λ all. AreGathered all.items (map market_accounts_of markets.now)) }
+{
+    let mut all = Vec::new(alloc);
+    for place in 0..markets.len() {
+        let one = gather(alloc, &markets[place])?;
+        add_gathered(&mut all, one)?;
+    }
+    Ok(all)
+}
+
+/// Tells what breaks a rule, market by market.
+fn tell_markets(
+    alloc: Global,
+    found: &mut Vec<Finding>,
+    markets: &[MarketAccounts],
+    gathered: &[Gathered],
+    rule: Rule,
+) -> Result<(), NoMemory>
+    requires accepted { All IsAccepted (map market_accounts_of markets.now) }
+    requires gathered { AreGathered gathered.now (map market_accounts_of markets.now) }
+    ensures { OnOk result (found.new.items ≡ found.old.items ++ flat_map (told_by rule) (map market_accounts_of markets.now)) }
+{
+    for place in 0..markets.len() {
+        tell_rule(alloc, found, &markets[place], &gathered[place], rule)?;
+    }
+    Ok(())
+}
+
+/// Tells what breaks the rules of orders, events and slots.
+fn tell_slot_rules(
+    alloc: Global,
+    found: &mut Vec<Finding>,
+    markets: &[MarketAccounts],
+    gathered: &[Gathered],
+) -> Result<(), NoMemory>
+    requires accepted { All IsAccepted (map market_accounts_of markets.now) }
+    requires gathered { AreGathered gathered.now (map market_accounts_of markets.now) }
+    ensures { OnOk result (found.new.items ≡ found.old.items ++ audits.slot_findings (map market_accounts_of markets.now)) }
+{
+    tell_markets(alloc, found, markets, gathered, Rule::Homeless)?;
+    tell_markets(alloc, found, markets, gathered, Rule::Misheld)?;
+    tell_markets(alloc, found, markets, gathered, Rule::Unpaired)?;
+    tell_markets(alloc, found, markets, gathered, Rule::Astray)?;
+    tell_markets(alloc, found, markets, gathered, Rule::Ungiven)?;
+    tell_markets(alloc, found, markets, gathered, Rule::Repeated)
+}
+
+/// Tells what breaks the rules of funds, but for those of single mints and orders.
+fn tell_fund_rules(
+    alloc: Global,
+    found: &mut Vec<Finding>,
+    markets: &[MarketAccounts],
+    gathered: &[Gathered],
+) -> Result<(), NoMemory>
+    requires accepted { All IsAccepted (map market_accounts_of markets.now) }
+    requires gathered { AreGathered gathered.now (map market_accounts_of markets.now) }
+    ensures { OnOk result (found.new.items ≡ found.old.items ++ audits.fund_findings (map market_accounts_of markets.now)) }
+{
+    tell_markets(alloc, found, markets, gathered, Rule::Totals)?;
+    tell_markets(alloc, found, markets, gathered, Rule::Deposits)?;
+    tell_markets(alloc, found, markets, gathered, Rule::Vaults)?;
+    tell_markets(alloc, found, markets, gathered, Rule::Rebates)?;
+    tell_markets(alloc, found, markets, gathered, Rule::Beyond)
+}
+
+/// What an audit finds of accounts: each place where a rule over several accounts fails, by the rule, then by the accounts'
+/// order, then by place. Only want of memory can come in the place of the findings.
+pub fn audit(alloc: Global, accounts: &Accounts) -> Result<Vec<Finding>, NoMemory>
+    requires { AreAccepted (accounts_of accounts.now) }
+    ensures { IfOk result (λ found. found.items ≡ audits.findings (accounts_of accounts.now)) }
+{
+    let markets = &accounts.markets;
+    let gathered = gather_all(alloc, markets)?;
+    let mut found = Vec::new(alloc);
+    tell_slot_rules(alloc, &mut found, markets, &gathered)?;
+    tell_fund_rules(alloc, &mut found, markets, &gathered)?;
+    tell_supplies(&mut found, &accounts.mints, accounts)?;
+    tell_markets(alloc, &mut found, markets, &gathered, Rule::TooLarge)?;
+    Ok(found)
+}

@@ -1,0 +1,134 @@
+//! The rules of sums: totals, deposits, vaults, rebates and bounds.
+
+ghost use Rattle.std.specs.Prelude.{◌≡◌, ℕ, ◌+◌, ◌++◌, OnOk};
+ghost use Rattle.dex_types.specs.Market.{Market};
+ghost use Rattle.dex_types.specs.Owed.{referred};
+ghost use Rattle.dex_types.specs.Side.{Coin, Pc};
+ghost use Rattle.dex_types.specs.Solvency.{all_referrers, own_locked};
+ghost use Rattle.dex_types.specs.Totals.{total};
+ghost use Rattle.dex_orders.specs.OrdersAccount.{IsOpen, account_of};
+ghost use Rattle.dex_audit_rules.specs.Books.{IsBook, IsOf};
+ghost use Rattle.dex_audit_rules.specs.Funds as rules;
+ghost use Rattle.dex_audit_rules.specs.Lists.{capped};
+ghost use Rattle.dex_audit_rules.specs.Weights.{weight_of};
+
+use crate::amounts::{Amount, sum_amounts};
+use crate::book::Book;
+use crate::finding::{Finding, tell_unless};
+use crate::locks::{sum_locked, sum_own_locked};
+use crate::traders::opened;
+use crate::weights::{Weight, sum_own, sum_pending};
+use dex_orders::OrdersRef;
+use dex_types::{Address, NoMemory, Side};
+
+/// Tells an amount that is not the sum that it must be.
+pub fn tell_differs(
+    found: &mut Vec<Finding>,
+    kind: u8,
+    account: Address,
+    place: u32,
+    amount: u64,
+    sum: u128,
+) -> Result<(), NoMemory>
+    ensures { (exact : ℕ) → sum ≡ capped exact → OnOk result (found.new.items ≡ found.old.items ++ rules.differs kind account place amount exact) }
+{
+    let finding = Finding {
+        kind,
+        account,
+        place,
+        found: u128::from(amount),
+        wanted: sum,
+    };
+    tell_unless(found, u128::from(amount) == sum, finding)
+}
+
+/// What an open account's total of base must be.
+fn coin_total(book: &Book<'_>, owner: Address, free: u64) -> u128
+    requires { IsBook book.now }
+    ensures { (m : Market) → IsOf book.now m → result ≡ capped (free + own_locked Coin owner m + rules.held_kept Coin owner m) }
+{
+    let locked = sum_own_locked(book.asks, owner, Side::Ask, book.sizes);
+    let kept = sum_own(book.events, Weight::KeptCoin, book.accounts, owner);
+    u128::from(free).saturating_add(locked).saturating_add(kept)
+}
+
+/// What an open account's total of quote must be.
+fn pc_total(book: &Book<'_>, owner: Address, free: u64) -> u128
+    requires { IsBook book.now }
+    ensures { (m : Market) → IsOf book.now m → result ≡ capped (free + own_locked Pc owner m + rules.held_kept Pc owner m) }
+{
+    let locked = sum_own_locked(book.bids, owner, Side::Bid, book.sizes);
+    let kept = sum_own(book.events, Weight::KeptPc, book.accounts, owner);
+    u128::from(free).saturating_add(locked).saturating_add(kept)
+}
+
+/// What is free, resting and owed of base.
+pub fn coin_deposits(book: &Book<'_>) -> u128
+    requires { IsBook book.now }
+    ensures { (m : Market) → IsOf book.now m → result ≡ capped (rules.deposited Coin m) }
+{
+    let free = sum_amounts(book.accounts, Amount::FreeCoin);
+    let locked = sum_locked(book.asks, Side::Ask, book.sizes);
+    let owed = sum_pending(book.events, Weight::OwedCoin);
+    free.saturating_add(locked).saturating_add(owed)
+}
+
+/// What is free, resting and owed of quote.
+pub fn pc_deposits(book: &Book<'_>) -> u128
+    requires { IsBook book.now }
+    ensures { (m : Market) → IsOf book.now m → result ≡ capped (rules.deposited Pc m) }
+{
+    let free = sum_amounts(book.accounts, Amount::FreePc);
+    let locked = sum_locked(book.bids, Side::Bid, book.sizes);
+    let owed = sum_pending(book.events, Weight::OwedPc);
+    free.saturating_add(locked).saturating_add(owed)
+}
+
+/// What the referrer rebates must be.
+pub fn rebates(book: &Book<'_>) -> u128
+    requires { IsBook book.now }
+    ensures { (m : Market) → IsOf book.now m → result ≡ capped (all_referrers m.traders + total referred m.events) }
+{
+    let held = sum_amounts(book.accounts, Amount::Referrer);
+    held.saturating_add(sum_pending(book.events, Weight::Referred))
+}
+
+/// What a vault and the pending makers' fills that pay out of totals come to.
+pub fn with_leaving(book: &Book<'_>, amount: u64, weight: Weight) -> u128
+    requires { IsBook book.now }
+    ensures { (m : Market) → IsOf book.now m → result ≡ capped (amount + total (weight_of weight) m.events) }
+{
+    u128::from(amount).saturating_add(sum_pending(book.events, weight))
+}
+
+/// Tells the totals of an open account that are not their sums.
+fn tell_totals_of(
+    found: &mut Vec<Finding>,
+    book: &Book<'_>,
+    owner: Address,
+    view: OrdersRef<'_>,
+) -> Result<(), NoMemory>
+    requires book { IsBook book.now }
+    requires account { IsOpen view.bytes.now }
+    ensures { (m : Market) → IsOf book.now m → OnOk result (found.new.items ≡ found.old.items
+        ++ (rules.total_off Coin m owner (account_of view.entry.bytes.now) ++ rules.total_off Pc m owner (account_of view.entry.bytes.now))) }
+{
+    let funds = view.funds();
+    let coin = coin_total(book, owner, funds.coin_free);
+    let pc = pc_total(book, owner, funds.pc_free);
+    tell_differs(found, 7, owner, 85, funds.coin_total, coin)?;
+    tell_differs(found, 7, owner, 101, funds.pc_total, pc)
+}
+
+/// Tells the totals of open accounts that are not their sums.
+pub fn tell_totals(found: &mut Vec<Finding>, book: &Book<'_>) -> Result<(), NoMemory>
+    requires { IsBook book.now }
+    ensures { (m : Market) → IsOf book.now m → OnOk result (found.new.items ≡ found.old.items ++ rules.totals_in m) }
+{
+    for account in book.accounts {
+        if let Some(view) = opened(&account.bytes) {
+            tell_totals_of(found, book, account.address, view)?;
+        }
+    }
+    Ok(())
+}

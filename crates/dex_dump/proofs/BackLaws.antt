@@ -1,0 +1,429 @@
+-- What is written of accepted accounts is read back as them.
+use Rattle.std.proofs.Common.{◌≡◌, ◌≤◌, ◌+◌, ◌∷◌, ◌++◌, ◌∙◌, [], ℕ, List, All, IfSome, true, false, Option, Some, None, Ok, append_assoc, append-nil, arith, codes, refl, sym, ap, subst, inl, inr, length, map, nat_lt}
+use Rattle.std.specs.List.{flat_map}
+use Rattle.std.proofs.lemmas.Bool.{and_from, cases_Bool, lt-ltb, not_from_false}
+use Rattle.std.proofs.lemmas.List.{length-append, map-append}
+use Rattle.std.proofs.lemmas.List.Elements.{All-head, All-tail}
+use Rattle.dex_types.specs.declared.addresses.Address.{Address}
+use Rattle.dex_types.specs.declared.terms.Side.TheVariants.{Bid, Ask}
+use Rattle.dex_types.specs.Accounts.{PlainAccount, PlainAccounts, PlainMarketAccounts}
+use Rattle.dex_types.specs.Addresses.{is_same}
+use Rattle.dex_laws.proofs.TraderLaws.{is_same-refl, is_same-sym}
+use Rattle.dex_market.specs.MarketAccount.{market_terms}
+use Rattle.dex_market.proofs.Verdicts.{none_from_requests}
+use Rattle.dex_orders.specs.OrdersAccount.{IsOrders}
+use Rattle.dex_ring.proofs.Verdicts.{none_from_queue}
+use Rattle.dex_token.specs.MintAccount.{IsMint}
+use Rattle.dex_token.specs.TokenAccount.{IsWallet, wallet_words}
+use Rattle.dex_token.proofs.TokenRules.{none_from_mint}
+use Rattle.dex_accounts.specs.Accepted.{IsAccepted, NamesMarket}
+use Rattle.dex_dump.specs.Accepted.{AreAccepted, AreApart as NamesApart, HasMints, HoldBytes, IsAddress, IsHeld, IsHeldMarket, IsMintOf, address_of, all_of_market, times}
+use Rattle.dex_dump.specs.Answers.{Answers, AnswersDump, AnswersText, AreReadAs, IsReadAs, PlainDump, next_number}
+use Rattle.dex_dump.specs.Answers.Ends.{AtEnd}
+use Rattle.dex_dump.specs.Checks.{AllHold, checks}
+use Rattle.dex_dump.specs.DumpText.{Fields, account_rows, dump_rows, dump_text, first_row, last_row, market_row, market_rows, mint_row, named_rows, orders_row, wallet_row}
+use Rattle.dex_dump.specs.Lines.{PlainLine, is_first_row, line_of}
+use Rattle.dex_dump.specs.Lines.PlainLine.{Mint, Srm, Msrm, Wallet, Market, Orders, End}
+use Rattle.dex_dump.specs.Reading.{PlainReading, after_line, has_room, is_allowed, is_among, is_name, market_addresses, parts_of, start, with_orders}
+use Rattle.dex_dump.proofs.AnswerLaws.{stated-allowed}
+use Rattle.dex_dump.proofs.CheckLaws.{IsMarketHere}
+use Rattle.dex_dump.proofs.OneAnswer.{dump-once, text-once}
+use Rattle.dex_dump.proofs.PassLaws.{market_passes, orders_pass, side_passes, vault_passes, wallet_passes}
+use Rattle.dex_dump.proofs.RowLaws.{rows_of-dump}
+use Rattle.dex_dump.proofs.StatedLaws.{last_stated, market_stated, mint_stated, msrm_stated, orders_stated, srm_stated, wallet_stated}
+use Rattle.dex_dump.proofs.TakenLaws.{one, times-append, times-cons}
+
+-- ---- addresses that are left
+
+-- no address stands twice among those that are taken and those that are left
+abbrev FewLeft : List Address → List Address → Type 0
+FewLeft taken left = (address : Address) → times address taken + times address left ≤ 1
+
+among-none : (x : Address) (xs : List Address) → times x xs ≡ 0 → is_among x xs ≡ false
+among-none x [] h = refl
+among-none x (y ∷ xs) h = elim (cases_Bool (is_same x y)) [
+  | inl same ↦
+      let first : one x y ≡ 1 = rw same refl in
+      absurd (omega (arith, times-cons x y xs))
+  | inr other ↦ rw other (among-none x xs (omega (arith, times-cons x y xs)))
+]
+
+few-none : (taken : List Address) (x : Address) (left : List Address) → FewLeft taken (x ∷ left) → times x taken ≡ 0
+few-none taken x left few =
+    let first : one x x ≡ 1 = rw (is_same-refl x) refl in
+    omega (arith, few x, times-cons x x left)
+
+few-first : (taken : List Address) (x : Address) (left : List Address) → FewLeft taken (x ∷ left) → is_among x taken ≡ false
+few-first taken x left few = among-none x taken (few-none taken x left few)
+
+few-rest : (taken : List Address) (x : Address) (left : List Address) → FewLeft taken (x ∷ left) → FewLeft taken left
+few-rest taken x left few = λ address. omega (arith, few address, times-cons address x left)
+
+few-moved : (taken xs left : List Address) → FewLeft taken (xs ++ left) → FewLeft (taken ++ xs) left
+few-moved taken xs left few = λ address. omega (arith, few address, times-append address xs left, times-append address taken xs)
+
+-- ---- the market that was read last
+
+abbrev names : List PlainMarketAccounts → List Address
+names markets = map (λ (market : PlainMarketAccounts). market.address) markets
+
+room-last : (done : List PlainMarketAccounts) (market : PlainMarketAccounts) → times market.address (names done) ≡ 0
+    → has_room market.address (done ++ market ∷ []) ≡ nat_lt (length market.orders) 64
+room-last [] market none = rw (is_same-refl market.address) refl
+room-last (other ∷ done) market none = elim (cases_Bool (is_same market.address other.address)) [
+  | inl same ↦
+      let first : one market.address other.address ≡ 1 = rw same refl in
+      absurd (omega (arith, times-cons market.address other.address (names done)))
+  | inr apart ↦ rw apart (room-last done market (omega (arith, times-cons market.address other.address (names done))))
+]
+
+with-last : (done : List PlainMarketAccounts) (market : PlainMarketAccounts) (account : PlainAccount) → times market.address (names done) ≡ 0
+    → with_orders market.address account (done ++ market ∷ []) ≡ done ++ (record market { orders = market.orders ++ account ∷ [] }) ∷ []
+with-last [] market account none = rw (is_same-refl market.address) refl
+with-last (other ∷ done) market account none = elim (cases_Bool (is_same market.address other.address)) [
+  | inl same ↦
+      let first : one market.address other.address ≡ 1 = rw same refl in
+      absurd (omega (arith, times-cons market.address other.address (names done)))
+  | inr apart ↦
+      let rest = with-last done market account (omega (arith, times-cons market.address other.address (names done))) in
+      rw apart (ap (λ (markets : List PlainMarketAccounts). other ∷ markets) rest)
+]
+
+-- a mint may have the second name
+name-allowed : (accounts : PlainAccounts) (mint : Address) (other : Option Address) → IsMintOf accounts mint → NamesApart other (Some mint)
+    → is_name accounts mint None other ≡ true
+name-allowed accounts mint None is apart = is
+name-allowed accounts mint (Some other) is apart = and_from _ _ is (not_from_false _ (is_same-sym mint other ∙ apart))
+
+module _ (whole : PlainAccounts) (behind : List Fields) where
+  -- the rows give these accounts, with these rows behind them, whatever the number of the first is
+  abbrev Back : PlainReading → List Fields → Type 0
+  Back reading rows =
+      (number : ℕ) → (count : ℕ) × Answers number reading rows (Ok (record { accounts = whole; count = count; behind = behind }))
+
+  back-last : (taken : List Address) → Back (record { accounts = whole; taken = taken }) (last_row ∷ behind)
+  back-last taken = λ number.
+      (number, inl (AtEnd (stated-allowed (record { accounts = whole; taken = taken }) last_row End last_stated refl) refl))
+
+  back-row : (reading : PlainReading) (row : Fields) (line : PlainLine) (rows : List Fields) → line_of row ≡ Some line → (line ≡ End → ⊥)
+      → is_allowed reading line ≡ true → AllHold (checks reading line) → Back (after_line reading line) rows → Back reading (row ∷ rows)
+  back-row reading row line rows states goes allowed hold next = λ number.
+      let more = next (next_number number) in (
+        more.0,
+        inr (
+          after_line reading line,
+          record {
+            line = line;
+            states = stated-allowed reading row line states allowed;
+            goes_on = goes;
+            hold = hold;
+            adds = refl;
+          },
+          more.1,
+        ),
+      )
+
+  -- ---- mints
+
+  abbrev with_mints : List PlainAccount → List Address → PlainReading
+  with_mints mints taken = record { accounts = record { mints = mints; srm = None; msrm = None; wallets = []; markets = [] }; taken = taken }
+
+  back-mints : (mints done : List PlainAccount) (taken left : List Address) (rows : List Fields) → All IsHeld mints
+      → All (λ (mint : PlainAccount). IsMint mint.bytes) mints → FewLeft taken (map address_of mints ++ left) → length done + length mints ≤ 16
+      → Back (with_mints (done ++ mints) (taken ++ map address_of mints)) rows → Back (with_mints done taken) (map mint_row mints ++ rows)
+  unfolding checks
+  back-mints [] done taken left rows held are few size next = rw (append-nil done, append-nil taken) at next
+  back-mints (mint ∷ mints) done taken left rows held are few size next =
+      let here : PlainReading = with_mints done taken in
+      let allowed : is_allowed here (Mint mint) ≡ true =
+      and_from _ _ (not_from_false _ (few-first taken mint.address (map address_of mints ++ left) few)) (lt-ltb (length done) 16 (omega arith)) in
+      let hold : AllHold (checks here (Mint mint)) = (none_from_mint mint.bytes (All-head (λ (other : PlainAccount). IsMint other.bytes) mint mints are), tt) in
+      let moved : FewLeft (taken ++ mint.address ∷ []) (map address_of mints ++ left) = few-moved taken (mint.address ∷ []) (map address_of mints ++ left) few in
+      back-row here (mint_row mint) (Mint mint) (map mint_row mints ++ rows) (mint_stated mint (All-head IsHeld mint mints held)) (λ e. cc e) allowed hold
+      (back-mints mints (done ++ mint ∷ []) (taken ++ mint.address ∷ []) left rows (All-tail IsHeld mint mints held)
+      (All-tail (λ (other : PlainAccount). IsMint other.bytes) mint mints are) moved (omega (arith, length-append done (mint ∷ [])))
+      (rw (append_assoc done (mint ∷ []) mints, append_assoc taken (mint.address ∷ []) (map address_of mints)) next))
+
+  -- ---- the two names
+
+  abbrev with_names : Option Address → Option Address → List Address → PlainReading
+  with_names srm msrm taken = record { accounts = record { mints = whole.mints; srm = srm; msrm = msrm; wallets = []; markets = [] }; taken = taken }
+
+  back-srm : (srm : Option Address) (taken : List Address) (rows : List Fields) → IfSome srm IsAddress → IfSome srm (IsMintOf whole)
+      → Back (with_names srm None taken) rows → Back (with_names None None taken) (named_rows (codes "srm") srm ++ rows)
+  unfolding checks
+  back-srm None taken rows held is next = next
+  back-srm (Some mint) taken rows held is next =
+      back-row (with_names None None taken) _ (Srm mint) rows (srm_stated mint held) (λ e. cc e) is tt (rw (append-nil taken) next)
+
+  back-msrm : (srm msrm : Option Address) (taken : List Address) (rows : List Fields) → IfSome msrm IsAddress → IfSome msrm (IsMintOf whole)
+      → NamesApart srm msrm → Back (with_names srm msrm taken) rows → Back (with_names srm None taken) (named_rows (codes "msrm") msrm ++ rows)
+  unfolding checks
+  back-msrm srm None taken rows held is apart next = next
+  back-msrm srm (Some mint) taken rows held is apart next =
+      back-row (with_names srm None taken) _ (Msrm mint) rows (msrm_stated mint held) (λ e. cc e)
+      (name-allowed (with_names srm None taken).accounts mint srm is apart) tt (rw (append-nil taken) next)
+
+  -- ---- wallets
+
+  abbrev with_wallets : List PlainAccount → List Address → PlainReading
+  with_wallets wallets taken = record { accounts = record whole { wallets = wallets; markets = [] }; taken = taken }
+
+  abbrev IsOfMint : PlainAccount → Type 0
+  IsOfMint wallet = IsMintOf whole (wallet_words wallet.bytes).mint
+
+  back-wallets : (wallets done : List PlainAccount) (taken left : List Address) (rows : List Fields) → All IsHeld wallets
+      → All (λ (wallet : PlainAccount). IsWallet wallet.bytes) wallets → All IsOfMint wallets → FewLeft taken (map address_of wallets ++ left)
+      → length done + length wallets ≤ 256
+      → Back (with_wallets (done ++ wallets) (taken ++ map address_of wallets)) rows → Back (with_wallets done taken) (map wallet_row wallets ++ rows)
+  unfolding checks
+  back-wallets [] done taken left rows held are of few size next = rw (append-nil done, append-nil taken) at next
+  back-wallets (wallet ∷ wallets) done taken left rows held are of few size next =
+      let here : PlainReading = with_wallets done taken in
+      let allowed : is_allowed here (Wallet wallet) ≡ true =
+      and_from _ _ (not_from_false _ (few-first taken wallet.address (map address_of wallets ++ left) few)) (lt-ltb (length done) 256 (omega arith)) in
+      let hold : AllHold (checks here (Wallet wallet)) = (
+        wallet_passes here.accounts wallet.bytes (All-head (λ (other : PlainAccount). IsWallet other.bytes) wallet wallets are) (All-head IsOfMint wallet wallets of),
+        tt,
+      ) in
+      let moved : FewLeft (taken ++ wallet.address ∷ []) (map address_of wallets ++ left) = few-moved taken (wallet.address ∷ []) (map address_of wallets ++ left) few in
+      back-row here (wallet_row wallet) (Wallet wallet) (map wallet_row wallets ++ rows) (wallet_stated wallet (All-head IsHeld wallet wallets held)) (λ e. cc e) allowed hold
+      (back-wallets wallets (done ++ wallet ∷ []) (taken ++ wallet.address ∷ []) left rows (All-tail IsHeld wallet wallets held)
+      (All-tail (λ (other : PlainAccount). IsWallet other.bytes) wallet wallets are) (All-tail IsOfMint wallet wallets of) moved
+      (omega (arith, length-append done (wallet ∷ [])))
+      (rw (append_assoc done (wallet ∷ []) wallets, append_assoc taken (wallet.address ∷ []) (map address_of wallets)) next))
+
+  -- ---- open-orders accounts of the market that was read last
+
+  abbrev with_markets : List PlainMarketAccounts → List Address → PlainReading
+  with_markets markets taken = record { accounts = record whole { markets = markets }; taken = taken }
+
+  abbrev with_last : List PlainMarketAccounts → PlainMarketAccounts → List PlainAccount → List Address → PlainReading
+  with_last done market orders taken = with_markets (done ++ (record market { orders = orders }) ∷ []) taken
+
+  back-orders : (done : List PlainMarketAccounts) (market : PlainMarketAccounts) → times market.address (names done) ≡ 0 → IsAddress market.address
+      → (orders before : List PlainAccount) (taken left : List Address) (rows : List Fields) → All IsHeld orders
+      → All (λ (account : PlainAccount). IsOrders account.bytes) orders → All (NamesMarket market.address) orders
+      → FewLeft taken (map address_of orders ++ left) → length before + length orders ≤ 64
+      → Back (with_last done market (before ++ orders) (taken ++ map address_of orders)) rows
+      → Back (with_last done market before taken) (map (orders_row market.address) orders ++ rows)
+  unfolding checks
+  back-orders done market none at [] before taken left rows held are named few size next = rw (append-nil before, append-nil taken) at next
+  back-orders done market none at (account ∷ orders) before taken left rows held are named few size next =
+      let here : PlainReading = with_last done market before taken in
+      let last : PlainMarketAccounts = record market { orders = before } in
+      let room : has_room market.address (done ++ last ∷ []) ≡ true = room-last done last none ∙ lt-ltb (length before) 64 (omega arith) in
+      let allowed : is_allowed here (Orders market.address account) ≡ true =
+      and_from _ _ (not_from_false _ (few-first taken account.address (map address_of orders ++ left) few)) room in
+      let hold : AllHold (checks here (Orders market.address account)) = (
+        orders_pass market.address account.bytes (All-head (λ (other : PlainAccount). IsOrders other.bytes) account orders are)
+            (All-head (NamesMarket market.address) account orders named),
+        tt,
+      ) in
+      let moved : FewLeft (taken ++ account.address ∷ []) (map address_of orders ++ left) = few-moved taken (account.address ∷ []) (map address_of orders ++ left) few in
+      let more : Back (with_last done market (before ++ account ∷ []) (taken ++ account.address ∷ [])) (map (orders_row market.address) orders ++ rows) =
+      back-orders done market none at orders (before ++ account ∷ []) (taken ++ account.address ∷ []) left rows (All-tail IsHeld account orders held)
+      (All-tail (λ (other : PlainAccount). IsOrders other.bytes) account orders are) (All-tail (NamesMarket market.address) account orders named) moved
+      (omega (arith, length-append before (account ∷ [])))
+      (rw (append_assoc before (account ∷ []) orders, append_assoc taken (account.address ∷ []) (map address_of orders)) next) in
+      back-row here (orders_row market.address account) (Orders market.address account) (map (orders_row market.address) orders ++ rows)
+      (orders_stated market.address at account (All-head IsHeld account orders held)) (λ e. cc e) allowed hold
+      (subst (λ (markets : List PlainMarketAccounts). Back (with_markets markets (taken ++ account.address ∷ [])) (map (orders_row market.address) orders ++ rows))
+      (sym (with-last done last account none)) more)
+
+  -- ---- markets
+
+  market-here : (done : List PlainMarketAccounts) (taken left : List Address) (market : PlainMarketAccounts) → IsAccepted market → HasMints whole market
+      → FewLeft taken (market_addresses market ++ left) → IsMarketHere (with_markets done taken) market.address market.market
+  market-here done taken left market accepted mints few =
+      let t = market_terms market.market in
+      let behind_bids : List Address = t.asks ∷ left in
+      let behind_events : List Address = t.bids ∷ behind_bids in
+      let behind_requests : List Address = t.event_q ∷ behind_events in
+      let behind_pc : List Address = t.req_q ∷ behind_requests in
+      let behind_coin : List Address = t.pc_vault ∷ behind_pc in
+      let from_coin : FewLeft taken (t.coin_vault ∷ behind_coin) = few-rest taken market.address (t.coin_vault ∷ behind_coin) few in
+      let from_pc : FewLeft taken behind_coin = few-rest taken t.coin_vault behind_coin from_coin in
+      let from_requests : FewLeft taken behind_pc = few-rest taken t.pc_vault behind_pc from_pc in
+      let from_events : FewLeft taken behind_requests = few-rest taken t.req_q behind_requests from_requests in
+      let from_bids : FewLeft taken behind_events = few-rest taken t.event_q behind_events from_events in
+      let from_asks : FewLeft taken behind_bids = few-rest taken t.bids behind_bids from_bids in
+      record {
+        market = accepted.market;
+        own_address = accepted.own_address;
+        coin_mint = mints.coin;
+        pc_mint = mints.pc;
+        coin_vault = few-first taken t.coin_vault behind_coin from_coin;
+        pc_vault = few-first taken t.pc_vault behind_pc from_pc;
+        requests = few-first taken t.req_q behind_requests from_requests;
+        events = few-first taken t.event_q behind_events from_events;
+        bids = few-first taken t.bids behind_bids from_bids;
+        asks = few-first taken t.asks left from_asks;
+      }
+
+  market-holds : (done : List PlainMarketAccounts) (taken left : List Address) (market : PlainMarketAccounts) → IsAccepted market → HasMints whole market
+      → FewLeft taken (market_addresses market ++ left) → AllHold (checks (with_markets done taken) (Market (record market { orders = [] })))
+  unfolding checks
+  market-holds done taken left market accepted mints few =
+      let t = market_terms market.market in (
+        market_passes (with_markets done taken) market.address market.market (market-here done taken left market accepted mints few),
+        (
+          vault_passes t.coin_mint market.coin_vault accepted.coin_vault accepted.coin_mint,
+          (
+            vault_passes t.pc_mint market.pc_vault accepted.pc_vault accepted.pc_mint,
+            (
+              none_from_requests market.requests accepted.requests,
+              (
+                none_from_queue market.events accepted.events,
+                (
+                  side_passes Bid market.bids accepted.bids,
+                  (
+                    accepted.bids.slab,
+                    (
+                      side_passes Ask market.asks accepted.asks,
+                      (accepted.asks.slab, tt),
+                    ),
+                  ),
+                ),
+              ),
+            ),
+          ),
+        ),
+      )
+
+  abbrev HasFew : PlainMarketAccounts → Type 0
+  HasFew market = length market.orders ≤ 64
+
+  -- what is known of the markets that are left
+  record Markets (markets : List PlainMarketAccounts) : Type 0 where
+    held : All IsHeldMarket markets
+    accepted : All IsAccepted markets
+    mints : All (HasMints whole) markets
+    few : All HasFew markets
+
+  -- the addresses of the markets that were read are taken
+  abbrev AreTaken : List PlainMarketAccounts → List Address → Type 0
+  AreTaken done taken = (address : Address) → times address (names done) ≤ times address taken
+
+  taken-more : (done : List PlainMarketAccounts) (market : PlainMarketAccounts) (taken : List Address) → AreTaken done taken
+      → AreTaken (done ++ market ∷ []) (taken ++ all_of_market market)
+  taken-more done market taken are = λ address.
+      let all = ap (times address) (map-append (λ (m : PlainMarketAccounts). m.address) done (market ∷ [])) in
+      omega (
+        arith,
+        are address,
+        all,
+        times-append address (names done) (market.address ∷ []),
+        times-cons address market.address [],
+        times-append address taken (all_of_market market),
+        times-cons address market.address (parts_of (market_terms market.market) ++ map address_of market.orders),
+      )
+
+  back-markets : (markets done : List PlainMarketAccounts) (taken : List Address) (rows : List Fields) → Markets markets → AreTaken done taken
+      → FewLeft taken (flat_map all_of_market markets) → length done + length markets ≤ 16
+      → ((end : List Address) → Back (with_markets (done ++ markets) end) rows) → Back (with_markets done taken) (flat_map market_rows markets ++ rows)
+  back-markets [] done taken rows are at few size next = rw (append-nil done) at (next taken)
+  back-markets (market ∷ markets) done taken rows are at few size next =
+      let here : PlainReading = with_markets done taken in
+      let bare : PlainMarketAccounts = record market { orders = [] } in
+      let held = All-head IsHeldMarket market markets are.held in
+      let accepted = All-head IsAccepted market markets are.accepted in
+      let left = flat_map all_of_market markets in
+      let orders = map address_of market.orders in
+      let split : FewLeft taken (market_addresses market ++ (orders ++ left)) = rw (append_assoc (market_addresses market) orders left) at few in
+      let behind_first : List Address = parts_of (market_terms market.market) ++ (orders ++ left) in
+      let free : is_among market.address taken ≡ false = few-first taken market.address behind_first split in
+      let untaken : times market.address taken ≡ 0 = few-none taken market.address behind_first split in
+      let none : times market.address (names done) ≡ 0 = omega (arith, at market.address) in
+      let room : 0 + length market.orders ≤ 64 = omega (arith, All-head HasFew market markets are.few) in
+      let allowed : is_allowed here (Market bare) ≡ true = and_from _ _ (not_from_false _ free) (lt-ltb (length done) 16 (omega arith)) in
+      let more : Back (with_markets (done ++ market ∷ []) (taken ++ all_of_market market)) (flat_map market_rows markets ++ rows) =
+      back-markets markets (done ++ market ∷ []) (taken ++ all_of_market market) rows (record {
+        held = All-tail IsHeldMarket market markets are.held;
+        accepted = All-tail IsAccepted market markets are.accepted;
+        mints = All-tail (HasMints whole) market markets are.mints;
+        few = All-tail HasFew market markets are.few;
+      }) (taken-more done market taken at) (few-moved taken (all_of_market market) left few) (omega (arith, length-append done (market ∷ [])))
+      (λ end. rw (append_assoc done (market ∷ []) markets) (next end)) in
+      let accounts : Back (with_last done market [] (taken ++ market_addresses market)) (map (orders_row market.address) market.orders ++ (flat_map market_rows markets ++ rows)) =
+      back-orders done market none held.address market.orders [] (taken ++ market_addresses market) left (flat_map market_rows markets ++ rows) held.orders
+      accepted.orders accepted.named (few-moved taken (market_addresses market) (orders ++ left) split) room
+      (rw (append_assoc taken (market_addresses market) orders) more) in
+      back-row here (market_row market) (Market bare) ((map (orders_row market.address) market.orders ++ flat_map market_rows markets) ++ rows)
+      (market_stated market held) (λ e. cc e) allowed
+      (market-holds done taken (orders ++ left) market accepted (All-head (HasMints whole) market markets are.mints) split)
+      (rw (append_assoc (map (orders_row market.address) market.orders) (flat_map market_rows markets) rows) accounts)
+
+-- ---- all rows
+
+pub accounts-back : (accounts : PlainAccounts) → AreAccepted accounts → HoldBytes accounts → (behind : List Fields)
+    → Back accounts behind start (account_rows accounts ++ last_row ∷ behind)
+unfolding account_rows
+accounts-back accounts are held behind =
+    let mints = map mint_row accounts.mints in
+    let srms = named_rows (codes "srm") accounts.srm in
+    let msrms = named_rows (codes "msrm") accounts.msrm in
+    let wallets = map wallet_row accounts.wallets in
+    let markets = flat_map market_rows accounts.markets in
+    let last : List Fields = last_row ∷ behind in
+    let of_mints = map address_of accounts.mints in
+    let of_wallets = map address_of accounts.wallets in
+    let of_markets = flat_map all_of_market accounts.markets in
+    let few : FewLeft [] (of_mints ++ (of_wallets ++ of_markets)) = λ address. omega (arith, are.once address) in
+    let few_wallets : FewLeft of_mints (of_wallets ++ of_markets) = few-moved [] of_mints (of_wallets ++ of_markets) few in
+    let few_markets : FewLeft (of_mints ++ of_wallets) of_markets = few-moved of_mints of_wallets of_markets few_wallets in
+    let from_markets = back-markets accounts behind accounts.markets [] (of_mints ++ of_wallets) last (record {
+      held = held.markets;
+      accepted = are.markets;
+      mints = are.market_mints;
+      few = are.few_orders;
+    }) (λ address. omega arith) few_markets (omega (arith, are.few_markets)) (λ end. back-last accounts behind end) in
+    let from_wallets = back-wallets accounts behind accounts.wallets [] of_mints of_markets (markets ++ last) held.wallets are.wallets are.wallet_mints
+    few_wallets (omega (arith, are.few_wallets)) from_markets in
+    let from_msrm = back-msrm accounts behind accounts.srm accounts.msrm of_mints (wallets ++ (markets ++ last)) held.msrm are.msrm are.apart from_wallets in
+    let from_srm = back-srm accounts behind accounts.srm of_mints (msrms ++ (wallets ++ (markets ++ last))) held.srm are.srm from_msrm in
+    let all = back-mints accounts behind accounts.mints [] [] (of_wallets ++ of_markets) (srms ++ (msrms ++ (wallets ++ (markets ++ last)))) held.mints are.mints few
+    (omega (arith, are.few_mints)) from_srm in
+    rw (
+      append_assoc mints (srms ++ (msrms ++ (wallets ++ markets))) last,
+      append_assoc srms (msrms ++ (wallets ++ markets)) last,
+      append_assoc msrms (wallets ++ markets) last,
+      append_assoc wallets markets last,
+    ) all
+
+first_first : is_first_row first_row ≡ true
+unfolding is_first_row
+first_first = refl
+
+-- the rows of a dump, whatever stands behind them
+pub rows-back : (accounts : PlainAccounts) → AreAccepted accounts → HoldBytes accounts → (behind : List Fields)
+    → (count : ℕ) × AnswersDump (dump_rows accounts ++ behind) (Ok (record { accounts = accounts; count = count; behind = behind }))
+rows-back accounts are held behind =
+    let back = accounts-back accounts are held behind 2 in
+    (back.0, inl (first_first, rw (append_assoc (account_rows accounts) (last_row ∷ []) behind) back.1))
+
+-- the text of a dump
+pub text-back : (accounts : PlainAccounts) → AreAccepted accounts → HoldBytes accounts → AnswersText (dump_text accounts) (Ok accounts)
+text-back accounts are held =
+    let back = rows-back accounts are held [] in
+    let dump : PlainDump = record { accounts = accounts; count = back.0; behind = [] } in
+    (Ok dump, subst (λ (rows : List Fields). AnswersDump rows (Ok dump)) (append-nil (dump_rows accounts) ∙ sym (rows_of-dump accounts held)) back.1, refl)
+
+-- ---- and as nothing else
+
+pub text-read : (accounts : PlainAccounts) → AreAccepted accounts → HoldBytes accounts → IsReadAs (dump_text accounts) accounts
+text-read accounts are held = λ answer.
+    let back = text-back accounts are held in
+    (λ is. text-once (dump_text accounts) accounts answer back is, λ same. subst (AnswersText (dump_text accounts)) (sym same) back)
+
+pub rows-read : (accounts : PlainAccounts) (behind : List Fields) → AreAccepted accounts → HoldBytes accounts
+    → AreReadAs (dump_rows accounts ++ behind) accounts behind
+rows-read accounts behind are held =
+    let back = rows-back accounts are held behind in
+    let dump : PlainDump = record { accounts = accounts; count = back.0; behind = behind } in (
+      back.0,
+      λ answer. (
+        λ is. dump-once (dump_rows accounts ++ behind) dump answer back.1 is,
+        λ same. subst (AnswersDump (dump_rows accounts ++ behind)) (sym same) back.1,
+      ),
+    )

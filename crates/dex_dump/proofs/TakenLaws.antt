@@ -1,0 +1,155 @@
+-- How often an address stands among the addresses of accounts, and what a line adds.
+use Rattle.std.proofs.Common.{◌≡◌, ◌≤◌, ◌+◌, ◌∷◌, ◌++◌, ◌∙◌, ◌⊎◌, [], ℕ, List, true, false, not, cond, arith, refl, ap, inl, inr, map}
+use Rattle.std.specs.List.{flat_map}
+use Rattle.std.proofs.lemmas.Bool.{and_parts, cases_Bool, false≢true, or_parts}
+use Rattle.std.proofs.lemmas.List.{map-append}
+use Rattle.std.proofs.lemmas.List.Concat.{flat_map-append}
+use Rattle.std.proofs.lemmas.List.Sums.{sum_by-append, sum_by-cons}
+use Rattle.dex_types.specs.declared.addresses.Address.{Address}
+use Rattle.dex_types.specs.Accounts.{PlainAccount, PlainAccounts, PlainMarketAccounts}
+use Rattle.dex_types.specs.Addresses.{is_same}
+use Rattle.dex_laws.proofs.TraderLaws.{is_same-true}
+use Rattle.dex_dump.specs.Accepted.{address_of, addresses_of, all_of_market, times}
+use Rattle.dex_dump.specs.Lines.{PlainLine}
+use Rattle.dex_dump.specs.Lines.PlainLine.{Mint, Srm, Msrm, Wallet, Market, Orders, End}
+use Rattle.dex_dump.specs.Reading.{PlainReading, has_room, is_allowed, is_among, market_addresses, taken_by, with_line, with_orders}
+use Rattle.dex_dump.proofs.LineLaws.{IsRead}
+
+-- ---- counting
+
+abbrev pub one : Address → Address → ℕ
+one address other = cond (is_same address other) 1 0
+
+pub times-append : (address : Address) (xs ys : List Address) → times address (xs ++ ys) ≡ times address xs + times address ys
+times-append address xs ys = sum_by-append (one address) xs ys
+
+pub times-cons : (address x : Address) (xs : List Address) → times address (x ∷ xs) ≡ one address x + times address xs
+times-cons address x xs = sum_by-cons (one address) x xs
+
+pub times-same : (address other : Address) (xs : List Address) → is_same address other ≡ true → times address xs ≡ times other xs
+times-same address other xs same = ap (λ (a : Address). times a xs) (is_same-true address other same)
+
+pub times-none : (address : Address) (xs : List Address) → is_among address xs ≡ false → times address xs ≡ 0
+times-none address [] h = refl
+times-none address (x ∷ xs) h =
+    let parts = or_parts (is_same address x) (is_among address xs) h in
+    times-cons address x xs ∙ rw (parts.0, times-none address xs parts.1) refl
+
+-- ---- addresses that are new
+
+-- no two of these are the same
+abbrev pub AreApart : List Address → Type 0
+AreApart [] = Unit {0}
+AreApart (x ∷ xs) = (is_among x xs ≡ false) × AreApart xs
+
+-- none of these is taken
+abbrev pub AreFree : List Address → List Address → Type 0
+AreFree taken [] = Unit {0}
+AreFree taken (x ∷ xs) = (is_among x taken ≡ false) × AreFree taken xs
+
+times-apart : (address : Address) (xs : List Address) → AreApart xs → times address xs ≤ 1
+times-apart address [] h = omega arith
+times-apart address (x ∷ xs) h = elim (cases_Bool (is_same address x)) [
+  | inl same ↦
+      let none = times-same address x xs same ∙ times-none x xs h.0 in
+      let first : one address x ≡ 1 = rw same refl in
+      omega (arith, times-cons address x xs)
+  | inr other ↦
+      let rest = times-apart address xs h.1 in
+      let first : one address x ≡ 0 = rw other refl in
+      omega (arith, times-cons address x xs)
+]
+
+-- an address is none of the new ones, or it is not taken
+either : (address : Address) (taken xs : List Address) → AreFree taken xs → (times address xs ≡ 0) ⊎ (times address taken ≡ 0)
+either address taken [] h = inl refl
+either address taken (x ∷ xs) h = elim (cases_Bool (is_same address x)) [
+  | inl same ↦ inr (times-same address x taken same ∙ times-none x taken h.0)
+  | inr other ↦
+      let first : one address x ≡ 0 = rw other refl in
+      elim (either address taken xs h.1) [
+        | inl none ↦ inl (times-cons address x xs ∙ rw (first, none) refl)
+        | inr free ↦ inr free
+      ]
+]
+
+pub times-new : (address : Address) (taken xs : List Address) → AreFree taken xs → AreApart xs → times address taken ≤ 1
+    → times address (taken ++ xs) ≤ 1
+times-new address taken xs free apart once =
+    let few = times-apart address xs apart in
+    elim (either address taken xs free) [
+      | inl none ↦ omega (arith, times-append address taken xs)
+      | inr none ↦ omega (arith, times-append address taken xs)
+    ]
+
+-- ---- what a line adds
+
+abbrev in_markets : Address → List PlainMarketAccounts → ℕ
+in_markets address markets = times address (flat_map all_of_market markets)
+
+market-added : (address : Address) (markets : List PlainMarketAccounts) (market : PlainMarketAccounts) → market.orders ≡ []
+    → in_markets address (markets ++ market ∷ []) ≡ in_markets address markets + times address (market_addresses market)
+market-added address markets market none =
+    let bare : flat_map all_of_market (market ∷ []) ≡ market_addresses market = rw none refl in
+    ap (times address) (flat_map-append all_of_market markets (market ∷ [])) ∙ times-append address (flat_map all_of_market markets) (flat_map all_of_market (market ∷ []))
+    ∙ ap (λ (xs : List Address). in_markets address markets + times address xs) bare
+
+with-added : (address : Address) (account : PlainAccount) (market : PlainMarketAccounts)
+    → times address (all_of_market (record market { orders = market.orders ++ account ∷ [] })) ≡ times address (all_of_market market) + one address account.address
+with-added address account market =
+    let all = ap (λ (xs : List Address). times address (market_addresses market ++ xs)) (map-append address_of market.orders (account ∷ [])) in
+    let new = times-append address (market_addresses market) (map address_of market.orders ++ account.address ∷ []) in
+    let both = times-append address (map address_of market.orders) (account.address ∷ []) in
+    let old = times-append address (market_addresses market) (map address_of market.orders) in
+    let last = times-cons address account.address [] in
+    omega arith
+
+orders-added : (address name : Address) (account : PlainAccount) (markets : List PlainMarketAccounts) → has_room name markets ≡ true
+    → in_markets address (with_orders name account markets) ≡ in_markets address markets + one address account.address
+orders-added address name account [] h = absurd (false≢true h)
+orders-added address name account (market ∷ markets) h = elim (cases_Bool (is_same name market.address)) [
+  | inl here ↦
+      let grown : PlainMarketAccounts = record market { orders = market.orders ++ account ∷ [] } in
+      let new = times-append address (all_of_market grown) (flat_map all_of_market markets) in
+      let old = times-append address (all_of_market market) (flat_map all_of_market markets) in
+      let more = with-added address account market in
+      rw here (omega arith)
+  | inr other ↦
+      let room : has_room name markets ≡ true = rw other at h in
+      let rest = orders-added address name account markets room in
+      let new = times-append address (all_of_market market) (flat_map all_of_market (with_orders name account markets)) in
+      let old = times-append address (all_of_market market) (flat_map all_of_market markets) in
+      rw other (omega arith)
+]
+
+-- ---- the addresses of all accounts
+
+parts : (address : Address) (accounts : PlainAccounts) → times address (addresses_of accounts)
+    ≡ times address (map address_of accounts.mints) + (times address (map address_of accounts.wallets) + in_markets address accounts.markets)
+parts address accounts =
+    times-append address (map address_of accounts.mints) (map address_of accounts.wallets ++ flat_map all_of_market accounts.markets)
+    ∙ ap (λ (n : ℕ). times address (map address_of accounts.mints) + n) (times-append address (map address_of accounts.wallets) (flat_map all_of_market accounts.markets))
+
+pushed : (address : Address) (xs : List PlainAccount) (x : PlainAccount)
+    → times address (map address_of (xs ++ x ∷ [])) ≡ times address (map address_of xs) + one address x.address
+pushed address xs x =
+    let all = ap (times address) (map-append address_of xs (x ∷ [])) in
+    let both = times-append address (map address_of xs) (x.address ∷ []) in
+    let last = times-cons address x.address [] in
+    omega arith
+
+-- a line adds the addresses that it takes
+pub line-adds : (reading : PlainReading) (line : PlainLine) → IsRead line → is_allowed reading line ≡ true → (address : Address)
+    → times address (addresses_of (with_line reading.accounts line)) ≡ times address (addresses_of reading.accounts) + times address (taken_by line)
+line-adds reading (Mint mint) read allowed address =
+    omega (arith, parts address reading.accounts, parts address (with_line reading.accounts (Mint mint)), pushed address reading.accounts.mints mint, times-cons address mint.address [])
+line-adds reading (Srm mint) read allowed address = omega (arith, parts address reading.accounts, parts address (with_line reading.accounts (Srm mint)))
+line-adds reading (Msrm mint) read allowed address = omega (arith, parts address reading.accounts, parts address (with_line reading.accounts (Msrm mint)))
+line-adds reading (Wallet wallet) read allowed address =
+    omega (arith, parts address reading.accounts, parts address (with_line reading.accounts (Wallet wallet)), pushed address reading.accounts.wallets wallet, times-cons address wallet.address [])
+line-adds reading (Market market) read allowed address =
+    omega (arith, parts address reading.accounts, parts address (with_line reading.accounts (Market market)), market-added address reading.accounts.markets market read.1)
+line-adds reading (Orders market account) read allowed address =
+    let room = (and_parts (not (is_among account.address reading.taken)) (has_room market reading.accounts.markets) allowed).1 in
+    omega (arith, parts address reading.accounts, parts address (with_line reading.accounts (Orders market account)), orders-added address market account reading.accounts.markets room, times-cons address account.address [])
+line-adds reading End read allowed address = omega arith
