@@ -1,7 +1,9 @@
 -- The first market of an address, by its place among the markets.
 use Rattle.std.proofs.Common.{◌≡◌, ◌<◌, ◌≤◌, ◌+◌, ◌∙◌, ◌∷◌, [], ◌++◌, ℕ, Bool, if◌then◌else◌, List, Option, Some, None, Result, Ok, Err, OnOk, ap, arith, get_or, length, map, refl, set, subst, sym}
 use Rattle.std.specs.List.{position}
-use Rattle.std.proofs.lemmas.List.{map-append}
+use Rattle.std.proofs.lemmas.List.{get_or-map, length-map, map-append}
+use Rattle.dex_market.specs.MarketAccount.{IsMarket}
+use Rattle.dex_script.specs.Markets.{AreMarkets}
 use Rattle.dex_types.specs.declared.account_bytes.MarketAccounts.{MarketAccounts}
 use Rattle.dex_types.specs.declared.account_bytes.OrdersAccount.{OrdersAccount}
 use Rattle.dex_types.specs.declared.addresses.Address.{Address}
@@ -69,3 +71,11 @@ no-orders-added address account markets none =
 pub on-ok : {A E p q : Type 0} (r : Result A E) → (p → q) → OnOk r p → OnOk r q
 on-ok (Ok x) f holds = f holds
 on-ok (Err e) f holds = tt
+
+pub market-is : (markets : List MarketAccounts) (place : ℕ) (market : MarketAccounts) → AreMarkets (map market_accounts_of markets)
+    → place < length markets → market ≡ get_or markets place market → IsMarket market.market.items
+market-is markets place market are within here =
+    let plain = market_accounts_of market in
+    let e = get_or-map market_accounts_of markets place market plain within in
+    let one = are place plain (omega (arith, length-map markets market_accounts_of)) in
+    subst (λ (m : PlainMarketAccounts). IsMarket m.market) (e ∙ ap market_accounts_of (sym here)) one

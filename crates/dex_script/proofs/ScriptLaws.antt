@@ -1,31 +1,67 @@
 -- What a text answers, from what its rows give.
-use Rattle.std.proofs.Common.{◌≡◌, ◌∙◌, ℕ, Bool, false, List, Result, Ok, Err, ap, subst, sym}
+use Rattle.std.proofs.Common.{◌≡◌, ◌∙◌, ℕ, Bool, true, false, List, [], ◌∷◌, Result, Ok, Err, ap, refl, subst, sym}
+use Rattle.dex_types.specs.Accounts.{PlainAccounts}
 use Rattle.dex_rows.specs.Records.{rows_of}
 use Rattle.dex_statement.specs.Faults.{◌>>=◌}
+use Rattle.dex_dump.specs.declared.faults.DumpFault.{DumpFault}
+use Rattle.dex_dump.specs.Answers.{AnswersDump, PlainDump, next_number}
+use Rattle.dex_audit.specs.Findings.{findings}
+use Rattle.dex_audit_rules.specs.declared.finding.Finding.{Finding}
 use Rattle.dex_script.specs.declared.fault.ScriptError.{ScriptError}
 use Rattle.dex_script.specs.declared.fault.ScriptError.TheVariants as script
-use Rattle.dex_script.specs.Drafts.{PlainDraft, PlainScript, no_rows}
-use Rattle.dex_script.specs.Scripts.{Answers, AnswersBy, IsRefused, Reads, Refusal, begins_with_dump, draft_after}
-use Rattle.dex_script.specs.Telling.{TellsRefusal, TellsScript}
+use Rattle.dex_script.specs.Drafts.{PlainDraft, PlainScript, behind_dump, no_rows}
+use Rattle.dex_script.specs.Scripts.{Answers, AnswersBy, IsRefused, Reads, Refusal, begins_with_dump, behind, draft_after, unless_found}
+use Rattle.dex_script.specs.Scripts.Refusal.{InAudit, InDump}
+use Rattle.dex_script.specs.Telling.{TellsDraft, TellsError, TellsRefusal, TellsText}
 
 -- the script of the last draft
 abbrev last_script : Result PlainDraft Refusal → Result PlainScript Refusal
 last_script given = given >>= λ last. Ok last.script
 
-module _ (text : List ℕ) (plain : begins_with_dump (rows_of text) ≡ false) where
-  answers : (answer : Result PlainScript Refusal) → answer ≡ last_script (draft_after no_rows 1 (rows_of text)) → Answers text answer
-  answers answer is = subst (λ (b : Bool). AnswersBy b (rows_of text) answer) (sym plain) is
+-- what the text answers is the script of these drafts
+module _ (text : List ℕ) (given : Result PlainDraft Refusal)
+    (answers : (answer : Result PlainScript Refusal) → answer ≡ last_script given → Answers text answer) where
+  refused : (refusal : Refusal) → given ≡ Err refusal → IsRefused text refusal
+  refused refusal is = answers (Err refusal) (sym (ap last_script is))
 
-  pub reads : (draft : PlainDraft) (script : PlainScript) → draft_after no_rows 1 (rows_of text) ≡ Ok draft → script ≡ draft.script
-      → Reads text script
-  reads draft script given is =
-      answers (Ok script) (ap (λ (s : PlainScript). Ok s) is ∙ sym (ap last_script given))
+  tells-error : (error : ScriptError) → TellsRefusal error given → TellsError error text
+  tells-error (script.Row row kind code) told = (told.0, refused _ told.1, told.2, told.3)
+  tells-error (script.Dump fault) told = refused _ told
+  tells-error (script.Audit found) told = refused _ told
+  tells-error script.NoMemory told = tt
 
-  refused : (refusal : Refusal) → draft_after no_rows 1 (rows_of text) ≡ Err refusal → IsRefused text refusal
-  refused refusal given = answers (Err refusal) (sym (ap last_script given))
+  pub tells : (result : Result PlainDraft ScriptError) → TellsDraft result given → TellsText result text
+  tells (Ok draft) is = answers (Ok draft.script) (sym (ap last_script is))
+  tells (Err error) told = tells-error error told
 
-  pub tells-refusal : (error : ScriptError) → TellsRefusal error (draft_after no_rows 1 (rows_of text)) → TellsScript (Err error) text
-  tells-refusal (script.Row row kind code) told = (told.0, refused _ told.1, told.2, told.3)
-  tells-refusal (script.Dump fault) told = refused _ told
-  tells-refusal (script.Audit found) told = refused _ told
-  tells-refusal script.NoMemory told = tt
+-- ---- a text without a dump
+
+pub answers-plain : (text : List ℕ) → begins_with_dump (rows_of text) ≡ false
+    → (answer : Result PlainScript Refusal) → answer ≡ last_script (draft_after no_rows 1 (rows_of text)) → Answers text answer
+answers-plain text plain answer is = subst (λ (b : Bool). AnswersBy b (rows_of text) answer) (sym plain) is
+
+-- ---- a text that begins with a dump
+
+module _ (text : List ℕ) (begins : begins_with_dump (rows_of text) ≡ true) where
+  by-dump : (answer : Result PlainScript Refusal) → AnswersBy true (rows_of text) answer → Answers text answer
+  by-dump answer is = subst (λ (b : Bool). AnswersBy b (rows_of text) answer) (sym begins) is
+
+  pub dump-refused : (fault : DumpFault) → AnswersDump (rows_of text) (Err fault) → IsRefused text (InDump fault)
+  dump-refused fault told = by-dump (Err (InDump fault)) (Err fault, told, refl)
+
+  audited : (found : List Finding) (next : Result PlainScript Refusal) → (found ≡ [] → ⊥) → Err (InAudit found) ≡ unless_found found next
+  audited [] next some = absurd (some refl)
+  audited (finding ∷ found) next some = refl
+
+  pub dump-audited : (dump : PlainDump) (found : List Finding) → AnswersDump (rows_of text) (Ok dump) → findings dump.accounts ≡ found
+      → (found ≡ [] → ⊥) → IsRefused text (InAudit found)
+  dump-audited dump found told is some =
+      let next = last_script (draft_after (behind_dump dump.accounts) (next_number dump.count) dump.behind) in
+      by-dump (Err (InAudit found)) (Ok dump, told, audited found next some ∙ ap (λ (fs : List Finding). unless_found fs next) (sym is))
+
+  pub answers-behind : (dump : PlainDump) → AnswersDump (rows_of text) (Ok dump) → findings dump.accounts ≡ []
+      → (answer : Result PlainScript Refusal)
+      → answer ≡ last_script (draft_after (behind_dump dump.accounts) (next_number dump.count) dump.behind) → Answers text answer
+  answers-behind dump told none answer is =
+      let next = last_script (draft_after (behind_dump dump.accounts) (next_number dump.count) dump.behind) in
+      by-dump answer (Ok dump, told, is ∙ ap (λ (fs : List Finding). unless_found fs next) (sym none))

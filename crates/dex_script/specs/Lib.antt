@@ -1,6 +1,7 @@
 pub mod Drafts
 pub mod Firsts
 pub mod Known
+pub mod Markets
 pub mod Mints
 pub mod Names
 pub mod Rows

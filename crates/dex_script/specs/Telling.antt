@@ -1,6 +1,11 @@
 -- What the answers of calls tell, without their buffers.
-use Rattle.std.specs.Prelude.{◌≡◌, ℕ, List, map, Result, Ok, Err}
-use Rattle.dex_types.specs.Accounts.{PlainAccounts, market_accounts_of, named_of}
+use Rattle.std.specs.Prelude.{◌≡◌, ℕ, List, [], map, Result, Ok, Err}
+use Rattle.dex_audit.specs.Findings.{findings}
+use Rattle.dex_dump.specs.declared.reader.DumpRead.{DumpRead}
+use Rattle.dex_dump.specs.Answers.{AnswersDump, PlainDump}
+use Rattle.dex_dump.specs.Telling.{plain_dump}
+use Rattle.dex_statement.specs.Words.{Fields}
+use Rattle.dex_types.specs.Accounts.{PlainAccounts, accounts_of, market_accounts_of, named_of}
 use Rattle.dex_types.specs.Rows.{row_of}
 use Rattle.dex_statement.specs.declared.faults.FaultKind.{FaultKind}
 use Rattle.dex_statement.specs.Faults.{code_of, kind_number}
@@ -46,11 +51,30 @@ abbrev pub TellsDraft : Result PlainDraft ScriptError → Result PlainDraft Refu
 TellsDraft (Ok draft) meant = meant ≡ Ok draft
 TellsDraft (Err error) meant = TellsRefusal error meant
 
--- the text is this script, or it is refused so. Want of memory tells nothing
+-- the dump that rows begin with, with the rows behind it, where its accounts have no findings; or what is wrong with it
+abbrev pub TellsStart : Result DumpRead ScriptError → List Fields → List Fields → Type 0
+TellsStart (Ok read) rows left =
+    AnswersDump rows (Ok (plain_dump read left)) × (findings (accounts_of read.accounts) ≡ [])
+TellsStart (Err (script.Dump fault)) rows left = AnswersDump rows (Err fault)
+TellsStart (Err (script.Audit found)) rows left =
+    (dump : PlainDump) × AnswersDump rows (Ok dump) × (findings dump.accounts ≡ found.items) × (found.items ≡ [] → ⊥)
+TellsStart (Err (script.Row row kind code)) rows left = ⊥
+TellsStart (Err script.NoMemory) rows left = Unit {0}
+
+-- an error says why the text is no script. Want of memory tells nothing
+abbrev pub TellsError : ScriptError → List ℕ → Type 0
+TellsError (script.Row row kind code) text =
+    (fault : FaultKind) × IsRefused text (AtRow row fault) × (kind ≡ kind_number fault) × (code ≡ code_of fault)
+TellsError (script.Dump fault) text = IsRefused text (InDump fault)
+TellsError (script.Audit found) text = IsRefused text (InAudit found.items)
+TellsError script.NoMemory text = Unit {0}
+
+-- the text is what the draft says
+abbrev pub TellsText : Result PlainDraft ScriptError → List ℕ → Type 0
+TellsText (Ok draft) text = Reads text draft.script
+TellsText (Err error) text = TellsError error text
+
+-- the text is this script, or it is none for this reason
 abbrev pub TellsScript : Result Script ScriptError → List ℕ → Type 0
 TellsScript (Ok script) text = Reads text script
-TellsScript (Err (script.Row row kind code)) text =
-    (fault : FaultKind) × IsRefused text (AtRow row fault) × (kind ≡ kind_number fault) × (code ≡ code_of fault)
-TellsScript (Err (script.Dump fault)) text = IsRefused text (InDump fault)
-TellsScript (Err (script.Audit found)) text = IsRefused text (InAudit found.items)
-TellsScript (Err script.NoMemory) text = Unit {0}
+TellsScript (Err error) text = TellsError error text

@@ -1,12 +1,15 @@
 //! A script as far as it is read.
 
-ghost use Rattle.std.specs.Prelude.{◌≡◌};
+ghost use Rattle.std.specs.Prelude.{◌≡◌, IfOk};
+ghost use Rattle.dex_types.specs.Accounts.{accounts_of};
+ghost use Rattle.dex_dump.specs.Accepted.{AreAccepted};
 ghost use Rattle.dex_script.specs.Drafts as spec;
 ghost use Rattle.dex_script.specs.Telling.{draft_of};
 
 use crate::mints::Mints;
 use crate::script::Script;
-use dex_types::{Accounts, Address, MarketAccounts, Named, Program, Row};
+use crate::taken::taken_addresses;
+use dex_types::{Accounts, Address, MarketAccounts, Named, NoMemory, Program, Row};
 use std::alloc::Global;
 
 /// The accounts with which a script starts, as far as they are declared.
@@ -57,6 +60,30 @@ impl Draft {
             is_first: true,
             is_late: false,
         }
+    }
+
+    /// Behind the dump of these accounts.
+    pub(crate) fn behind_dump(alloc: Global, accounts: Accounts) -> Result<Draft, NoMemory>
+        requires { AreAccepted (accounts_of accounts) }
+        ensures { IfOk result (λ draft. draft_of draft ≡ spec.behind_dump (accounts_of accounts)) }
+    {
+        let taken = taken_addresses(alloc, &accounts)?;
+        Ok(Draft {
+            start: Start {
+                mints: Mints::of(accounts.mints),
+                srm: accounts.srm,
+                msrm: accounts.msrm,
+                wallets: accounts.wallets,
+                markets: accounts.markets,
+            },
+            rows: Vec::new(alloc),
+            lanes: 1,
+            program: Program::Serum,
+            taken,
+            clock: 0,
+            is_first: true,
+            is_late: true,
+        })
     }
 
     /// What was read, as a script.

@@ -12,6 +12,7 @@ mod reader;
 mod reading;
 mod script;
 mod setup;
+mod taken;
 
 pub use fault::ScriptError;
 pub use reading::read_script;
