@@ -22,11 +22,11 @@ is_one_order-true held other one =
     (eq-eqb other.id held.id (sym (eqb-true held.id other.id parts.0)))
     (subst (λ (s : Side). is_same_side other.side s ≡ true) (sym (is_same_side-true held.side other.side parts.1)) (is_same_side-refl other.side))
 
-is_one_order-false : (held other : Holding) → is_one_order held other ≡ false → is_one_order other held ≡ false
+pub is_one_order-false : (held other : Holding) → is_one_order held other ≡ false → is_one_order other held ≡ false
 is_one_order-false held other apart =
     false_from_ne_true (is_one_order other held) (λ one. false≢true (sym apart ∙ is_one_order-true other held one))
 
-take-front : {X : Type 0} (xs ys : List X) → take (length xs) (xs ++ ys) ≡ xs
+pub take-front : {X : Type 0} (xs ys : List X) → take (length xs) (xs ++ ys) ≡ xs
 take-front [] ys = refl
 take-front (x ∷ xs) ys = ap (λ (l : List _). x ∷ l) (take-front xs ys)
 

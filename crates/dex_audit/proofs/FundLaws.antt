@@ -83,7 +83,7 @@ module _ (m : Market) (small : IsSmall m) where
       (ap (λ (found : Option Holding). is_held found (event_holding event)) are.0 ∙ one-order (event_holding event))))
       (kept-agree token owner events are.2)
 
-  all-kept : AreHeld m.traders m.events → (token : Token) (owner : Address) → held_kept token owner m ≡ own_kept token owner m.events
+  pub all-kept : AreHeld m.traders m.events → (token : Token) (owner : Address) → held_kept token owner m ≡ own_kept token owner m.events
   all-kept are token owner =
       total-agree (weighed_where (is_own_held m.traders owner) (kept token)) (weighed_where (is_event_of owner) (kept token)) m.events
       (kept-agree token owner m.events are)

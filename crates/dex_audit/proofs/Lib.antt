@@ -7,3 +7,4 @@ mod SoundLaw
 mod NoneLaw
 mod SupplyLaws
 mod OnceLaws
+mod SmallLaws

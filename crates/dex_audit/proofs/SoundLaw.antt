@@ -32,7 +32,7 @@ use Rattle.dex_audit.proofs.FundLaws.{IsSmall, differs-none, funds-agree, locks-
 use Rattle.dex_audit_rules.proofs.ListLaws.{append-none, numbered-each, unless-none}
 use Rattle.dex_audit.proofs.MarketForm.{IsAuditable, book-side, slots, well-formed, word-lt}
 use Rattle.dex_audit.proofs.SlotLaws.{or_else-none, rests-held, taken-ends, taken-given, taken-once, unheld_finding-none}
-use Rattle.dex_audit.proofs.TraderFrom.{open-from}
+use Rattle.dex_audit.proofs.SmallLaws.{deposits-small, small}
 
 -- an audit finds nothing in a market's accounts, by any rule
 pub record IsClean (accounts : PlainMarketAccounts) : Type 0 where
@@ -89,34 +89,6 @@ module _ (accounts : PlainMarketAccounts) (can : IsAuditable accounts) (words : 
 
   -- ---- funds
 
-  vault-small : (token : Token) → vault token (market_in accounts) < 2 ^ 64
-  unfolding market_in
-  vault-small Coin = let size = can.accepted.coin_vault.size in word-lt accounts.coin_vault AMOUNT words.coin_vault (omega arith) refl
-  vault-small Pc = let size = can.accepted.pc_vault.size in word-lt accounts.pc_vault AMOUNT words.pc_vault (omega arith) refl
-
-  rebates-small : (market_in accounts).referrer_rebates < 2 ^ 64
-  unfolding market_in
-  rebates-small = let size = can.accepted.market.size in word-lt accounts.market REFERRER_REBATES_ACCRUED words.market (omega arith) refl
-
-  size-of : (bytes : List ℕ) → IsOrders bytes → length bytes ≡ 3228
-  size-of bytes (inl blank) = blank.size
-  size-of bytes (inr (inl is)) = is.opened.size
-  size-of bytes (inr (inr is)) = is.opened.size
-
-  total-small : (bytes : List ℕ) → AreBytes bytes → IsOrders bytes → (token : Token) → (balance token (account_of bytes)).total < 2 ^ 64
-  total-small bytes are is Coin = word-lt bytes NATIVE_COIN_TOTAL are (omega (arith, size-of bytes is)) refl
-  total-small bytes are is Pc = word-lt bytes NATIVE_PC_TOTAL are (omega (arith, size-of bytes is)) refl
-
-  totals-small : (owner : Address) (account : Account) → trader_at owner (market_in accounts).traders ≡ Some (Open account) → (token : Token) → (balance token account).total < 2 ^ 64
-  unfolding market_in
-  totals-small owner account found token =
-      let one = open-from (λ from. AreBytes from.bytes × IsOrders from.bytes) owner account accounts.orders
-      (λ k d lt. ((words.orders k d lt).bytes, can.accepted.orders k d lt)) found in
-      subst (λ (a : Account). (balance token a).total < 2 ^ 64) one.is (total-small one.from.bytes one.holds.0 one.holds.1 token)
-
-  small : IsSmall (market_in accounts)
-  small = record { vaults = vault-small; rebates = rebates-small; totals = totals-small }
-
   fit : (side : Side) → All (λ (order : Order). order_lock side (market_in accounts).listing.sizes order < 2 ^ 64) (orders side (market_in accounts))
   fit Bid =
       let m : Market = market_in accounts in
@@ -131,7 +103,7 @@ module _ (accounts : PlainMarketAccounts) (can : IsAuditable accounts) (words : 
   sound = record {
     form = well-formed accounts can words fit;
     slots = slots-agree;
-    funds = funds-agree (market_in accounts) small slots-agree.pending clean.totals clean.vaults clean.rebates clean.beyond;
+    funds = funds-agree (market_in accounts) (small accounts can words) slots-agree.pending clean.totals clean.vaults clean.rebates clean.beyond;
   }
 
   -- ---- the words of the market account
@@ -142,16 +114,12 @@ module _ (accounts : PlainMarketAccounts) (can : IsAuditable accounts) (words : 
   deposits-none Pc =
       (append-none (deposits_off Coin (market_words accounts.market) (market_in accounts)) (deposits_off Pc (market_words accounts.market) (market_in accounts)) clean.deposits).1
 
-  deposits-small : (token : Token) → deposits_word token (market_words accounts.market) < 2 ^ 64
-  deposits-small Coin = let size = can.accepted.market.size in word-lt accounts.market COIN_DEPOSITS_TOTAL words.market (omega arith) refl
-  deposits-small Pc = let size = can.accepted.market.size in word-lt accounts.market PC_DEPOSITS_TOTAL words.market (omega arith) refl
-
   deposits-are : (token : Token) → deposits_word token (market_words accounts.market) ≡ vault token (market_in accounts) - earned token (market_in accounts)
   deposits-are token =
       let is : deposits_word token (market_words accounts.market) ≡ deposited token (market_in accounts) =
       differs-none 8 (market_in accounts).listing.address (by_token token 149 197) (deposits_word token (market_words accounts.market)) (deposited token (market_in accounts))
-      (deposits-small token) (deposits-none token) in
-      omega (arith, is, vault-is (market_in accounts) small clean.vaults token)
+      (deposits-small accounts can words token) (deposits-none token) in
+      omega (arith, is, vault-is (market_in accounts) (small accounts can words) clean.vaults token)
 
   flags-told : (flags : ℕ) → AreMarketFlags flags → cond (eqb flags 131) 131 3 ≡ flags
   flags-told flags (inl is) = rw is refl

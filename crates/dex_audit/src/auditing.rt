@@ -30,8 +30,8 @@ fn gather_all(alloc: Global, markets: &[MarketAccounts]) -> Result<Vec<Gathered>
     ensures { IfOk result (λ all. AreGathered all.items (map market_accounts_of markets.now)) }
 {
     let mut all = Vec::new(alloc);
-    for place in 0..markets.len() {
-        let one = gather(alloc, &markets[place])?;
+    for at in 0..markets.len() {
+        let one = gather(alloc, &markets[at])?;
         add_gathered(&mut all, one)?;
     }
     Ok(all)
@@ -47,7 +47,8 @@ fn tell_markets(
 ) -> Result<(), NoMemory>
     requires accepted { All IsAccepted (map market_accounts_of markets.now) }
     requires gathered { AreGathered gathered.now (map market_accounts_of markets.now) }
-    ensures { OnOk result (found.new.items ≡ found.old.items ++ flat_map (told_by rule) (map market_accounts_of markets.now)) }
+    ensures { OnOk result (found.new.items ≡ found.old.items
+        ++ flat_map (told_by rule) (map market_accounts_of markets.now)) }
 {
     for place in 0..markets.len() {
         tell_rule(alloc, found, &markets[place], &gathered[place], rule)?;
@@ -64,7 +65,8 @@ fn tell_slot_rules(
 ) -> Result<(), NoMemory>
     requires accepted { All IsAccepted (map market_accounts_of markets.now) }
     requires gathered { AreGathered gathered.now (map market_accounts_of markets.now) }
-    ensures { OnOk result (found.new.items ≡ found.old.items ++ audits.slot_findings (map market_accounts_of markets.now)) }
+    ensures { OnOk result (found.new.items ≡ found.old.items
+        ++ audits.slot_findings (map market_accounts_of markets.now)) }
 {
     tell_markets(alloc, found, markets, gathered, Rule::Homeless)?;
     tell_markets(alloc, found, markets, gathered, Rule::Misheld)?;
@@ -83,7 +85,8 @@ fn tell_fund_rules(
 ) -> Result<(), NoMemory>
     requires accepted { All IsAccepted (map market_accounts_of markets.now) }
     requires gathered { AreGathered gathered.now (map market_accounts_of markets.now) }
-    ensures { OnOk result (found.new.items ≡ found.old.items ++ audits.fund_findings (map market_accounts_of markets.now)) }
+    ensures { OnOk result (found.new.items ≡ found.old.items
+        ++ audits.fund_findings (map market_accounts_of markets.now)) }
 {
     tell_markets(alloc, found, markets, gathered, Rule::Totals)?;
     tell_markets(alloc, found, markets, gathered, Rule::Deposits)?;
@@ -92,8 +95,8 @@ fn tell_fund_rules(
     tell_markets(alloc, found, markets, gathered, Rule::Beyond)
 }
 
-/// What an audit finds of accounts: each place where a rule over several accounts fails, by the rule, then by the accounts'
-/// order, then by place. Only want of memory can come in the place of the findings.
+/// What an audit finds of accounts: each place where a rule over several accounts fails, by the rule, then by the
+/// accounts' order, then by place. Only want of memory can come in the place of the findings.
 pub fn audit(alloc: Global, accounts: &Accounts) -> Result<Vec<Finding>, NoMemory>
     requires { AreAccepted (accounts_of accounts.now) }
     ensures { IfOk result (λ found. found.items ≡ audits.findings (accounts_of accounts.now)) }

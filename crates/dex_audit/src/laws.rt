@@ -10,10 +10,12 @@ ghost use Rattle.dex_audit.specs.Findings.{findings};
 
 /// Accounts without findings are, market by market, those of a sound market.
 pub fn accounts_without_findings_are_of_sound_markets()
-    ensures { (accounts : PlainAccounts) → AreAccepted accounts → HoldBytes accounts → findings accounts ≡ [] → All AreSound accounts.markets }
+    ensures { (accounts : PlainAccounts) → AreAccepted accounts → HoldBytes accounts → findings accounts ≡ []
+        → All AreSound accounts.markets }
 {}
 
 /// Of accounts without findings each mint is conserved.
 pub fn mints_without_findings_are_conserved()
-    ensures { (accounts : PlainAccounts) → AreAccepted accounts → HoldBytes accounts → findings accounts ≡ [] → All (IsConserved accounts) accounts.mints }
+    ensures { (accounts : PlainAccounts) → AreAccepted accounts → HoldBytes accounts → findings accounts ≡ []
+        → All (IsConserved accounts) accounts.mints }
 {}

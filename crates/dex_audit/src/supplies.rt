@@ -44,7 +44,8 @@ fn in_wallets(mint: Address, wallets: &[Named]) -> u128
 /// What the two vaults of a market hold of a mint.
 fn in_vaults_of(mint: Address, market: &MarketAccounts) -> u128
     requires { IsAccepted (market_accounts_of market.now) }
-    ensures value { result ≡ rules.amount_of mint market.now.coin_vault.items + rules.amount_of mint market.now.pc_vault.items }
+    ensures value { result
+        ≡ rules.amount_of mint market.now.coin_vault.items + rules.amount_of mint market.now.pc_vault.items }
     ensures small { result < 2 ^ 65 }
 {
     amount_of(mint, &market.coin_vault) + amount_of(mint, &market.pc_vault)
@@ -80,7 +81,8 @@ pub fn tell_supplies(
 ) -> Result<(), NoMemory>
     requires mints { All (λ (mint : PlainAccount). IsMint mint.bytes) (map named_of mints.now) }
     requires accounts { AreAccepted (accounts_of accounts.now) }
-    ensures { OnOk result (found.new.items ≡ found.old.items ++ flat_map (rules.supply_off (accounts_of accounts.now)) (map named_of mints.now)) }
+    ensures { OnOk result (found.new.items ≡ found.old.items
+        ++ flat_map (rules.supply_off (accounts_of accounts.now)) (map named_of mints.now)) }
 {
     for place in 0..mints.len() {
         let mint = &mints[place];

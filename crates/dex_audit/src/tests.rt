@@ -111,8 +111,8 @@ fn write_market(market: &mut MarketAccounts, part: Part, place: usize, value: u6
     }
 }
 
-/// An ask of four lots at 50 of which a bid took three: it rests with one lot, and the fills of both and the out of the bid are
-/// pending.
+/// An ask of four lots at 50 of which a bid took three: it rests with one lot, and the fills of both and the out of the
+/// bid are pending.
 const TRADE: [Word; 46] = [
     Word(Part::CoinVault, 64, 400),
     Word(Part::PcVault, 64, 2_000),
@@ -207,13 +207,14 @@ fn exchange(alloc: Global) -> Result<Accounts, Fail> {
     Ok(accounts)
 }
 
-/// What an audit finds of the exchange with one word more, as its dump is read.
-fn found_with(alloc: Global, word: Word) -> Result<Vec<Finding>, Fail> {
+/// Whether an audit finds just this of the exchange with one word more, as its dump is read.
+fn finds(alloc: Global, word: Word, wanted: &[Finding]) -> Result<bool, Fail> {
     let mut accounts = exchange(alloc)?;
     write(&mut accounts, word);
     let text = write_dump(alloc, &accounts)?;
     let accounts = read_dump(alloc, &text)?;
-    Ok(audit(alloc, &accounts)?)
+    let found = audit(alloc, &accounts)?;
+    Ok(found.as_slice() == wanted)
 }
 
 fn finding(kind: u8, account: Address, place: u32, found: u128, wanted: u128) -> Finding {
@@ -229,153 +230,108 @@ fn finding(kind: u8, account: Address, place: u32, found: u128, wanted: u128) ->
 /// The id of the ask that rests.
 const ASK: u128 = 50 << 64;
 
-const BEYOND: u128 = (1 << 64) - 1;
+/// The greatest native amount of an account.
+const MOST: u128 = (1 << 64) - 1;
 
 #[test]
-fn a_trade_has_no_findings(rt: HostRuntime) -> Result<(), Fail> {
-    let alloc = rt.alloc();
-    assert_eq!(rt; found_with(alloc, Word(Part::Quote, 36, 5_000))?.len(), 0);
+fn an_audit_tells_orders_and_slots(rt: HostRuntime) -> Result<(), Fail> {
+    let maker = address(b'x');
+    let taker = address(b'y');
+    for (word, wanted) in [
+        (Word(Part::Quote, 36, 5_000), [].as_slice()),
+        (
+            Word(Part::Asks, 69, b'z' as u64),
+            [
+                finding(1, part_of_market(6), 0, 0, ASK),
+                finding(7, maker, 85, 400, 300),
+            ]
+            .as_slice(),
+        ),
+        (
+            Word(Part::Asks, 109, 9),
+            [finding(2, maker, 0, ASK, ASK)].as_slice(),
+        ),
+        (
+            Word(Part::Events, 21, 2),
+            [finding(3, taker, 0, 0, 1)].as_slice(),
+        ),
+        (
+            Word(Part::Events, 117, 9),
+            [
+                finding(4, part_of_market(4), 0, ASK, ASK),
+                finding(7, maker, 85, 400, 100),
+            ]
+            .as_slice(),
+        ),
+        (
+            Word(Part::Requests, 29, 1),
+            [finding(5, taker, 0, 1, 1)].as_slice(),
+        ),
+        (
+            Word(Part::Maker, 109, u64::MAX - 3),
+            [finding(3, maker, 1, 0, 1), finding(6, maker, 1, 2, 1)].as_slice(),
+        ),
+    ] {
+        assert!(rt; finds(rt.alloc(), word, wanted)?);
+    }
     Ok(())
 }
 
 #[test]
-fn an_order_of_nobody(rt: HostRuntime) -> Result<(), Fail> {
-    let found = found_with(rt.alloc(), Word(Part::Asks, 69, b'z' as u64))?;
-    assert_eq!(rt;
-        found.as_slice(),
-        [
-            finding(1, part_of_market(6), 0, 0, ASK),
-            finding(7, address(b'x'), 85, 400, 300),
-        ]
-    );
-    Ok(())
-}
-
-#[test]
-fn a_slot_with_another_client_id(rt: HostRuntime) -> Result<(), Fail> {
-    let found = found_with(rt.alloc(), Word(Part::Asks, 109, 9))?;
-    assert_eq!(rt; found.as_slice(), [finding(2, address(b'x'), 0, ASK, ASK)]);
-    Ok(())
-}
-
-#[test]
-fn an_order_that_is_gone_without_its_out(rt: HostRuntime) -> Result<(), Fail> {
-    let found = found_with(rt.alloc(), Word(Part::Events, 21, 2))?;
-    assert_eq!(rt; found.as_slice(), [finding(3, address(b'y'), 0, 0, 1)]);
-    Ok(())
-}
-
-#[test]
-fn an_event_of_another_order(rt: HostRuntime) -> Result<(), Fail> {
-    let found = found_with(rt.alloc(), Word(Part::Events, 117, 9))?;
-    assert_eq!(rt;
-        found.as_slice(),
-        [
-            finding(4, part_of_market(4), 0, ASK, ASK),
-            finding(7, address(b'x'), 85, 400, 100),
-        ]
-    );
-    Ok(())
-}
-
-#[test]
-fn a_number_that_was_not_given_out(rt: HostRuntime) -> Result<(), Fail> {
-    let found = found_with(rt.alloc(), Word(Part::Requests, 29, 1))?;
-    assert_eq!(rt; found.as_slice(), [finding(5, address(b'y'), 0, 1, 1)]);
-    Ok(())
-}
-
-#[test]
-fn a_second_slot_of_one_number(rt: HostRuntime) -> Result<(), Fail> {
-    let found = found_with(rt.alloc(), Word(Part::Maker, 109, u64::MAX - 3))?;
-    assert_eq!(rt;
-        found.as_slice(),
-        [
-            finding(3, address(b'x'), 1, 0, 1),
-            finding(6, address(b'x'), 1, 2, 1),
-        ]
-    );
-    Ok(())
-}
-
-#[test]
-fn a_total_that_is_too_high(rt: HostRuntime) -> Result<(), Fail> {
-    let found = found_with(rt.alloc(), Word(Part::Maker, 85, 401))?;
-    assert_eq!(rt; found.as_slice(), [finding(7, address(b'x'), 85, 401, 400)]);
-    Ok(())
-}
-
-#[test]
-fn deposits_that_are_too_high(rt: HostRuntime) -> Result<(), Fail> {
-    let found = found_with(rt.alloc(), Word(Part::Market, 149, 401))?;
-    assert_eq!(rt;
-        found.as_slice(),
-        [finding(8, address(b'm'), 149, 401, 400)]
-    );
-    Ok(())
-}
-
-#[test]
-fn a_vault_with_one_more(rt: HostRuntime) -> Result<(), Fail> {
-    let found = found_with(rt.alloc(), Word(Part::CoinVault, 64, 401))?;
-    assert_eq!(rt;
-        found.as_slice(),
-        [
-            finding(9, part_of_market(1), 64, 401, 400),
-            finding(12, address(b'b'), 36, 1_000, 1_001),
-        ]
-    );
-    Ok(())
-}
-
-#[test]
-fn rebates_of_nobody(rt: HostRuntime) -> Result<(), Fail> {
-    let found = found_with(rt.alloc(), Word(Part::Market, 373, 1))?;
-    assert_eq!(rt;
-        found.as_slice(),
-        [
-            finding(9, part_of_market(2), 64, 2_000, 2_001),
-            finding(10, address(b'm'), 373, 1, 0),
-        ]
-    );
-    Ok(())
-}
-
-#[test]
-fn a_fill_that_takes_too_much(rt: HostRuntime) -> Result<(), Fail> {
-    let found = found_with(rt.alloc(), Word(Part::Events, 53, u64::MAX))?;
-    assert_eq!(rt;
-        found.as_slice(),
-        [
-            finding(7, address(b'x'), 85, 400, BEYOND + 100),
-            finding(11, part_of_market(1), 64, BEYOND + 400, BEYOND),
-        ]
-    );
-    Ok(())
-}
-
-#[test]
-fn a_supply_that_is_too_high(rt: HostRuntime) -> Result<(), Fail> {
-    let found = found_with(rt.alloc(), Word(Part::Quote, 36, 5_001))?;
-    assert_eq!(rt;
-        found.as_slice(),
-        [finding(12, address(b'q'), 36, 5_001, 5_000)]
-    );
-    Ok(())
-}
-
-#[test]
-fn an_order_that_locks_too_much(rt: HostRuntime) -> Result<(), Fail> {
-    let found = found_with(rt.alloc(), Word(Part::Asks, 101, 1 << 60))?;
+fn an_audit_tells_funds(rt: HostRuntime) -> Result<(), Fail> {
+    let maker = address(b'x');
+    let market = address(b'm');
+    let vault = part_of_market(1);
     let locked = 100 << 60;
-    assert_eq!(rt;
-        found.as_slice(),
-        [
-            finding(7, address(b'x'), 85, 400, locked + 300),
-            finding(8, address(b'm'), 149, 400, locked + 300),
-            finding(9, part_of_market(1), 64, 400, locked + 300),
-            finding(13, part_of_market(6), 0, locked, BEYOND),
-        ]
-    );
+    for (word, wanted) in [
+        (
+            Word(Part::Maker, 85, 401),
+            [finding(7, maker, 85, 401, 400)].as_slice(),
+        ),
+        (
+            Word(Part::Market, 149, 401),
+            [finding(8, market, 149, 401, 400)].as_slice(),
+        ),
+        (
+            Word(Part::CoinVault, 64, 401),
+            [
+                finding(9, vault, 64, 401, 400),
+                finding(12, address(b'b'), 36, 1_000, 1_001),
+            ]
+            .as_slice(),
+        ),
+        (
+            Word(Part::Market, 373, 1),
+            [
+                finding(9, part_of_market(2), 64, 2_000, 2_001),
+                finding(10, market, 373, 1, 0),
+            ]
+            .as_slice(),
+        ),
+        (
+            Word(Part::Events, 53, u64::MAX),
+            [
+                finding(7, maker, 85, 400, MOST + 100),
+                finding(11, vault, 64, MOST + 400, MOST),
+            ]
+            .as_slice(),
+        ),
+        (
+            Word(Part::Quote, 36, 5_001),
+            [finding(12, address(b'q'), 36, 5_001, 5_000)].as_slice(),
+        ),
+        (
+            Word(Part::Asks, 101, 1 << 60),
+            [
+                finding(7, maker, 85, 400, locked + 300),
+                finding(8, market, 149, 400, locked + 300),
+                finding(9, vault, 64, 400, locked + 300),
+                finding(13, part_of_market(6), 0, locked, MOST),
+            ]
+            .as_slice(),
+        ),
+    ] {
+        assert!(rt; finds(rt.alloc(), word, wanted)?);
+    }
     Ok(())
 }

@@ -1,5 +1,5 @@
 -- What an audit finds of orders, events and the slots that they stand for: the rules 1 to 6.
-use Rattle.std.specs.Prelude.{ℕ, ◌+◌, List, [], ◌∷◌, ◌++◌, Option, Some, None, Bool, true, false, ◌&&◌, ◌==◌, not, nat_lt, take, slice_index_or, if◌then◌else◌}
+use Rattle.std.specs.Prelude.{◌≡◌, ◌<◌, ℕ, ◌+◌, List, [], ◌∷◌, ◌++◌, Option, Some, None, Bool, true, false, ◌&&◌, ◌==◌, not, nat_lt, take, slice_index_or, if◌then◌else◌}
 use Rattle.std.specs.List.{flat_map}
 use Rattle.dex_types.specs.declared.addresses.Address.{Address}
 use Rattle.dex_types.specs.declared.orders.Order.{Order}
@@ -66,6 +66,12 @@ unheld_in owner account side slot orders = unheld owner slot (slice_index_or acc
 abbrev pub or_else : Option ℕ → Option ℕ → Option ℕ
 or_else None second = second
 or_else (Some first) second = Some first
+
+-- of each slot an id was noted, or none: now where none was, it is that of the first of these orders of a side that the slot does
+-- not hold
+abbrev pub AreNoted : Address → Account → Side → List Order → List (Option ℕ) → List (Option ℕ) → Type 0
+AreNoted owner account side orders before after =
+    (slot : ℕ) → slot < 128 → slice_index_or after slot None ≡ or_else (slice_index_or before slot None) (unheld_in owner account side slot orders)
 
 abbrev pub unheld_finding : Address → ℕ → Option Holding → Option ℕ → List Finding
 unheld_finding owner slot held None = []

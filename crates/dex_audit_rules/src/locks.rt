@@ -97,7 +97,8 @@ pub fn tell_exceeds(
     place: u32,
     amount: u128,
 ) -> Result<(), NoMemory>
-    ensures { (exact : ℕ) → amount ≡ capped exact → OnOk result (found.new.items ≡ found.old.items ++ rules.exceeds kind account place exact) }
+    ensures { (exact : ℕ) → amount ≡ capped exact → OnOk result (found.new.items ≡ found.old.items
+        ++ rules.exceeds kind account place exact) }
 {
     let finding = Finding {
         kind,
@@ -118,7 +119,8 @@ pub fn tell_too_large(
     account: Address,
 ) -> Result<(), NoMemory>
     requires { length orders.now < 2 ^ 32 }
-    ensures { OnOk result (found.new.items ≡ found.old.items ++ numbered (rules.too_large side sizes account) 0 orders.now) }
+    ensures { OnOk result (found.new.items ≡ found.old.items
+        ++ numbered (rules.too_large side sizes account) 0 orders.now) }
 {
     for place in 0..orders.len() {
         let amount = lock_of(side, sizes, &orders[place]);

@@ -64,7 +64,8 @@ fn tell_orders(
     book: &Book<'_>,
 ) -> Result<(), NoMemory>
     requires { IsBookOf book.now (market_accounts_of market.now) }
-    ensures { OnOk result (found.new.items ≡ found.old.items ++ rules.homeless_in (market_in (market_accounts_of market.now))) }
+    ensures { OnOk result (found.new.items ≡ found.old.items
+        ++ rules.homeless_in (market_in (market_accounts_of market.now))) }
 {
     let words = MarketRef {
         bytes: &market.market,
@@ -79,7 +80,8 @@ fn tell_locks(
     book: &Book<'_>,
 ) -> Result<(), NoMemory>
     requires { IsBookOf book.now (market_accounts_of market.now) }
-    ensures { OnOk result (found.new.items ≡ found.old.items ++ funds.too_large_in (market_in (market_accounts_of market.now))) }
+    ensures { OnOk result (found.new.items ≡ found.old.items
+        ++ funds.too_large_in (market_in (market_accounts_of market.now))) }
 {
     let words = MarketRef {
         bytes: &market.market,
@@ -118,7 +120,8 @@ fn tell_vaults(
     book: &Book<'_>,
 ) -> Result<(), NoMemory>
     requires { IsBookOf book.now (market_accounts_of market.now) }
-    ensures { OnOk result (found.new.items ≡ found.old.items ++ funds.vaults_in (market_in (market_accounts_of market.now))) }
+    ensures { OnOk result (found.new.items ≡ found.old.items
+        ++ funds.vaults_in (market_in (market_accounts_of market.now))) }
 {
     let words = MarketRef {
         bytes: &market.market,
@@ -142,7 +145,8 @@ fn tell_rebates(
     book: &Book<'_>,
 ) -> Result<(), NoMemory>
     requires { IsBookOf book.now (market_accounts_of market.now) }
-    ensures { OnOk result (found.new.items ≡ found.old.items ++ funds.rebates_in (market_in (market_accounts_of market.now))) }
+    ensures { OnOk result (found.new.items ≡ found.old.items
+        ++ funds.rebates_in (market_in (market_accounts_of market.now))) }
 {
     let words = MarketRef {
         bytes: &market.market,
@@ -163,7 +167,8 @@ fn tell_beyond(
     book: &Book<'_>,
 ) -> Result<(), NoMemory>
     requires { IsBookOf book.now (market_accounts_of market.now) }
-    ensures { OnOk result (found.new.items ≡ found.old.items ++ funds.beyond_in (market_in (market_accounts_of market.now))) }
+    ensures { OnOk result (found.new.items ≡ found.old.items
+        ++ funds.beyond_in (market_in (market_accounts_of market.now))) }
 {
     let words = MarketRef {
         bytes: &market.market,
@@ -198,7 +203,8 @@ fn tell_events(
     book: &Book<'_>,
 ) -> Result<(), NoMemory>
     requires { IsBookOf book.now (market_accounts_of market.now) }
-    ensures { OnOk result (found.new.items ≡ found.old.items ++ rules.astray_in (market_in (market_accounts_of market.now))) }
+    ensures { OnOk result (found.new.items ≡ found.old.items
+        ++ rules.astray_in (market_in (market_accounts_of market.now))) }
 {
     let words = MarketRef {
         bytes: &market.market,
@@ -213,7 +219,8 @@ fn tell_numbers(
     book: &Book<'_>,
 ) -> Result<(), NoMemory>
     requires { IsBookOf book.now (market_accounts_of market.now) }
-    ensures { OnOk result (found.new.items ≡ found.old.items ++ rules.ungiven_in (market_in (market_accounts_of market.now))) }
+    ensures { OnOk result (found.new.items ≡ found.old.items
+        ++ rules.ungiven_in (market_in (market_accounts_of market.now))) }
 {
     let taken = taken_slots(alloc, book.accounts)?;
     tell_ungiven(found, get_u64(&market.requests, NEXT_SEQ_NUM), &taken)

@@ -1,6 +1,6 @@
 //! The rule of slots that orders rest for: each holds the order.
 
-ghost use Rattle.std.specs.Prelude.{◌≡◌, ◌<◌, ◌++◌, [], ◌∷◌, ℕ, None, length, slice_index_or, ◌&&◌, not, OnOk};
+ghost use Rattle.std.specs.Prelude.{◌≡◌, ◌<◌, ◌++◌, [], ◌∷◌, length, ◌&&◌, not, OnOk};
 ghost use Rattle.dex_types.specs.Soundness.{order_holding};
 ghost use Rattle.dex_laws.specs.Places.{is_order_at};
 ghost use Rattle.dex_orders.specs.OrdersAccount.{IsOpen, account_of};
@@ -22,7 +22,8 @@ fn is_unheld(
     side: Side,
     order: &Order,
 ) -> bool
-    ensures { result ≡ (is_order_at owner slot order.now && not (rules.is_held (held_in held) (order_holding side order.now))) }
+    ensures { result ≡ (is_order_at owner slot order.now
+        && not (rules.is_held (held_in held) (order_holding side order.now))) }
 {
     let here = is_same(owner, order.owner) && slot == order.slot;
     here && !is_held(held, order.id, side, order.client)
@@ -40,8 +41,7 @@ fn note_own(
     requires long { length first.old ≡ 128 }
     requires slot { order.now.slot < 128 }
     ensures long { length first.new ≡ 128 }
-    ensures each { (slot : ℕ) → slot < 128 → slice_index_or first.new slot None
-        ≡ rules.or_else (slice_index_or first.old slot None) (rules.unheld_in owner (account_of view.entry.bytes.now) side slot (order.now ∷ [])) }
+    ensures each { rules.AreNoted owner (account_of view.entry.bytes.now) side (order.now ∷ []) first.old first.new }
 {
     let slot = order.slot as usize;
     let held = view.slot(order.slot);
@@ -55,16 +55,15 @@ fn note(first: &mut [Option<u128>], view: OrdersRef<'_>, owner: Address, side: S
     requires open { IsOpen view.bytes.now }
     requires long { length first.old ≡ 128 }
     ensures long { length first.new ≡ 128 }
-    ensures each { (slot : ℕ) → slot < 128 → slice_index_or first.new slot None
-        ≡ rules.or_else (slice_index_or first.old slot None) (rules.unheld_in owner (account_of view.entry.bytes.now) side slot (order.now ∷ [])) }
+    ensures each { rules.AreNoted owner (account_of view.entry.bytes.now) side (order.now ∷ []) first.old first.new }
 {
     if is_same(owner, order.owner) && order.slot < 128 {
         note_own(first, view, owner, side, order);
     }
 }
 
-/// Notes at each slot of an open account the first order of a side that rests for it and that it does not hold, where none is noted
-/// there.
+/// Notes at each slot of an open account the first order of a side that rests for it and that it does not hold, where
+/// none is noted there.
 fn note_side(
     first: &mut [Option<u128>],
     view: OrdersRef<'_>,
@@ -75,8 +74,7 @@ fn note_side(
     requires open { IsOpen view.bytes.now }
     requires long { length first.old ≡ 128 }
     ensures long { length first.new ≡ 128 }
-    ensures each { (slot : ℕ) → slot < 128 → slice_index_or first.new slot None
-        ≡ rules.or_else (slice_index_or first.old slot None) (rules.unheld_in owner (account_of view.entry.bytes.now) side slot orders.now) }
+    ensures each { rules.AreNoted owner (account_of view.entry.bytes.now) side orders.now first.old first.new }
 {
     for place in 0..orders.len() {
         note(first, view, owner, side, &orders[place]);
@@ -115,7 +113,8 @@ fn tell_slots(
     view: OrdersRef<'_>,
 ) -> Result<(), NoMemory>
     requires { IsOpen view.bytes.now }
-    ensures { OnOk result (found.new.items ≡ found.old.items ++ numbered (rules.misheld bids.now asks.now owner) 0 (account_of view.entry.bytes.now).slots) }
+    ensures { OnOk result (found.new.items ≡ found.old.items
+        ++ numbered (rules.misheld bids.now asks.now owner) 0 (account_of view.entry.bytes.now).slots) }
 {
     let mut first = [None; 128];
     note_side(&mut first, view, owner, Side::Bid, bids);
@@ -126,8 +125,8 @@ fn tell_slots(
     Ok(())
 }
 
-/// Tells each slot of open accounts that does not hold an order that rests for it, with the first such order, bids before
-/// asks. Each account walks the orders once.
+/// Tells each slot of open accounts that does not hold an order that rests for it, with the first such order, bids
+/// before asks. Each account walks the orders once.
 pub fn tell_misheld(
     found: &mut Vec<Finding>,
     accounts: &[OrdersAccount],
@@ -135,7 +134,8 @@ pub fn tell_misheld(
     asks: &[Order],
 ) -> Result<(), NoMemory>
     requires { AreOrders accounts.now }
-    ensures { OnOk result (found.new.items ≡ found.old.items ++ rules.each_slot (rules.misheld bids.now asks.now) (traders accounts.now)) }
+    ensures { OnOk result (found.new.items ≡ found.old.items
+        ++ rules.each_slot (rules.misheld bids.now asks.now) (traders accounts.now)) }
 {
     for account in accounts {
         if let Some(view) = opened(&account.bytes) {

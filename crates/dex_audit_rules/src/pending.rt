@@ -21,8 +21,8 @@ fn is_placed(is_held: bool, ended: u32) -> bool
     is_held && ended == 0
 }
 
-/// Tells the event with this number, unless its slot holds it and none of the earlier ones, whose final outs are counted, ends
-/// its order.
+/// Tells the event with this number, unless its slot holds it and none of the earlier ones, whose final outs are
+/// counted, ends its order.
 fn tell_event(
     found: &mut Vec<Finding>,
     accounts: &[OrdersAccount],
@@ -33,7 +33,8 @@ fn tell_event(
 ) -> Result<(), NoMemory>
     requires { AreOrders accounts.now }
     ensures { (earlier : List QueuedEvent) → AreFinals finals.now earlier → OnOk result (found.new.items
-        ≡ found.old.items ++ rules.astray_behind (traders accounts.now) earlier queue number (decoded_event event.now)) }
+        ≡ found.old.items
+        ++ rules.astray_behind (traders accounts.now) earlier queue number (decoded_event event.now)) }
 {
     let held = held_at(accounts, event.owner, event.slot);
     let side = side_of(event);
@@ -50,8 +51,8 @@ fn tell_event(
     tell_unless(found, placed, finding)
 }
 
-/// Tells each pending event whose owner is no open account with a slot that holds it, or before which a final out of its order is
-/// pending.
+/// Tells each pending event whose owner is no open account with a slot that holds it, or before which a final out of
+/// its order is pending.
 pub fn tell_astray(
     alloc: Global,
     found: &mut Vec<Finding>,
@@ -62,7 +63,9 @@ pub fn tell_astray(
     requires accounts { AreOrders accounts.now }
     requires few { length events.now < 2 ^ 32 }
     ensures { OnOk result (found.new.items
-        ≡ found.old.items ++ numbered (rules.astray (traders accounts.now) (map decoded_event events.now) queue) 0 (map decoded_event events.now)) }
+        ≡ found.old.items
+        ++ numbered (rules.astray (traders accounts.now) (map decoded_event events.now) queue) 0
+        (map decoded_event events.now)) }
 {
     let mut finals = Counts::new(alloc);
     for number in 0..events.len() {

@@ -18,7 +18,8 @@ pub fn tell_homeless(
 ) -> Result<(), NoMemory>
     requires accounts { AreOrders accounts.now }
     requires few { length orders.now < 2 ^ 32 }
-    ensures { OnOk result (found.new.items ≡ found.old.items ++ numbered (rules.homeless (traders accounts.now) side) 0 orders.now) }
+    ensures { OnOk result (found.new.items ≡ found.old.items
+        ++ numbered (rules.homeless (traders accounts.now) side) 0 orders.now) }
 {
     for place in 0..orders.len() {
         let order = orders[place];

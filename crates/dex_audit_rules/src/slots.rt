@@ -23,7 +23,8 @@ use std::collections::BTreeMap;
 
 /// How many resting orders and final outs are the slot's order.
 fn count_ends(resting: &Counts, finals: &Counts, taken: &Taken) -> u64
-    ensures { (bids asks : List Order) (events : List QueuedEvent) → AreResting resting.now bids asks → AreFinals finals.now events
+    ensures { (bids asks : List Order) (events : List QueuedEvent) → AreResting resting.now bids asks
+        → AreFinals finals.now events
         → result ≡ rules.ends_of bids asks events taken.now }
 {
     let rests = resting.times(taken.id, taken.side);
@@ -38,7 +39,8 @@ pub fn tell_unpaired(
     finals: &Counts,
     taken: &[Taken],
 ) -> Result<(), NoMemory>
-    ensures { (bids asks : List Order) (events : List QueuedEvent) → AreResting resting.now bids asks → AreFinals finals.now events
+    ensures { (bids asks : List Order) (events : List QueuedEvent) → AreResting resting.now bids asks
+        → AreFinals finals.now events
         → OnOk result (found.new.items ≡ found.old.items ++ flat_map (rules.unpaired bids asks events) taken.now) }
 {
     for place in 0..taken.len() {

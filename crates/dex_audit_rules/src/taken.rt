@@ -70,7 +70,8 @@ fn add_slot(
 /// Adds the taken slots of an open account.
 fn add_slots(taken: &mut Vec<Taken>, owner: Address, view: OrdersRef<'_>) -> Result<(), NoMemory>
     requires { IsOpen view.bytes.now }
-    ensures { OnOk result (taken.new.items ≡ taken.old.items ++ numbered (rules.taken_here owner) 0 (account_of view.entry.bytes.now).slots) }
+    ensures { OnOk result (taken.new.items ≡ taken.old.items
+        ++ numbered (rules.taken_here owner) 0 (account_of view.entry.bytes.now).slots) }
 {
     for slot in 0..128u8 {
         add_slot(taken, owner, slot, view.slot(slot))?;

@@ -16,7 +16,8 @@ pub fn times(tally: &BTreeMap<u128, u32>, number: u128) -> u32
 /// Counts the number once more.
 pub fn count(tally: &mut BTreeMap<u128, u32>, number: u128) -> Result<(), NoMemory>
     requires { times tally.old number < 2 ^ 32 - 1 }
-    ensures { OnOk result ((other : ℕ) → times tally.new other ≡ times tally.old other + (if other == number then 1 else 0)) }
+    ensures { OnOk result ((other : ℕ) → times tally.new other
+        ≡ times tally.old other + (if other == number then 1 else 0)) }
 {
     let more = times(tally, number) + 1;
     match tally.insert(number, more) {
@@ -27,7 +28,8 @@ pub fn count(tally: &mut BTreeMap<u128, u32>, number: u128) -> Result<(), NoMemo
 
 /// Marks the number as met.
 pub fn mark(tally: &mut BTreeMap<u128, u32>, number: u128) -> Result<(), NoMemory>
-    ensures { OnOk result ((other : ℕ) → times tally.new other ≡ (if other == number then 1 else times tally.old other)) }
+    ensures { OnOk result ((other : ℕ) → times tally.new other
+        ≡ (if other == number then 1 else times tally.old other)) }
 {
     match tally.insert(number, 1) {
         Ok(_) => Ok(()),

@@ -30,7 +30,8 @@ pub fn tell_differs(
     amount: u64,
     sum: u128,
 ) -> Result<(), NoMemory>
-    ensures { (exact : ℕ) → sum ≡ capped exact → OnOk result (found.new.items ≡ found.old.items ++ rules.differs kind account place amount exact) }
+    ensures { (exact : ℕ) → sum ≡ capped exact → OnOk result (found.new.items ≡ found.old.items
+        ++ rules.differs kind account place amount exact) }
 {
     let finding = Finding {
         kind,
@@ -45,7 +46,8 @@ pub fn tell_differs(
 /// What an open account's total of base must be.
 fn coin_total(book: &Book<'_>, owner: Address, free: u64) -> u128
     requires { IsBook book.now }
-    ensures { (m : Market) → IsOf book.now m → result ≡ capped (free + own_locked Coin owner m + rules.held_kept Coin owner m) }
+    ensures { (m : Market) → IsOf book.now m → result
+        ≡ capped (free + own_locked Coin owner m + rules.held_kept Coin owner m) }
 {
     let locked = sum_own_locked(book.asks, owner, Side::Ask, book.sizes);
     let kept = sum_own(book.events, Weight::KeptCoin, book.accounts, owner);
@@ -55,7 +57,8 @@ fn coin_total(book: &Book<'_>, owner: Address, free: u64) -> u128
 /// What an open account's total of quote must be.
 fn pc_total(book: &Book<'_>, owner: Address, free: u64) -> u128
     requires { IsBook book.now }
-    ensures { (m : Market) → IsOf book.now m → result ≡ capped (free + own_locked Pc owner m + rules.held_kept Pc owner m) }
+    ensures { (m : Market) → IsOf book.now m → result
+        ≡ capped (free + own_locked Pc owner m + rules.held_kept Pc owner m) }
 {
     let locked = sum_own_locked(book.bids, owner, Side::Bid, book.sizes);
     let kept = sum_own(book.events, Weight::KeptPc, book.accounts, owner);
@@ -111,7 +114,8 @@ fn tell_totals_of(
     requires book { IsBook book.now }
     requires account { IsOpen view.bytes.now }
     ensures { (m : Market) → IsOf book.now m → OnOk result (found.new.items ≡ found.old.items
-        ++ (rules.total_off Coin m owner (account_of view.entry.bytes.now) ++ rules.total_off Pc m owner (account_of view.entry.bytes.now))) }
+        ++ (rules.total_off Coin m owner (account_of view.entry.bytes.now)
+        ++ rules.total_off Pc m owner (account_of view.entry.bytes.now))) }
 {
     let funds = view.funds();
     let coin = coin_total(book, owner, funds.coin_free);

@@ -34,7 +34,8 @@ pub fn find_open(accounts: &[OrdersAccount], owner: Address) -> Option<OrdersRef
     requires { AreOrders accounts.now }
     ensures { MatchOption result
         (is_opened (trader_at owner (traders accounts.now)) ≡ false)
-        (λ view. IsOpen view.bytes.now × (trader_at owner (traders accounts.now) ≡ Some (Open (account_of view.bytes.now)))) }
+        (λ view. IsOpen view.bytes.now × (trader_at owner (traders accounts.now)
+        ≡ Some (Open (account_of view.bytes.now)))) }
 {
     for account in accounts {
         if is_same(owner, account.address) {
@@ -52,8 +53,8 @@ pub fn is_open(accounts: &[OrdersAccount], owner: Address) -> bool
     find_open(accounts, owner).is_some()
 }
 
-/// The id, side and client id of the order that the slot of an account holds; None where the account is not open or the slot is
-/// free.
+/// The id, side and client id of the order that the slot of an account holds; None where the account is not open or the
+/// slot is free.
 pub fn held_at(accounts: &[OrdersAccount], owner: Address, slot: u8) -> Option<(u128, Side, u64)>
     requires { AreOrders accounts.now }
     ensures { held_in result ≡ book.held_at owner slot (traders accounts.now) }

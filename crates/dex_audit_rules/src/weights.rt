@@ -150,7 +150,8 @@ pub fn sum_pending(events: &[Event], weight: Weight) -> u128
 /// What an event weighs, where it is the owner's and its slot holds it.
 fn weigh_own(weight: Weight, accounts: &[OrdersAccount], owner: Address, event: &Event) -> u128
     requires { AreOrders accounts.now }
-    ensures value { result ≡ weighed_where (is_own_held (traders accounts.now) owner) (weight_of weight) (decoded_event event.now) }
+    ensures value { result
+        ≡ weighed_where (is_own_held (traders accounts.now) owner) (weight_of weight) (decoded_event event.now) }
     ensures small { result < 2 ^ 65 }
 {
     if is_same(owner, event.owner) && is_event_held(accounts, event) {
@@ -175,7 +176,9 @@ fn is_event_held(accounts: &[OrdersAccount], event: &Event) -> bool
 /// What the owner's pending events weigh whose slots hold them.
 pub fn sum_own(events: &[Event], weight: Weight, accounts: &[OrdersAccount], owner: Address) -> u128
     requires { AreOrders accounts.now }
-    ensures { result ≡ capped (total (weighed_where (is_own_held (traders accounts.now) owner) (weight_of weight)) (map decoded_event events.now)) }
+    ensures { result
+        ≡ capped (total (weighed_where (is_own_held (traders accounts.now) owner) (weight_of weight))
+        (map decoded_event events.now)) }
 {
     let mut sum: u128 = 0;
     for place in 0..events.len() {

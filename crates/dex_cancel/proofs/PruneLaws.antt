@@ -80,7 +80,7 @@ pub record IsNext (all : List RestingOrder) (count : ℕ) (some rest : List Rest
   pub left : drop (count + length some) all ≡ rest
   pub within : count + length some ≤ length all
 
-next-taken : (all : List RestingOrder) (count : ℕ) (some rest : List RestingOrder) → count ≤ length all → drop count all ≡ some ++ rest → IsNext all count some rest
+pub next-taken : (all : List RestingOrder) (count : ℕ) (some rest : List RestingOrder) → count ≤ length all → drop count all ≡ some ++ rest → IsNext all count some rest
 next-taken all count some rest within is =
     let whole : all ≡ (take count all ++ some) ++ rest =
     sym (take-append-drop count all) ∙ ap (λ os. take count all ++ os) is ∙ sym (append_assoc (take count all) some rest) in

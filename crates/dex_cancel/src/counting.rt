@@ -61,7 +61,7 @@ fn count_client<B: SideRead, A: SideRead>(bids: &B, asks: &A, account: Address, 
 }
 
 /// How often the client id stands in front of this place.
-fn count_before(ids: &[u64; 8], place: usize, client: u64) -> u64
+pub fn count_before(ids: &[u64; 8], place: usize, client: u64) -> u64
     requires { place < 8 }
     ensures { result ≡ count_among client (take place ids.now) }
 {

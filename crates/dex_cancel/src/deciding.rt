@@ -12,7 +12,7 @@ use dex_reasons::no_room;
 use dex_types::{Address, Refusal, Side, SideRead, is_same};
 
 /// So many orders, where the event queue has room for an out of each.
-fn with_room(needed: u32, room: u32) -> Result<u32, Refusal>
+pub fn with_room(needed: u32, room: u32) -> Result<u32, Refusal>
     ensures { result ≡ answered (no_room needed room) needed }
 {
     match no_room(needed, room) {

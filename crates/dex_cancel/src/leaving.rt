@@ -44,7 +44,7 @@ fn cancel_found<B: SideBook, A: SideBook>(
 }
 
 /// Takes an order, if there is one, off its side and appends its out. It answers how many orders that is.
-fn cancel_maybe<B: SideBook, A: SideBook>(
+pub fn cancel_maybe<B: SideBook, A: SideBook>(
     found: Option<Found>,
     sizes: Lots,
     bids: &mut B,
@@ -73,7 +73,7 @@ fn cancel_maybe<B: SideBook, A: SideBook>(
 }
 
 /// Takes the order of an id, if it rests on the side, and appends its out. It answers how many orders that is.
-fn cancel_by_id<B: SideBook, A: SideBook>(
+pub fn cancel_by_id<B: SideBook, A: SideBook>(
     side: Side,
     id: u128,
     sizes: Lots,

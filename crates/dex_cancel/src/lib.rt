@@ -8,6 +8,7 @@ mod found;
 mod laws;
 mod leaving;
 mod pruning;
+pub mod steps;
 mod taking;
 mod what;
 

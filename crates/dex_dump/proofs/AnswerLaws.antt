@@ -3,8 +3,7 @@ use Rattle.std.proofs.Common.{◌≡◌, ◌∷◌, ℕ, List, true, Some, Err, 
 use Rattle.dex_dump.specs.declared.faults.DumpError.{DumpError}
 use Rattle.dex_dump.specs.declared.faults.DumpError.TheVariants as dump
 use Rattle.dex_dump.specs.Answers.{Answers, PlainAnswer, stated}
-use Rattle.dex_dump.specs.DumpText.{Fields}
-use Rattle.dex_dump.specs.Lines.{PlainLine, line_of}
+use Rattle.dex_dump_rows.specs.Lines.{Fields, PlainLine, line_of}
 use Rattle.dex_dump.specs.Reading.{PlainReading, is_allowed, start}
 use Rattle.dex_dump.specs.Telling.{TellsAccounts, TellsRow}
 

@@ -21,9 +21,9 @@ use Rattle.dex_dump.specs.Accepted.{AreAccepted, AreApart as NamesApart, HasMint
 use Rattle.dex_dump.specs.Answers.{Answers, AnswersDump, AnswersText, AreReadAs, IsReadAs, PlainDump, next_number}
 use Rattle.dex_dump.specs.Answers.Ends.{AtEnd}
 use Rattle.dex_dump.specs.Checks.{AllHold, checks}
-use Rattle.dex_dump.specs.DumpText.{Fields, account_rows, dump_rows, dump_text, first_row, last_row, market_row, market_rows, mint_row, named_rows, orders_row, wallet_row}
-use Rattle.dex_dump.specs.Lines.{PlainLine, is_first_row, line_of}
-use Rattle.dex_dump.specs.Lines.PlainLine.{Mint, Srm, Msrm, Wallet, Market, Orders, End}
+use Rattle.dex_dump.specs.DumpText.{account_rows, dump_rows, dump_text, first_row, last_row, market_row, market_rows, mint_row, named_rows, orders_row, wallet_row}
+use Rattle.dex_dump_rows.specs.Lines.{Fields, PlainLine, is_first_row, line_of}
+use Rattle.dex_dump_rows.specs.Lines.PlainLine.{Mint, Srm, Msrm, Wallet, Market, Orders, End}
 use Rattle.dex_dump.specs.Reading.{PlainReading, after_line, has_room, is_allowed, is_among, is_name, market_addresses, parts_of, start, with_orders}
 use Rattle.dex_dump.proofs.AnswerLaws.{stated-allowed}
 use Rattle.dex_dump.proofs.CheckLaws.{IsMarketHere}

@@ -1,15 +1,14 @@
 -- What is read of base64 are bytes.
-use Rattle.std.proofs.Common.{◌≡◌, ◌<◌, ◌+◌, ◌*◌, ◌/◌, ◌%◌, ◌==◌, ◌⊎◌, ◌∷◌, ◌++◌, ◌∙◌, [], ℕ, zero, suc, List, Bool, true, false, Option, Some, None, Result, Ok, Err, arith, refl, sym, ap, subst, inl, inr, drop, length, slice_index, take}
+use Rattle.std.proofs.Common.{◌≡◌, ◌<◌, ◌+◌, ◌*◌, ◌/◌, ◌%◌, ◌==◌, ◌∷◌, ◌++◌, ◌∙◌, [], ℕ, zero, suc, List, Bool, Option, Some, None, Result, Ok, Err, arith, refl, sym, subst, inl, inr, drop, length, slice_index, take}
 use Rattle.std.specs.Result.{result_ok}
 use Rattle.std.proofs.lemmas.Bool.{cases_Bool, eqb-false}
 use Rattle.std.proofs.lemmas.List.{get_or-drop, take-append-drop}
 use Rattle.base64.specs.declared.decode.DecodeError.{DecodeError}
-use Rattle.base64.specs.declared.decode.DecodeError.TheVariants.{InvalidByte}
 use Rattle.base64.specs.declared.engine.DecodePaddingMode.{DecodePaddingMode}
 use Rattle.base64.specs.declared.engine.general_purpose.GeneralPurpose.{GeneralPurpose}
-use Rattle.base64.specs.Decode.{IsDecodeTable, decode_error, decode_group, decode_outcome, decoded_bytes, group_bytes, group_error, groups_before_last, groups_bytes, groups_error, leftover_bytes, lone_error, no_leftover, or_else, push_leftover, scan, scan_bytes, scan_last, suffix_bytes, suffix_error, symbol_error}
+use Rattle.base64.specs.Decode.{IsDecodeTable, decode_error, decode_group, decode_outcome, decoded_bytes, group_bytes, group_error, groups_before_last, groups_bytes, groups_error, lone_error, no_leftover, or_else, push_leftover, scan, scan_bytes, scan_last, suffix_bytes, suffix_error, symbol_error}
 use Rattle.base64.specs.Engines.{standard}
-use Rattle.base64.specs.GeneralPurpose.{decode_of, decoded_of}
+use Rattle.base64.specs.GeneralPurpose.{decoded_of}
 use Rattle.base64.proofs.Decoding.{IsLeftover, IsLeftover_next, scan-cons_err, scan-cons_ok, scan-nil}
 use Rattle.base64.proofs.EngineFacts.{front_bytes}
 use Rattle.base64.proofs.Tables.{IsDecodeTable_from, are_tables_inverse}
@@ -61,9 +60,9 @@ module _ (dec s : List ℕ) (table : IsDecodeTable dec) (bytes : IsBytes s) wher
   symbol-below i h = elim (cases_Bool (slice_index dec (slice_index s i) == 255)) [
     | inl bad ↦ absurd (let no = rw bad at h in cc)
     | inr good ↦ elim (table (slice_index s i) (bytes i)) [
-        | inl is ↦ absurd (eqb-false (slice_index dec (slice_index s i)) 255 good is)
-        | inr small ↦ small
-      ]
+      | inl is ↦ absurd (eqb-false (slice_index dec (slice_index s i)) 255 good is)
+      | inr small ↦ small
+    ]
   ]
 
   group-read : (i : ℕ) → group_error dec s i ≡ None → IsBytes (group_bytes dec s i)

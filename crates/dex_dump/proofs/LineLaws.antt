@@ -18,9 +18,8 @@ use Rattle.dex_rows.specs.Addresses.{address_of, digits_address, is_lower_hexdig
 use Rattle.dex_rows.specs.Base64.{base64_of}
 use Rattle.dex_rows.specs.Printable.{is_printable, is_printable_byte, row_is_printable}
 use Rattle.dex_dump.specs.Accepted.{IsAddress, IsHeld, IsHeldMarket}
-use Rattle.dex_dump.specs.DumpText.{Fields}
-use Rattle.dex_dump.specs.Lines.{PlainLine, ◌>>=◌, account_at, end_of, field_at, form_of, line_of, market_of, mint_of, msrm_of, orders_of, srm_of, wallet_of}
-use Rattle.dex_dump.specs.Lines.PlainLine.{Mint, Srm, Msrm, Wallet, Market, Orders, End}
+use Rattle.dex_dump_rows.specs.Lines.{Fields, PlainLine, ◌>>=◌, account_at, end_of, field_at, form_of, line_of, market_of, mint_of, msrm_of, orders_of, srm_of, wallet_of}
+use Rattle.dex_dump_rows.specs.Lines.PlainLine.{Mint, Srm, Msrm, Wallet, Market, Orders, End}
 use Rattle.dex_dump.proofs.ByteLaws.{base64_of-bytes, bytes-append, bytes-cons}
 
 -- ---- addresses that are read are of 32 bytes
@@ -192,18 +191,21 @@ module _ (row : Fields) (are : AreFields row) where
       gives-found IsRead (base64_of (field_at row 7)) _ (λ events h7.
       gives-found IsRead (base64_of (field_at row 8)) _ (λ bids h8.
       gives-found IsRead (base64_of (field_at row 9)) _ (λ asks h9.
-      gives-some IsRead _ (record {
-        address = address_of-address (field_at row 1) address h1;
-        authority = address_of-address (field_at row 2) authority h2;
-        market = base64_of-bytes (field_at row 3) market (are 3) h3;
-        coin_vault = base64_of-bytes (field_at row 4) coin_vault (are 4) h4;
-        pc_vault = base64_of-bytes (field_at row 5) pc_vault (are 5) h5;
-        requests = base64_of-bytes (field_at row 6) requests (are 6) h6;
-        events = base64_of-bytes (field_at row 7) events (are 7) h7;
-        bids = base64_of-bytes (field_at row 8) bids (are 8) h8;
-        asks = base64_of-bytes (field_at row 9) asks (are 9) h9;
-        orders = All-nil IsHeld;
-      }, refl)))))))))))
+      gives-some IsRead _ (
+        record {
+          address = address_of-address (field_at row 1) address h1;
+          authority = address_of-address (field_at row 2) authority h2;
+          market = base64_of-bytes (field_at row 3) market (are 3) h3;
+          coin_vault = base64_of-bytes (field_at row 4) coin_vault (are 4) h4;
+          pc_vault = base64_of-bytes (field_at row 5) pc_vault (are 5) h5;
+          requests = base64_of-bytes (field_at row 6) requests (are 6) h6;
+          events = base64_of-bytes (field_at row 7) events (are 7) h7;
+          bids = base64_of-bytes (field_at row 8) bids (are 8) h8;
+          asks = base64_of-bytes (field_at row 9) asks (are 9) h9;
+          orders = All-nil IsHeld;
+        },
+        refl,
+      )))))))))))
 
   end-read : Gives IsRead (end_of row)
   unfolding end_of

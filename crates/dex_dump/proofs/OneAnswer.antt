@@ -11,9 +11,8 @@ use Rattle.dex_dump.specs.Answers.{Adds, Answers, AnswersDump, AnswersText, Ends
 use Rattle.dex_dump.specs.Answers.Ends.{AtEnd, AtRow, AtAccount}
 use Rattle.dex_dump.specs.Checks.{AccountCheck, AllHold, Check, Fails, FirstFails, Holds, checks}
 use Rattle.dex_dump.specs.Checks.Check.{Rules, Slab}
-use Rattle.dex_dump.specs.DumpText.{Fields}
-use Rattle.dex_dump.specs.Lines.{PlainLine}
-use Rattle.dex_dump.specs.Lines.PlainLine.{End}
+use Rattle.dex_dump_rows.specs.Lines.{Fields, PlainLine}
+use Rattle.dex_dump_rows.specs.Lines.PlainLine.{End}
 use Rattle.dex_dump.specs.Reading.{PlainReading, after_line, start}
 
 -- ---- checks that all hold have no first that fails

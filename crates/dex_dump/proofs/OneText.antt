@@ -4,9 +4,9 @@ use Rattle.std.specs.List.{flat_map}
 use Rattle.dex_types.specs.declared.addresses.Address.{Address}
 use Rattle.dex_types.specs.Accounts.{PlainAccount, PlainAccounts, PlainMarketAccounts}
 use Rattle.dex_dump.specs.Accepted.{HoldBytes, IsAddress, IsHeld, IsHeldMarket}
-use Rattle.dex_dump.specs.DumpText.{Fields, account_rows, dump_rows, dump_text, last_row, market_rows, mint_row, named_rows, orders_row, wallet_row}
-use Rattle.dex_dump.specs.Lines.{PlainLine, line_of}
-use Rattle.dex_dump.specs.Lines.PlainLine.{Mint, Srm, Msrm, Wallet, Market, Orders}
+use Rattle.dex_dump.specs.DumpText.{account_rows, dump_rows, dump_text, last_row, market_rows, mint_row, named_rows, orders_row, wallet_row}
+use Rattle.dex_dump_rows.specs.Lines.{Fields, PlainLine, line_of}
+use Rattle.dex_dump_rows.specs.Lines.PlainLine.{Mint, Srm, Msrm, Wallet, Market, Orders}
 use Rattle.dex_dump.specs.Reading.{start}
 use Rattle.dex_dump.proofs.EachRow.{first_of, others_of}
 use Rattle.dex_dump.proofs.RowLaws.{one_text}

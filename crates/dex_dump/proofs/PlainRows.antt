@@ -1,7 +1,7 @@
 -- The fields of each row of a dump are plain.
 use Rattle.std.proofs.Common.{◌≡◌, ℕ, Bool, List, true, refl}
 use Rattle.std.specs.List.{list_all}
-use Rattle.dex_dump.specs.DumpText.{Fields}
+use Rattle.dex_dump_rows.specs.Lines.{Fields}
 use Rattle.dex_dump.proofs.EachRow.{EachRow}
 use Rattle.dex_dump.proofs.FieldLaws.{address_plain, base64_plain, is_plain}
 

@@ -27,9 +27,8 @@ use Rattle.dex_dump.specs.Accepted.{AreAccepted, AreApart as NamesApart, HasMint
 use Rattle.dex_dump.specs.Answers.{Adds, Answers, AnswersDump, AnswersText, Ends, PlainAnswer, PlainDump, if_allowed, if_over, next_number, with_end}
 use Rattle.dex_dump.specs.Answers.Ends.{AtEnd, AtRow, AtAccount}
 use Rattle.dex_dump.specs.Checks.{AllHold, checks}
-use Rattle.dex_dump.specs.DumpText.{Fields}
-use Rattle.dex_dump.specs.Lines.{PlainLine, line_of}
-use Rattle.dex_dump.specs.Lines.PlainLine.{Mint, Srm, Msrm, Wallet, Market, Orders, End}
+use Rattle.dex_dump_rows.specs.Lines.{Fields, PlainLine, line_of}
+use Rattle.dex_dump_rows.specs.Lines.PlainLine.{Mint, Srm, Msrm, Wallet, Market, Orders, End}
 use Rattle.dex_dump.specs.Reading.{PlainReading, has_room, is_allowed, is_among, is_mint, is_name, market_addresses, parts_of, start, taken_by, with_line, with_orders}
 use Rattle.dex_dump.specs.Telling.{TellsAccounts, plain_dump}
 use Rattle.dex_dump.proofs.CheckLaws.{IsMarketHere, market_held, orders_held, side_held, vault_held, wallet_held}

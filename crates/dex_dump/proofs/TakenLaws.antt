@@ -10,8 +10,8 @@ use Rattle.dex_types.specs.Accounts.{PlainAccount, PlainAccounts, PlainMarketAcc
 use Rattle.dex_types.specs.Addresses.{is_same}
 use Rattle.dex_laws.proofs.TraderLaws.{is_same-true}
 use Rattle.dex_dump.specs.Accepted.{address_of, addresses_of, all_of_market, times}
-use Rattle.dex_dump.specs.Lines.{PlainLine}
-use Rattle.dex_dump.specs.Lines.PlainLine.{Mint, Srm, Msrm, Wallet, Market, Orders, End}
+use Rattle.dex_dump_rows.specs.Lines.{PlainLine}
+use Rattle.dex_dump_rows.specs.Lines.PlainLine.{Mint, Srm, Msrm, Wallet, Market, Orders, End}
 use Rattle.dex_dump.specs.Reading.{PlainReading, has_room, is_allowed, is_among, market_addresses, taken_by, with_line, with_orders}
 use Rattle.dex_dump.proofs.LineLaws.{IsRead}
 

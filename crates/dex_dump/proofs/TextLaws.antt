@@ -1,9 +1,11 @@
 -- The text of rows, one after the other.
-use Rattle.std.proofs.Common.{◌≡◌, ◌<◌, ◌+◌, [], ◌∷◌, ◌++◌, ◌∙◌, ℕ, List, append_assoc, append-nil, refl, sym, ap, map, take, get_or, length}
+use Rattle.std.proofs.Common.{◌≡◌, ◌<◌, ◌+◌, [], ◌∷◌, ◌++◌, ◌∙◌, ℕ, List, append_assoc, append-nil, refl, sym, All, ap, map, take, get_or, length, subst}
 use Rattle.std.specs.List.{flat_map}
+use Rattle.std.proofs.lemmas.List.Elements.{All-push}
 use Rattle.std.proofs.lemmas.List.{map-append, map_more}
 use Rattle.std.proofs.lemmas.Grind.{flat_map-append}
-use Rattle.dex_dump.specs.DumpText.{Fields, line_text, lines_text}
+use Rattle.dex_dump_rows.specs.Lines.{Fields}
+use Rattle.dex_dump.specs.DumpText.{line_text, lines_text}
 
 -- the text of rows is that of a front and of the rest
 pub lines_text-append : (rows others : List Fields) → lines_text (rows ++ others) ≡ lines_text rows ++ lines_text others
@@ -36,3 +38,9 @@ pub pieces : (t a b c d e f g h : List ℕ)
     → (((((((t ++ a) ++ b) ++ c) ++ d) ++ e) ++ f) ++ g) ++ h ≡ t ++ (a ++ (b ++ (c ++ (d ++ (e ++ (f ++ (g ++ h)))))))
 pieces t a b c d e f g h =
     append_assoc _ g h ∙ append_assoc _ f (g ++ h) ∙ append_assoc _ e _ ∙ append_assoc _ d _ ∙ append_assoc _ c _ ∙ append_assoc _ b _ ∙ append_assoc t a _
+
+-- what holds of each up to a place, and of the next
+pub held_more : {A B : Type 0} (P : B → Type 0) (plain : A → B) (xs : List A) (i : ℕ) (x : A) → i < length xs → x ≡ get_or xs i x
+    → All P (map plain (take i xs)) → P (plain x) → All P (map plain (take (i + 1) xs))
+held_more P plain xs i x h here before next =
+    subst (All P) (sym (map_more plain xs i x h ∙ ap (λ (y : _). map plain (take i xs) ++ plain y ∷ []) (sym here))) (All-push P (map plain (take i xs)) (plain x) before next)

@@ -6,9 +6,8 @@ use Rattle.dex_types.specs.Accounts.{PlainAccounts}
 use Rattle.dex_rows.specs.Records.{rows_of}
 use Rattle.dex_dump.specs.declared.faults.DumpFault.{DumpFault}
 use Rattle.dex_dump.specs.Checks.{AllHold, FirstFails, checks}
-use Rattle.dex_dump.specs.DumpText.{Fields}
-use Rattle.dex_dump.specs.Lines.{PlainLine, is_first_row, line_of}
-use Rattle.dex_dump.specs.Lines.PlainLine.{End}
+use Rattle.dex_dump_rows.specs.Lines.{Fields, PlainLine, is_first_row, line_of}
+use Rattle.dex_dump_rows.specs.Lines.PlainLine.{End}
 use Rattle.dex_dump.specs.Reading.{PlainReading, after_line, is_allowed, start}
 
 -- what a dump's rows say: the accounts, how many rows they are, and the rows behind them

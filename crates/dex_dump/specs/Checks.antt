@@ -24,8 +24,8 @@ use Rattle.dex_slab.specs.declared.slab_fault.SlabFault.{SlabFault}
 use Rattle.dex_slab.specs.Blank.{side_flags}
 use Rattle.dex_slab.specs.Faults.{IsFault}
 use Rattle.dex_slab.specs.Slab.{IsSlab}
-use Rattle.dex_dump.specs.Lines.{PlainLine}
-use Rattle.dex_dump.specs.Lines.PlainLine.{Mint, Wallet, Market, Orders}
+use Rattle.dex_dump_rows.specs.Lines.{PlainLine}
+use Rattle.dex_dump_rows.specs.Lines.PlainLine.{Mint, Wallet, Market, Orders}
 use Rattle.dex_dump.specs.Reading.{PlainReading, is_among, is_mint}
 
 -- ---- the lower of two faults of one account

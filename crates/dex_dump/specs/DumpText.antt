@@ -6,10 +6,7 @@ use Rattle.base64.specs.GeneralPurpose.{encode_of}
 use Rattle.dex_types.specs.declared.addresses.Address.{Address}
 use Rattle.dex_types.specs.Accounts.{PlainAccount, PlainAccounts, PlainMarketAccounts}
 use Rattle.dex_types.specs.Text.{address_text}
-
--- the fields of one row
-abbrev pub Fields : Type 0
-Fields = List (List ℕ)
+use Rattle.dex_dump_rows.specs.Lines.{Fields}
 
 -- the bytes of an account in base64, of the standard alphabet and with padding
 unfoldable pub base64_text : List ℕ → List ℕ

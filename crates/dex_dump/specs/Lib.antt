@@ -1,5 +1,4 @@
 pub mod DumpText
-pub mod Lines
 pub mod Reading
 pub mod Checks
 pub mod Answers

@@ -5,8 +5,8 @@ use Rattle.dex_types.specs.declared.addresses.Address.{Address}
 use Rattle.dex_types.specs.Accounts.{PlainAccount, PlainAccounts, PlainMarketAccounts}
 use Rattle.dex_types.specs.Addresses.{is_same}
 use Rattle.dex_market.specs.MarketAccount.{MarketTerms, market_words}
-use Rattle.dex_dump.specs.Lines.{PlainLine}
-use Rattle.dex_dump.specs.Lines.PlainLine.{Mint, Srm, Msrm, Wallet, Market, Orders, End}
+use Rattle.dex_dump_rows.specs.Lines.{PlainLine}
+use Rattle.dex_dump_rows.specs.Lines.PlainLine.{Mint, Srm, Msrm, Wallet, Market, Orders, End}
 
 -- the accounts so far, and every address that is taken: those that rows declare, and those of each market's vaults, queues and sides
 pub record PlainReading : Type 0 where

@@ -1,12 +1,7 @@
 -- What the answer of a call about a row tells, without its buffers.
-use Rattle.std.specs.Prelude.{◌≡◌, ℕ, Bool, true, false, List, Option, Some, None, Result, Ok, Err}
+use Rattle.std.specs.Prelude.{◌≡◌, ℕ, Bool, true, false, List, Some, Result, Ok, Err}
 use Rattle.dex_types.specs.declared.account_bytes.Accounts.{Accounts}
-use Rattle.dex_types.specs.declared.account_bytes.Named.{Named}
-use Rattle.dex_types.specs.Accounts.{PlainAccount, accounts_of, market_accounts_of, named_of, orders_account_of}
-use Rattle.dex_dump.specs.declared.lines.Line.{Line}
-use Rattle.dex_dump.specs.declared.lines.Line.TheVariants as row
-use Rattle.dex_dump.specs.declared.lines.LineError.{LineError}
-use Rattle.dex_dump.specs.declared.lines.LineError.TheVariants.{Grammar, NoMemory}
+use Rattle.dex_types.specs.Accounts.{accounts_of}
 use Rattle.dex_dump.specs.declared.reading.Reading.{Reading}
 use Rattle.dex_dump.specs.declared.checks.Failed.{Failed}
 use Rattle.dex_dump.specs.declared.reading.Stop.{Stop}
@@ -15,33 +10,10 @@ use Rattle.dex_dump.specs.declared.faults.DumpError.{DumpError}
 use Rattle.dex_dump.specs.declared.faults.DumpError.TheVariants as dump
 use Rattle.dex_dump.specs.declared.reader.DumpRead.{DumpRead}
 use Rattle.dex_dump.specs.Answers.{Adds, Answers, AnswersDump, AnswersText, Ends, PlainDump, stated}
-use Rattle.dex_dump.specs.DumpText.{Fields}
 use Rattle.dex_dump.specs.Checks.{AccountCheck, AllHold, FirstFails, checks}
-use Rattle.dex_dump.specs.Lines.{PlainLine}
-use Rattle.dex_dump.specs.Lines.PlainLine.{Mint, Srm, Msrm, Wallet, Market, Orders, End}
+use Rattle.dex_dump_rows.specs.Lines.{Fields, PlainLine}
+use Rattle.dex_dump_rows.specs.Lines.PlainLine.{End}
 use Rattle.dex_dump.specs.Reading.{PlainReading, after_line, start}
-
--- a line without its buffers
-abbrev pub plain_line : Line → PlainLine
-plain_line (row.Mint mint) = Mint (named_of mint)
-plain_line (row.Srm mint) = Srm mint
-plain_line (row.Msrm mint) = Msrm mint
-plain_line (row.Wallet wallet) = Wallet (named_of wallet)
-plain_line (row.Market market) = Market (market_accounts_of market)
-plain_line (row.Orders market account) = Orders market (orders_account_of account)
-plain_line row.End = End
-
--- The answer is what is meant: a line, or that the row has none of the forms. Want of memory tells nothing.
-abbrev pub TellsLine : Result Line LineError → Option PlainLine → Type 0
-TellsLine (Ok line) meant = meant ≡ Some (plain_line line)
-TellsLine (Err Grammar) meant = meant ≡ None
-TellsLine (Err NoMemory) meant = Unit {0}
-
--- the same of an account
-abbrev pub TellsAccount : Result Named LineError → Option PlainAccount → Type 0
-TellsAccount (Ok account) meant = meant ≡ Some (named_of account)
-TellsAccount (Err Grammar) meant = meant ≡ None
-TellsAccount (Err NoMemory) meant = Unit {0}
 
 -- what was read
 abbrev pub plain_reading : Reading → PlainReading

@@ -340,7 +340,8 @@ fn side_flags_rule(side: Side, bytes: &[u8]) -> Option<AccountFault>
 /// The vaults, queues and sides of a market whose own account holds.
 pub fn check_parts(accounts: &MarketAccounts) -> Result<(), Failed>
     requires { length accounts.now.market.items ≡ 388 }
-    ensures { TellsChecks result (part_checks (market_account.market_terms accounts.now.market.items) (market_accounts_of accounts.now)) }
+    ensures { TellsChecks result
+        (part_checks (market_account.market_terms accounts.now.market.items) (market_accounts_of accounts.now)) }
 {
     let bytes = &accounts.market;
     check_vaults(accounts)?;
@@ -352,7 +353,8 @@ pub fn check_parts(accounts: &MarketAccounts) -> Result<(), Failed>
 
 fn check_vaults(accounts: &MarketAccounts) -> Result<(), Failed>
     requires { length accounts.now.market.items ≡ 388 }
-    ensures { TellsChecks result (vault_checks (market_account.market_terms accounts.now.market.items) (market_accounts_of accounts.now)) }
+    ensures { TellsChecks result
+        (vault_checks (market_account.market_terms accounts.now.market.items) (market_accounts_of accounts.now)) }
 {
     let bytes = &accounts.market;
     by_rules(
@@ -368,7 +370,8 @@ fn check_vaults(accounts: &MarketAccounts) -> Result<(), Failed>
 
 fn check_queues(accounts: &MarketAccounts) -> Result<(), Failed>
     requires { length accounts.now.market.items ≡ 388 }
-    ensures { TellsChecks result (queue_checks (market_account.market_terms accounts.now.market.items) (market_accounts_of accounts.now)) }
+    ensures { TellsChecks result
+        (queue_checks (market_account.market_terms accounts.now.market.items) (market_accounts_of accounts.now)) }
 {
     let bytes = &accounts.market;
     by_rules(

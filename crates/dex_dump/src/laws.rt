@@ -2,9 +2,10 @@
 
 ghost use Rattle.std.specs.Prelude.{◌≡◌, ℕ, List, ◌++◌, Ok};
 ghost use Rattle.dex_types.specs.Accounts.{PlainAccounts};
+ghost use Rattle.dex_dump_rows.specs.Lines.{Fields};
 ghost use Rattle.dex_dump.specs.Accepted.{AreAccepted, HoldBytes};
 ghost use Rattle.dex_dump.specs.Answers.{AnswersDump, AnswersText, AreReadAs, IsReadAs, PlainDump};
-ghost use Rattle.dex_dump.specs.DumpText.{Fields, dump_rows, dump_text};
+ghost use Rattle.dex_dump.specs.DumpText.{dump_rows, dump_text};
 
 /// One text is the dump of one exchange: accounts of bytes at addresses of 32 bytes that are written as one text are the
 /// same accounts, and where something stands behind two dumps, that is the same too.
@@ -18,13 +19,16 @@ pub fn one_text_is_of_one_exchange()
 /// What is read is accepted, and holds bytes: the accounts of a text that is a dump, and those of a dump behind which
 /// something stands.
 pub fn what_is_read_is_accepted()
-    ensures alone { (text : List ℕ) (accounts : PlainAccounts) → AnswersText text (Ok accounts) → AreAccepted accounts × HoldBytes accounts }
-    ensures behind { (rows : List Fields) (dump : PlainDump) → AnswersDump rows (Ok dump) → AreAccepted dump.accounts × HoldBytes dump.accounts }
+    ensures alone { (text : List ℕ) (accounts : PlainAccounts) → AnswersText text (Ok accounts)
+        → AreAccepted accounts × HoldBytes accounts }
+    ensures behind { (rows : List Fields) (dump : PlainDump) → AnswersDump rows (Ok dump)
+        → AreAccepted dump.accounts × HoldBytes dump.accounts }
 {}
 
 /// What is written of accepted accounts is read back as them, and as nothing else, also where rows stand behind it.
 pub fn what_is_written_is_read_back()
-    ensures alone { (accounts : PlainAccounts) → AreAccepted accounts → HoldBytes accounts → IsReadAs (dump_text accounts) accounts }
+    ensures alone { (accounts : PlainAccounts) → AreAccepted accounts → HoldBytes accounts
+        → IsReadAs (dump_text accounts) accounts }
     ensures behind { (accounts : PlainAccounts) (rows : List Fields) → AreAccepted accounts → HoldBytes accounts
         → AreReadAs (dump_rows accounts ++ rows) accounts rows }
 {}

@@ -4,11 +4,11 @@
 mod checks;
 pub mod faults;
 mod laws;
-mod lines;
 mod reader;
 mod reading;
 mod writing;
 
+pub use dex_dump_rows::is_first_row;
 pub use dex_make::{
     MarketPart, MarketSet, a_made_market_is_sound,
     accounts_with_blank_ones_stand_for_the_market_with_them, derived, make_market, make_mint,
@@ -18,7 +18,6 @@ pub use faults::{DumpError, DumpFault};
 pub use laws::{
     one_text_is_of_one_exchange, what_is_read_is_accepted, what_is_written_is_read_back,
 };
-pub use lines::is_first_row;
 pub use reader::{DumpRead, read_dump, read_rows};
 pub use writing::{append_dump, write_dump};
 

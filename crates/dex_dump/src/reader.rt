@@ -9,9 +9,9 @@ ghost use Rattle.dex_dump.specs.Telling.{TellsAccounts, TellsDump, TellsRow, Tel
 
 use crate::checks::Failed;
 use crate::faults::{DumpError, DumpFault};
-use crate::lines::{Line, LineError, is_first_row, line_of};
 use crate::reading::{Reading, Stop};
 use csv::ByteRecord;
+use dex_dump_rows::{Line, LineError, is_first_row, line_of};
 use dex_rows::records::Rows;
 use dex_types::{AccountFault, Accounts};
 use std::alloc::Global;

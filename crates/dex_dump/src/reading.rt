@@ -6,14 +6,15 @@ ghost use Rattle.dex_types.specs.Accounts.{accounts_of, market_accounts_of, name
 ghost use Rattle.dex_types.specs.Addresses as addresses;
 ghost use Rattle.dex_market.specs.MarketAccount.{market_terms};
 ghost use Rattle.dex_dump.specs.Reading as spec;
-ghost use Rattle.dex_dump.specs.Lines.PlainLine.{Market, Mint, Orders, Wallet};
-ghost use Rattle.dex_dump.specs.Telling.{TakesLine, plain_line, plain_reading};
+ghost use Rattle.dex_dump_rows.specs.Lines.PlainLine.{Market, Mint, Orders, Wallet};
+ghost use Rattle.dex_dump.specs.Telling.{TakesLine, plain_reading};
+ghost use Rattle.dex_dump_rows.specs.Telling.{plain_line};
 ghost use Rattle.dex_dump.specs.declared.reading.Stop.TheVariants as stop;
 
 use crate::checks::{
     Failed, address_in, by_rules, check_parts, market_rule, orders_rule, wallet_rule,
 };
-use crate::lines::Line;
+use dex_dump_rows::Line;
 use dex_fields::market;
 use dex_token::check_mint;
 use dex_types::{Accounts, Address, MarketAccounts, Named, NoMemory, OrdersAccount, is_same};
@@ -100,8 +101,8 @@ impl Reading {
         }
     }
 
-    /// Whether a row may state this behind what was read: it declares no address twice, names what earlier rows declare,
-    /// and passes no limit.
+    /// Whether a row may state this behind what was read: it declares no address twice, names what earlier rows
+    /// declare, and passes no limit.
     pub fn is_allowed(&self, line: &Line) -> bool
         ensures { result ≡ spec.is_allowed (plain_reading self.now) (plain_line line.now) }
     {
@@ -169,7 +170,8 @@ impl Reading {
 
     #[tactic(auto, unfolding(crate::specs::Checks::checks))]
     fn take_market(&mut self, market: MarketAccounts) -> Result<(), Stop>
-        ensures { TakesLine result (plain_reading self.old) (plain_reading self.new) (Market (market_accounts_of market)) }
+        ensures { TakesLine result (plain_reading self.old) (plain_reading self.new)
+            (Market (market_accounts_of market)) }
     {
         let fault = market_rule(self, market.address, &market.market);
         by_rules(market.address, fault)?;
@@ -182,7 +184,8 @@ impl Reading {
 
     #[tactic(auto, unfolding(crate::specs::Checks::checks))]
     fn take_orders(&mut self, market: Address, account: OrdersAccount) -> Result<(), Stop>
-        ensures { TakesLine result (plain_reading self.old) (plain_reading self.new) (Orders market (orders_account_of account)) }
+        ensures { TakesLine result (plain_reading self.old) (plain_reading self.new)
+            (Orders market (orders_account_of account)) }
     {
         by_rules(account.address, orders_rule(market, &account.bytes))?;
         self.taken.push(account.address)?;

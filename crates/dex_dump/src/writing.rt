@@ -1,10 +1,13 @@
 //! Writing a dump.
 
-ghost use Rattle.std.specs.Prelude.{◌≡◌, [], ◌∷◌, ◌++◌, IfOk, OnOk, codes, map};
-ghost use Rattle.std.specs.List.{flat_map};
+ghost use Rattle.std.specs.Prelude.{◌≡◌, [], ◌∷◌, ◌++◌, IfOk, IfSome, OnOk, codes, map};
+ghost use Rattle.std.specs.List.{All, flat_map};
 ghost use Rattle.std.specs.String.{string_bytes};
 ghost use Rattle.dex_types.specs.Accounts.{accounts_of, market_accounts_of, named_of, orders_account_of};
 ghost use Rattle.dex_types.specs.Text.{address_text};
+ghost use Rattle.hex.specs.Hex.{IsBytes};
+ghost use Rattle.dex_dump.specs.Accepted.{AreAccepted, HoldBytes, IsAddress, IsHeld, IsHeldMarket};
+ghost use Rattle.dex_dump.specs.Answers.{IsReadAs};
 ghost use Rattle.dex_dump.specs.DumpText.{base64_text, behind_first, dump_text, line_text, lines_text, market_fields, market_row, market_rows, mint_row, named_rows, orders_row, wallet_row};
 
 use base64::engine::general_purpose::STANDARD;
@@ -16,9 +19,11 @@ use std::fmt::Write;
 ///
 /// A mint, a wallet or an open-orders account is one field of base64, with the standard alphabet and padding; the row of
 /// a market has one for each of its seven accounts, and its open-orders accounts have rows behind it. The rows `srm` and
-/// `msrm` stand behind the mints, where such a mint is named.
+/// `msrm` stand behind the mints, where such a mint is named. Accepted accounts are read back from it.
 pub fn write_dump(alloc: Global, accounts: &Accounts) -> Result<Vec<u8>, NoMemory>
-    ensures { IfOk result (λ text. text.items ≡ dump_text (accounts_of accounts.now)) }
+    ensures text { IfOk result (λ text. text.items ≡ dump_text (accounts_of accounts.now)) }
+    ensures read_back { IfOk result (λ text.
+        AreAccepted (accounts_of accounts.now) → IsReadAs text.items (accounts_of accounts.now)) }
 {
     let mut text = String::new(alloc);
     match append_dump(&mut text, accounts) {
@@ -27,9 +32,11 @@ pub fn write_dump(alloc: Global, accounts: &Accounts) -> Result<Vec<u8>, NoMemor
     }
 }
 
-/// Writes the dump of all accounts behind a text. Where memory is wanting, a part of it may have been written.
+/// Writes the dump of all accounts behind a text. Where memory is wanting, a part of it may have been written. What was
+/// written are bytes, at addresses of 32 of them, as all buffers and addresses hold.
 pub fn append_dump(text: &mut String, accounts: &Accounts) -> Result<(), AllocError>
-    ensures { OnOk result (string_bytes text.new ≡ string_bytes text.old ++ dump_text (accounts_of accounts.now)) }
+    ensures text { OnOk result (string_bytes text.new ≡ string_bytes text.old ++ dump_text (accounts_of accounts.now)) }
+    ensures held { OnOk result (HoldBytes (accounts_of accounts.now)) }
 {
     write_word(text, "dump\n")?;
     write_mints(text, &accounts.mints)?;
@@ -42,7 +49,9 @@ pub fn append_dump(text: &mut String, accounts: &Accounts) -> Result<(), AllocEr
 }
 
 fn write_mints(text: &mut String, mints: &[Named]) -> Result<(), AllocError>
-    ensures { OnOk result (string_bytes text.new ≡ string_bytes text.old ++ lines_text (map mint_row (map named_of mints.now))) }
+    ensures text { OnOk result (string_bytes text.new
+        ≡ string_bytes text.old ++ lines_text (map mint_row (map named_of mints.now))) }
+    ensures held { OnOk result (All IsHeld (map named_of mints.now)) }
 {
     for mint in mints {
         write_account(text, "mint", mint)?;
@@ -51,7 +60,9 @@ fn write_mints(text: &mut String, mints: &[Named]) -> Result<(), AllocError>
 }
 
 fn write_wallets(text: &mut String, wallets: &[Named]) -> Result<(), AllocError>
-    ensures { OnOk result (string_bytes text.new ≡ string_bytes text.old ++ lines_text (map wallet_row (map named_of wallets.now))) }
+    ensures text { OnOk result (string_bytes text.new
+        ≡ string_bytes text.old ++ lines_text (map wallet_row (map named_of wallets.now))) }
+    ensures held { OnOk result (All IsHeld (map named_of wallets.now)) }
 {
     for wallet in wallets {
         write_account(text, "wallet", wallet)?;
@@ -60,8 +71,9 @@ fn write_wallets(text: &mut String, wallets: &[Named]) -> Result<(), AllocError>
 }
 
 fn write_markets(text: &mut String, markets: &[MarketAccounts]) -> Result<(), AllocError>
-    ensures { OnOk result (string_bytes text.new
+    ensures text { OnOk result (string_bytes text.new
         ≡ string_bytes text.old ++ lines_text (flat_map market_rows (map market_accounts_of markets.now))) }
+    ensures held { OnOk result (All IsHeldMarket (map market_accounts_of markets.now)) }
 {
     for market in markets {
         write_market(text, market)?;
@@ -75,8 +87,9 @@ fn write_orders(
     market: Address,
     accounts: &[OrdersAccount],
 ) -> Result<(), AllocError>
-    ensures { OnOk result (string_bytes text.new
+    ensures text { OnOk result (string_bytes text.new
         ≡ string_bytes text.old ++ lines_text (map (orders_row market) (map orders_account_of accounts.now))) }
+    ensures held { OnOk result (All IsHeld (map orders_account_of accounts.now)) }
 {
     for account in accounts {
         write_orders_account(text, market, account)?;
@@ -86,7 +99,9 @@ fn write_orders(
 
 /// The row of a mint that has a name, if there is one.
 fn write_name(text: &mut String, word: &str, mint: Option<Address>) -> Result<(), AllocError>
-    ensures { OnOk result (string_bytes text.new ≡ string_bytes text.old ++ lines_text (named_rows word.now mint)) }
+    ensures text { OnOk result (string_bytes text.new
+        ≡ string_bytes text.old ++ lines_text (named_rows word.now mint)) }
+    ensures held { OnOk result (IfSome mint IsAddress) }
 {
     let Some(mint) = mint else {
         return Ok(());
@@ -99,8 +114,9 @@ fn write_name(text: &mut String, word: &str, mint: Option<Address>) -> Result<()
 
 /// The row of a mint or a wallet.
 fn write_account(text: &mut String, word: &str, account: &Named) -> Result<(), AllocError>
-    ensures { OnOk result (string_bytes text.new ≡ string_bytes text.old
+    ensures text { OnOk result (string_bytes text.new ≡ string_bytes text.old
         ++ line_text (word.now ∷ address_text account.now.address ∷ base64_text account.now.bytes.items ∷ [])) }
+    ensures held { OnOk result (IsHeld (named_of account.now)) }
 {
     write_word(text, word)?;
     write_address(text, account.address)?;
@@ -115,8 +131,9 @@ fn write_orders_account(
     market: Address,
     account: &OrdersAccount,
 ) -> Result<(), AllocError>
-    ensures { OnOk result (string_bytes text.new
+    ensures text { OnOk result (string_bytes text.new
         ≡ string_bytes text.old ++ line_text (orders_row market (orders_account_of account.now))) }
+    ensures held { OnOk result (IsHeld (orders_account_of account.now)) }
 {
     write_word(text, "orders")?;
     write_address(text, market)?;
@@ -128,8 +145,9 @@ fn write_orders_account(
 
 /// The row of a market, without its open-orders accounts.
 fn write_market(text: &mut String, market: &MarketAccounts) -> Result<(), AllocError>
-    ensures { OnOk result (string_bytes text.new
+    ensures text { OnOk result (string_bytes text.new
         ≡ string_bytes text.old ++ line_text (market_row (market_accounts_of market.now))) }
+    ensures held { OnOk result (IsHeldMarket (record (market_accounts_of market.now) { orders = [] })) }
 {
     write_word(text, "market")?;
     write_address(text, market.address)?;
@@ -140,8 +158,10 @@ fn write_market(text: &mut String, market: &MarketAccounts) -> Result<(), AllocE
 
 /// The accounts of a market's row, and its end.
 fn write_market_fields(text: &mut String, market: &MarketAccounts) -> Result<(), AllocError>
-    ensures { OnOk result (string_bytes text.new
+    ensures text { OnOk result (string_bytes text.new
         ≡ string_bytes text.old ++ behind_first (market_fields (market_accounts_of market.now))) }
+    ensures held { OnOk result (IsAddress market.now.address → IsAddress market.now.authority
+        → IsHeldMarket (record (market_accounts_of market.now) { orders = [] })) }
 {
     write_bytes(text, &market.market)?;
     write_bytes(text, &market.coin_vault)?;
@@ -162,7 +182,8 @@ fn write_word(text: &mut String, word: &str) -> Result<(), AllocError>
 
 /// A comma, and an address.
 fn write_address(text: &mut String, address: Address) -> Result<(), AllocError>
-    ensures { OnOk result (string_bytes text.new ≡ string_bytes text.old ++ (44 ∷ address_text address)) }
+    ensures text { OnOk result (string_bytes text.new ≡ string_bytes text.old ++ (44 ∷ address_text address)) }
+    ensures held { OnOk result (IsAddress address) }
 {
     write!(text, ",{address}")
 }
@@ -170,7 +191,8 @@ fn write_address(text: &mut String, address: Address) -> Result<(), AllocError>
 /// A comma, and the bytes of an account.
 #[tactic(auto, unfolding(crate::specs::DumpText::base64_text))]
 fn write_bytes(text: &mut String, bytes: &[u8]) -> Result<(), AllocError>
-    ensures { OnOk result (string_bytes text.new ≡ string_bytes text.old ++ (44 ∷ base64_text bytes.now)) }
+    ensures text { OnOk result (string_bytes text.new ≡ string_bytes text.old ++ (44 ∷ base64_text bytes.now)) }
+    ensures held { OnOk result (IsBytes bytes.now) }
 {
     text.push(',')?;
     STANDARD.encode_string(bytes, text)

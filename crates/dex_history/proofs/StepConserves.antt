@@ -74,7 +74,7 @@ unless-paid : (reason : Option Refusal) (m : Market) (acted : Step) → ArePaid 
 unless-paid None m acted paid = paid
 unless-paid (Some refusal) m acted paid = still-paid m
 
-row-paid : (row : Asked) (seen : Seen) (m : Market) → IsSound m → ArePaid (asked_step row seen m).transfers m
+pub row-paid : (row : Asked) (seen : Seen) (m : Market) → IsSound m → ArePaid (asked_step row seen m).transfers m
 row-paid row seen m sound =
     unless-paid (why row.request seen m) m (act_decoded row.request.instruction row.request seen m) (decoded-paid row.request.instruction row.request seen m sound)
 

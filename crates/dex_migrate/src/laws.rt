@@ -12,18 +12,21 @@ ghost use Rattle.dex_types.specs.Soundness.{IsSound};
 
 /// Migrated accounts are accepted, where the accounts were.
 pub fn migrated_accounts_are_accepted()
-    ensures { (nodes events : ℕ) (old new : PlainAccounts) → AreMigrated nodes events old new → AreAccepted old → AreAccepted new }
+    ensures { (nodes events : ℕ) (old new : PlainAccounts) → AreMigrated nodes events old new
+        → AreAccepted old → AreAccepted new }
 {}
 
 /// Migrated accounts have the findings that the accounts had: so none, where they had none.
 pub fn migrated_accounts_have_the_same_findings()
-    ensures { (nodes events : ℕ) (old new : PlainAccounts) → AreMigrated nodes events old new → findings new ≡ findings old }
+    ensures { (nodes events : ℕ) (old new : PlainAccounts) → AreMigrated nodes events old new
+        → findings new ≡ findings old }
 {}
 
-/// The migrated accounts of a market stand for the same market with other capacities, which is sound where the market was.
+/// The migrated accounts of a market stand for the same market with other capacities, which is sound where the market
+/// was.
 pub fn migrated_accounts_stand_for_the_market_with_other_capacities()
-    ensures stands { (nodes events : ℕ) (old new : PlainMarketAccounts) (market : Market) → IsMigrated nodes events old new
-        → StandsFor old market → StandsFor new (with_capacities nodes events market) }
+    ensures stands { (nodes events : ℕ) (old new : PlainMarketAccounts) (market : Market)
+        → IsMigrated nodes events old new → StandsFor old market → StandsFor new (with_capacities nodes events market) }
     ensures sound { (nodes events : ℕ) (old : PlainMarketAccounts) (market : Market) → 1 ≤ nodes → Fits nodes events old
         → StandsFor old market → IsSound market → IsSound (with_capacities nodes events market) }
 {}

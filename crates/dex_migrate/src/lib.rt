@@ -1,4 +1,5 @@
-//! Accounts of another size: every side of the book with so many nodes, and every event queue with room for so many events.
+//! Accounts of another size: every side of the book with so many nodes, and every event queue with room for so many
+//! events.
 #![tactic(auto)]
 
 mod faults;

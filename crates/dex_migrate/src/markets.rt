@@ -49,7 +49,8 @@ fn migrate_at(
     requires fits { All (λ market. Fits nodes events (market_accounts_of market)) (drop place markets.old) }
     requires nodes { (1 ≤ nodes) × (nodes ≤ 65536) }
     requires events { (1 ≤ events) × (events ≤ 65535) }
-    ensures { OnOk result ((default : MarketAccounts) → IsMigratedAt nodes events place default markets.old markets.new) }
+    ensures { OnOk result ((default : MarketAccounts)
+        → IsMigratedAt nodes events place default markets.old markets.new) }
 {
     migrate_market(alloc, &mut markets[place], nodes, events)
 }
@@ -65,7 +66,8 @@ pub fn migrate_markets(
     requires fits { All (λ market. Fits nodes events (market_accounts_of market)) markets.old }
     requires nodes { (1 ≤ nodes) × (nodes ≤ 65536) }
     requires events { (1 ≤ events) × (events ≤ 65535) }
-    ensures { OnOk result (AllZip (IsMigrated nodes events) (map market_accounts_of markets.old) (map market_accounts_of markets.new)) }
+    ensures { OnOk result (AllZip (IsMigrated nodes events)
+        (map market_accounts_of markets.old) (map market_accounts_of markets.new)) }
 {
     for place in 0..markets.len() {
         migrate_at(alloc, markets, place, nodes, events)?;

@@ -1,6 +1,6 @@
 //! Accounts of another size.
 
-ghost use Rattle.std.specs.Prelude.{◌≡◌, ◌≤◌, MatchResult, Some, None};
+ghost use Rattle.std.specs.Prelude.{◌≡◌, ◌≤◌, IfOk, MatchResult, Some, None};
 ghost use Rattle.dex_dump.specs.Accepted.{AreAccepted};
 ghost use Rattle.dex_migrate.specs.Migrated.{AreMigrated};
 ghost use Rattle.dex_migrate.specs.Answers.{Answers};
@@ -12,11 +12,11 @@ use crate::too_small::first_fault;
 use dex_types::Accounts;
 use std::alloc::Global;
 
-/// The accounts with sides of so many nodes and event queues for so many events, from 1 to 65,536 and from 1 to 65,535; every
-/// order and every pending event stays, and all other accounts are as they were.
+/// The accounts with sides of so many nodes and event queues for so many events, from 1 to 65,536 and from 1 to 65,535;
+/// every order and every pending event stays, and all other accounts are as they were. They are accepted again.
 ///
-/// `TooSmall` comes exactly where a market has more bids or asks than such a side has room for, or more pending events than such a
-/// queue: it names the first such market, and of it bids before asks before events. Else only memory can be wanting.
+/// `TooSmall` comes exactly where a market has more bids or asks than such a side has room for, or more pending events than
+/// such a queue: it names the first such market, and of it bids before asks before events. Else only memory can be wanting.
 pub fn migrate(
     alloc: Global,
     accounts: Accounts,
@@ -26,7 +26,8 @@ pub fn migrate(
     requires accepted { AreAccepted (accounts_of accounts) }
     requires nodes { (1 ≤ nodes) × (nodes ≤ 65536) }
     requires events { (1 ≤ events) × (events ≤ 65535) }
-    ensures { Answers nodes events (accounts_of accounts) result }
+    ensures answer { Answers nodes events (accounts_of accounts) result }
+    ensures accepted { IfOk result (λ migrated. AreAccepted (accounts_of migrated)) }
 {
     if let Some(fault) = first_fault(&accounts.markets, nodes, events) {
         return Err(MigrateError::TooSmall(fault));

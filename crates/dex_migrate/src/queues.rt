@@ -52,7 +52,8 @@ fn copy_bytes(old: &[u8], bytes: &mut [u8])
     requires to { IsEventQueue bytes.old }
     requires empty { events_of bytes.old ≡ [] }
     requires fits { length (events_of old.now) ≤ (ring_of bytes.old).capacity }
-    ensures bytes { bytes.new ≡ with_number (pushed_all (events_of old.now) bytes.old) SEQ_NUM (ring_of old.now).seq_num }
+    ensures bytes { bytes.new
+        ≡ with_number (pushed_all (events_of old.now) bytes.old) SEQ_NUM (ring_of old.now).seq_num }
     ensures ring { ring_of bytes.new ≡ record (ring_of old.now) { capacity = (ring_of bytes.old).capacity } }
     ensures accepted { IsEventQueue bytes.new }
 {

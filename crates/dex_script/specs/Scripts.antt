@@ -7,7 +7,7 @@ use Rattle.dex_statement.specs.Faults.{◌>>=◌}
 use Rattle.dex_statement.specs.Words.{Fields}
 use Rattle.dex_dump.specs.declared.faults.DumpFault.{DumpFault}
 use Rattle.dex_dump.specs.Answers.{AnswersDump, PlainAnswer, next_number}
-use Rattle.dex_dump.specs.Lines.{is_first_row}
+use Rattle.dex_dump_rows.specs.Lines.{is_first_row}
 use Rattle.dex_audit_rules.specs.declared.finding.Finding.{Finding}
 use Rattle.dex_audit.specs.Findings.{findings}
 use Rattle.dex_script.specs.Drafts.{PlainDraft, PlainScript, behind_dump, no_rows}

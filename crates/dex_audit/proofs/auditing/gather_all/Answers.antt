@@ -7,11 +7,11 @@ use Rattle.dex_audit.proofs.auditing.gather_all.Goals as goal
 
 pub gather-requires : goal.gather-requires
 gather-requires c =
-    all-map market_accounts_of IsAccepted c.args.markets.now c.loop-place.place c.index-markets-place.result c.requires (omega arith) c.index-markets-place.is
+    all-map market_accounts_of IsAccepted c.args.markets.now c.loop-at.at c.index-markets-at.result c.requires (omega arith) c.index-markets-at.is
 
-pub loop-place-preserved : goal.loop-place-preserved
-loop-place-preserved c =
-    gathered-more c.loop-place.all.items c.add_gathered.new.all.items (map market_accounts_of c.args.markets.now) c.loop-place.place
-    (market_accounts_of c.index-markets-place.result) c.in_ok-one.one (omega (arith, length-map c.args.markets.now market_accounts_of)) c.in_ok-add_gathered.ensures
-    c.loop-place.invariant c.in_ok-one.ensures
-    (here-map market_accounts_of c.args.markets.now c.loop-place.place c.index-markets-place.result (omega arith) c.index-markets-place.is)
+pub loop-at-preserved : goal.loop-at-preserved
+loop-at-preserved c =
+    gathered-more c.loop-at.all.items c.add_gathered.new.all.items (map market_accounts_of c.args.markets.now) c.loop-at.at
+    (market_accounts_of c.index-markets-at.result) c.in_ok-one.one (omega (arith, length-map c.args.markets.now market_accounts_of)) c.in_ok-add_gathered.ensures
+    c.loop-at.invariant c.in_ok-one.ensures
+    (here-map market_accounts_of c.args.markets.now c.loop-at.at c.index-markets-at.result (omega arith) c.index-markets-at.is)

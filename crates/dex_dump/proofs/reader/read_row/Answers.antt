@@ -1,7 +1,8 @@
 use Rattle.std.proofs.Common.{ap, Err, true, ◌≡◌, ◌∙◌, sym}
 use Rattle.dex_dump.specs.Answers.Ends.{AtAccount}
 use Rattle.dex_dump.specs.Reading.{is_allowed}
-use Rattle.dex_dump.specs.Telling.{plain_line, plain_reading}
+use Rattle.dex_dump.specs.Telling.{plain_reading}
+use Rattle.dex_dump_rows.specs.Telling.{plain_line}
 use Rattle.dex_dump.proofs.AnswerLaws.{stated-allowed}
 use Rattle.dex_dump.proofs.reader.read_row.Goals as goal
 

@@ -1,21 +1,35 @@
-use Rattle.std.proofs.Common.{append-nil, append_assoc}
+use Rattle.std.proofs.Common.{All, List, append-nil, append_assoc, map, subst}
+use Rattle.dex_types.specs.declared.account_bytes.MarketAccounts.{MarketAccounts}
+use Rattle.dex_types.specs.declared.account_bytes.Named.{Named}
+use Rattle.dex_types.specs.Accounts.{market_accounts_of, named_of}
+use Rattle.dex_dump.specs.Accepted.{IsHeld, IsHeldMarket}
 use Rattle.dex_dump.specs.DumpText.{account_rows, behind_first, lines_text}
 use Rattle.dex_dump.proofs.TextLaws.{lines_text-append}
 use Rattle.dex_dump.proofs.writing.append_dump.Goals as goal
 
-pub returns : goal.returns
+pub returns-clause-text : goal.returns-clause-text
 unfolding account_rows behind_first lines_text
-returns c =
+returns-clause-text c =
     rw (
       c.in_ok-write_word-2.ensures,
-      c.in_ok-write_markets.ensures,
-      c.in_ok-write_wallets.ensures,
-      c.in_ok-write_name-2.ensures,
-      c.in_ok-write_name.ensures,
-      c.in_ok-write_mints.ensures,
+      c.in_ok-write_markets.ensures.text,
+      c.in_ok-write_wallets.ensures.text,
+      c.in_ok-write_name-2.ensures.text,
+      c.in_ok-write_name.ensures.text,
+      c.in_ok-write_mints.ensures.text,
       c.in_ok-write_word.ensures,
       c.deref.ensures.value,
       c.deref-2.ensures.value,
       c.deref-3.ensures.value,
     )
     (simp (lines_text-append, append_assoc, append-nil))
+
+pub returns-clause-held : goal.returns-clause-held
+returns-clause-held c = record {
+  mints = subst (λ (mints : List Named). All IsHeld (map named_of mints)) c.deref.ensures.value c.in_ok-write_mints.ensures.held;
+  srm = c.in_ok-write_name.ensures.held;
+  msrm = c.in_ok-write_name-2.ensures.held;
+  wallets = subst (λ (wallets : List Named). All IsHeld (map named_of wallets)) c.deref-2.ensures.value c.in_ok-write_wallets.ensures.held;
+  markets = subst (λ (markets : List MarketAccounts). All IsHeldMarket (map market_accounts_of markets)) c.deref-3.ensures.value
+      c.in_ok-write_markets.ensures.held;
+}

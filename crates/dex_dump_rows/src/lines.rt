@@ -2,10 +2,10 @@
 
 ghost use Rattle.std.specs.Prelude.{◌≡◌, ◌<◌};
 ghost use Rattle.csv.specs.Records.{fields_of};
-ghost use Rattle.dex_dump.specs.Lines as spec;
-ghost use Rattle.dex_dump.specs.Lines.{field_at, is_first_row};
-ghost use Rattle.dex_dump.specs.Telling.{TellsAccount, TellsLine};
-ghost use Rattle.dex_dump.specs.declared.lines.LineError.TheVariants.{Grammar, NoMemory as OutOfMemory};
+ghost use Rattle.dex_dump_rows.specs.Lines as spec;
+ghost use Rattle.dex_dump_rows.specs.Lines.{field_at, is_first_row};
+ghost use Rattle.dex_dump_rows.specs.Telling.{TellsAccount, TellsLine};
+ghost use Rattle.dex_dump_rows.specs.declared.lines.LineError.TheVariants.{Grammar, NoMemory as OutOfMemory};
 
 use csv::ByteRecord;
 use dex_rows::addresses::address_word;

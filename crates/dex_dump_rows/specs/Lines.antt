@@ -6,7 +6,10 @@ use Rattle.dex_types.specs.Accounts.{PlainAccount, PlainMarketAccounts}
 use Rattle.dex_rows.specs.Addresses.{address_of}
 use Rattle.dex_rows.specs.Base64.{base64_of}
 use Rattle.dex_rows.specs.Printable.{row_is_printable}
-use Rattle.dex_dump.specs.DumpText.{Fields}
+
+-- the fields of one row
+abbrev pub Fields : Type 0
+Fields = List (List ℕ)
 
 -- a row between the first and the last: an account, a name of a mint, or the end
 pub data PlainLine : Type 0 where

@@ -1,0 +1,9 @@
+use Rattle.std.proofs.Common.{◌≡◌, ◌≤◌, length, take}
+use Rattle.dex_types.specs.Cancel.{all_orders_of, taken_by_all}
+use Rattle.dex_cancel_slots.proofs.counting.count_listed.Given as goal
+
+abbrev pub invariant-loop-place : goal.invariant-loop-place
+invariant-loop-place g l = record {
+  count : l.count ≡ length (taken_by_all (take l.place (take l.ids.count l.ids.ids)) (all_orders_of l.account (g.B.SideRead.orders l.bids) (g.A.SideRead.orders l.asks)));
+  most : l.count ≤ l.place;
+}

@@ -1,0 +1,106 @@
+use Rattle.std.proofs.Common.{◌+◌, ◌≡◌, length, take, refl, sym, ap, ◌∙◌, arith}
+use Rattle.std.proofs.lemmas.List.{length-take, length-take-le}
+use Rattle.dex_types.specs.Cancel.{on_side, order_with, orders_of}
+use Rattle.dex_cancel.specs.Leaving.{queue_of, with_outs, without_all}
+use Rattle.dex_cancel.proofs.LeavingLaws.{room-now}
+use Rattle.dex_cancel_slots.specs.Given.{slots_in}
+use Rattle.dex_cancel_slots.proofs.NextLaws.{next-held, waiting-fewer}
+use Rattle.dex_cancel_slots.proofs.PruneLaws.{fit-now, one-named, pruned-all, pruned-more, pruned-next, pruned-none}
+use Rattle.dex_cancel_slots.proofs.pruning.prune_side.Goals as goal
+
+pub slots-init : goal.slots-init
+slots-init g c = record {
+  pruned =
+      pruned-none c.args.sizes c.args.account (slots_in c.args.orders.now) c.args.side (g.S.SideRead.orders c.args.book.now) (queue_of c.args.ring.now.bytes.now) c.requires.names;
+  most = omega arith;
+  accepted = c.requires.can.accepted;
+  book = record { holding = c.requires.holds; place = g.met.S.SideBook.stays _; side = refl; room = refl };
+  ring_place = refl;
+}
+
+pub take_named-count-requires-clause-locks : goal.take_named-count-requires-clause-locks
+take_named-count-requires-clause-locks g c =
+    let first = g.S.SideRead.orders c.args.book.now in
+    fit-now c.args.sizes c.args.side (take c.slots.count (orders_of c.args.account c.args.side first)) first (g.S.SideRead.orders c.slots.book)
+    c.requires.locks c.slots.invariant.pruned.orders_are
+
+pub take_named-count-requires-clause-can : goal.take_named-count-requires-clause-can
+take_named-count-requires-clause-can g c =
+    let first = g.S.SideRead.orders c.args.book.now in
+    let now = g.S.SideRead.orders c.slots.book in
+    let held = c.slots.invariant in
+    let all = orders_of c.args.account c.args.side first in
+    let found = order_with c.in-Some.id now in
+    let next = pruned-next c.args.sizes c.args.account (slots_in c.args.orders.now) c.args.side c.slots.count first (queue_of c.args.ring.now.bytes.now) c.slots.last now
+    (queue_of c.slots.ring.bytes.now) held.pruned c.in-Some.id c.in-Some.ensures in
+    record {
+      accepted = held.accepted;
+      room = room-now c.args.sizes (take c.slots.count all) (on_side c.args.side found) (take c.args.limit all) (queue_of c.args.ring.now.bytes.now) (queue_of c.slots.ring.bytes.now)
+          held.pruned.ring_is c.requires.can.room
+          (omega (arith, next.within, held.most, c.slots-test.true, one-named c.args.side found, length-take c.slots.count all, length-take c.args.limit all));
+    }
+
+pub slots-smaller : goal.slots-smaller
+slots-smaller g c =
+    let slots = slots_in c.args.orders.now in
+    waiting-fewer c.args.side c.slots.last slots c.in-Some.id (next-held c.args.side c.slots.last slots c.in-Some.id (sym c.in-Some.ensures))
+
+pub slots-preserved : goal.slots-preserved
+slots-preserved g c =
+    let held = c.slots.invariant in
+    let now = g.S.SideRead.orders c.slots.book in
+    let after = c.take_named-count.ensures in
+    record {
+      pruned =
+          pruned-more c.args.sizes c.args.account (slots_in c.args.orders.now) c.args.side c.slots.count (g.S.SideRead.orders c.args.book.now) (queue_of c.args.ring.now.bytes.now)
+          c.slots.last now (queue_of c.slots.ring.bytes.now) held.pruned c.in-Some.id c.in-Some.ensures
+          (g.S.SideRead.orders c.take_named-count.new.book) (queue_of c.take_named-count.new.ring.bytes.now) (c.slots.count + c.take_named-count.result)
+          (ap (λ n. c.slots.count + n) after.count) after.left.orders after.left.queue;
+      most = omega (arith, held.most, c.slots-test.true, after.count, one-named c.args.side (order_with c.in-Some.id now));
+      accepted = after.left.accepted;
+      book = record {
+        holding = after.book.holding;
+        place = g.met.S.SideBook.chains _ _ _ held.book.place after.book.place;
+        side = after.book.side ∙ held.book.side;
+        room = after.book.room ∙ held.book.room;
+      };
+      ring_place = after.place ∙ held.ring_place;
+    }
+
+pub returns-in_default-clause-count : goal.returns-in_default-clause-count
+returns-in_default-clause-count g c =
+    let all = orders_of c.args.account c.args.side (g.S.SideRead.orders c.args.book.now) in
+    let held = c.slots.invariant in
+    let same = pruned-all _ _ _ _ c.slots.count c.args.limit _ _ _ _ _ held.pruned c.in_default.ensures held.most in
+    sym (length-take-le c.slots.count all held.pruned.within) ∙ ap length same
+
+pub returns-in_default-clause-left : goal.returns-in_default-clause-left
+returns-in_default-clause-left g c =
+    let orders = g.S.SideRead.orders c.args.book.now in
+    let ring = queue_of c.args.ring.now.bytes.now in
+    let held = c.slots.invariant in
+    let all = pruned-all _ _ _ _ c.slots.count c.args.limit _ _ _ _ _ held.pruned c.in_default.ensures held.most in
+    record {
+      orders = held.pruned.orders_are ∙ ap (λ gone. without_all c.args.side gone orders) all;
+      queue = held.pruned.ring_is ∙ ap (λ gone. with_outs c.args.sizes gone ring) all;
+      accepted = held.accepted;
+    }
+
+pub returns-clause-count : goal.returns-clause-count
+returns-clause-count g c =
+    let all = orders_of c.args.account c.args.side (g.S.SideRead.orders c.args.book.now) in
+    let held = c.slots.invariant in
+    omega (arith, held.pruned.within, held.most, c.slots-test.false, length-take c.args.limit all)
+
+pub returns-clause-left : goal.returns-clause-left
+returns-clause-left g c =
+    let held = c.slots.invariant in
+    let full : c.slots.count ≡ c.args.limit = omega (arith, held.most, c.slots-test.false) in
+    let orders = g.S.SideRead.orders c.args.book.now in
+    let all = orders_of c.args.account c.args.side orders in
+    let ring = queue_of c.args.ring.now.bytes.now in
+    record {
+      orders = held.pruned.orders_are ∙ ap (λ n. without_all c.args.side (take n all) orders) full;
+      queue = held.pruned.ring_is ∙ ap (λ n. with_outs c.args.sizes (take n all) ring) full;
+      accepted = held.accepted;
+    }

@@ -1,0 +1,4 @@
+pub mod Slots
+pub mod NextSlots
+pub mod Given
+pub mod Cancels

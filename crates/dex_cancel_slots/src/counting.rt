@@ -1,0 +1,148 @@
+//! How many orders of an account a cancel takes.
+
+ghost use Rattle.std.specs.Prelude.{◌≡◌, ◌≤◌, ◌<◌, ◌&&◌, ◌==◌, None, length, nat_lt, not, take};
+ghost use Rattle.std.specs.Prelude.{slice_index, slice_index_or};
+ghost use Rattle.dex_types.specs.Cancel as cancel;
+ghost use Rattle.dex_types.specs.Cancel.{all_orders_of, cancelled};
+ghost use Rattle.dex_orders.specs.OrdersAccount.{IsOpen};
+ghost use Rattle.dex_cancel.specs.Counting.{count_among, count_of_client};
+ghost use Rattle.dex_cancel_slots.specs.Given.{slots_in};
+ghost use Rattle.dex_cancel_slots.specs.Slots.{DoSlotsName, any_holding, has_client, named_by_slot};
+
+use crate::finding::named_at;
+use dex_cancel::steps::{count_before, find_on};
+use dex_orders::OrdersRef;
+use dex_types::{Address, ClientIds, SideRead};
+
+/// How many orders a slot names: one where it is taken and its order rests.
+fn count_at<B: SideRead, A: SideRead>(orders: &OrdersRef<'_>, bids: &B, asks: &A, slot: u8) -> u32
+    requires open { IsOpen orders.now.bytes.now }
+    requires bids { B.holds bids.now }
+    requires asks { A.holds asks.now }
+    ensures count { let held = slice_index_or (slots_in orders.now) slot None in
+        result ≡ length (named_by_slot any_holding (B.orders bids.now) (A.orders asks.now) held) }
+    ensures one { result ≤ 1 }
+{
+    let Some((id, side, _)) = orders.slot(slot) else {
+        return 0;
+    };
+    match find_on(bids, asks, side, id) {
+        Some(_) => 1,
+        None => 0,
+    }
+}
+
+/// How many orders of the account rest, at most so many. It looks up no more of them.
+pub fn count_first<B: SideRead, A: SideRead>(
+    account: Address,
+    orders: &OrdersRef<'_>,
+    bids: &B,
+    asks: &A,
+    limit: u32,
+) -> u32
+    requires open { IsOpen orders.now.bytes.now }
+    requires bids { B.holds bids.now }
+    requires asks { A.holds asks.now }
+    requires names { DoSlotsName account (slots_in orders.now) (B.orders bids.now) (A.orders asks.now) }
+    ensures { result ≡ length (cancelled (cancel.First limit) account (B.orders bids.now) (A.orders asks.now)) }
+{
+    let mut count = 0;
+    for slot in 0..128u8 {
+        if count == limit {
+            return count;
+        }
+        count += count_at(orders, bids, asks, slot);
+    }
+    count
+}
+
+/// How many orders a slot names by the client id.
+fn count_client_at<B: SideRead, A: SideRead>(
+    orders: &OrdersRef<'_>,
+    bids: &B,
+    asks: &A,
+    slot: u8,
+    client: u64,
+) -> u64
+    requires open { IsOpen orders.now.bytes.now }
+    requires bids { B.holds bids.now }
+    requires asks { A.holds asks.now }
+    ensures count { let held = slice_index_or (slots_in orders.now) slot None in
+        result ≡ length (named_by_slot (has_client client) (B.orders bids.now) (A.orders asks.now) held) }
+    ensures one { result ≤ 1 }
+{
+    match named_at(orders, bids, asks, slot, client) {
+        Some(_) => 1,
+        None => 0,
+    }
+}
+
+/// How many orders of the account have the client id.
+fn count_client<B: SideRead, A: SideRead>(
+    account: Address,
+    orders: &OrdersRef<'_>,
+    bids: &B,
+    asks: &A,
+    client: u64,
+) -> u64
+    requires open { IsOpen orders.now.bytes.now }
+    requires bids { B.holds bids.now }
+    requires asks { A.holds asks.now }
+    requires names { DoSlotsName account (slots_in orders.now) (B.orders bids.now) (A.orders asks.now) }
+    ensures { result ≡ count_of_client client (all_orders_of account (B.orders bids.now) (A.orders asks.now)) }
+{
+    let mut count = 0;
+    for slot in 0..128u8 {
+        count += count_client_at(orders, bids, asks, slot, client);
+    }
+    count
+}
+
+/// The client id at this place takes an order: it is not 0, and the account has more orders of it than the same client
+/// id in front of this place took.
+fn takes_one<B: SideRead, A: SideRead>(
+    account: Address,
+    orders: &OrdersRef<'_>,
+    bids: &B,
+    asks: &A,
+    ids: &[u64; 8],
+    place: usize,
+) -> bool
+    requires open { IsOpen orders.now.bytes.now }
+    requires bids { B.holds bids.now }
+    requires asks { A.holds asks.now }
+    requires names { DoSlotsName account (slots_in orders.now) (B.orders bids.now) (A.orders asks.now) }
+    requires place { place < 8 }
+    ensures { let client = slice_index ids.now place in
+        let own = all_orders_of account (B.orders bids.now) (A.orders asks.now) in
+        result ≡ (not (client == 0) && nat_lt (count_among client (take place ids.now)) (count_of_client client own)) }
+{
+    let client = ids[place];
+    let before = count_before(ids, place, client);
+    let all = count_client(account, orders, bids, asks, client);
+    client != 0 && before < all
+}
+
+/// How many orders the client ids take, one after the other.
+pub fn count_listed<B: SideRead, A: SideRead>(
+    account: Address,
+    orders: &OrdersRef<'_>,
+    bids: &B,
+    asks: &A,
+    ids: &ClientIds,
+) -> u32
+    requires open { IsOpen orders.now.bytes.now }
+    requires bids { B.holds bids.now }
+    requires asks { A.holds asks.now }
+    requires names { DoSlotsName account (slots_in orders.now) (B.orders bids.now) (A.orders asks.now) }
+    ensures { let by = cancel.ByClients (take ids.now.count ids.now.ids) in
+        result ≡ length (cancelled by account (B.orders bids.now) (A.orders asks.now)) }
+{
+    let mut count = 0;
+    for place in 0..usize::from(ids.count) {
+        if takes_one(account, orders, bids, asks, &ids.ids, place) {
+            count += 1;
+        }
+    }
+    count
+}

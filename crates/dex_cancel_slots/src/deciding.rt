@@ -1,0 +1,89 @@
+//! Whether a cancel is refused.
+
+ghost use Rattle.std.specs.Prelude.{◌≡◌};
+ghost use Rattle.dex_types.specs.Cancel as cancel;
+ghost use Rattle.dex_orders.specs.OrdersAccount.{IsOpen};
+ghost use Rattle.dex_cancel.specs.Cancelling.{decided, named_by};
+ghost use Rattle.dex_cancel_slots.specs.Given.{IsGiven, sides_by, sides_given, slots_in};
+ghost use Rattle.dex_cancel_slots.specs.Slots.{DoSlotsName};
+
+use crate::counting::{count_first, count_listed};
+use crate::finding::find_oldest;
+use dex_cancel::steps::with_room;
+use dex_cancel::{CancelWhat, decide_cancel};
+use dex_orders::OrdersRef;
+use dex_types::{Address, Refusal, SideRead};
+
+/// A cancel by client id, which is not 0 and has to be one of the account's resting orders.
+fn decide_by_client<B: SideRead, A: SideRead>(
+    account: Address,
+    orders: &OrdersRef<'_>,
+    bids: &B,
+    asks: &A,
+    room: u32,
+    client: u64,
+) -> Result<u32, Refusal>
+    requires open { IsOpen orders.now.bytes.now }
+    requires bids { B.holds bids.now }
+    requires asks { A.holds asks.now }
+    requires names { DoSlotsName account (slots_in orders.now) (B.orders bids.now) (A.orders asks.now) }
+    ensures { result ≡ decided (cancel.ByClient client) account (B.orders bids.now) (A.orders asks.now) room }
+{
+    if client == 0 {
+        return Err(Refusal::ClientIdZero);
+    }
+    match find_oldest(account, orders, bids, asks, client) {
+        Some(_) => with_room(1, room),
+        None => Err(Refusal::ClientIdNotFound),
+    }
+}
+
+/// A cancel of the account's first orders, at most so many.
+fn decide_prune<B: SideRead, A: SideRead>(
+    account: Address,
+    orders: &OrdersRef<'_>,
+    bids: &B,
+    asks: &A,
+    room: u32,
+    limit: u16,
+) -> Result<u32, Refusal>
+    requires open { IsOpen orders.now.bytes.now }
+    requires bids { B.holds bids.now }
+    requires asks { A.holds asks.now }
+    requires names { DoSlotsName account (slots_in orders.now) (B.orders bids.now) (A.orders asks.now) }
+    ensures { result ≡ decided (cancel.First limit) account (B.orders bids.now) (A.orders asks.now) room }
+{
+    let needed = count_first(account, orders, bids, asks, u32::from(limit));
+    with_room(needed, room)
+}
+
+/// Why a cancel is refused, else how many orders it takes: the answers of `decide_cancel`, found by the slots of the
+/// account, whose bytes are `orders`. `room` is the number of free places of the event queue.
+///
+/// By id it is refused with OrderNotFound, SideMismatch or OrderNotYours, by client id with ClientIdZero or
+/// ClientIdNotFound, and in each form with EventQueueFull, which carries the number of orders and the free places.
+pub fn decide_cancel_by_slots<B: SideRead>(
+    bids: &B,
+    asks: &B,
+    room: u32,
+    account: Address,
+    orders: &OrdersRef<'_>,
+    what: &CancelWhat,
+) -> Result<u32, Refusal>
+    requires bids { B.holds bids.now }
+    requires asks { B.holds asks.now }
+    requires market { let sides = sides_by (B.orders bids.now) (B.orders asks.now) in
+        IsGiven sides_given sides account orders.now.bytes.now }
+    ensures { result ≡ decided (named_by what.now) account (B.orders bids.now) (B.orders asks.now) room }
+{
+    match what {
+        CancelWhat::ById { .. } => decide_cancel(bids, asks, room, account, what),
+        CancelWhat::ByClient(client) => {
+            decide_by_client(account, orders, bids, asks, room, *client)
+        }
+        CancelWhat::ByClients(ids) => {
+            with_room(count_listed(account, orders, bids, asks, ids), room)
+        }
+        CancelWhat::Prune(limit) => decide_prune(account, orders, bids, asks, room, *limit),
+    }
+}

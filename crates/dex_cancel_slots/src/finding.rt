@@ -1,0 +1,56 @@
+//! Orders that the slots of an account name by their client id.
+
+ghost use Rattle.std.specs.Prelude.{◌≡◌, None, slice_index_or};
+ghost use Rattle.dex_types.specs.Cancel.{all_orders_of, at_most_one, oldest};
+ghost use Rattle.dex_orders.specs.OrdersAccount.{IsOpen};
+ghost use Rattle.dex_cancel.specs.Finding.{maybe_resting};
+ghost use Rattle.dex_cancel_slots.specs.Given.{slots_in};
+ghost use Rattle.dex_cancel_slots.specs.Slots.{DoSlotsName, has_client, named_by_slot};
+
+use dex_cancel::steps::{Found, find_on, older_of};
+use dex_orders::OrdersRef;
+use dex_types::{Address, SideRead};
+
+/// The order that a slot names, where the slot has the client id.
+pub fn named_at<B: SideRead, A: SideRead>(
+    orders: &OrdersRef<'_>,
+    bids: &B,
+    asks: &A,
+    slot: u8,
+    client: u64,
+) -> Option<Found>
+    requires open { IsOpen orders.now.bytes.now }
+    requires bids { B.holds bids.now }
+    requires asks { A.holds asks.now }
+    ensures { let held = slice_index_or (slots_in orders.now) slot None in
+        at_most_one (maybe_resting result)
+        ≡ named_by_slot (has_client client) (B.orders bids.now) (A.orders asks.now) held }
+{
+    let (id, side, held) = orders.slot(slot)?;
+    if held != client {
+        return None;
+    }
+    let order = find_on(bids, asks, side, id)?;
+    Some(Found { side, order })
+}
+
+/// The account's order of the client id that has the least sequence number.
+pub fn find_oldest<B: SideRead, A: SideRead>(
+    account: Address,
+    orders: &OrdersRef<'_>,
+    bids: &B,
+    asks: &A,
+    client: u64,
+) -> Option<Found>
+    requires open { IsOpen orders.now.bytes.now }
+    requires bids { B.holds bids.now }
+    requires asks { A.holds asks.now }
+    requires names { DoSlotsName account (slots_in orders.now) (B.orders bids.now) (A.orders asks.now) }
+    ensures { maybe_resting result ≡ oldest client (all_orders_of account (B.orders bids.now) (A.orders asks.now)) }
+{
+    let mut found = None;
+    for slot in 0..128u8 {
+        found = older_of(found, named_at(orders, bids, asks, slot, client));
+    }
+    found
+}

@@ -1,0 +1,14 @@
+//! Cancels that find an account's orders by its 128 slots, and walk along no side of the book.
+#![tactic(auto)]
+
+mod counting;
+mod deciding;
+mod finding;
+mod laws;
+mod leaving;
+mod next_slots;
+mod pruning;
+
+pub use deciding::decide_cancel_by_slots;
+pub use laws::{an_accounts_slots_name_its_orders, the_slots_tell_an_owners_orders};
+pub use leaving::apply_cancel_by_slots;

@@ -1,0 +1,62 @@
+-- A cell with a call more is a cell again.
+use Rattle.std.proofs.Common.{◌≡◌, [], ◌∷◌, ◌++◌, refl, sym, ap, subst, ◌∙◌, arith, length-append}
+use Rattle.dex_types.specs.declared.refusals.Refusal.{Refusal}
+use Rattle.dex_types.specs.declared.replies.Reply.{Reply}
+use Rattle.dex_types.specs.declared.replies.Reply.TheVariants.{Refused}
+use Rattle.dex_types.specs.declared.rows.Row.{Row}
+use Rattle.dex_types.specs.declared.rows.Seen.{Seen}
+use Rattle.dex_types.specs.Accounts.{PlainMarketAccounts}
+use Rattle.dex_types.specs.Market.{Market}
+use Rattle.dex_types.specs.Rows.{PlainRow, row_of}
+use Rattle.dex_types.specs.Steps.{Step, refused}
+use Rattle.dex_accounts.specs.Decoded.{market_in}
+use Rattle.dex_history.specs.Journal.{Call, Sees, Stands, asked_of, market_after, row_step}
+use Rattle.dex_history.proofs.HistoryLaws.{IsLegal-one, market_after-one}
+use Rattle.dex_history.proofs.PriceLaws.{decoded-priced}
+use Rattle.dex_ring.specs.declared.leaving.Leaving.{Leaving}
+use Rattle.dex_ring.specs.Leaving.{leaving_of}
+use Rattle.dex_step.specs.Acting.{HasStepped}
+use Rattle.dex_wallet.specs.TokenAmount.{TokenAmount, held_in}
+use Rattle.dex_cell.specs.CellState.{HasSpare, IsFor, IsMarketCell, MarketCellState, call_made, call_on, market_at, refused_on, step_on}
+
+-- the call of a row stands on the market of its address
+stands : (row : PlainRow) (seen : Seen) (m : Market) → row.market ≡ m.listing.address → Sees (asked_of row) seen → Stands (call_made row seen m) m
+stands row seen m market sees = record { market = market; price = decoded-priced row.bytes; sees = sees; entry = refl }
+
+-- the cell after the step of a row
+pub called : (cell : MarketCellState) (row : Row) (seen : Seen) (accounts : PlainMarketAccounts) (reply : Reply) (leaving : Leaving) (coin pc : TokenAmount)
+    → IsMarketCell cell → IsFor row seen cell → HasSpare cell → HasStepped cell.accounts accounts reply leaving (step_on row seen cell)
+    → coin ≡ held_in accounts.coin_vault → pc ≡ held_in accounts.pc_vault
+    → IsMarketCell (record cell { accounts = accounts; coin = coin; pc = pc; calls = cell.calls ++ call_on row seen cell ∷ [] })
+called cell row seen accounts reply leaving coin pc is for spare stepped coin_is pc_is =
+    let m : Market = market_in cell.accounts in
+    let call : Call = call_on row seen cell in
+    let standing : Stands call (market_after (market_in cell.start) cell.calls) =
+    subst (λ (x : Market). Stands call x) is.end_is (stands (row_of row) seen m (for.market ∙ is.sound.stands.address) for.sees) in
+    record {
+      sound = stepped.sound;
+      accepted = stepped.kept.accepted is.accepted;
+      one_market = record {
+        address = stepped.kept.address ∙ is.one_market.address;
+        authority = stepped.kept.authority ∙ is.one_market.authority;
+        orders = stepped.kept.addresses ∙ is.one_market.orders;
+      };
+      start = is.start;
+      legal = (IsLegal-one cell.calls call (market_in cell.start)).1 (is.legal, standing);
+      end_is = stepped.market ∙ ap (λ (x : Market). (row_step (row_of row) seen x).market) is.end_is ∙ sym (market_after-one cell.calls call (market_in cell.start));
+      coin = coin_is;
+      pc = pc_is;
+      room = omega (arith, length-append cell.calls (call ∷ []), spare);
+    }
+
+-- the cell after a refusal
+pub refused-called : (cell : MarketCellState) (row : Row) (seen : Seen) (refusal : Refusal) (leaving : Leaving) → IsMarketCell cell → IsFor row seen cell → HasSpare cell
+    → step_on row seen cell ≡ refused refusal (market_at cell) → IsMarketCell (refused_on row seen cell)
+refused-called cell row seen refusal leaving is for spare refuses =
+    called cell row seen cell.accounts (Refused refusal) (leaving_of (market_at cell).events) cell.coin cell.pc is for spare (record {
+      reply_is = sym (ap (λ (s : Step). s.reply) refuses);
+      market = sym (ap (λ (s : Step). s.market) refuses);
+      sound = is.sound;
+      leaving_is = refl;
+      kept = record { address = refl; authority = refl; addresses = refl; accepted = λ accepted. accepted };
+    }) is.coin is.pc

@@ -1,0 +1,4 @@
+pub mod PlanLaws
+pub mod CallLaws
+pub mod InsideLaws
+pub mod PayLaws

@@ -1,0 +1,33 @@
+-- What the fields of a market's cell stand for.
+use Rattle.std.specs.Prelude.{◌≡◌, ◌≤◌, map, vec_capacity}
+use Rattle.dex_types.specs.declared.rows.Row.{Row}
+use Rattle.dex_types.specs.Accounts.{market_accounts_of}
+use Rattle.dex_types.specs.Rows.{row_of}
+use Rattle.dex_accounts.specs.Decoded.{market_in}
+use Rattle.dex_history.specs.Journal.{Call, asked_of}
+use Rattle.dex_ring.specs.Leaving.{leaving_of}
+use Rattle.dex_cell.specs.declared.told.Told.{Told}
+use Rattle.dex_cell.specs.declared.market_cell.MarketCell.TheInside.{Inside}
+use Rattle.dex_cell.specs.CellState.{IsMarketCell, MarketCellState, entries_of}
+
+-- the call of a row and of what is told beside it
+abbrev pub call_of : Row × Told → Call
+call_of told = record { asked = asked_of (row_of told.0); seen = told.1.seen; entry = told.1.entry }
+
+-- the cell that the fields stand for
+abbrev pub cell_inside : Inside → MarketCellState
+cell_inside inside = record {
+  start = market_accounts_of inside.start.value;
+  accounts = market_accounts_of inside.accounts;
+  coin = inside.coin;
+  pc = inside.pc;
+  calls = map call_of inside.calls.items;
+  room = inside.room;
+}
+
+-- it is one; the journal is the entries of the calls, and has its room reserved; and the two sums are those of pending events
+pub record IsKept (inside : Inside) : Type 0 where
+  pub cell : IsMarketCell (cell_inside inside)
+  pub journal : inside.entries.items ≡ entries_of (cell_inside inside)
+  pub reserved : inside.room ≤ vec_capacity inside.entries
+  pub leaving : inside.leaving ≡ leaving_of (market_in (market_accounts_of inside.accounts)).events

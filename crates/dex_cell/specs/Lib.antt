@@ -1,0 +1,4 @@
+pub mod CellState
+pub mod CellInside
+pub mod Paying
+pub mod PlanAmounts

@@ -1,0 +1,12 @@
+//! One market, whole: all its accounts in their bytes, the parcels that its vaults are, and its journal.
+#![tactic(auto)]
+
+mod amounts;
+mod journal;
+mod market_cell;
+mod payouts;
+mod told;
+
+pub use dex_decide::{Deposit, Plan};
+pub use market_cell::MarketCell;
+pub use payouts::Payouts;

@@ -1,0 +1,222 @@
+//! A market's cell.
+
+ghost use Rattle.std.specs.Prelude.{◌≡◌, IfOk, Ok, Err, length, ◌-◌};
+ghost use Rattle.dex_ring.specs.Leaving.{leaving_of};
+ghost use Rattle.dex_ring.specs.Ring.{IsEventQueue, ring_of};
+
+use crate::amounts::amounts_of;
+use crate::journal::{append, entry_of};
+use crate::payouts::{Payouts, pay};
+use crate::told::Told;
+use dex_decide::Plan;
+use dex_meet::{Leaving, pending_leaving};
+use dex_movements::Amounts;
+use dex_ring::RingRef;
+use dex_types::{Entry, MarketAccounts, NoMemory, Refusal, Reply, Row, Seen};
+use dex_wallet::Parcel;
+use http_server::Log;
+use std::alloc::Global;
+use std::marker::Model;
+use std::snapshot::Snapshot;
+
+/// A market: its accounts, the parcels that its two vaults are, and its journal.
+///
+/// The accounts are always accepted, and those of the sound market that stands at the end of the journal, which is one legal
+/// history of the market that the cell was made with. Where a cell is dropped its parcels are given up.
+pub struct MarketCell {
+    start: Snapshot<MarketAccounts>,
+    accounts: MarketAccounts,
+    coin: Parcel,
+    pc: Parcel,
+    leaving: Leaving,
+    calls: Log<Row, Told>,
+    entries: Vec<Entry>,
+    room: usize,
+}
+
+impl Model for MarketCell {
+    ghost use Rattle.dex_cell.specs.CellState.{MarketCellState};
+
+    ghost Value = { MarketCellState };
+
+    ghost use Rattle.dex_cell.specs.CellInside.{cell_inside, IsKept};
+
+    ghost view = { cell_inside };
+
+    ghost invariant = { IsKept };
+}
+
+impl Drop for MarketCell {
+    fn drop(self) {
+        let MarketCell {
+            start: _,
+            accounts: _,
+            coin,
+            pc,
+            leaving: _,
+            calls: _,
+            entries: _,
+            room: _,
+        } = self;
+        coin.give_up();
+        pc.give_up();
+    }
+}
+
+/// The two sums of pending events.
+fn leaving_in(events: &[u8]) -> Leaving
+    requires { IsEventQueue events.now }
+    ensures { result ≡ leaving_of (ring_of events.now).events }
+{
+    pending_leaving(&RingRef { bytes: events })
+}
+
+impl MarketCell {
+    ghost use Rattle.dex_types.specs.declared.replies.Reply.TheVariants.{Refused};
+    ghost use Rattle.dex_types.specs.Accounts.{market_accounts_of};
+    ghost use Rattle.dex_types.specs.Side.{Coin, Pc};
+    ghost use Rattle.dex_accounts.specs.Accepted.{IsAccepted};
+    ghost use Rattle.dex_accounts.specs.Decoded.{AreSound};
+    ghost use Rattle.dex_wallet.specs.TokenAmount.{held_in};
+    ghost use Rattle.dex_cell.specs.CellState as cells;
+    ghost use Rattle.dex_cell.specs.CellState.{HasActed, HasSpare, IsDone, IsFor, IsMarketCell, answer_on, market_at, step_on};
+    ghost use Rattle.dex_cell.specs.Paying.{paid_in, paid_out};
+
+    /// The cell of a market's accounts and of the parcels that its vaults are, with room for so many rows. Where there is no
+    /// memory for them, all are given up.
+    pub fn new(
+        alloc: Global,
+        accounts: MarketAccounts,
+        coin: Parcel,
+        pc: Parcel,
+        room: usize,
+    ) -> Result<MarketCell, NoMemory>
+        requires sound { AreSound (market_accounts_of accounts) }
+        requires accepted { IsAccepted (market_accounts_of accounts) }
+        requires coin { coin ≡ held_in accounts.coin_vault.items }
+        requires pc { pc ≡ held_in accounts.pc_vault.items }
+        ensures { IfOk result (λ cell. cell ≡ cells.new_cell (market_accounts_of accounts) room) }
+    {
+        match Vec::with_capacity(alloc, room) {
+            Ok(entries) => {
+                let start = Snapshot::of(&accounts);
+                let leaving = leaving_in(&accounts.events);
+                Ok(MarketCell {
+                    start,
+                    accounts,
+                    coin,
+                    pc,
+                    leaving,
+                    calls: Log::new(),
+                    entries,
+                    room,
+                })
+            }
+            Err(_) => {
+                coin.give_up();
+                pc.give_up();
+                Err(NoMemory)
+            }
+        }
+    }
+
+    /// For how many further rows there is room.
+    pub fn spare(&self) -> usize
+        ensures spare { result ≡ self.now.room - length self.now.calls }
+        ensures cell { IsMarketCell self.now }
+    {
+        self.room - self.entries.len()
+    }
+
+    /// The journal, from the first entry to the last.
+    pub fn entries(&self) -> &[Entry]
+        ensures entries { result.now ≡ cells.entries_of self.now }
+        ensures cell { IsMarketCell self.now }
+    {
+        &self.entries
+    }
+
+    /// The accounts, as they are after all rows.
+    pub fn accounts(&self) -> &MarketAccounts
+        ensures accounts { market_accounts_of result.now ≡ self.now.accounts }
+        ensures cell { IsMarketCell self.now }
+    {
+        &self.accounts
+    }
+
+    /// Whether a row is refused, by the first reason that holds against it and with what was read for it, and what it is to do
+    /// else. It reads only.
+    pub fn decide(&self, row: &Row, seen: &Seen) -> Result<Plan, Refusal>
+        requires { IsFor row.now seen.now self.now }
+        ensures { result ≡ answer_on row.entry.now seen.now self.now }
+    {
+        dex_decide::decide(&self.accounts, row, seen, &self.leaving)
+    }
+
+    /// Does a row as it was decided, with the parcels of the plan's deposit, and answers its reply, which is no refusal, and
+    /// the parcels that it pays out. The journal has one entry more.
+    pub fn apply(
+        &mut self,
+        row: &Row,
+        seen: &Seen,
+        plan: Plan,
+        coin: Option<Parcel>,
+        pc: Option<Parcel>,
+    ) -> (Reply, Payouts)
+        requires row { IsFor row.now seen.now self.old }
+        requires decided { Ok plan ≡ answer_on row.now seen.now self.old }
+        requires coin { coin ≡ paid_in Coin plan (market_at self.old) }
+        requires pc { pc ≡ paid_in Pc plan (market_at self.old) }
+        requires spare { HasSpare self.old }
+        ensures reply { result.0 ≡ (step_on row.entry.now seen.now self.old).reply }
+        ensures done { IsDone result.0 }
+        ensures paid { result.1 ≡ paid_out (market_at self.old) (step_on row.entry.now seen.now self.old).transfers }
+        ensures acted { HasActed row.entry.now seen.now self.old self.new }
+        ensures cell { IsMarketCell self.new }
+    {
+        let amounts = amounts_of(&plan);
+        let reply = dex_step::apply(&mut self.accounts, row, seen, &plan, &mut self.leaving);
+        let payouts = pay(&mut self.coin, &mut self.pc, &amounts, coin, pc);
+        let entry = entry_of(row, seen, reply, &amounts);
+        self.calls = self.calls.and(row, &Told { seen: *seen, entry });
+        append(&mut self.entries, entry);
+        (reply, payouts)
+    }
+
+    /// Writes down that a row is refused, as it was decided: the journal has one entry more, and all accounts stay as they are,
+    /// byte by byte.
+    pub fn refuse(&mut self, row: &Row, seen: &Seen, refusal: Refusal)
+        requires row { IsFor row.now seen.now self.old }
+        requires decided { Err refusal ≡ answer_on row.now seen.now self.old }
+        requires spare { HasSpare self.old }
+        ensures refused { self.new ≡ cells.refused_on row.entry.now seen.now self.old }
+        ensures reply { (step_on row.entry.now seen.now self.old).reply ≡ Refused refusal }
+        ensures acted { HasActed row.entry.now seen.now self.old self.new }
+        ensures cell { IsMarketCell self.new }
+    {
+        let entry = entry_of(row, seen, Reply::Refused(refusal), &Amounts::none());
+        self.calls = self.calls.and(row, &Told { seen: *seen, entry });
+        append(&mut self.entries, entry);
+    }
+
+    /// The accounts and the journal, as they are. Both parcels are given up.
+    pub fn into_parts(self) -> (MarketAccounts, Vec<Entry>)
+        ensures accounts { market_accounts_of result.0 ≡ self.accounts }
+        ensures entries { result.1.items ≡ cells.entries_of self }
+        ensures cell { IsMarketCell self }
+    {
+        let MarketCell {
+            start: _,
+            accounts,
+            coin,
+            pc,
+            leaving: _,
+            calls: _,
+            entries,
+            room: _,
+        } = self;
+        coin.give_up();
+        pc.give_up();
+        (accounts, entries)
+    }
+}

@@ -1,0 +1,111 @@
+-- A new order, over a sound market's accounts.
+use Rattle.std.proofs.Common.{◌≡◌, ℕ, List, [], ◌∷◌, ◌++◌, Option, Some, None, refl, sym, ap, ◌∙◌, subst}
+use Rattle.dex_types.specs.declared.addresses.Address.{Address}
+use Rattle.dex_types.specs.declared.refusals.Refusal.{Refusal}
+use Rattle.dex_types.specs.declared.refusals.Refusal.TheVariants.{NoAccount}
+use Rattle.dex_types.specs.declared.rows.Seen.{Seen}
+use Rattle.dex_types.specs.declared.rows.WalletSeen.{WalletSeen}
+use Rattle.dex_types.specs.declared.terms.Side.{Side}
+use Rattle.dex_types.specs.declared.terms.Side.TheVariants.{Bid, Ask}
+use Rattle.dex_types.specs.Accounts.{PlainMarketAccounts}
+use Rattle.dex_types.specs.NewOrder.{NewOrder, Ordering, order_on}
+use Rattle.dex_types.specs.Reasons.{first_of, missing, not_person, not_signed_by, other_discount_mint, other_mint}
+use Rattle.dex_types.specs.Requests.{Party, Request}
+use Rattle.dex_types.specs.Side.{opposite}
+use Rattle.dex_types.specs.Why.{order_reading, payer, payer_mint, why_order_early, why_order_of, why_ordering}
+use Rattle.dex_ring.specs.Leaving.{leaving_of}
+use Rattle.dex_ring.specs.Ring.{Ring}
+use Rattle.dex_match.specs.declared.order_plan.Decided.{Decided}
+use Rattle.dex_match.specs.OrderParts.{IsGiven, OrderGiven, given_by, order_given}
+use Rattle.dex_match.specs.OrderParts as orders
+use Rattle.dex_match.specs.Ordering.{order_reason, ordering_in, plan_by, sums_after}
+use Rattle.dex_match.proofs.PartsLaws.{given-of, ordering-is, reason-is}
+use Rattle.dex_orders.specs.OrdersAccount.{account_of}
+use Rattle.dex_reasons.proofs.FirstReasons.{first_of-one}
+use Rattle.dex_slab.specs.Slab.{IsSlab, resting, room_in}
+use Rattle.dex_accounts.specs.Decoded.{AreSound, market_in}
+use Rattle.dex_accounts.specs.Parts.{HasOpen, parts_of, side_orders, side_room}
+use Rattle.dex_decide.specs.Given.{bytes_on}
+use Rattle.dex_decide.specs.Named.{IsActing, party_by}
+use Rattle.dex_decide.specs.Plans.{sums_with}
+use Rattle.dex_decide.proofs.PartLaws.{are, has-open, sound-parts}
+
+module _ (accounts : PlainMarketAccounts) (sound : AreSound accounts) where
+  pub slab-on : (side : Side) → IsSlab (bytes_on side accounts)
+  slab-on Bid = sound.stands.bids.accepted.slab
+  slab-on Ask = sound.stands.asks.accepted.slab
+
+  -- a side's orders and room among the parts
+  pub orders-on : (side : Side) → resting side (bytes_on side accounts) ≡ side_orders side (parts_of accounts)
+  orders-on Bid = refl
+  orders-on Ask = refl
+
+  pub room-on : (side : Side) → room_in (bytes_on side accounts) ≡ side_room side (parts_of accounts)
+  room-on Bid = refl
+  room-on Ask = refl
+
+  -- what is shown of bytes and sides that are those of the accounts
+  pub order-shown : (side : Side) (bytes market requests events own opposing : List ℕ) (own_side opposing_side : Side)
+      → market ≡ accounts.market → requests ≡ accounts.requests → events ≡ accounts.events
+      → own ≡ bytes_on side accounts → opposing ≡ bytes_on (opposite side) accounts → own_side ≡ side → opposing_side ≡ opposite side
+      → given_by market requests events bytes (resting own_side own) (room_in own) (resting opposing_side opposing) ≡ order_given side bytes (parts_of accounts)
+  order-shown side bytes market requests events own opposing own_side opposing_side a b c d e f g =
+      rw (a, b, c, d, e, f, g, orders-on side, room-on side, orders-on (opposite side)) refl
+
+  pub order-given : (side : Side) (named : List Address) (owner address : Address) (bytes : List ℕ) → IsActing named accounts.orders address bytes
+      → owner ≡ address → IsGiven side owner (order_given side bytes (parts_of accounts))
+  order-given side named owner address bytes acting whose = record {
+    whole = parts_of accounts;
+    sound = sound-parts accounts sound;
+    has = subst (λ (a : Address). HasOpen a bytes (parts_of accounts)) (sym whose) (has-open accounts sound named address bytes acting);
+    is = refl;
+  }
+
+  -- what is decided, once wallets and the signer have passed
+  pub order-late : (side : Side) (n : NewOrder) (request : Request) (seen : Seen) (address : Address) (bytes : List ℕ) (wallet : WalletSeen)
+      → HasOpen n.owner bytes (parts_of accounts) → payer side seen ≡ Some wallet
+      → why_order_early side request seen (market_in accounts) (party_by address bytes) ≡ None
+      → order_reason side n (orders.parts_of (order_given side bytes (parts_of accounts))) wallet.balance
+      ≡ why_order_of side n request seen (market_in accounts) (party_by address bytes)
+  order-late side n request seen address bytes wallet has pays none =
+      let m = market_in accounts in
+      let late = why_ordering side n (order_reading side n seen m (account_of bytes)) in
+      reason-is side n _ m wallet.balance seen wallet sound.sound (given-of side n.owner bytes (parts_of accounts) m (are accounts sound) has) pays refl
+      ∙ sym (first_of-one late)
+      ∙ ap (λ (r : Option Refusal). first_of (r ∷ late ∷ [])) (sym none)
+
+  -- what is planned is the market's
+  pub order-planned : (side : Side) (n : NewOrder) (bytes : List ℕ) → HasOpen n.owner bytes (parts_of accounts)
+      → ordering_in side n (orders.parts_of (order_given side bytes (parts_of accounts))) ≡ order_on side (market_in accounts) (account_of bytes) n
+  order-planned side n bytes has =
+      ordering-is side n _ (market_in accounts) (given-of side n.owner bytes (parts_of accounts) (market_in accounts) (are accounts sound) has)
+
+  pub order-decided : (side : Side) (n : NewOrder) (bytes : List ℕ) → HasOpen n.owner bytes (parts_of accounts)
+      → (let parts = orders.parts_of (order_given side bytes (parts_of accounts)) in
+      let o = ordering_in side n parts in
+      let decided : Decided = record { plan = plan_by n o; leaving = sums_after parts o } in
+      let on = order_on side (market_in accounts) (account_of bytes) n in
+      decided ≡ record { plan = plan_by n on; leaving = sums_with on.events (market_in accounts) })
+  order-decided side n bytes has =
+      let parts = orders.parts_of (order_given side bytes (parts_of accounts)) in
+      let made : Ordering → Ring → Decided = λ o r. record { plan = plan_by n o; leaving = leaving_of (r.events ++ o.events) } in
+      ap (λ (o : Ordering). made o parts.ring) (order-planned side n bytes has)
+      ∙ ap (made (order_on side (market_in accounts) (account_of bytes) n)) sound.stands.events.ring
+
+  -- without a wallet that pays
+  pub order-unpaid : (side : Side) (n : NewOrder) (request : Request) (seen : Seen) (party : Party) → payer side seen ≡ None
+      → why_order_of side n request seen (market_in accounts) party ≡ Some NoAccount
+  order-unpaid side n request seen party none =
+      let m = market_in accounts in
+      let mint = payer_mint side m in
+      let later = not_person party.account.person request.signer
+      ∷ other_mint mint (payer side seen)
+      ∷ other_discount_mint seen seen.discount
+      ∷ not_signed_by request.signer (payer side seen)
+      ∷ not_signed_by request.signer seen.discount
+      ∷ [] in
+      ap (λ (w : Option WalletSeen). first_of (
+      first_of (missing w ∷ later)
+      ∷ why_ordering side n (order_reading side n seen m party.account)
+      ∷ []
+      )) none

@@ -1,0 +1,42 @@
+use Rattle.std.proofs.Common.{Option, sym, ap, ◌∙◌}
+use Rattle.dex_types.specs.declared.refusals.Refusal.{Refusal}
+use Rattle.dex_types.specs.Accounts.{market_accounts_of}
+use Rattle.dex_types.specs.Reasons.{answered}
+use Rattle.dex_types.specs.Why.{why_init}
+use Rattle.dex_decide.specs.declared.plan.Plan.TheVariants as plans
+use Rattle.dex_decide.specs.Given.{asked_by, market_of}
+use Rattle.dex_decide.specs.Named.{account_by}
+use Rattle.dex_decide.proofs.NamedLaws.{accepted-named}
+use Rattle.dex_decide.proofs.PartLaws.{all-accepted, init-told, none-told}
+use Rattle.dex_decide.proofs.Planning.{err-planned, given-planned, ok-planned}
+use Rattle.dex_decide.proofs.deciding.decide_init_row.Goals as goal
+
+pub decide_init-requires-clause-account : goal.decide_init-requires-clause-account
+decide_init-requires-clause-account c =
+    let accounts = market_accounts_of c.args.accounts.now in
+    accepted-named (asked_by c.args.row.now).named accounts.orders (account_by c.in-Some.acting.address c.in-Some.acting.bytes.now)
+    (all-accepted accounts c.requires) c.in-Some.ensures
+
+pub returns-in-None : goal.returns-in-None
+returns-in-None c =
+    let request = asked_by c.args.row.now in
+    given-planned (why_init request (market_of c.args.accounts.now)) plans.Init c.disabled_or_none.result
+    (c.disabled_or_none.ensures ∙ none-told (market_accounts_of c.args.accounts.now) c.requires request c.deref.result.now c.deref.ensures.value c.in-None.ensures)
+
+pub returns-in-Ok : goal.returns-in-Ok
+returns-in-Ok c =
+    let request = asked_by c.args.row.now in
+    let account = account_by c.in-Some.acting.address c.in-Some.acting.bytes.now in
+    ok-planned (λ (u : Unit). plans.Init) (why_init request (market_of c.args.accounts.now)) tt tt
+    (sym c.in-Ok.is ∙ c.decide_init.ensures.answer
+    ∙ ap (λ (r : Option Refusal). answered r tt)
+    (init-told (market_accounts_of c.args.accounts.now) c.requires request c.deref.result.now c.deref.ensures.value account c.in-Some.ensures))
+
+pub returns-in-Err : goal.returns-in-Err
+returns-in-Err c =
+    let request = asked_by c.args.row.now in
+    let account = account_by c.in-Some.acting.address c.in-Some.acting.bytes.now in
+    err-planned (why_init request (market_of c.args.accounts.now)) tt plans.Init c.in-Err.why
+    (sym c.in-Err.is ∙ c.decide_init.ensures.answer
+    ∙ ap (λ (r : Option Refusal). answered r tt)
+    (init-told (market_accounts_of c.args.accounts.now) c.requires request c.deref.result.now c.deref.ensures.value account c.in-Some.ensures))

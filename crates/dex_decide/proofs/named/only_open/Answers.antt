@@ -1,0 +1,24 @@
+use Rattle.std.proofs.Common.{map, ⊎_elim}
+use Rattle.dex_types.specs.Accounts.{orders_account_of}
+use Rattle.dex_decide.specs.Named.{account_by}
+use Rattle.dex_decide.proofs.NamedLaws.{accepted-named, acts-open, not-open}
+use Rattle.dex_decide.proofs.named.only_open.Goals as goal
+
+pub state_of-requires : goal.state_of-requires
+state_of-requires c =
+    accepted-named c.args.named.now (map orders_account_of c.args.accounts.now) (account_by c.args.acting.address c.args.acting.bytes.now)
+    c.requires.accepted c.requires.first
+
+pub returns-in-Open : goal.returns-in-Open
+returns-in-Open c =
+    acts-open c.args.named.now (map orders_account_of c.args.accounts.now) c.args.acting.address c.args.acting.bytes.now c.requires.first (c.state_of.ensures.open.0 c.in-Open.is)
+
+pub returns-in-Blank : goal.returns-in-Blank
+returns-in-Blank c =
+    not-open c.args.named.now (map orders_account_of c.args.accounts.now) c.args.acting.address c.args.acting.bytes.now c.requires.first
+    (λ is_open. ⊎_elim
+    (λ blank. absurd (let e = c.state_of.ensures.open.1 is_open in cc))
+    (λ closed. absurd (let e = c.state_of.ensures.open.1 is_open in cc))
+    c.in-Blank.is)
+    (accepted-named c.args.named.now (map orders_account_of c.args.accounts.now) (account_by c.args.acting.address c.args.acting.bytes.now)
+    c.requires.accepted c.requires.first)

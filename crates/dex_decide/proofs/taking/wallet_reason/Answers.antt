@@ -1,0 +1,23 @@
+use Rattle.std.proofs.Common.{rules, ◌∙◌, ◌≡◌, ◌∷◌, []}
+use Rattle.dex_types.specs.Reasons.{disabled, missing, not_signed_by, other_discount_mint, other_mint}
+use Rattle.dex_types.specs.Why.{payer}
+use Rattle.dex_reasons.proofs.FirstReasons.{joined, joined-first}
+use Rattle.dex_decide.specs.Given.{market_of}
+use Rattle.dex_decide.proofs.taking.wallet_reason.Goals as goal
+
+pub returns : goal.returns
+returns c =
+    let seen = c.args.seen.now in
+    let m = market_of c.args.accounts.now in
+    let signer = c.args.row.now.signer in
+    let later =
+    missing seen.coin
+    ∷ missing seen.pc
+    ∷ other_mint m.listing.coin_mint seen.coin
+    ∷ other_mint m.listing.pc_mint seen.pc
+    ∷ other_discount_mint seen seen.discount
+    ∷ not_signed_by signer (payer c.args.side seen)
+    ∷ not_signed_by signer seen.discount
+    ∷ [] in
+    let made : c.or-7.result ≡ joined (disabled m) later = search rules in
+    made ∙ joined-first (disabled m) later

@@ -1,0 +1,4 @@
+pub mod Given
+pub mod Named
+pub mod Owing
+pub mod Plans

@@ -1,0 +1,270 @@
+//! Whether a row is refused, instruction by instruction. Each function reads only.
+
+ghost use Rattle.std.specs.Prelude.{◌≡◌, ◌==◌, MatchOption, Some, None};
+ghost use Rattle.dex_types.specs.Cancel.{First};
+ghost use Rattle.dex_types.specs.Accounts.{market_accounts_of};
+ghost use Rattle.dex_types.specs.Reasons.{answered};
+ghost use Rattle.dex_types.specs.Why as reasons;
+ghost use Rattle.dex_orders.specs.OrdersAccount.{IsOpen};
+ghost use Rattle.dex_ring.specs.Ring.{IsEventQueue, ring_of, room_of};
+ghost use Rattle.dex_cancel.specs.Cancelling.{named_by};
+ghost use Rattle.dex_cancel.specs.declared.what.CancelWhat.TheVariants as cancels;
+ghost use Rattle.dex_market.specs.MarketAccount.{IsMarket, market_words};
+ghost use Rattle.dex_accounts.specs.Decoded.{AreSound};
+ghost use Rattle.dex_accounts.specs.Parts.{HasOpen, parts_of};
+ghost use Rattle.dex_history.specs.Journal.{Sees, asked_of};
+ghost use Rattle.dex_types.specs.Rows.{row_of};
+ghost use Rattle.dex_decide.specs.declared.plan.Plan.TheVariants as plans;
+ghost use Rattle.dex_decide.specs.Given.{asked_by, market_of, party_on};
+ghost use Rattle.dex_decide.specs.Named.{IsActing, account_by, named_in, party_by};
+ghost use Rattle.dex_decide.specs.Plans as planning;
+
+use crate::named::{Acting, named_first, open_named};
+use crate::plan::Plan;
+use dex_cancel::CancelWhat;
+use dex_cancel_slots::decide_cancel_by_slots;
+use dex_market::MarketRef;
+use dex_orders::OrdersRef;
+use dex_reasons::{disabled, not_authority, not_owner};
+use dex_ring::RingRef;
+use dex_settle::{decide_close, decide_disable, decide_init, decide_settle, decide_sweep};
+use dex_slab::SlabRef;
+use dex_types::{MarketAccounts, Refusal, Row, Seen, Side};
+
+/// Sweeping the fees.
+pub fn decide_sweep_row(accounts: &MarketAccounts, row: &Row, seen: &Seen) -> Result<Plan, Refusal>
+    requires { AreSound (market_accounts_of accounts.now) }
+    ensures { result ≡ answered (reasons.why_sweep (asked_by row.entry.now) seen.now (market_of accounts.now))
+        (plans.Sweep (market_of accounts.now).pc_fees) }
+{
+    let market = MarketRef {
+        bytes: &accounts.market,
+    };
+    match decide_sweep(&market, accounts.authority, row.signer, seen) {
+        Ok(fees) => Ok(Plan::Sweep(fees)),
+        Err(why) => Err(why),
+    }
+}
+
+/// Disabling the market.
+pub fn decide_disable_row(accounts: &MarketAccounts, row: &Row) -> Result<Plan, Refusal>
+    requires { AreSound (market_accounts_of accounts.now) }
+    ensures { result ≡ answered (reasons.why_disable (asked_by row.entry.now) (market_of accounts.now)) plans.Disable }
+{
+    let market = MarketRef {
+        bytes: &accounts.market,
+    };
+    match decide_disable(&market, accounts.authority, row.signer) {
+        Ok(()) => Ok(Plan::Disable),
+        Err(why) => Err(why),
+    }
+}
+
+/// The account that the row names first, if it is one of the market's.
+fn account_named<'a>(accounts: &'a MarketAccounts, row: &Row) -> Option<Acting<'a>>
+    ensures { MatchOption result
+        (named_in row.entry.now.named.items (market_accounts_of accounts.now).orders ≡ None)
+        (λ acting. named_in row.entry.now.named.items (market_accounts_of accounts.now).orders
+        ≡ Some (account_by acting.address acting.bytes.now)) }
+{
+    named_first(&accounts.orders, &row.named)
+}
+
+/// Opening an account.
+pub fn decide_init_row(accounts: &MarketAccounts, row: &Row) -> Result<Plan, Refusal>
+    requires { AreSound (market_accounts_of accounts.now) }
+    ensures { result ≡ answered (reasons.why_init (asked_by row.entry.now) (market_of accounts.now)) plans.Init }
+{
+    let market = MarketRef {
+        bytes: &accounts.market,
+    };
+    match account_named(accounts, row) {
+        None => Err(disabled_or_none(market)),
+        Some(acting) => match decide_init(&market, acting.bytes) {
+            Ok(()) => Ok(Plan::Init),
+            Err(why) => Err(why),
+        },
+    }
+}
+
+/// Why an account that is none of the market's is not opened.
+fn disabled_or_none(market: MarketRef<'_>) -> Refusal
+    requires { IsMarket market.bytes.now }
+    ensures { Some result
+        ≡ reasons.why_opening ((market_words market.entry.bytes.now).account_flags == 131) None }
+{
+    match disabled(market.account_flags()) {
+        Some(why) => why,
+        None => Refusal::NoAccount,
+    }
+}
+
+/// Closing an account.
+pub fn decide_close_row(accounts: &MarketAccounts, row: &Row) -> Result<Plan, Refusal>
+    requires { AreSound (market_accounts_of accounts.now) }
+    ensures { result ≡ answered (reasons.of_party (reasons.why_close (asked_by row.entry.now))
+        (party_on (asked_by row.entry.now) (market_of accounts.now))) plans.Close }
+{
+    match account_named(accounts, row) {
+        None => Err(Refusal::NoAccount),
+        Some(acting) => match decide_close(acting.bytes, row.signer) {
+            Ok(()) => Ok(Plan::Close),
+            Err(why) => Err(why),
+        },
+    }
+}
+
+/// Settling an open account.
+fn decide_settle_of(
+    accounts: &MarketAccounts,
+    row: &Row,
+    seen: &Seen,
+    acting: Acting<'_>,
+) -> Result<Plan, Refusal>
+    requires sound { AreSound (market_accounts_of accounts.now) }
+    requires sees { Sees (asked_of (row_of row.now)) seen.now }
+    requires acting { IsActing row.now.named.items (market_accounts_of accounts.now).orders
+        acting.address acting.bytes.now }
+    ensures { result ≡ answered (reasons.why_settle (asked_by row.entry.now) seen.now (market_of accounts.now)
+        (party_by acting.entry.address acting.entry.bytes.now))
+        (planning.settle_plan seen.now (party_by acting.entry.address acting.entry.bytes.now)) }
+{
+    let market = MarketRef {
+        bytes: &accounts.market,
+    };
+    let orders = OrdersRef {
+        bytes: acting.bytes,
+    };
+    match decide_settle(&market, &orders, row.signer, seen) {
+        Ok(plan) => Ok(Plan::Settle(plan)),
+        Err(why) => Err(why),
+    }
+}
+
+/// Settling.
+pub fn decide_settle_row(accounts: &MarketAccounts, row: &Row, seen: &Seen) -> Result<Plan, Refusal>
+    requires sound { AreSound (market_accounts_of accounts.now) }
+    requires sees { Sees (asked_of (row_of row.now)) seen.now }
+    ensures { result ≡ planning.answered_by
+        (reasons.why_settle (asked_by row.entry.now) seen.now (market_of accounts.now))
+        (planning.settle_plan seen.now) (party_on (asked_by row.entry.now) (market_of accounts.now)) }
+{
+    match open_named(&accounts.orders, &row.named) {
+        None => Err(Refusal::NoAccount),
+        Some(acting) => decide_settle_of(accounts, row, seen, acting),
+    }
+}
+
+/// The free places of the event queue.
+fn room_in(events: &[u8]) -> u32
+    requires { IsEventQueue events.now }
+    ensures { result ≡ room_of (ring_of events.now) }
+{
+    RingRef { bytes: events }.room()
+}
+
+/// Cancelling orders of an open account, once its signer may ask for it.
+fn decide_cancel_of(
+    accounts: &MarketAccounts,
+    acting: Acting<'_>,
+    what: CancelWhat,
+) -> Result<Plan, Refusal>
+    requires sound { AreSound (market_accounts_of accounts.now) }
+    requires acting { HasOpen acting.address acting.bytes.now (parts_of (market_accounts_of accounts.now)) }
+    ensures { result ≡ answered (reasons.why_cancelled (named_by what) acting.entry.address (market_of accounts.now))
+        (plans.Cancel what) }
+{
+    let orders = OrdersRef {
+        bytes: acting.bytes,
+    };
+    let bids = SlabRef {
+        bytes: &accounts.bids,
+        side: Side::Bid,
+    };
+    let asks = SlabRef {
+        bytes: &accounts.asks,
+        side: Side::Ask,
+    };
+    match decide_cancel_by_slots(
+        &bids,
+        &asks,
+        room_in(&accounts.events),
+        acting.address,
+        &orders,
+        &what,
+    ) {
+        Ok(_) => Ok(Plan::Cancel(what)),
+        Err(why) => Err(why),
+    }
+}
+
+/// Cancelling orders of an open account, as its trader.
+fn decide_cancel_by(
+    accounts: &MarketAccounts,
+    row: &Row,
+    acting: Acting<'_>,
+    what: CancelWhat,
+) -> Result<Plan, Refusal>
+    requires sound { AreSound (market_accounts_of accounts.now) }
+    requires acting { IsActing row.now.named.items (market_accounts_of accounts.now).orders
+        acting.address acting.bytes.now }
+    ensures { result ≡ answered (reasons.why_cancel (named_by what) (asked_by row.entry.now) (market_of accounts.now)
+        (party_by acting.entry.address acting.entry.bytes.now)) (plans.Cancel what) }
+{
+    let orders = OrdersRef {
+        bytes: acting.bytes,
+    };
+    match not_owner(orders.owner(), row.signer) {
+        Some(why) => Err(why),
+        None => decide_cancel_of(accounts, acting, what),
+    }
+}
+
+/// Cancelling orders.
+pub fn decide_cancel_row(
+    accounts: &MarketAccounts,
+    row: &Row,
+    what: CancelWhat,
+) -> Result<Plan, Refusal>
+    requires { AreSound (market_accounts_of accounts.now) }
+    ensures { result ≡ answered (reasons.of_party
+        (reasons.why_cancel (named_by what) (asked_by row.entry.now) (market_of accounts.now))
+        (party_on (asked_by row.entry.now) (market_of accounts.now))) (plans.Cancel what) }
+{
+    match open_named(&accounts.orders, &row.named) {
+        None => Err(Refusal::NoAccount),
+        Some(acting) => decide_cancel_by(accounts, row, acting, what),
+    }
+}
+
+/// Pruning an open account, as the market's authority.
+fn decide_prune_by(
+    accounts: &MarketAccounts,
+    row: &Row,
+    acting: Acting<'_>,
+    limit: u16,
+) -> Result<Plan, Refusal>
+    requires sound { AreSound (market_accounts_of accounts.now) }
+    requires acting { IsActing row.now.named.items (market_accounts_of accounts.now).orders
+        acting.address acting.bytes.now }
+    ensures { result ≡ answered (reasons.why_prune (First limit) (asked_by row.entry.now) (market_of accounts.now)
+        (party_by acting.entry.address acting.entry.bytes.now)) (plans.Cancel (cancels.Prune limit)) }
+{
+    match not_authority(accounts.authority, row.signer) {
+        Some(why) => Err(why),
+        None => decide_cancel_of(accounts, acting, CancelWhat::Prune(limit)),
+    }
+}
+
+/// Pruning an account.
+pub fn decide_prune_row(accounts: &MarketAccounts, row: &Row, limit: u16) -> Result<Plan, Refusal>
+    requires { AreSound (market_accounts_of accounts.now) }
+    ensures { result ≡ answered (reasons.of_party
+        (reasons.why_prune (First limit) (asked_by row.entry.now) (market_of accounts.now))
+        (party_on (asked_by row.entry.now) (market_of accounts.now))) (plans.Cancel (cancels.Prune limit)) }
+{
+    match open_named(&accounts.orders, &row.named) {
+        None => Err(Refusal::NoAccount),
+        Some(acting) => decide_prune_by(accounts, row, acting, limit),
+    }
+}

@@ -1,0 +1,76 @@
+//! The open-orders account that a row names first.
+
+ghost use Rattle.std.specs.Prelude.{◌≡◌, ◌∷◌, [], List, MatchOption, None, Some, map};
+ghost use Rattle.std.specs.List.{All};
+ghost use Rattle.dex_types.specs.Accounts.{PlainAccount, orders_account_of};
+ghost use Rattle.dex_types.specs.declared.addresses.Address.{Address};
+ghost use Rattle.dex_types.specs.Requests.{party_of};
+ghost use Rattle.dex_orders.specs.OrdersAccount.{IsOrders};
+ghost use Rattle.dex_orders.specs.StandsFor.{traders_of};
+ghost use Rattle.dex_decide.specs.Named.{IsActing, account_by, named_in};
+
+use dex_accounts::find_bytes;
+use dex_orders::{OrdersState, state_of};
+use dex_types::{Address, OrdersAccount};
+
+/// An account of a market, lent for reading: its address and its bytes.
+#[derive(Clone, Copy, Debug)]
+pub struct Acting<'a> {
+    pub address: Address,
+    pub bytes: &'a [u8],
+}
+
+/// The account that is named first, if it is one of these.
+pub fn named_first<'a>(accounts: &'a [OrdersAccount], named: &[Address]) -> Option<Acting<'a>>
+    ensures { MatchOption result (named_in named.now (map orders_account_of accounts.now) ≡ None)
+        (λ acting. named_in named.now (map orders_account_of accounts.now)
+        ≡ Some (account_by acting.address acting.bytes.now)) }
+{
+    let address = first_of(named)?;
+    match find_bytes(accounts, address) {
+        None => None,
+        Some(bytes) => Some(Acting { address, bytes }),
+    }
+}
+
+/// The first of these addresses.
+fn first_of(named: &[Address]) -> Option<Address>
+    ensures { MatchOption result (named.now ≡ [])
+        (λ address. (others : List Address) × (named.now ≡ address ∷ others)) }
+{
+    if named.is_empty() {
+        None
+    } else {
+        Some(named[0])
+    }
+}
+
+/// The account that is named first, where it is open.
+pub fn open_named<'a>(accounts: &'a [OrdersAccount], named: &[Address]) -> Option<Acting<'a>>
+    requires { All (λ (account : PlainAccount). IsOrders account.bytes) (map orders_account_of accounts.now) }
+    ensures { MatchOption result (party_of named.now (traders_of (map orders_account_of accounts.now)) ≡ None)
+        (λ acting. IsActing named.now (map orders_account_of accounts.now) acting.address acting.bytes.now) }
+{
+    match named_first(accounts, named) {
+        None => None,
+        Some(acting) => only_open(accounts, named, acting),
+    }
+}
+
+/// The account that is named first, where it is open.
+fn only_open<'a>(
+    accounts: &[OrdersAccount],
+    named: &[Address],
+    acting: Acting<'a>,
+) -> Option<Acting<'a>>
+    requires accepted { All (λ (account : PlainAccount). IsOrders account.bytes) (map orders_account_of accounts.now) }
+    requires first { named_in named.now (map orders_account_of accounts.now)
+        ≡ Some (account_by acting.address acting.bytes.now) }
+    ensures { MatchOption result (party_of named.now (traders_of (map orders_account_of accounts.now)) ≡ None)
+        (λ acting. IsActing named.now (map orders_account_of accounts.now) acting.address acting.bytes.now) }
+{
+    match state_of(acting.bytes) {
+        OrdersState::Open => Some(acting),
+        OrdersState::Blank | OrdersState::Closed => None,
+    }
+}

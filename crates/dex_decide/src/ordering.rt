@@ -1,0 +1,212 @@
+//! Whether a new order is refused. Each function reads only.
+
+ghost use Rattle.std.specs.Prelude.{◌≡◌, Some};
+ghost use Rattle.dex_types.specs.Accounts.{market_accounts_of};
+ghost use Rattle.dex_types.specs.Reasons as each;
+ghost use Rattle.dex_types.specs.Terms.{tier_seen};
+ghost use Rattle.dex_types.specs.Why as reasons;
+ghost use Rattle.dex_match.specs.Handed.{outcome_in};
+ghost use Rattle.dex_match.specs.OrderTerms.{order_of};
+ghost use Rattle.dex_orders.specs.OrdersAccount.{IsOpen, account_of};
+ghost use Rattle.dex_ring.specs.Leaving.{leaving_of};
+ghost use Rattle.dex_accounts.specs.Decoded.{AreSound};
+ghost use Rattle.dex_decide.specs.Given.{asked_by, bytes_on, given_on, market_of, party_on};
+ghost use Rattle.dex_decide.specs.Named.{IsActing, party_by};
+ghost use Rattle.dex_decide.specs.Plans.{answered_by, order_by, order_plan, order_planned};
+
+use crate::named::{Acting, open_named};
+use crate::plan::Plan;
+use dex_market::{MarketRef, RequestRef};
+use dex_match::{Decided, Taker, decide_order_with_leaving};
+use dex_meet::Leaving;
+use dex_orders::OrdersRef;
+use dex_reasons::{
+    is_mint, missing, not_owner, not_signed, other_discount_mint, other_mint, payer,
+};
+use dex_ring::RingRef;
+use dex_slab::SlabRef;
+use dex_types::{Address, MarketAccounts, Refusal, Row, Seen, Side, Tier, WalletSeen};
+
+/// The tier that a row reaches by its discount wallet.
+pub fn tier_seen(seen: &Seen) -> Tier
+    ensures { result ≡ tier_seen seen.now }
+{
+    match seen.discount {
+        None => Tier::Base,
+        Some(wallet) => dex_fees::tier_of(is_mint(seen.msrm, wallet.mint), wallet.balance),
+    }
+}
+
+/// A side of the book, for reading.
+pub fn side_of(accounts: &MarketAccounts, side: Side) -> SlabRef<'_>
+    ensures bytes { result.bytes.now ≡ bytes_on side (market_accounts_of accounts.now) }
+    ensures side { result.side ≡ side }
+{
+    match side {
+        Side::Bid => SlabRef {
+            bytes: &accounts.bids,
+            side,
+        },
+        Side::Ask => SlabRef {
+            bytes: &accounts.asks,
+            side,
+        },
+    }
+}
+
+/// The mint of what an order of the side pays with.
+fn payer_mint(accounts: &MarketAccounts, side: Side) -> Address
+    requires { AreSound (market_accounts_of accounts.now) }
+    ensures { result ≡ reasons.payer_mint side (market_of accounts.now) }
+{
+    let market = MarketRef {
+        bytes: &accounts.market,
+    };
+    match side {
+        Side::Bid => market.pc_mint(),
+        Side::Ask => market.coin_mint(),
+    }
+}
+
+/// The first reason that asks for wallets and for the signer.
+fn wallet_reason(
+    accounts: &MarketAccounts,
+    row: &Row,
+    seen: &Seen,
+    acting: Acting<'_>,
+    side: Side,
+) -> Option<Refusal>
+    requires sound { AreSound (market_accounts_of accounts.now) }
+    requires open { IsOpen acting.bytes.now }
+    ensures { result ≡ reasons.why_order_early side (asked_by row.entry.now) seen.now (market_of accounts.now)
+        (party_by acting.entry.address acting.entry.bytes.now) }
+{
+    let orders = OrdersRef {
+        bytes: acting.bytes,
+    };
+    let paying = payer(side, seen);
+    missing(paying)
+        .or(not_owner(orders.owner(), row.signer))
+        .or(other_mint(payer_mint(accounts, side), paying))
+        .or(other_discount_mint(seen, seen.discount))
+        .or(not_signed(row.signer, paying))
+        .or(not_signed(row.signer, seen.discount))
+}
+
+/// What the order does, or why it is refused, apart from wallets and the signer.
+fn decide_order_with(
+    accounts: &MarketAccounts,
+    row: &Row,
+    acting: Acting<'_>,
+    taker: Taker,
+    balance: u64,
+    leaving: &Leaving,
+) -> Result<Decided, Refusal>
+    requires sound { AreSound (market_accounts_of accounts.now) }
+    requires acting { IsActing row.now.named.items (market_accounts_of accounts.now).orders
+        acting.address acting.bytes.now }
+    requires account { taker.account ≡ acting.address }
+    requires leaving { leaving.now ≡ leaving_of (market_of accounts.now).events }
+    ensures { result ≡ outcome_in taker (given_on taker.id_side acting.entry.bytes.now accounts.now) balance }
+{
+    let market = MarketRef {
+        bytes: &accounts.market,
+    };
+    let requests = RequestRef {
+        bytes: &accounts.requests,
+    };
+    let ring = RingRef {
+        bytes: &accounts.events,
+    };
+    let orders = OrdersRef {
+        bytes: acting.bytes,
+    };
+    let own = side_of(accounts, taker.id_side);
+    let opposite = side_of(accounts, taker.id_side.opposite());
+    decide_order_with_leaving(
+        &market, &requests, &own, &opposite, &ring, &orders, &taker, balance, leaving,
+    )
+}
+
+/// A new order of an open account, which this wallet pays for.
+fn decide_order_paid(
+    accounts: &MarketAccounts,
+    row: &Row,
+    seen: &Seen,
+    acting: Acting<'_>,
+    taker: Taker,
+    wallet: WalletSeen,
+    leaving: &Leaving,
+) -> Result<Plan, Refusal>
+    requires sound { AreSound (market_accounts_of accounts.now) }
+    requires acting { IsActing row.now.named.items (market_accounts_of accounts.now).orders
+        acting.address acting.bytes.now }
+    requires account { taker.account ≡ acting.address }
+    requires pays { reasons.payer taker.id_side seen.now ≡ Some wallet }
+    requires leaving { leaving.now ≡ leaving_of (market_of accounts.now).events }
+    ensures { result ≡ each.answered (reasons.why_order_of taker.id_side (order_of taker) (asked_by row.entry.now)
+        seen.now (market_of accounts.now) (party_by acting.entry.address acting.entry.bytes.now))
+        (order_planned taker.id_side (order_of taker) (market_of accounts.now) (account_of acting.entry.bytes.now)) }
+{
+    if let Some(why) = wallet_reason(accounts, row, seen, acting, taker.id_side) {
+        return Err(why);
+    }
+    match decide_order_with(accounts, row, acting, taker, wallet.balance, leaving) {
+        Ok(decided) => Ok(Plan::Order {
+            taker,
+            plan: decided.plan,
+            leaving: decided.leaving,
+        }),
+        Err(why) => Err(why),
+    }
+}
+
+/// A new order of an open account.
+fn decide_order_by(
+    accounts: &MarketAccounts,
+    row: &Row,
+    seen: &Seen,
+    acting: Acting<'_>,
+    taker: Taker,
+    leaving: &Leaving,
+) -> Result<Plan, Refusal>
+    requires sound { AreSound (market_accounts_of accounts.now) }
+    requires acting { IsActing row.now.named.items (market_accounts_of accounts.now).orders
+        acting.address acting.bytes.now }
+    requires account { taker.account ≡ acting.address }
+    requires leaving { leaving.now ≡ leaving_of (market_of accounts.now).events }
+    ensures { result ≡ each.answered (reasons.why_order_of taker.id_side (order_of taker) (asked_by row.entry.now)
+        seen.now (market_of accounts.now) (party_by acting.entry.address acting.entry.bytes.now))
+        (order_planned taker.id_side (order_of taker) (market_of accounts.now) (account_of acting.entry.bytes.now)) }
+{
+    match payer(taker.id_side, seen) {
+        None => Err(Refusal::NoAccount),
+        Some(wallet) => decide_order_paid(accounts, row, seen, acting, taker, wallet, leaving),
+    }
+}
+
+/// A new order of the account that the row names first; the taker's own account is not looked at.
+pub fn decide_order_row(
+    accounts: &MarketAccounts,
+    row: &Row,
+    seen: &Seen,
+    taker: Taker,
+    leaving: &Leaving,
+) -> Result<Plan, Refusal>
+    requires sound { AreSound (market_accounts_of accounts.now) }
+    requires leaving { leaving.now ≡ leaving_of (market_of accounts.now).events }
+    ensures { result ≡ answered_by (reasons.why_order taker.id_side (order_by taker) (asked_by row.entry.now)
+        seen.now (market_of accounts.now)) (order_plan taker.id_side (order_by taker) (market_of accounts.now))
+        (party_on (asked_by row.entry.now) (market_of accounts.now)) }
+{
+    match open_named(&accounts.orders, &row.named) {
+        None => Err(Refusal::NoAccount),
+        Some(acting) => {
+            let taker = Taker {
+                account: acting.address,
+                ..taker
+            };
+            decide_order_by(accounts, row, seen, acting, taker, leaving)
+        }
+    }
+}

@@ -1,0 +1,106 @@
+//! Whether a take is refused. Each function reads only.
+
+ghost use Rattle.std.specs.Prelude.{◌≡◌};
+ghost use Rattle.dex_types.specs.Accounts.{market_accounts_of};
+ghost use Rattle.dex_types.specs.Reasons as each;
+ghost use Rattle.dex_types.specs.Why as reasons;
+ghost use Rattle.dex_ring.specs.Leaving.{leaving_of};
+ghost use Rattle.dex_take.specs.TakeGiven.{read_of};
+ghost use Rattle.dex_take.specs.TakeTerms.{take_of};
+ghost use Rattle.dex_take.specs.Taking.{take_outcome};
+ghost use Rattle.dex_accounts.specs.Decoded.{AreSound};
+ghost use Rattle.dex_decide.specs.Given.{asked_by, market_of, take_given_on};
+ghost use Rattle.dex_decide.specs.Plans.{take_answer};
+
+use crate::ordering::side_of;
+use crate::plan::Plan;
+use dex_market::MarketRef;
+use dex_match::Taker;
+use dex_meet::Leaving;
+use dex_reasons::{disabled, missing, not_signed, other_discount_mint, other_mint, payer};
+use dex_ring::RingRef;
+use dex_take::{DecidedTake, decide_take_with_leaving};
+use dex_types::{MarketAccounts, Refusal, Row, Seen, Side};
+
+/// The market is disabled.
+pub fn is_disabled(accounts: &MarketAccounts) -> Option<Refusal>
+    requires { AreSound (market_accounts_of accounts.now) }
+    ensures { result ≡ each.disabled (market_of accounts.now) }
+{
+    let market = MarketRef {
+        bytes: &accounts.market,
+    };
+    disabled(market.account_flags())
+}
+
+/// The first reason that asks for the market's flags, for wallets and for the signer.
+fn wallet_reason(accounts: &MarketAccounts, row: &Row, seen: &Seen, side: Side) -> Option<Refusal>
+    requires { AreSound (market_accounts_of accounts.now) }
+    ensures { result ≡ reasons.why_take_early side (asked_by row.entry.now) seen.now (market_of accounts.now) }
+{
+    let market = MarketRef {
+        bytes: &accounts.market,
+    };
+    is_disabled(accounts)
+        .or(missing(seen.coin))
+        .or(missing(seen.pc))
+        .or(other_mint(market.coin_mint(), seen.coin))
+        .or(other_mint(market.pc_mint(), seen.pc))
+        .or(other_discount_mint(seen, seen.discount))
+        .or(not_signed(row.signer, payer(side, seen)))
+        .or(not_signed(row.signer, seen.discount))
+}
+
+/// What the take does, or why it is refused, apart from the market's flags, wallets and the signer.
+fn decide_take_with(
+    accounts: &MarketAccounts,
+    taker: Taker,
+    min_lots: u64,
+    min_pc: u64,
+    seen: &Seen,
+    leaving: &Leaving,
+) -> Result<DecidedTake, Refusal>
+    requires sound { AreSound (market_accounts_of accounts.now) }
+    requires leaving { leaving.now ≡ leaving_of (market_of accounts.now).events }
+    ensures { result ≡ take_outcome taker.id_side (take_of taker min_lots min_pc)
+        (read_of (take_given_on taker.id_side accounts.now)) seen.now }
+{
+    let market = MarketRef {
+        bytes: &accounts.market,
+    };
+    let ring = RingRef {
+        bytes: &accounts.events,
+    };
+    let opposite = side_of(accounts, taker.id_side.opposite());
+    decide_take_with_leaving(
+        &market, &opposite, &ring, &taker, min_lots, min_pc, seen, leaving,
+    )
+}
+
+/// A take.
+pub fn decide_take_row(
+    accounts: &MarketAccounts,
+    row: &Row,
+    seen: &Seen,
+    taker: Taker,
+    min_lots: u64,
+    min_pc: u64,
+    leaving: &Leaving,
+) -> Result<Plan, Refusal>
+    requires sound { AreSound (market_accounts_of accounts.now) }
+    requires leaving { leaving.now ≡ leaving_of (market_of accounts.now).events }
+    ensures { result ≡ take_answer taker (take_of taker min_lots min_pc) (asked_by row.entry.now)
+        seen.now (market_of accounts.now) }
+{
+    if let Some(why) = wallet_reason(accounts, row, seen, taker.id_side) {
+        return Err(why);
+    }
+    match decide_take_with(accounts, taker, min_lots, min_pc, seen, leaving) {
+        Ok(decided) => Ok(Plan::Take {
+            taker,
+            plan: decided.plan,
+            leaving: decided.leaving,
+        }),
+        Err(why) => Err(why),
+    }
+}

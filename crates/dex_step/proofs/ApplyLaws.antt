@@ -1,0 +1,51 @@
+-- What was decided of a row, by the kind of its plan, and what was done of it.
+use Rattle.std.proofs.Common.{◌≡◌, ◌<◌, List, ◌∷◌, Ok, length, refl, sym, subst, arith}
+use Rattle.dex_types.specs.declared.addresses.Address.{Address}
+use Rattle.dex_types.specs.declared.replies.Reply.{Reply}
+use Rattle.dex_types.specs.declared.replies.Reply.TheVariants.{Done}
+use Rattle.dex_types.specs.declared.rows.Seen.{Seen}
+use Rattle.dex_types.specs.Accounts.{PlainMarketAccounts}
+use Rattle.dex_types.specs.Rows.{PlainRow}
+use Rattle.dex_types.specs.Steps.{Step, done}
+use Rattle.dex_accounts.specs.Decoded.{AreSound, market_in}
+use Rattle.dex_decide.specs.declared.plan.Plan.{Plan}
+use Rattle.dex_decide.specs.Plans.{decided}
+use Rattle.dex_history.specs.Journal.{request_of, row_step}
+use Rattle.dex_ring.specs.declared.leaving.Leaving.{Leaving}
+use Rattle.dex_ring.specs.Leaving.{leaving_of}
+use Rattle.dex_step.specs.Acting.{HasStepped}
+use Rattle.dex_step.specs.Planned.{IsPlanned, OfFirst}
+use Rattle.dex_step.proofs.PlannedLaws.{row-planned}
+
+-- the plan is of this kind, so what its kind needs was decided
+pub planned-as : (accounts : PlainMarketAccounts) (row : PlainRow) (seen : Seen) (plan kind : Plan) → AreSound accounts
+    → Ok plan ≡ decided (request_of row) seen (market_in accounts) → plan ≡ kind
+    → IsPlanned kind (request_of row) (market_in accounts) (row_step row seen (market_in accounts))
+planned-as accounts row seen plan kind sound is kind_is =
+    subst (λ (p : Plan). IsPlanned p (request_of row) (market_in accounts) (row_step row seen (market_in accounts))) kind_is
+    (row-planned row seen (market_in accounts) plan sound.sound is)
+
+-- what was done of a kind's step was done of the row's
+pub stepped-as : (before after : PlainMarketAccounts) (reply : Reply) (leaving now : Leaving) (s s' : Step) → HasStepped before after reply leaving s → s' ≡ s → now ≡ leaving
+    → HasStepped before after reply now s'
+stepped-as before after reply leaving now s s' stepped same sums =
+    subst (λ (l : Leaving). HasStepped before after reply l s') (sym sums) (subst (HasStepped before after reply leaving) (sym same) stepped)
+
+-- nothing was done
+pub nothing-stepped : (accounts : PlainMarketAccounts) (leaving : Leaving) → AreSound accounts → leaving ≡ leaving_of (market_in accounts).events
+    → HasStepped accounts accounts Done leaving (done (market_in accounts))
+nothing-stepped accounts leaving sound sums = record {
+  reply_is = refl;
+  market = refl;
+  sound = sound;
+  leaving_is = sums;
+  kept = record { address = refl; authority = refl; addresses = refl; accepted = λ was. was };
+}
+
+-- there is one that is named first, and it is the first
+pub some-named : (named : List Address) (P : Address → Type 0) → OfFirst named P → 0 < length named
+some-named named P of = subst (λ (l : List Address). 0 < length l) (sym of.is) (omega arith)
+
+pub first-holds : (named : List Address) (P : Address → Type 0) (first : Address) → OfFirst named P
+    → ((address : Address) (others : List Address) → named ≡ address ∷ others → first ≡ address) → P first
+first-holds named P first of is = subst P (sym (is of.address of.others of.is)) of.holds

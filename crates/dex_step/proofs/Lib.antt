@@ -1,0 +1,11 @@
+pub mod ActLaws
+pub mod ApplyLaws
+pub mod CancelRowLaws
+pub mod ConsumeRowLaws
+pub mod FundLaws
+pub mod LeavingLaws
+pub mod OrderRowLaws
+pub mod OwnerParts
+pub mod PlannedLaws
+pub mod SoundParts
+pub mod TakeRowLaws

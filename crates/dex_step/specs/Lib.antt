@@ -1,0 +1,10 @@
+pub mod Acting
+pub mod CancelActs
+pub mod ConsumeActs
+pub mod FundActs
+pub mod FundBytes
+pub mod OrderActs
+pub mod OrderRows
+pub mod Planned
+pub mod TakeActs
+pub mod TakeRows

@@ -1,0 +1,94 @@
+//! Cancels, done in place. None takes memory.
+
+ghost use Rattle.dex_accounts.specs.Owners.{bytes_at};
+ghost use Rattle.dex_accounts.specs.Decoded.{AreSound, market_in};
+ghost use Rattle.dex_cancel.specs.Cancelling.{named_by};
+ghost use Rattle.dex_market.specs.MarketAccount.{IsMarket, market_words, sizes_of};
+ghost use Rattle.dex_ring.specs.Leaving.{leaving_of};
+ghost use Rattle.dex_step.specs.Acting.{HasStepped};
+ghost use Rattle.dex_step.specs.CancelActs.{CanCancel, HasCancelled, IsCancelDecided, cancel_bytes, cancel_step};
+ghost use Rattle.dex_types.specs.Accounts.{market_accounts_of, orders_account_of};
+ghost use Rattle.std.specs.Prelude.{◌≡◌, IsSome, Some, map};
+
+use dex_accounts::find_bytes;
+use dex_cancel::CancelWhat;
+use dex_cancel_slots::apply_cancel_by_slots;
+use dex_market::MarketRef;
+use dex_orders::OrdersRef;
+use dex_ring::RingView;
+use dex_slab::SlabView;
+use dex_types::{Address, Lots, MarketAccounts, OrdersAccount, Reply, Side};
+
+/// The lot sizes of a market account.
+fn sizes_in(market: &[u8]) -> Lots
+    requires { IsMarket market.now }
+    ensures { result ≡ sizes_of (market_words market.now) }
+{
+    MarketRef { bytes: market }.sizes()
+}
+
+/// The bytes of the account of an address that is among these.
+fn bytes_of(accounts: &[OrdersAccount], address: Address) -> &[u8]
+    requires { IsSome (bytes_at address (map orders_account_of accounts.now)) }
+    ensures { bytes_at address (map orders_account_of accounts.now) ≡ Some result.now }
+{
+    match find_bytes(accounts, address) {
+        Some(bytes) => bytes,
+        None => unreachable!(),
+    }
+}
+
+/// A cancel, on the bytes of the accounts that it is handed: `held` are the owner's. It answers how many orders it
+/// took.
+fn cancel_on_bytes(
+    what: &CancelWhat,
+    owner: Address,
+    held: &[u8],
+    sizes: Lots,
+    bids: &mut [u8],
+    asks: &mut [u8],
+    events: &mut [u8],
+) -> u32
+    requires { CanCancel (named_by what.now) owner held.now (cancel_bytes sizes bids.old asks.old events.old) }
+    ensures { HasCancelled (named_by what.entry.now) owner result (cancel_bytes sizes bids.old asks.old events.old)
+        (cancel_bytes sizes bids.new asks.new events.new) }
+{
+    apply_cancel_by_slots(
+        what,
+        owner,
+        &OrdersRef { bytes: held },
+        sizes,
+        &mut SlabView {
+            bytes: bids,
+            side: Side::Bid,
+        },
+        &mut SlabView {
+            bytes: asks,
+            side: Side::Ask,
+        },
+        &mut RingView { bytes: events },
+    )
+}
+
+/// Orders of an owner taken off the book, as it was decided: an out of each waits for it, and it is answered how many
+/// there were. What makers' fills are still to take off totals stays.
+pub(crate) fn cancel_row(accounts: &mut MarketAccounts, owner: Address, what: &CancelWhat) -> Reply
+    requires sound { AreSound (market_accounts_of accounts.old) }
+    requires decided { IsCancelDecided (named_by what.now) owner (market_in (market_accounts_of accounts.old)) }
+    ensures { let m = market_in (market_accounts_of accounts.old) in
+        HasStepped (market_accounts_of accounts.old) (market_accounts_of accounts.new) result (leaving_of m.events)
+        (cancel_step (named_by what.entry.now) owner m) }
+{
+    let sizes = sizes_in(&accounts.market);
+    let held = bytes_of(&accounts.orders, owner);
+    let count = cancel_on_bytes(
+        what,
+        owner,
+        held,
+        sizes,
+        &mut accounts.bids,
+        &mut accounts.asks,
+        &mut accounts.events,
+    );
+    Reply::Cancelled(count)
+}

@@ -1,0 +1,182 @@
+//! Funds out of a market, and opening, closing and disabling, done in place. None takes memory.
+
+ghost use Rattle.std.specs.Prelude.{◌≡◌, map};
+ghost use Rattle.dex_accounts.specs.Decoded.{AreSound, market_in};
+ghost use Rattle.dex_market.specs.MarketAccount.{IsMarket};
+ghost use Rattle.dex_orders.specs.OrdersAccount.{IsBlank};
+ghost use Rattle.dex_ring.specs.Leaving.{leaving_of};
+ghost use Rattle.dex_settle.specs.Leaving.{swept, with_disabled};
+ghost use Rattle.dex_step.specs.Acting.{HasStepped};
+ghost use Rattle.dex_step.specs.FundActs as acts;
+ghost use Rattle.dex_step.specs.FundBytes.{
+  CanChange,
+  CanClose,
+  CanSettle,
+  HasChanged,
+  HasClosed,
+  HasOpened,
+  HasSettled,
+};
+ghost use Rattle.dex_types.specs.Accounts.{market_accounts_of, orders_account_of};
+
+use crate::vaults::take_out;
+use dex_accounts::place_of;
+use dex_market::MarketView;
+use dex_orders::{OrdersView, close, init};
+use dex_settle::{SettlePlan, apply_disable, apply_settle, apply_sweep};
+use dex_types::{Address, MarketAccounts, OrdersAccount, Reply};
+
+/// Settling, on the bytes of the market account and of an open account.
+fn settle_on_bytes(plan: &SettlePlan, market: &mut [u8], account: &mut [u8])
+    requires { CanSettle plan.now market.old account.old }
+    ensures { HasSettled plan.entry.now market.old market.new account.old account.new }
+{
+    apply_settle(
+        plan,
+        &mut MarketView { bytes: market },
+        &mut OrdersView { bytes: account },
+    );
+}
+
+/// The same with the account's bytes in their buffer.
+fn settle_in_buffer(plan: &SettlePlan, market: &mut [u8], account: &mut Vec<u8>)
+    requires { CanSettle plan.now market.old account.old.items }
+    ensures { HasSettled plan.entry.now market.old market.new account.old.items account.new.items }
+{
+    settle_on_bytes(plan, market, account);
+}
+
+/// The same of the owner's account among the others.
+fn settle_among(
+    plan: &SettlePlan,
+    owner: Address,
+    market: &mut [u8],
+    accounts: &mut [OrdersAccount],
+)
+    requires { CanChange owner (CanSettle plan.now market.old) (map orders_account_of accounts.old) }
+    ensures { HasChanged owner (HasSettled plan.entry.now market.old market.new)
+        (map orders_account_of accounts.old) (map orders_account_of accounts.new) }
+{
+    let place = place_of(accounts, owner);
+    settle_in_buffer(plan, market, &mut accounts[place].bytes);
+}
+
+/// An account settled as it was decided: all its free funds and its referrer part leave the vaults, but for what of
+/// that goes to the fees.
+pub(crate) fn settle_row(accounts: &mut MarketAccounts, owner: Address, plan: &SettlePlan) -> Reply
+    requires sound { AreSound (market_accounts_of accounts.old) }
+    requires decided { acts.IsSettleDecided plan.now owner (market_in (market_accounts_of accounts.old)) }
+    ensures { let m = market_in (market_accounts_of accounts.old) in
+        HasStepped (market_accounts_of accounts.old) (market_accounts_of accounts.new) result (leaving_of m.events)
+        (acts.settle_step plan.entry.now owner m) }
+{
+    settle_among(plan, owner, &mut accounts.market, &mut accounts.orders);
+    take_out(&mut accounts.coin_vault, plan.coin);
+    take_out(&mut accounts.pc_vault, plan.pc + plan.referrer);
+    Reply::Settled {
+        coin: plan.coin,
+        pc: plan.pc,
+        referrer: plan.referrer,
+    }
+}
+
+/// Sweeping, on the bytes of the market account.
+fn sweep_on_bytes(market: &mut [u8])
+    requires { IsMarket market.old }
+    ensures { market.new ≡ swept market.old }
+{
+    apply_sweep(&mut MarketView { bytes: market });
+}
+
+/// The fees swept as it was decided: these, in native pc, leave the pc vault.
+pub(crate) fn sweep_row(accounts: &mut MarketAccounts, fees: u64) -> Reply
+    requires sound { AreSound (market_accounts_of accounts.old) }
+    requires decided { acts.IsSweepDecided fees (market_in (market_accounts_of accounts.old)) }
+    ensures { let m = market_in (market_accounts_of accounts.old) in
+        HasStepped (market_accounts_of accounts.old) (market_accounts_of accounts.new) result (leaving_of m.events)
+        (acts.sweep_step m) }
+{
+    sweep_on_bytes(&mut accounts.market);
+    take_out(&mut accounts.pc_vault, fees);
+    Reply::Swept(fees)
+}
+
+/// Disabling, on the bytes of the market account.
+fn disable_on_bytes(market: &mut [u8])
+    requires { IsMarket market.old }
+    ensures { market.new ≡ with_disabled market.old }
+{
+    apply_disable(&mut MarketView { bytes: market });
+}
+
+/// The market disabled for good, as it was decided.
+pub(crate) fn disable_row(accounts: &mut MarketAccounts) -> Reply
+    requires sound { AreSound (market_accounts_of accounts.old) }
+    requires decided { acts.IsDisableDecided (market_in (market_accounts_of accounts.old)) }
+    ensures { let m = market_in (market_accounts_of accounts.old) in
+        HasStepped (market_accounts_of accounts.old) (market_accounts_of accounts.new) result (leaving_of m.events)
+        (acts.disable_step m) }
+{
+    disable_on_bytes(&mut accounts.market);
+    Reply::Done
+}
+
+/// Opening, with the account's bytes in their buffer.
+fn init_in_buffer(account: &mut Vec<u8>, market: Address, person: Address)
+    requires { IsBlank account.old.items }
+    ensures { HasOpened market person account.old.items account.new.items }
+{
+    init(account, market, person);
+}
+
+/// Opening the owner's account among the others.
+fn init_among(owner: Address, market: Address, person: Address, accounts: &mut [OrdersAccount])
+    requires { CanChange owner IsBlank (map orders_account_of accounts.old) }
+    ensures { HasChanged owner (HasOpened market person)
+        (map orders_account_of accounts.old) (map orders_account_of accounts.new) }
+{
+    let place = place_of(accounts, owner);
+    init_in_buffer(&mut accounts[place].bytes, market, person);
+}
+
+/// An account that was never opened is opened for the signer, as it was decided.
+pub(crate) fn init_row(accounts: &mut MarketAccounts, owner: Address, signer: Address) -> Reply
+    requires sound { AreSound (market_accounts_of accounts.old) }
+    requires decided { acts.IsInitDecided owner signer (market_in (market_accounts_of accounts.old)) }
+    ensures { let m = market_in (market_accounts_of accounts.old) in
+        HasStepped (market_accounts_of accounts.old) (market_accounts_of accounts.new) result (leaving_of m.events)
+        (acts.init_step owner signer m) }
+{
+    init_among(owner, accounts.address, signer, &mut accounts.orders);
+    Reply::Done
+}
+
+/// Closing, with the account's bytes in their buffer.
+fn close_in_buffer(account: &mut Vec<u8>)
+    requires { CanClose account.old.items }
+    ensures { HasClosed account.old.items account.new.items }
+{
+    close(account);
+}
+
+/// Closing the owner's account among the others.
+fn close_among(owner: Address, accounts: &mut [OrdersAccount])
+    requires { CanChange owner CanClose (map orders_account_of accounts.old) }
+    ensures { HasChanged owner HasClosed
+        (map orders_account_of accounts.old) (map orders_account_of accounts.new) }
+{
+    let place = place_of(accounts, owner);
+    close_in_buffer(&mut accounts[place].bytes);
+}
+
+/// An account without funds and orders is closed for good, as it was decided.
+pub(crate) fn close_row(accounts: &mut MarketAccounts, owner: Address) -> Reply
+    requires sound { AreSound (market_accounts_of accounts.old) }
+    requires decided { acts.IsCloseDecided owner (market_in (market_accounts_of accounts.old)) }
+    ensures { let m = market_in (market_accounts_of accounts.old) in
+        HasStepped (market_accounts_of accounts.old) (market_accounts_of accounts.new) result (leaving_of m.events)
+        (acts.close_step owner m) }
+{
+    close_among(owner, &mut accounts.orders);
+    Reply::Done
+}

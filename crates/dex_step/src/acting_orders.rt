@@ -1,0 +1,195 @@
+//! New orders, done in place. None takes memory.
+
+ghost use Rattle.std.specs.Prelude.{◌≡◌, map};
+ghost use Rattle.dex_accounts.specs.Decoded.{AreSound, market_in};
+ghost use Rattle.dex_step.specs.Acting.{CanTakeIn, HasStepped, HaveTakenIn};
+ghost use Rattle.dex_step.specs.OrderActs.{
+  CanOrder,
+  CanOrderAt,
+  HasOrdered,
+  HasOrderedIn,
+  among,
+  among_of,
+  order_bytes,
+};
+ghost use Rattle.dex_step.specs.OrderRows.{IsOrderDecided, order_step};
+ghost use Rattle.dex_types.specs.Accounts.{market_accounts_of, orders_account_of};
+ghost use Rattle.dex_types.specs.declared.terms.Side.TheVariants as sides;
+
+use crate::vaults::bring;
+use dex_accounts::place_of;
+use dex_market::{MarketView, RequestView};
+use dex_match::{OrderPlan, Taker, apply_order};
+use dex_orders::OrdersView;
+use dex_ring::{Leaving, RingView};
+use dex_slab::SlabView;
+use dex_types::{MarketAccounts, OrdersAccount, Reply, Side};
+
+/// A new order, on the bytes of the accounts that it is handed.
+fn order_on_bytes(
+    plan: &OrderPlan,
+    taker: Taker,
+    market: &mut [u8],
+    requests: &mut [u8],
+    events: &mut [u8],
+    account: &mut [u8],
+    own: &mut [u8],
+    opposite: &mut [u8],
+) -> Reply
+    requires { CanOrder plan.now taker
+        (order_bytes market.old requests.old events.old account.old own.old opposite.old) }
+    ensures { HasOrdered taker result (order_bytes market.old requests.old events.old account.old own.old opposite.old)
+        (order_bytes market.new requests.new events.new account.new own.new opposite.new) }
+{
+    let side = taker.id_side;
+    apply_order(
+        plan,
+        &taker,
+        &mut MarketView { bytes: market },
+        &mut RequestView { bytes: requests },
+        &mut SlabView { bytes: own, side },
+        &mut SlabView {
+            bytes: opposite,
+            side: side.opposite(),
+        },
+        &mut RingView { bytes: events },
+        &mut OrdersView { bytes: account },
+    )
+}
+
+/// The same with the account's bytes in their buffer.
+fn order_in_buffer(
+    plan: &OrderPlan,
+    taker: Taker,
+    market: &mut [u8],
+    requests: &mut [u8],
+    events: &mut [u8],
+    account: &mut Vec<u8>,
+    own: &mut [u8],
+    opposite: &mut [u8],
+) -> Reply
+    requires { CanOrder plan.now taker
+        (order_bytes market.old requests.old events.old account.old.items own.old opposite.old) }
+    ensures { HasOrdered taker result
+        (order_bytes market.old requests.old events.old account.old.items own.old opposite.old)
+        (order_bytes market.new requests.new events.new account.new.items own.new opposite.new) }
+{
+    order_on_bytes(
+        plan, taker, market, requests, events, account, own, opposite,
+    )
+}
+
+/// A new order of the account at this place.
+fn order_in_place(
+    plan: &OrderPlan,
+    taker: Taker,
+    market: &mut [u8],
+    requests: &mut [u8],
+    events: &mut [u8],
+    accounts: &mut [OrdersAccount],
+    place: usize,
+    own: &mut [u8],
+    opposite: &mut [u8],
+) -> Reply
+    requires { CanOrderAt place plan.now taker
+        (among market.old requests.old events.old own.old opposite.old (map orders_account_of accounts.old)) }
+    ensures { HasOrderedIn taker result
+        (among market.old requests.old events.old own.old opposite.old (map orders_account_of accounts.old))
+        (among market.new requests.new events.new own.new opposite.new (map orders_account_of accounts.new)) }
+{
+    order_in_buffer(
+        plan,
+        taker,
+        market,
+        requests,
+        events,
+        &mut accounts[place].bytes,
+        own,
+        opposite,
+    )
+}
+
+/// A new bid, with its deposit in the vault.
+fn order_bid(accounts: &mut MarketAccounts, plan: &OrderPlan, taker: Taker, place: usize) -> Reply
+    requires side { taker.id_side ≡ sides.Bid }
+    requires can { CanOrderAt place plan.now taker (among_of sides.Bid (market_accounts_of accounts.old)) }
+    requires vault { CanTakeIn sides.Bid plan.now.deposit (market_accounts_of accounts.old) }
+    ensures does { HasOrderedIn taker result (among_of sides.Bid (market_accounts_of accounts.old))
+        (among_of sides.Bid (market_accounts_of accounts.new)) }
+    ensures vaults { HaveTakenIn sides.Bid plan.now.deposit (market_accounts_of accounts.old)
+        (market_accounts_of accounts.new) }
+{
+    let reply = order_in_place(
+        plan,
+        taker,
+        &mut accounts.market,
+        &mut accounts.requests,
+        &mut accounts.events,
+        &mut accounts.orders,
+        place,
+        &mut accounts.bids,
+        &mut accounts.asks,
+    );
+    bring(&mut accounts.pc_vault, plan.deposit);
+    reply
+}
+
+/// A new ask, with its deposit in the vault.
+fn order_ask(accounts: &mut MarketAccounts, plan: &OrderPlan, taker: Taker, place: usize) -> Reply
+    requires side { taker.id_side ≡ sides.Ask }
+    requires can { CanOrderAt place plan.now taker (among_of sides.Ask (market_accounts_of accounts.old)) }
+    requires vault { CanTakeIn sides.Ask plan.now.deposit (market_accounts_of accounts.old) }
+    ensures does { HasOrderedIn taker result (among_of sides.Ask (market_accounts_of accounts.old))
+        (among_of sides.Ask (market_accounts_of accounts.new)) }
+    ensures vaults { HaveTakenIn sides.Ask plan.now.deposit (market_accounts_of accounts.old)
+        (market_accounts_of accounts.new) }
+{
+    let reply = order_in_place(
+        plan,
+        taker,
+        &mut accounts.market,
+        &mut accounts.requests,
+        &mut accounts.events,
+        &mut accounts.orders,
+        place,
+        &mut accounts.asks,
+        &mut accounts.bids,
+    );
+    bring(&mut accounts.coin_vault, plan.deposit);
+    reply
+}
+
+/// A new order of either side.
+fn order_at(accounts: &mut MarketAccounts, plan: &OrderPlan, taker: Taker, place: usize) -> Reply
+    requires can { CanOrderAt place plan.now taker (among_of taker.id_side (market_accounts_of accounts.old)) }
+    requires vault { CanTakeIn taker.id_side plan.now.deposit (market_accounts_of accounts.old) }
+    ensures does { HasOrderedIn taker result (among_of taker.id_side (market_accounts_of accounts.old))
+        (among_of taker.id_side (market_accounts_of accounts.new)) }
+    ensures vaults { HaveTakenIn taker.id_side plan.now.deposit (market_accounts_of accounts.old)
+        (market_accounts_of accounts.new) }
+{
+    match taker.id_side {
+        Side::Bid => order_bid(accounts, plan, taker, place),
+        Side::Ask => order_ask(accounts, plan, taker, place),
+    }
+}
+
+/// A new order of an open account, as it was decided: it trades and rests, its deposit enters the vault, and it is
+/// answered what it did. `left` is what makers' fills are to take off totals after it.
+pub(crate) fn order_row(
+    accounts: &mut MarketAccounts,
+    leaving: &mut Leaving,
+    taker: Taker,
+    plan: &OrderPlan,
+    left: Leaving,
+) -> Reply
+    requires sound { AreSound (market_accounts_of accounts.old) }
+    requires decided { IsOrderDecided taker plan.now left (market_in (market_accounts_of accounts.old)) }
+    ensures { HasStepped (market_accounts_of accounts.old) (market_accounts_of accounts.new) result leaving.new
+        (order_step taker (market_in (market_accounts_of accounts.old))) }
+{
+    let place = place_of(&accounts.orders, taker.account);
+    let reply = order_at(accounts, plan, taker, place);
+    *leaving = left;
+    reply
+}

@@ -1,0 +1,14 @@
+//! What a row does, once it was decided, over a market's account bytes.
+#![tactic(auto)]
+
+mod acting_cancels;
+mod acting_events;
+mod acting_funds;
+mod acting_orders;
+mod acting_takes;
+mod applying;
+mod laws;
+mod vaults;
+
+pub use applying::apply;
+pub use laws::{what_is_decided_is_planned, what_is_left_is_the_steps};
