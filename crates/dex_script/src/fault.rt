@@ -11,8 +11,8 @@ use thiserror::Error;
 /// Why no script could be read.
 #[derive(Debug, Drop, Error)]
 pub enum ScriptError {
-    /// The first faulty row, counted from 1, the number of the lowest of its faults, and that of the setup code, 0 where it
-    /// has none.
+    /// The first faulty row, counted from 1, the number of the lowest of its faults, and that of the setup code, 0
+    /// where it has none.
     #[error("script refused row {row}: {kind}")]
     Row { row: u32, kind: u8, code: u8 },
     /// The dump at the start is faulty.

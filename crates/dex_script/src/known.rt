@@ -10,7 +10,8 @@ ghost use Rattle.dex_script.specs.Known as spec;
 use dex_dump::{MarketPart, derived};
 use dex_types::{Address, MarketAccounts, Named, is_same};
 
-/// The addresses that a market row declares: the market's, and those of its vaults, queues, sides and the vaults' owner.
+/// The addresses that a market row declares: the market's, and those of its vaults, queues, sides and the vaults'
+/// owner.
 pub(crate) fn made_addresses(market: Address) -> [Address; 8]
     ensures { result ≡ spec.made_addresses market }
 {

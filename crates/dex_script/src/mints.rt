@@ -88,7 +88,8 @@ impl Mints {
         address: Address,
         decimals: u8,
     ) -> Result<(), NoMemory>
-        ensures { OnOk result (self.new ≡ self.old ++ record { address = address; bytes = mint_bytes 0 decimals } ∷ []) }
+        ensures { OnOk result (self.new
+            ≡ self.old ++ record { address = address; bytes = mint_bytes 0 decimals } ∷ []) }
     {
         let bytes = make_mint(alloc, 0, decimals)?;
         match self.accounts.push(Named { address, bytes }) {

@@ -17,8 +17,8 @@ use dex_types::NoMemory;
 use std::alloc::Global;
 use std::marker::Model;
 
-/// A script as far as its rows are read, and, from its first instruction row on, the names of its markets and wallets. A
-/// contract sees it as what the rows say.
+/// A script as far as its rows are read, and, from its first instruction row on, the names of its markets and wallets.
+/// A contract sees it as what the rows say.
 #[derive(Drop)]
 pub(crate) struct Reader {
     draft: Draft,

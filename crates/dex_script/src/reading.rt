@@ -20,8 +20,8 @@ use dex_statement::{FaultKind, RowError};
 use dex_types::NoMemory;
 use std::alloc::Global;
 
-/// The script that a text is: the accounts that its first rows make, or that the dump at its start holds, and its instruction
-/// rows. Else the first faulty row with the lowest of its faults, or the fault or the findings of the dump.
+/// The script that a text is: the accounts that its first rows make, or that the dump at its start holds, and its
+/// instruction rows. Else the first faulty row with the lowest of its faults, or the fault or the findings of the dump.
 pub fn read_script(alloc: Global, bytes: &[u8]) -> Result<Script, ScriptError>
     ensures { TellsScript result bytes.now }
 {

@@ -3,8 +3,8 @@
 use dex_types::{Accounts, Program, Row};
 use std::marker::Model;
 
-/// A script: the accounts with which it starts, its instruction rows in their order, how many lanes it has (the highest lane
-/// and 1, or 1 where there is no row), and the program that runs.
+/// A script: the accounts with which it starts, its instruction rows in their order, how many lanes it has (the highest
+/// lane and 1, or 1 where there is no row), and the program that runs.
 #[derive(Debug, Drop)]
 pub struct Script {
     pub start: Accounts,

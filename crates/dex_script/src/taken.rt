@@ -12,8 +12,8 @@ use dex_market::MarketRef;
 use dex_types::{Accounts, Address, MarketAccounts, Named, NoMemory, OrdersAccount};
 use std::alloc::Global;
 
-/// Every address that accounts have: those of mints and wallets, and of each market its own, those of its vaults, queues and
-/// sides, and those of its open-orders accounts.
+/// Every address that accounts have: those of mints and wallets, and of each market its own, those of its vaults,
+/// queues and sides, and those of its open-orders accounts.
 pub(crate) fn taken_addresses(alloc: Global, accounts: &Accounts) -> Result<Vec<Address>, NoMemory>
     requires { AreMarkets (map market_accounts_of accounts.now.markets.items) }
     ensures { IfOk result (λ taken. taken.items ≡ addresses_of (accounts_of accounts.now)) }
@@ -81,7 +81,8 @@ fn take_market(taken: &mut Vec<Address>, market: &MarketAccounts) -> Result<(), 
 /// The addresses of markets.
 fn take_markets(taken: &mut Vec<Address>, markets: &[MarketAccounts]) -> Result<(), NoMemory>
     requires { AreMarkets (map market_accounts_of markets.now) }
-    ensures { OnOk result (taken.new.items ≡ taken.old.items ++ flat_map all_of_market (map market_accounts_of markets.now)) }
+    ensures { OnOk result (taken.new.items
+        ≡ taken.old.items ++ flat_map all_of_market (map market_accounts_of markets.now)) }
 {
     for place in 0..markets.len() {
         take_market(taken, &markets[place])?;
