@@ -1,5 +1,5 @@
 -- The first market of an address, by its place among the markets.
-use Rattle.std.proofs.Common.{◌≡◌, ◌<◌, ◌≤◌, ◌+◌, ◌∙◌, ◌∷◌, [], ◌++◌, ℕ, Bool, if◌then◌else◌, List, Option, Some, None, Result, Ok, Err, OnOk, ap, arith, get_or, length, map, refl, set, subst, sym}
+use Rattle.std.proofs.Common.{◌≡◌, ◌<◌, ◌∙◌, ◌∷◌, [], ◌++◌, ℕ, Bool, if◌then◌else◌, List, Some, None, Result, Ok, Err, OnOk, ap, arith, get_or, length, map, refl, set, subst, sym}
 use Rattle.std.specs.List.{position}
 use Rattle.std.proofs.lemmas.List.{get_or-map, length-map, map-append}
 use Rattle.dex_market.specs.MarketAccount.{IsMarket}
@@ -10,7 +10,7 @@ use Rattle.dex_types.specs.declared.addresses.Address.{Address}
 use Rattle.dex_types.specs.Accounts.{PlainAccount, PlainMarketAccounts, market_accounts_of, orders_account_of}
 use Rattle.dex_types.specs.Addresses.{is_same}
 use Rattle.dex_dump.specs.Reading.{with_orders}
-use Rattle.dex_script.proofs.FirstLaws.{IsFirst, changed-at, changed-none, first-at, first-none, is-first, none-passes}
+use Rattle.dex_script.proofs.FirstLaws.{changed-at, changed-none, first-at, first-none, is-first, none-passes}
 use Rattle.dex_script.specs.Firsts.{with_first}
 use Rattle.dex_script.specs.Known.{orders_at}
 

@@ -1,5 +1,5 @@
 -- The first mint of an address, by its place among the mints.
-use Rattle.std.proofs.Common.{◌≡◌, ◌<◌, ◌≤◌, ◌+◌, ◌∙◌, ◌∷◌, [], ◌++◌, ℕ, Bool, List, Option, Some, None, ap, arith, get_or, length, map, refl, set, subst, sym}
+use Rattle.std.proofs.Common.{◌≡◌, ◌<◌, ◌+◌, ◌∙◌, ℕ, Bool, List, Some, None, ap, arith, get_or, length, map, refl, set, subst}
 use Rattle.std.proofs.lemmas.List.{get_or-map, length-map}
 use Rattle.std.specs.List.{position}
 use Rattle.dex_types.specs.declared.account_bytes.Named.{Named}
@@ -11,7 +11,7 @@ use Rattle.dex_fields.specs.Bytes.{number_in}
 use Rattle.dex_fields.specs.declared.mint.TheConstants.{IS_INITIALIZED, SUPPLY}
 use Rattle.dex_fields.proofs.Places.{number_in-other}
 use Rattle.dex_fields.proofs.Writing.{length-with_number}
-use Rattle.dex_script.proofs.FirstLaws.{IsFirst, all-changed, changed-at, changed-none, first-at, first-none, is-first, length-with_first, none-passes}
+use Rattle.dex_script.proofs.FirstLaws.{all-changed, changed-at, changed-none, first-at, first-none, is-first, length-with_first, none-passes}
 use Rattle.dex_script.specs.Known.{mint_at, raised, with_supply}
 use Rattle.dex_script.specs.Mints.{AreMints}
 

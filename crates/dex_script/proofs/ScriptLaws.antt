@@ -1,6 +1,5 @@
 -- What a text answers, from what its rows give.
 use Rattle.std.proofs.Common.{◌≡◌, ◌∙◌, ℕ, Bool, true, false, List, [], ◌∷◌, Result, Ok, Err, ap, refl, subst, sym}
-use Rattle.dex_types.specs.Accounts.{PlainAccounts}
 use Rattle.dex_rows.specs.Records.{rows_of}
 use Rattle.dex_statement.specs.Faults.{◌>>=◌}
 use Rattle.dex_dump.specs.declared.faults.DumpFault.{DumpFault}
@@ -10,7 +9,7 @@ use Rattle.dex_audit_rules.specs.declared.finding.Finding.{Finding}
 use Rattle.dex_script.specs.declared.fault.ScriptError.{ScriptError}
 use Rattle.dex_script.specs.declared.fault.ScriptError.TheVariants as script
 use Rattle.dex_script.specs.Drafts.{PlainDraft, PlainScript, behind_dump, no_rows}
-use Rattle.dex_script.specs.Scripts.{Answers, AnswersBy, IsRefused, Reads, Refusal, begins_with_dump, behind, draft_after, unless_found}
+use Rattle.dex_script.specs.Scripts.{Answers, AnswersBy, IsRefused, Refusal, begins_with_dump, draft_after, unless_found}
 use Rattle.dex_script.specs.Scripts.Refusal.{InAudit, InDump}
 use Rattle.dex_script.specs.Telling.{TellsDraft, TellsError, TellsRefusal, TellsText}
 

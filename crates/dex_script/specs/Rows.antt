@@ -1,5 +1,5 @@
 -- The script with what one more row states, or the lowest fault that the row has behind the rows before it.
-use Rattle.std.specs.Prelude.{ℕ, ℤ, ◌+◌, ◌-◌, ◌^◌, Bool, true, false, not, ◌||◌, ◌==◌, nat_le, nat_lt, if◌then◌else◌, List, [], ◌∷◌, ◌++◌, length, max, Option, Some, None, Result, Ok, Err, is_some}
+use Rattle.std.specs.Prelude.{ℕ, ℤ, ◌+◌, ◌-◌, ◌^◌, Bool, true, false, not, ◌||◌, ◌==◌, nat_le, nat_lt, if◌then◌else◌, List, [], ◌∷◌, ◌++◌, length, max, Option, Some, None, Result, Ok, is_some}
 use Rattle.dex_types.specs.declared.addresses.Address.{Address}
 use Rattle.dex_types.specs.declared.instructions.BadData.{BadData}
 use Rattle.dex_types.specs.declared.instructions.Ix.{Ix}
@@ -23,7 +23,7 @@ use Rattle.dex_statement.specs.Faults.{◌>>=◌, found_or, unless}
 use Rattle.dex_statement.specs.Stated.{PlainInstruction, PlainMarketWords, PlainParties}
 use Rattle.dex_statement.specs.Statements.{statement_of}
 use Rattle.dex_statement.specs.Words.{Fields}
-use Rattle.dex_script.specs.Drafts.{PlainDraft, PlainScript}
+use Rattle.dex_script.specs.Drafts.{PlainDraft}
 use Rattle.dex_script.specs.Known.{has_account, has_market, is_any_among, is_known_role, made_addresses, mint_at, orders_at, with_supply}
 
 -- the same script with other accounts, behind a setup row that declares these addresses

@@ -1,7 +1,6 @@
 -- What a text of rows says: a script, or why it is none.
 use Rattle.std.specs.Prelude.{◌≡◌, ℕ, Bool, true, false, List, [], ◌∷◌, Result, Ok, Err}
 use Rattle.dex_rows.specs.Records.{rows_of}
-use Rattle.dex_types.specs.Accounts.{PlainAccounts}
 use Rattle.dex_statement.specs.declared.faults.FaultKind.{FaultKind}
 use Rattle.dex_statement.specs.Faults.{◌>>=◌}
 use Rattle.dex_statement.specs.Words.{Fields}

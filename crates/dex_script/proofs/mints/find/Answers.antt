@@ -1,4 +1,4 @@
-use Rattle.std.proofs.Common.{◌∙◌, ap, arith, Some, sym}
+use Rattle.std.proofs.Common.{◌∙◌, ap, Some, sym}
 use Rattle.dex_token.specs.MintAccount.{MintWords, mint_words}
 use Rattle.dex_script.proofs.FirstLaws.{is-first}
 use Rattle.dex_script.proofs.MintLaws.{is_here, mint-found, mint-is, no-mint}

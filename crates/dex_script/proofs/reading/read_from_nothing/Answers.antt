@@ -1,4 +1,4 @@
-use Rattle.std.proofs.Common.{◌≡◌, ◌∙◌, ℕ, List, ap, subst}
+use Rattle.std.proofs.Common.{◌≡◌, ◌∙◌, List, ap, subst}
 use Rattle.dex_rows.specs.Records.{rows_of}
 use Rattle.dex_statement.specs.Words.{Fields}
 use Rattle.dex_script.specs.Drafts.{PlainDraft, no_rows}
