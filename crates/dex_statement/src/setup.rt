@@ -1,6 +1,6 @@
 //! Setup rows, and the rows that choose the program and set the clock.
 
-ghost use Rattle.std.specs.Prelude.{◌≡◌};
+ghost use Rattle.std.specs.Prelude.{◌≡◌, IfSome, slice_index};
 ghost use Rattle.csv.specs.Records.{fields_of};
 ghost use Rattle.dex_statement.specs.Setup as setup;
 ghost use Rattle.dex_statement.specs.Telling.{Tells};
@@ -17,8 +17,9 @@ use dex_types::{Address, Program};
 use std::alloc::Global;
 use std::marker::Model;
 
-/// What a market row states: the market's address, the mints of base (coin) and quote (pc), the person who signs for it, how
-/// many nodes each side and how many events the queue is to have, and the bytes of the instruction that says the rest.
+/// What a market row states: the market's address, whose last byte is 0, the mints of base (coin) and quote (pc), the person
+/// who signs for it, how many nodes each side and how many events the queue is to have, and the bytes of the instruction that
+/// says the rest.
 #[derive(Debug, Drop)]
 pub struct MarketWords {
     pub address: Address,
@@ -32,6 +33,7 @@ pub struct MarketWords {
 }
 
 impl Model for MarketWords {
+    ghost use Rattle.std.specs.Prelude.{◌≡◌, slice_index};
     ghost use Rattle.dex_statement.specs.Stated.{PlainMarketWords};
 
     ghost Value = { PlainMarketWords };
@@ -46,6 +48,8 @@ impl Model for MarketWords {
       events = s.events;
       bytes = s.bytes.items;
     } };
+
+    ghost invariant = { λ s. slice_index s.address.0 31 ≡ 0 };
 }
 
 /// The program that a word names.
@@ -145,7 +149,8 @@ pub(crate) fn orders_of(row: &ByteRecord) -> Result<Statement, FaultKind>
 /// The address of a market to be made, whose last byte is 0.
 #[tactic(auto, unfolding(crate::specs::Setup::market_word))]
 fn market_word(word: &[u8]) -> Option<Address>
-    ensures { result ≡ setup.market_word word.now }
+    ensures word { result ≡ setup.market_word word.now }
+    ensures last { IfSome result (λ address. slice_index address.0 31 ≡ 0) }
 {
     let address = address_word(word)?;
     if address.0[31] == 0 {

@@ -1,0 +1,5 @@
+pub mod FirstLaws
+pub mod MintLaws
+pub mod MarketLaws
+pub mod NameLaws
+pub mod ScriptLaws

@@ -1,0 +1,40 @@
+-- A script, and a script as far as its rows are read.
+use Rattle.std.specs.Prelude.{ℕ, ℤ, pos, Bool, true, false, List, [], None}
+use Rattle.dex_types.specs.declared.addresses.Address.{Address}
+use Rattle.dex_types.specs.declared.terms.Program.{Program}
+use Rattle.dex_types.specs.declared.terms.Program.TheVariants.{Serum}
+use Rattle.dex_types.specs.Accounts.{PlainAccounts}
+use Rattle.dex_types.specs.Rows.{PlainRow}
+use Rattle.dex_dump.specs.Accepted.{addresses_of}
+
+-- what a script says: the accounts with which it starts, its instruction rows, how many lanes it has, and its program
+pub record PlainScript : Type 0 where
+  pub start : PlainAccounts
+  pub rows : List PlainRow
+  pub lanes : ℕ
+  pub program : Program
+
+-- the script so far, with every address that is taken, the clock of the next instruction row, whether no row stands there but
+-- those of a dump, and whether setup rows come too late: behind a dump or an instruction row
+pub record PlainDraft : Type 0 where
+  pub script : PlainScript
+  pub taken : List Address
+  pub clock : ℤ
+  pub is_first : Bool
+  pub is_late : Bool
+
+-- a script of these accounts without rows
+abbrev pub without_rows : PlainAccounts → PlainScript
+without_rows start = record { start = start; rows = []; lanes = 1; program = Serum }
+
+abbrev pub no_accounts : PlainAccounts
+no_accounts = record { mints = []; srm = None; msrm = None; wallets = []; markets = [] }
+
+-- before the first row of a script without a dump
+abbrev pub no_rows : PlainDraft
+no_rows = record { script = without_rows no_accounts; taken = []; clock = pos 0; is_first = true; is_late = false }
+
+-- behind a dump: its accounts are there, and setup rows come too late
+abbrev pub behind_dump : PlainAccounts → PlainDraft
+behind_dump accounts =
+    record { script = without_rows accounts; taken = addresses_of accounts; clock = pos 0; is_first = true; is_late = true }

@@ -1,0 +1,68 @@
+-- What a text of rows says: a script, or why it is none.
+use Rattle.std.specs.Prelude.{◌≡◌, ℕ, Bool, true, false, List, [], ◌∷◌, Result, Ok, Err}
+use Rattle.dex_rows.specs.Records.{rows_of}
+use Rattle.dex_statement.specs.declared.faults.FaultKind.{FaultKind}
+use Rattle.dex_statement.specs.Faults.{◌>>=◌}
+use Rattle.dex_statement.specs.Words.{Fields}
+use Rattle.dex_dump.specs.declared.faults.DumpFault.{DumpFault}
+use Rattle.dex_dump.specs.Answers.{AnswersDump, PlainAnswer, next_number}
+use Rattle.dex_dump_rows.specs.Lines.{is_first_row}
+use Rattle.dex_audit_rules.specs.declared.finding.Finding.{Finding}
+use Rattle.dex_audit.specs.Findings.{findings}
+use Rattle.dex_script.specs.Drafts.{PlainDraft, PlainScript, behind_dump, no_rows}
+use Rattle.dex_script.specs.Rows.{with_row}
+
+-- why a text is no script: its first faulty row, by its number, with the lowest of its faults; or the dump at its start is faulty,
+-- or its accounts have findings
+pub data Refusal : Type 0 where
+  AtRow : (row : ℕ) (kind : FaultKind) → Refusal
+  InDump : (fault : DumpFault) → Refusal
+  InAudit : (found : List Finding) → Refusal
+
+-- a fault of the row of this number
+abbrev pub fault_in : {A : Type 0} → ℕ → Result A FaultKind → Result A Refusal
+fault_in number (Ok x) = Ok x
+fault_in number (Err kind) = Err (AtRow number kind)
+
+-- the rows, numbered from this number on, are read one after the other; the first faulty one stops
+abbrev pub draft_after : PlainDraft → ℕ → List Fields → Result PlainDraft Refusal
+draft_after draft number [] = Ok draft
+draft_after draft number (row ∷ rows) =
+    fault_in number (with_row draft number row) >>= λ next. draft_after next (next_number number) rows
+
+-- the script that rows give, the first of them of this number, behind what was read
+abbrev pub script_from : PlainDraft → ℕ → List Fields → Result PlainScript Refusal
+script_from draft number rows = draft_after draft number rows >>= λ last. Ok last.script
+
+-- the first row is that of a dump
+abbrev pub begins_with_dump : List Fields → Bool
+begins_with_dump [] = false
+begins_with_dump (row ∷ rows) = is_first_row row
+
+-- accounts are audited before any later row is looked at
+abbrev pub unless_found : {A : Type 0} → List Finding → Result A Refusal → Result A Refusal
+unless_found [] next = next
+unless_found (finding ∷ found) next = Err (InAudit (finding ∷ found))
+
+-- the script that begins with what a dump answers
+abbrev pub behind : PlainAnswer → Result PlainScript Refusal
+behind (Err fault) = Err (InDump fault)
+behind (Ok dump) =
+    unless_found (findings dump.accounts) (script_from (behind_dump dump.accounts) (next_number dump.count) dump.behind)
+
+-- what rows answer, by whether they begin with a dump
+abbrev pub AnswersBy : Bool → List Fields → Result PlainScript Refusal → Type 0
+AnswersBy true rows answer = (dump : PlainAnswer) × AnswersDump rows dump × (answer ≡ behind dump)
+AnswersBy false rows answer = answer ≡ script_from no_rows 1 rows
+
+-- what a text answers: its script, or why it is none
+abbrev pub Answers : List ℕ → Result PlainScript Refusal → Type 0
+Answers text answer = AnswersBy (begins_with_dump (rows_of text)) (rows_of text) answer
+
+-- the text is in the grammar of scripts, and is this script
+abbrev pub Reads : List ℕ → PlainScript → Type 0
+Reads text script = Answers text (Ok script)
+
+-- the text is no script for this reason, and none comes before it
+abbrev pub IsRefused : List ℕ → Refusal → Type 0
+IsRefused text refusal = Answers text (Err refusal)

@@ -1,0 +1,80 @@
+-- What the answers of calls tell, without their buffers.
+use Rattle.std.specs.Prelude.{◌≡◌, ℕ, List, [], map, Result, Ok, Err}
+use Rattle.dex_audit.specs.Findings.{findings}
+use Rattle.dex_dump.specs.declared.reader.DumpRead.{DumpRead}
+use Rattle.dex_dump.specs.Answers.{AnswersDump, PlainDump}
+use Rattle.dex_dump.specs.Telling.{plain_dump}
+use Rattle.dex_statement.specs.Words.{Fields}
+use Rattle.dex_types.specs.Accounts.{PlainAccounts, accounts_of, market_accounts_of, named_of}
+use Rattle.dex_types.specs.Rows.{row_of}
+use Rattle.dex_statement.specs.declared.faults.FaultKind.{FaultKind}
+use Rattle.dex_statement.specs.Faults.{code_of, kind_number}
+use Rattle.dex_script.specs.declared.draft.Draft.{Draft}
+use Rattle.dex_script.specs.declared.draft.Start.{Start}
+use Rattle.dex_script.specs.declared.fault.ScriptError.{ScriptError}
+use Rattle.dex_script.specs.declared.fault.ScriptError.TheVariants as script
+use Rattle.dex_script.specs.declared.script.Script.{Script}
+use Rattle.dex_script.specs.Drafts.{PlainDraft}
+use Rattle.dex_script.specs.Scripts.{IsRefused, Reads, Refusal}
+use Rattle.dex_script.specs.Scripts.Refusal.{AtRow, InAudit, InDump}
+
+-- the accounts so far
+abbrev pub start_of : Start → PlainAccounts
+start_of start = record {
+  mints = start.mints;
+  srm = start.srm;
+  msrm = start.msrm;
+  wallets = map named_of start.wallets.items;
+  markets = map market_accounts_of start.markets.items;
+}
+
+-- the script so far
+abbrev pub draft_of : Draft → PlainDraft
+draft_of draft = record {
+  script = record { start = start_of draft.start; rows = map row_of draft.rows.items; lanes = draft.lanes; program = draft.program };
+  taken = draft.taken.items;
+  clock = draft.clock;
+  is_first = draft.is_first;
+  is_late = draft.is_late;
+}
+
+-- an error is this refusal. Want of memory tells nothing
+abbrev pub TellsRefusal : ScriptError → Result PlainDraft Refusal → Type 0
+TellsRefusal (script.Row row kind code) meant =
+    (fault : FaultKind) × (meant ≡ Err (AtRow row fault)) × (kind ≡ kind_number fault) × (code ≡ code_of fault)
+TellsRefusal (script.Dump fault) meant = meant ≡ Err (InDump fault)
+TellsRefusal (script.Audit found) meant = meant ≡ Err (InAudit found.items)
+TellsRefusal script.NoMemory meant = Unit {0}
+
+-- the draft behind rows, or their first faulty one
+abbrev pub TellsDraft : Result PlainDraft ScriptError → Result PlainDraft Refusal → Type 0
+TellsDraft (Ok draft) meant = meant ≡ Ok draft
+TellsDraft (Err error) meant = TellsRefusal error meant
+
+-- the dump that rows begin with, with the rows behind it, where its accounts have no findings; or what is wrong with it
+abbrev pub TellsStart : Result DumpRead ScriptError → List Fields → List Fields → Type 0
+TellsStart (Ok read) rows left =
+    AnswersDump rows (Ok (plain_dump read left)) × (findings (accounts_of read.accounts) ≡ [])
+TellsStart (Err (script.Dump fault)) rows left = AnswersDump rows (Err fault)
+TellsStart (Err (script.Audit found)) rows left =
+    (dump : PlainDump) × AnswersDump rows (Ok dump) × (findings dump.accounts ≡ found.items) × (found.items ≡ [] → ⊥)
+TellsStart (Err (script.Row row kind code)) rows left = ⊥
+TellsStart (Err script.NoMemory) rows left = Unit {0}
+
+-- an error says why the text is no script. Want of memory tells nothing
+abbrev pub TellsError : ScriptError → List ℕ → Type 0
+TellsError (script.Row row kind code) text =
+    (fault : FaultKind) × IsRefused text (AtRow row fault) × (kind ≡ kind_number fault) × (code ≡ code_of fault)
+TellsError (script.Dump fault) text = IsRefused text (InDump fault)
+TellsError (script.Audit found) text = IsRefused text (InAudit found.items)
+TellsError script.NoMemory text = Unit {0}
+
+-- the text is what the draft says
+abbrev pub TellsText : Result PlainDraft ScriptError → List ℕ → Type 0
+TellsText (Ok draft) text = Reads text draft.script
+TellsText (Err error) text = TellsError error text
+
+-- the text is this script, or it is none for this reason
+abbrev pub TellsScript : Result Script ScriptError → List ℕ → Type 0
+TellsScript (Ok script) text = Reads text script
+TellsScript (Err error) text = TellsError error text

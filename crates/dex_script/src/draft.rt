@@ -1,0 +1,106 @@
+//! A script as far as it is read.
+
+ghost use Rattle.std.specs.Prelude.{◌≡◌, IfOk};
+ghost use Rattle.dex_types.specs.Accounts.{accounts_of};
+ghost use Rattle.dex_dump.specs.Accepted.{AreAccepted};
+ghost use Rattle.dex_script.specs.Drafts as spec;
+ghost use Rattle.dex_script.specs.Telling.{draft_of};
+
+use crate::mints::Mints;
+use crate::script::Script;
+use crate::taken::taken_addresses;
+use dex_types::{Accounts, Address, MarketAccounts, Named, NoMemory, Program, Row};
+use std::alloc::Global;
+
+/// The accounts with which a script starts, as far as they are declared.
+#[derive(Drop)]
+pub(crate) struct Start {
+    pub(crate) mints: Mints,
+    pub(crate) srm: Option<Address>,
+    pub(crate) msrm: Option<Address>,
+    pub(crate) wallets: Vec<Named>,
+    pub(crate) markets: Vec<MarketAccounts>,
+}
+
+/// A script as far as its rows are read, with what the next rows are held against.
+#[derive(Drop)]
+pub(crate) struct Draft {
+    pub(crate) start: Start,
+    pub(crate) rows: Vec<Row>,
+    pub(crate) lanes: u32,
+    pub(crate) program: Program,
+    /// Every address that is taken.
+    pub(crate) taken: Vec<Address>,
+    /// The clock of the next instruction row.
+    pub(crate) clock: i64,
+    /// No row stands before the next one, but those of a dump.
+    pub(crate) is_first: bool,
+    /// Setup rows come too late.
+    pub(crate) is_late: bool,
+}
+
+impl Draft {
+    /// The draft without rows.
+    pub(crate) fn new(alloc: Global) -> Draft
+        ensures { draft_of result ≡ spec.no_rows }
+    {
+        Draft {
+            start: Start {
+                mints: Mints::new(alloc),
+                srm: None,
+                msrm: None,
+                wallets: Vec::new(alloc),
+                markets: Vec::new(alloc),
+            },
+            rows: Vec::new(alloc),
+            lanes: 1,
+            program: Program::Serum,
+            taken: Vec::new(alloc),
+            clock: 0,
+            is_first: true,
+            is_late: false,
+        }
+    }
+
+    /// Behind the dump of these accounts.
+    pub(crate) fn behind_dump(alloc: Global, accounts: Accounts) -> Result<Draft, NoMemory>
+        requires { AreAccepted (accounts_of accounts) }
+        ensures { IfOk result (λ draft. draft_of draft ≡ spec.behind_dump (accounts_of accounts)) }
+    {
+        let taken = taken_addresses(alloc, &accounts)?;
+        Ok(Draft {
+            start: Start {
+                mints: Mints::of(accounts.mints),
+                srm: accounts.srm,
+                msrm: accounts.msrm,
+                wallets: accounts.wallets,
+                markets: accounts.markets,
+            },
+            rows: Vec::new(alloc),
+            lanes: 1,
+            program: Program::Serum,
+            taken,
+            clock: 0,
+            is_first: true,
+            is_late: true,
+        })
+    }
+
+    /// What was read, as a script.
+    pub(crate) fn into_script(self) -> Script
+        ensures { result ≡ (draft_of self).script }
+    {
+        Script {
+            start: Accounts {
+                mints: self.start.mints.into_accounts(),
+                srm: self.start.srm,
+                msrm: self.start.msrm,
+                wallets: self.start.wallets,
+                markets: self.start.markets,
+            },
+            rows: self.rows,
+            lanes: self.lanes,
+            program: self.program,
+        }
+    }
+}

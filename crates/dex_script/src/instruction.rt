@@ -1,0 +1,59 @@
+//! Instruction rows, behind the rows before them.
+
+ghost use Rattle.std.specs.Prelude.{◌≡◌, IfOk};
+ghost use Rattle.dex_types.specs.Rows.{row_of};
+ghost use Rattle.dex_statement.specs.Telling.{TellsAs};
+ghost use Rattle.dex_script.specs.Rows as spec;
+ghost use Rattle.dex_script.specs.Telling.{draft_of, start_of};
+
+use crate::draft::Draft;
+use dex_statement::{FaultKind, InstructionWords, RowError};
+use dex_types::Row;
+
+impl Draft {
+    /// Behind an instruction row of this number, whose market and wallets are declared.
+    #[tactic(auto, unfolding(crate::specs::Rows::with_known))]
+    pub(crate) fn with_known(
+        mut self,
+        number: u32,
+        words: InstructionWords,
+    ) -> Result<Draft, RowError>
+        ensures row { TellsAs draft_of result (spec.with_known (draft_of self) number words) }
+        ensures start { IfOk result (λ next. start_of next.start ≡ start_of self.start) }
+    {
+        if 100_000 <= self.rows.len() || exceeds_row(&words) || number == u32::MAX {
+            return Err(RowError::Fault(FaultKind::OverLimit));
+        }
+        self.lanes = self.lanes.max(words.lane + 1);
+        self.rows.push(instruction_row(number, self.clock, words))?;
+        self.is_first = false;
+        self.is_late = true;
+        Ok(self)
+    }
+}
+
+/// The row of this number, at this time.
+fn instruction_row(number: u32, now: i64, words: InstructionWords) -> Row
+    ensures { row_of result ≡ spec.instruction_row number now words }
+{
+    Row {
+        lane: words.lane,
+        number,
+        market: words.parties.market,
+        signer: words.parties.signer,
+        named: words.parties.named,
+        coin: words.parties.coin,
+        pc: words.parties.pc,
+        discount: words.parties.discount,
+        referrer: words.parties.referrer,
+        bytes: words.bytes,
+        now,
+    }
+}
+
+/// Whether an instruction row passes a limit: 16 lanes, 16 named accounts, 256 bytes of data.
+fn exceeds_row(words: &InstructionWords) -> bool
+    ensures { result ≡ spec.exceeds_row words.now }
+{
+    16 <= words.lane || 16 < words.parties.named.len() || 256 < words.bytes.len()
+}

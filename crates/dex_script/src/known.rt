@@ -1,0 +1,84 @@
+//! What earlier rows declared.
+
+ghost use Rattle.std.specs.Prelude.{◌≡◌, map};
+ghost use Rattle.std.specs.List.{list_any, position};
+ghost use Rattle.dex_types.specs.Accounts.{market_accounts_of, named_of, orders_account_of};
+ghost use Rattle.dex_types.specs.Addresses as addresses;
+ghost use Rattle.dex_dump.specs.Reading as dumps;
+ghost use Rattle.dex_script.specs.Known as spec;
+
+use dex_dump::{MarketPart, derived};
+use dex_types::{Address, MarketAccounts, Named, is_same};
+
+/// The addresses that a market row declares: the market's, and those of its vaults, queues, sides and the vaults'
+/// owner.
+pub(crate) fn made_addresses(market: Address) -> [Address; 8]
+    ensures { result ≡ spec.made_addresses market }
+{
+    [
+        market,
+        derived(market, MarketPart::CoinVault),
+        derived(market, MarketPart::PcVault),
+        derived(market, MarketPart::RequestQueue),
+        derived(market, MarketPart::EventQueue),
+        derived(market, MarketPart::Bids),
+        derived(market, MarketPart::Asks),
+        derived(market, MarketPart::VaultOwner),
+    ]
+}
+
+/// Whether an address is one of these.
+pub(crate) fn is_among(address: Address, addresses: &[Address]) -> bool
+    ensures { result ≡ dumps.is_among address addresses.now }
+{
+    addresses.iter().any(|other| is_same(address, *other))
+}
+
+/// Whether one of these addresses is taken.
+pub(crate) fn is_any_among(new: &[Address], taken: &[Address]) -> bool
+    ensures { result ≡ spec.is_any_among new.now taken.now }
+{
+    new.iter().any(|address| is_among(*address, taken))
+}
+
+/// Whether an account has this address.
+#[tactic(auto, using(dex_dump::proofs::ReadingLaws::list_any_map))]
+pub(crate) fn has_account(address: Address, accounts: &[Named]) -> bool
+    ensures { result ≡ spec.has_account address (map named_of accounts.now) }
+{
+    is_named(address, accounts)
+}
+
+fn is_named(address: Address, accounts: &[Named]) -> bool
+    ensures { result ≡ list_any (λ account. addresses.is_same address account.address) accounts.now }
+{
+    accounts
+        .iter()
+        .any(|account| is_same(address, account.address))
+}
+
+/// Whether a market has this address.
+#[tactic(auto, using(dex_dump::proofs::ReadingLaws::list_any_map))]
+pub(crate) fn has_market(address: Address, markets: &[MarketAccounts]) -> bool
+    ensures { result ≡ spec.has_market address (map market_accounts_of markets.now) }
+{
+    is_market(address, markets)
+}
+
+fn is_market(address: Address, markets: &[MarketAccounts]) -> bool
+    ensures { result ≡ list_any (λ market. addresses.is_same address market.address) markets.now }
+{
+    markets
+        .iter()
+        .any(|market| is_same(address, market.address))
+}
+
+/// Whether a role names no wallet, or one that is declared.
+pub(crate) fn is_known_role(wallets: &[Named], role: Option<Address>) -> bool
+    ensures { result ≡ spec.is_known_role (map named_of wallets.now) role }
+{
+    match role {
+        None => true,
+        Some(address) => has_account(address, wallets),
+    }
+}

@@ -1,0 +1,130 @@
+//! A script, from its bytes.
+
+ghost use Rattle.std.specs.Prelude.{◌≡◌, IfOk, false, true};
+ghost use Rattle.dex_types.specs.Accounts.{accounts_of};
+ghost use Rattle.dex_dump.specs.Accepted.{AreAccepted};
+ghost use Rattle.dex_dump.specs.Answers.{next_number};
+ghost use Rattle.dex_statement.specs.Faults.{code_of, kind_number};
+ghost use Rattle.dex_rows.specs.Records.{rows_of};
+ghost use Rattle.dex_script.specs.Scripts.{begins_with_dump, draft_after};
+ghost use Rattle.dex_script.specs.Telling.{TellsDraft, TellsScript, TellsStart, TellsText};
+
+use crate::draft::Draft;
+use crate::fault::ScriptError;
+use crate::reader::Reader;
+use crate::script::Script;
+use dex_audit::audit;
+use dex_dump::{DumpError, DumpRead, is_first_row};
+use dex_rows::records::Rows;
+use dex_statement::{FaultKind, RowError};
+use dex_types::NoMemory;
+use std::alloc::Global;
+
+/// The script that a text is: the accounts that its first rows make, or that the dump at its start holds, and its
+/// instruction rows. Else the first faulty row with the lowest of its faults, or the fault or the findings of the dump.
+pub fn read_script(alloc: Global, bytes: &[u8]) -> Result<Script, ScriptError>
+    ensures { TellsScript result bytes.now }
+{
+    match read_text(alloc, bytes) {
+        Ok(reader) => Ok(reader.into_script()),
+        Err(error) => Err(error),
+    }
+}
+
+fn read_text(alloc: Global, bytes: &[u8]) -> Result<Reader, ScriptError>
+    ensures { TellsText result bytes.now }
+{
+    if begins_with_dump(alloc, bytes)? {
+        read_behind_dump(alloc, bytes)
+    } else {
+        read_from_nothing(alloc, bytes)
+    }
+}
+
+/// What a text that begins with no dump says.
+fn read_from_nothing(alloc: Global, bytes: &[u8]) -> Result<Reader, ScriptError>
+    requires { begins_with_dump (rows_of bytes.now) ≡ false }
+    ensures { TellsText result bytes.now }
+{
+    let mut rows = Rows::new(alloc, bytes);
+    read_rows(alloc, Reader::new(alloc), 1, &mut rows)
+}
+
+/// What a text that begins with a dump says.
+fn read_behind_dump(alloc: Global, bytes: &[u8]) -> Result<Reader, ScriptError>
+    requires { begins_with_dump (rows_of bytes.now) ≡ true }
+    ensures { TellsText result bytes.now }
+{
+    let mut rows = Rows::new(alloc, bytes);
+    let dump = read_dump(alloc, &mut rows)?;
+    let number = next_number(dump.count);
+    let before = Draft::behind_dump(alloc, dump.accounts)?;
+    read_rows(alloc, Reader::of(before), number, &mut rows)
+}
+
+/// The dump at the start, whose accounts have no findings.
+fn read_dump(alloc: Global, rows: &mut Rows<'_>) -> Result<DumpRead, ScriptError>
+    ensures dump { TellsStart result rows.old rows.new }
+    ensures accepted { IfOk result (λ read. AreAccepted (accounts_of read.accounts)) }
+{
+    let dump = match dex_dump::read_rows(alloc, rows) {
+        Ok(dump) => dump,
+        Err(DumpError::Refused(fault)) => return Err(ScriptError::Dump(fault)),
+        Err(DumpError::NoMemory) => return Err(ScriptError::NoMemory),
+    };
+    let found = audit(alloc, &dump.accounts)?;
+    if found.is_empty() {
+        Ok(dump)
+    } else {
+        Err(ScriptError::Audit(found))
+    }
+}
+
+/// Whether a text begins with the row `dump`.
+fn begins_with_dump(alloc: Global, bytes: &[u8]) -> Result<bool, NoMemory>
+    ensures { IfOk result (λ begins. begins ≡ begins_with_dump (rows_of bytes.now)) }
+{
+    match Rows::new(alloc, bytes).next_row()? {
+        Some(row) => Ok(is_first_row(&row)),
+        None => Ok(false),
+    }
+}
+
+/// The draft behind the rows that are left, the first of which has this number, or the first faulty one.
+fn read_rows(
+    alloc: Global,
+    before: Reader,
+    first: u32,
+    rows: &mut Rows<'_>,
+) -> Result<Reader, ScriptError>
+    ensures { TellsDraft result (draft_after before first rows.old) }
+{
+    let mut draft = before;
+    let mut number = first;
+    'rows: while let Some(row) = rows.next_row()? {
+        match draft.with_row(alloc, number, &row) {
+            Ok(next) => draft = next,
+            Err(RowError::Fault(kind)) => return Err(row_error(number, kind)),
+            Err(RowError::NoMemory) => return Err(ScriptError::NoMemory),
+        }
+        number = next_number(number);
+    }
+    Ok(draft)
+}
+
+fn row_error(row: u32, kind: FaultKind) -> ScriptError
+    ensures { result ≡ ScriptError.Row row (kind_number kind) (code_of kind) }
+{
+    ScriptError::Row {
+        row,
+        kind: kind.number(),
+        code: kind.code(),
+    }
+}
+
+/// The number of the row behind one. Numbers from the largest u32 on are told as that.
+fn next_number(number: u32) -> u32
+    ensures { result ≡ next_number number }
+{
+    number.saturating_add(1)
+}
