@@ -17,6 +17,3 @@ mod taken;
 pub use fault::ScriptError;
 pub use reading::read_script;
 pub use script::Script;
-
-#[cfg(test)]
-mod tests;
