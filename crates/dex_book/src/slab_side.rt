@@ -88,11 +88,13 @@ impl SideBook for SlabSide<'_> {
         requires new { IsNewId order.id (resting self.old.side self.old.bytes.now) }
         requires can_rest { CanRest order }
         requires room { length (resting self.old.side self.old.bytes.now) < room_in self.old.bytes.now }
-        ensures orders { resting self.new.side self.new.bytes.now ≡ posted self.old.side order (resting self.old.side self.old.bytes.now) }
+        ensures orders { resting self.new.side self.new.bytes.now
+            ≡ posted self.old.side order (resting self.old.side self.old.bytes.now) }
         ensures holds { IsSlab self.new.bytes.now }
         ensures side { self.new.side ≡ self.old.side }
         ensures room { room_in self.new.bytes.now ≡ room_in self.old.bytes.now }
-        ensures place { (self.new.bytes.ghost_name ≡ self.old.bytes.ghost_name) × KeepsFrame self.old.bytes.now self.new.bytes.now }
+        ensures place { (self.new.bytes.ghost_name ≡ self.old.bytes.ghost_name)
+            × KeepsFrame self.old.bytes.now self.new.bytes.now }
         ensures three { ChangesThreeNodes self.old.bytes.now self.new.bytes.now }
     {
         let mut view = SlabView {
@@ -107,11 +109,13 @@ impl SideBook for SlabSide<'_> {
         requires holds { IsSlab self.old.bytes.now }
         requires rests { IsSome (order_with id (resting self.old.side self.old.bytes.now)) }
         requires lots { 1 ≤ lots }
-        ensures orders { resting self.new.side self.new.bytes.now ≡ with_lots id lots (resting self.old.side self.old.bytes.now) }
+        ensures orders { resting self.new.side self.new.bytes.now
+            ≡ with_lots id lots (resting self.old.side self.old.bytes.now) }
         ensures holds { IsSlab self.new.bytes.now }
         ensures side { self.new.side ≡ self.old.side }
         ensures room { room_in self.new.bytes.now ≡ room_in self.old.bytes.now }
-        ensures place { (self.new.bytes.ghost_name ≡ self.old.bytes.ghost_name) × KeepsFrame self.old.bytes.now self.new.bytes.now }
+        ensures place { (self.new.bytes.ghost_name ≡ self.old.bytes.ghost_name)
+            × KeepsFrame self.old.bytes.now self.new.bytes.now }
         ensures eight { ChangesLotsOf id self.old.bytes.now self.new.bytes.now }
     {
         let mut view = SlabView {
@@ -126,11 +130,13 @@ impl SideBook for SlabSide<'_> {
         requires holds { IsSlab self.old.bytes.now }
         requires rests { IsSome (order_with id (resting self.old.side self.old.bytes.now)) }
         ensures order { order_with id (resting self.old.side self.old.bytes.now) ≡ Some result }
-        ensures orders { resting self.new.side self.new.bytes.now ≡ without_order id (resting self.old.side self.old.bytes.now) }
+        ensures orders { resting self.new.side self.new.bytes.now
+            ≡ without_order id (resting self.old.side self.old.bytes.now) }
         ensures holds { IsSlab self.new.bytes.now }
         ensures side { self.new.side ≡ self.old.side }
         ensures room { room_in self.new.bytes.now ≡ room_in self.old.bytes.now }
-        ensures place { (self.new.bytes.ghost_name ≡ self.old.bytes.ghost_name) × KeepsFrame self.old.bytes.now self.new.bytes.now }
+        ensures place { (self.new.bytes.ghost_name ≡ self.old.bytes.ghost_name)
+            × KeepsFrame self.old.bytes.now self.new.bytes.now }
         ensures three { ChangesThreeNodes self.old.bytes.now self.new.bytes.now }
     {
         let mut view = SlabView {

@@ -105,7 +105,8 @@ pub fn count_listed<B: SideRead, A: SideRead>(
 ) -> u32
     requires bids { B.holds bids.now }
     requires asks { A.holds asks.now }
-    ensures { result ≡ length (taken_by_all (take ids.now.count ids.now.ids) (all_orders_of account (B.orders bids.now) (A.orders asks.now))) }
+    ensures { result ≡ length (taken_by_all (take ids.now.count ids.now.ids)
+        (all_orders_of account (B.orders bids.now) (A.orders asks.now))) }
 {
     let mut count = 0;
     for place in 0..usize::from(ids.count) {

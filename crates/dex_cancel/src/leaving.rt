@@ -32,7 +32,8 @@ fn cancel_found<B: SideBook, A: SideBook>(
         (handed sizes B.orders A.orders bids.old asks.old ring.old) }
     requires rests { DoRest (resting found ∷ []) (B.orders bids.old) (A.orders asks.old) }
     ensures left { HaveLeft (resting found ∷ [])
-        (handed sizes B.orders A.orders bids.old asks.old ring.old) (handed sizes B.orders A.orders bids.new asks.new ring.new) }
+        (handed sizes B.orders A.orders bids.old asks.old ring.old)
+        (handed sizes B.orders A.orders bids.new asks.new ring.new) }
     ensures bids { KeepsSide B.holds B.same_place B.side B.room bids.old bids.new }
     ensures asks { KeepsSide A.holds A.same_place A.side A.room asks.old asks.new }
     ensures place { ring.new.bytes.ghost_name ≡ ring.old.bytes.ghost_name }
@@ -58,7 +59,8 @@ pub fn cancel_maybe<B: SideBook, A: SideBook>(
     requires rests { DoRest (at_most_one (maybe_resting found)) (B.orders bids.old) (A.orders asks.old) }
     ensures count { result ≡ length (at_most_one (maybe_resting found)) }
     ensures left { HaveLeft (at_most_one (maybe_resting found))
-        (handed sizes B.orders A.orders bids.old asks.old ring.old) (handed sizes B.orders A.orders bids.new asks.new ring.new) }
+        (handed sizes B.orders A.orders bids.old asks.old ring.old)
+        (handed sizes B.orders A.orders bids.new asks.new ring.new) }
     ensures bids { KeepsSide B.holds B.same_place B.side B.room bids.old bids.new }
     ensures asks { KeepsSide A.holds A.same_place A.side A.room asks.old asks.new }
     ensures place { ring.new.bytes.ghost_name ≡ ring.old.bytes.ghost_name }
@@ -85,9 +87,11 @@ pub fn cancel_by_id<B: SideBook, A: SideBook>(
     requires asks { A.holds asks.old }
     requires can { CanLeave (on_side side (order_with id (by_side side (B.orders bids.old) (A.orders asks.old))))
         (handed sizes B.orders A.orders bids.old asks.old ring.old) }
-    ensures count { result ≡ length (on_side side (order_with id (by_side side (B.orders bids.old) (A.orders asks.old)))) }
+    ensures count { result ≡ length (on_side side (order_with id
+        (by_side side (B.orders bids.old) (A.orders asks.old)))) }
     ensures left { HaveLeft (on_side side (order_with id (by_side side (B.orders bids.old) (A.orders asks.old))))
-        (handed sizes B.orders A.orders bids.old asks.old ring.old) (handed sizes B.orders A.orders bids.new asks.new ring.new) }
+        (handed sizes B.orders A.orders bids.old asks.old ring.old)
+        (handed sizes B.orders A.orders bids.new asks.new ring.new) }
     ensures bids { KeepsSide B.holds B.same_place B.side B.room bids.old bids.new }
     ensures asks { KeepsSide A.holds A.same_place A.side A.room asks.old asks.new }
     ensures place { ring.new.bytes.ghost_name ≡ ring.old.bytes.ghost_name }
@@ -107,11 +111,15 @@ fn cancel_oldest<B: SideBook, A: SideBook>(
 ) -> u32
     requires bids { B.holds bids.old }
     requires asks { A.holds asks.old }
-    requires can { CanLeave (at_most_one (oldest client (all_orders_of account (B.orders bids.old) (A.orders asks.old))))
+    requires can { CanLeave (at_most_one (oldest client
+        (all_orders_of account (B.orders bids.old) (A.orders asks.old))))
         (handed sizes B.orders A.orders bids.old asks.old ring.old) }
-    ensures count { result ≡ length (at_most_one (oldest client (all_orders_of account (B.orders bids.old) (A.orders asks.old)))) }
-    ensures left { HaveLeft (at_most_one (oldest client (all_orders_of account (B.orders bids.old) (A.orders asks.old))))
-        (handed sizes B.orders A.orders bids.old asks.old ring.old) (handed sizes B.orders A.orders bids.new asks.new ring.new) }
+    ensures count { result ≡ length (at_most_one (oldest client
+        (all_orders_of account (B.orders bids.old) (A.orders asks.old)))) }
+    ensures left { HaveLeft (at_most_one (oldest client
+        (all_orders_of account (B.orders bids.old) (A.orders asks.old))))
+        (handed sizes B.orders A.orders bids.old asks.old ring.old)
+        (handed sizes B.orders A.orders bids.new asks.new ring.new) }
     ensures bids { KeepsSide B.holds B.same_place B.side B.room bids.old bids.new }
     ensures asks { KeepsSide A.holds A.same_place A.side A.room asks.old asks.new }
     ensures place { ring.new.bytes.ghost_name ≡ ring.old.bytes.ghost_name }
@@ -132,11 +140,15 @@ fn cancel_named<B: SideBook, A: SideBook>(
 ) -> u32
     requires bids { B.holds bids.old }
     requires asks { A.holds asks.old }
-    requires can { CanLeave (at_most_one (taken_by client (all_orders_of account (B.orders bids.old) (A.orders asks.old))))
+    requires can { CanLeave (at_most_one (taken_by client
+        (all_orders_of account (B.orders bids.old) (A.orders asks.old))))
         (handed sizes B.orders A.orders bids.old asks.old ring.old) }
-    ensures count { result ≡ length (at_most_one (taken_by client (all_orders_of account (B.orders bids.old) (A.orders asks.old)))) }
-    ensures left { HaveLeft (at_most_one (taken_by client (all_orders_of account (B.orders bids.old) (A.orders asks.old))))
-        (handed sizes B.orders A.orders bids.old asks.old ring.old) (handed sizes B.orders A.orders bids.new asks.new ring.new) }
+    ensures count { result ≡ length (at_most_one (taken_by client
+        (all_orders_of account (B.orders bids.old) (A.orders asks.old)))) }
+    ensures left { HaveLeft (at_most_one (taken_by client
+        (all_orders_of account (B.orders bids.old) (A.orders asks.old))))
+        (handed sizes B.orders A.orders bids.old asks.old ring.old)
+        (handed sizes B.orders A.orders bids.new asks.new ring.new) }
     ensures bids { KeepsSide B.holds B.same_place B.side B.room bids.old bids.new }
     ensures asks { KeepsSide A.holds A.same_place A.side A.room asks.old asks.new }
     ensures place { ring.new.bytes.ghost_name ≡ ring.old.bytes.ghost_name }
@@ -159,11 +171,15 @@ fn cancel_listed<B: SideBook, A: SideBook>(
 ) -> u32
     requires bids { B.holds bids.old }
     requires asks { A.holds asks.old }
-    requires can { CanLeave (taken_by_all (take ids.now.count ids.now.ids) (all_orders_of account (B.orders bids.old) (A.orders asks.old)))
+    requires can { CanLeave (taken_by_all (take ids.now.count ids.now.ids)
+        (all_orders_of account (B.orders bids.old) (A.orders asks.old)))
         (handed sizes B.orders A.orders bids.old asks.old ring.old) }
-    ensures count { result ≡ length (taken_by_all (take ids.now.count ids.now.ids) (all_orders_of account (B.orders bids.old) (A.orders asks.old))) }
-    ensures left { HaveLeft (taken_by_all (take ids.now.count ids.now.ids) (all_orders_of account (B.orders bids.old) (A.orders asks.old)))
-        (handed sizes B.orders A.orders bids.old asks.old ring.old) (handed sizes B.orders A.orders bids.new asks.new ring.new) }
+    ensures count { result ≡ length (taken_by_all (take ids.now.count ids.now.ids)
+        (all_orders_of account (B.orders bids.old) (A.orders asks.old))) }
+    ensures left { HaveLeft (taken_by_all (take ids.now.count ids.now.ids)
+        (all_orders_of account (B.orders bids.old) (A.orders asks.old)))
+        (handed sizes B.orders A.orders bids.old asks.old ring.old)
+        (handed sizes B.orders A.orders bids.new asks.new ring.new) }
     ensures bids { KeepsSide B.holds B.same_place B.side B.room bids.old bids.new }
     ensures asks { KeepsSide A.holds A.same_place A.side A.room asks.old asks.new }
     ensures place { ring.new.bytes.ghost_name ≡ ring.old.bytes.ghost_name }
@@ -190,7 +206,8 @@ pub(crate) fn cancel_all<B: SideBook, A: SideBook>(
         (handed sizes B.orders A.orders bids.old asks.old ring.old) }
     ensures count { result ≡ length (cancelled (named_by what.now) account (B.orders bids.old) (A.orders asks.old)) }
     ensures left { HaveLeft (cancelled (named_by what.now) account (B.orders bids.old) (A.orders asks.old))
-        (handed sizes B.orders A.orders bids.old asks.old ring.old) (handed sizes B.orders A.orders bids.new asks.new ring.new) }
+        (handed sizes B.orders A.orders bids.old asks.old ring.old)
+        (handed sizes B.orders A.orders bids.new asks.new ring.new) }
     ensures bids { KeepsSide B.holds B.same_place B.side B.room bids.old bids.new }
     ensures asks { KeepsSide A.holds A.same_place A.side A.room asks.old asks.new }
     ensures place { ring.new.bytes.ghost_name ≡ ring.old.bytes.ghost_name }
@@ -216,13 +233,16 @@ pub fn apply_cancel<B: SideBook, A: SideBook>(
     requires bids { B.holds bids.old }
     requires asks { A.holds asks.old }
     requires market { AreOfSoundMarket (handed sizes B.orders A.orders bids.old asks.old ring.old) }
-    requires decided { IsOk (decided (named_by what.now) account (B.orders bids.old) (A.orders asks.old) (room_of (ring_of ring.old.bytes.now))) }
+    requires decided { IsOk (decided (named_by what.now) account (B.orders bids.old) (A.orders asks.old)
+        (room_of (ring_of ring.old.bytes.now))) }
     ensures count { let before = handed sizes B.orders A.orders bids.old asks.old ring.old in
         result ≡ length (named_in (named_by what.now) account before) }
     ensures does { let before = handed sizes B.orders A.orders bids.old asks.old ring.old in
-        handed sizes B.orders A.orders bids.new asks.new ring.new ≡ left_by (named_in (named_by what.now) account before) before }
+        handed sizes B.orders A.orders bids.new asks.new ring.new
+        ≡ left_by (named_in (named_by what.now) account before) before }
     ensures events { let before = handed sizes B.orders A.orders bids.old asks.old ring.old in
-        ring_of ring.new.bytes.now ≡ (with_outs sizes (named_in (named_by what.now) account before) (queue_of before.queue)).list }
+        ring_of ring.new.bytes.now ≡ (with_outs sizes (named_in (named_by what.now) account before)
+        (queue_of before.queue)).list }
     ensures bids { KeepsSide B.holds B.same_place B.side B.room bids.old bids.new }
     ensures asks { KeepsSide A.holds A.same_place A.side A.room asks.old asks.new }
     ensures ring { KeepsEvents ring.old ring.new }

@@ -20,11 +20,13 @@ fn take_own<S: SideBook>(
     ring: &mut RingView<'_>,
 ) -> u32
     requires holds { S.holds book.old }
-    requires can { CanLeaveSide (orders_of account side (order ∷ [])) (side_handed sizes side S.orders book.old ring.old) }
+    requires can { CanLeaveSide (orders_of account side (order ∷ []))
+        (side_handed sizes side S.orders book.old ring.old) }
     requires rests { order_with order.id (S.orders book.old) ≡ Some order }
     requires fits { order_lock side sizes order < 2 ^ 64 }
     ensures count { result ≡ length (orders_of account side (order ∷ [])) }
-    ensures left { HaveLeftSide (orders_of account side (order ∷ [])) (side_handed sizes side S.orders book.old ring.old)
+    ensures left { HaveLeftSide (orders_of account side (order ∷ []))
+        (side_handed sizes side S.orders book.old ring.old)
         (side_handed sizes side S.orders book.new ring.new) }
     ensures book { KeepsSide S.holds S.same_place S.side S.room book.old book.new }
     ensures place { ring.new.bytes.ghost_name ≡ ring.old.bytes.ghost_name }
@@ -46,10 +48,12 @@ fn prune_side<S: SideBook>(
     ring: &mut RingView<'_>,
 ) -> u32
     requires holds { S.holds book.old }
-    requires can { CanLeaveSide (take limit (orders_of account side (S.orders book.old))) (side_handed sizes side S.orders book.old ring.old) }
+    requires can { CanLeaveSide (take limit (orders_of account side (S.orders book.old)))
+        (side_handed sizes side S.orders book.old ring.old) }
     requires locks { DoOrdersFit side sizes (S.orders book.old) }
     ensures count { result ≡ length (take limit (orders_of account side (S.orders book.old))) }
-    ensures left { HaveLeftSide (take limit (orders_of account side (S.orders book.old))) (side_handed sizes side S.orders book.old ring.old)
+    ensures left { HaveLeftSide (take limit (orders_of account side (S.orders book.old)))
+        (side_handed sizes side S.orders book.old ring.old)
         (side_handed sizes side S.orders book.new ring.new) }
     ensures book { KeepsSide S.holds S.same_place S.side S.room book.old book.new }
     ensures place { ring.new.bytes.ghost_name ≡ ring.old.bytes.ghost_name }
@@ -81,7 +85,8 @@ pub fn prune<B: SideBook, A: SideBook>(
         (handed sizes B.orders A.orders bids.old asks.old ring.old) }
     ensures count { result ≡ length (take limit (all_orders_of account (B.orders bids.old) (A.orders asks.old))) }
     ensures left { HaveLeft (take limit (all_orders_of account (B.orders bids.old) (A.orders asks.old)))
-        (handed sizes B.orders A.orders bids.old asks.old ring.old) (handed sizes B.orders A.orders bids.new asks.new ring.new) }
+        (handed sizes B.orders A.orders bids.old asks.old ring.old)
+        (handed sizes B.orders A.orders bids.new asks.new ring.new) }
     ensures bids { KeepsSide B.holds B.same_place B.side B.room bids.old bids.new }
     ensures asks { KeepsSide A.holds A.same_place A.side A.room asks.old asks.new }
     ensures place { ring.new.bytes.ghost_name ≡ ring.old.bytes.ghost_name }

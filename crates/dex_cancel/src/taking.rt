@@ -19,10 +19,12 @@ pub fn take_off<S: SideBook>(
     ring: &mut RingView<'_>,
 )
     requires holds { S.holds book.old }
-    requires can { CanLeaveSide (record { side = side; order = order } ∷ []) (side_handed sizes side S.orders book.old ring.old) }
+    requires can { CanLeaveSide (record { side = side; order = order } ∷ [])
+        (side_handed sizes side S.orders book.old ring.old) }
     requires rests { order_with order.id (S.orders book.old) ≡ Some order }
     requires fits { order_lock side sizes order < 2 ^ 64 }
-    ensures left { HaveLeftSide (record { side = side; order = order } ∷ []) (side_handed sizes side S.orders book.old ring.old)
+    ensures left { HaveLeftSide (record { side = side; order = order } ∷ [])
+        (side_handed sizes side S.orders book.old ring.old)
         (side_handed sizes side S.orders book.new ring.new) }
     ensures book { KeepsSide S.holds S.same_place S.side S.room book.old book.new }
     ensures place { ring.new.bytes.ghost_name ≡ ring.old.bytes.ghost_name }

@@ -18,8 +18,10 @@ use dex_types::{Event, OrdersAccount};
 /// Pays the event into the funds; all other bytes stay.
 fn pay_funds(bytes: &mut [u8], event: &Event)
     requires accepted { IsOpen bytes.old }
-    requires fits { FitsFunds (decoded_event event.now).kind (decoded_event event.now) (funds_of (account_of bytes.old)) }
-    ensures { bytes.new ≡ funded bytes.old (paid_funds (decoded_event event.now).kind (decoded_event event.now) (funds_of (account_of bytes.old))) }
+    requires fits { FitsFunds (decoded_event event.now).kind (decoded_event event.now)
+        (funds_of (account_of bytes.old)) }
+    ensures { bytes.new ≡ funded bytes.old (paid_funds (decoded_event event.now).kind (decoded_event event.now)
+        (funds_of (account_of bytes.old))) }
 {
     let mut view = OrdersView { bytes };
     let funds = paid_funds(event, view.funds());
@@ -56,11 +58,13 @@ fn pay_buffer(bytes: &mut Vec<u8>, event: &Event)
 /// Pays the event to the account at this place.
 fn pay_at(accounts: &mut [OrdersAccount], place: usize, event: &Event)
     requires within { place < length accounts.old }
-    requires can_take { (default : OrdersAccount) → CanTake (decoded_event event.now) (slice_index_or accounts.old place default).bytes.items }
+    requires can_take { (default : OrdersAccount) → CanTake (decoded_event event.now)
+        (slice_index_or accounts.old place default).bytes.items }
     ensures { (default : OrdersAccount) →
         let account = slice_index_or accounts.old place default in
         map orders_account_of accounts.new
-        ≡ slice_set (map orders_account_of accounts.old) place (record { address = account.address; bytes = paid_in (decoded_event event.now) account.bytes.items }) }
+        ≡ slice_set (map orders_account_of accounts.old) place
+        (record { address = account.address; bytes = paid_in (decoded_event event.now) account.bytes.items }) }
 {
     pay_buffer(&mut accounts[place].bytes, event);
 }
@@ -68,7 +72,8 @@ fn pay_at(accounts: &mut [OrdersAccount], place: usize, event: &Event)
 /// Pays the event to its owner's account; all other accounts stay.
 pub fn pay_owner(accounts: &mut [OrdersAccount], event: &Event)
     requires { HasOwner (decoded_event event.now) (map orders_account_of accounts.old) }
-    ensures { map orders_account_of accounts.new ≡ changed_at event.now.owner (paid_in (decoded_event event.now)) (map orders_account_of accounts.old) }
+    ensures { map orders_account_of accounts.new ≡ changed_at event.now.owner (paid_in (decoded_event event.now))
+        (map orders_account_of accounts.old) }
 {
     let place = place_of(accounts, event.owner);
     pay_at(accounts, place, event);

@@ -45,7 +45,8 @@ pub(crate) fn consume_from(
 ) -> Consumed
     requires { (m : Market) × AreCrankedIn m (crank_bytes queue.old accounts.old) }
     ensures count { result.count ≡ consumable limit named.now (events_of queue.old) }
-    ensures coin { all_leaving Coin (events_of queue.old) ≡ result.leaving.coin + all_leaving Coin (events_of queue.new) }
+    ensures coin { all_leaving Coin (events_of queue.old)
+        ≡ result.leaving.coin + all_leaving Coin (events_of queue.new) }
     ensures pc { all_leaving Pc (events_of queue.old) ≡ result.leaving.pc + all_leaving Pc (events_of queue.new) }
     ensures does { crank_bytes queue.new accounts.new ≡ paid_bytes result.count (crank_bytes queue.old accounts.old) }
 {
@@ -72,9 +73,12 @@ pub fn consume_with_leaving(
 ) -> Consumed
     requires { AreOfSoundMarket (crank_bytes ring.old.bytes.now accounts.old) }
     ensures count { result.count ≡ consumable limit named.now (events_of ring.old.bytes.now) }
-    ensures coin { all_leaving Coin (events_of ring.old.bytes.now) ≡ result.leaving.coin + all_leaving Coin (events_of ring.new.bytes.now) }
-    ensures pc { all_leaving Pc (events_of ring.old.bytes.now) ≡ result.leaving.pc + all_leaving Pc (events_of ring.new.bytes.now) }
-    ensures does { crank_bytes ring.new.bytes.now accounts.new ≡ paid_bytes result.count (crank_bytes ring.old.bytes.now accounts.old) }
+    ensures coin { all_leaving Coin (events_of ring.old.bytes.now)
+        ≡ result.leaving.coin + all_leaving Coin (events_of ring.new.bytes.now) }
+    ensures pc { all_leaving Pc (events_of ring.old.bytes.now)
+        ≡ result.leaving.pc + all_leaving Pc (events_of ring.new.bytes.now) }
+    ensures does { crank_bytes ring.new.bytes.now accounts.new
+        ≡ paid_bytes result.count (crank_bytes ring.old.bytes.now accounts.old) }
     ensures ring { KeepsEvents ring.old ring.new }
     ensures kept { Keeps (crank_bytes ring.old.bytes.now accounts.old) (crank_bytes ring.new.bytes.now accounts.new) }
 {
@@ -96,7 +100,8 @@ pub fn consume(
 ) -> u32
     requires { AreOfSoundMarket (crank_bytes ring.old.bytes.now accounts.old) }
     ensures count { result ≡ consumable limit named.now (events_of ring.old.bytes.now) }
-    ensures does { crank_bytes ring.new.bytes.now accounts.new ≡ paid_bytes result (crank_bytes ring.old.bytes.now accounts.old) }
+    ensures does { crank_bytes ring.new.bytes.now accounts.new
+        ≡ paid_bytes result (crank_bytes ring.old.bytes.now accounts.old) }
     ensures ring { KeepsEvents ring.old ring.new }
     ensures kept { Keeps (crank_bytes ring.old.bytes.now accounts.old) (crank_bytes ring.new.bytes.now accounts.new) }
 {

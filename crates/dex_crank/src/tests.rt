@@ -78,7 +78,13 @@ fn fill(bytes: &mut [u8], id: u128, side: Side, client: u64, funds: Funds)
 }
 
 fn funds(coin_free: u64, coin_total: u64, pc_free: u64, pc_total: u64) -> Funds
-    ensures { result ≡ record { coin_free = coin_free; coin_total = coin_total; pc_free = pc_free; pc_total = pc_total; referrer = 0 } }
+    ensures { result ≡ record {
+      coin_free = coin_free;
+      coin_total = coin_total;
+      pc_free = pc_free;
+      pc_total = pc_total;
+      referrer = 0;
+    } }
 {
     Funds {
         coin_free,
@@ -139,7 +145,8 @@ const BID_OUT: Event = Event {
 fn push_all(bytes: &mut [u8]) -> bool
     requires { IsEventQueue bytes.old }
     ensures accepted { IsEventQueue bytes.new }
-    ensures events { IsTrue result → events_of bytes.new ≡ decoded_event ASK_FILL ∷ decoded_event BID_FILL ∷ decoded_event BID_OUT ∷ [] }
+    ensures events { IsTrue result → events_of bytes.new
+        ≡ decoded_event ASK_FILL ∷ decoded_event BID_FILL ∷ decoded_event BID_OUT ∷ [] }
 {
     let mut ring = RingView { bytes };
     if !ring.is_empty() || ring.room() < 3 {
@@ -163,7 +170,8 @@ fn empty_queue() -> [u8; 396] {
 /// A queue of four events, with the three of the trade.
 fn traded_queue() -> Option<[u8; 396]>
     ensures accepted { IfSome result IsEventQueue }
-    ensures events { IfSome result (λ bytes. events_of bytes ≡ decoded_event ASK_FILL ∷ decoded_event BID_FILL ∷ decoded_event BID_OUT ∷ []) }
+    ensures events { IfSome result (λ bytes. events_of bytes
+        ≡ decoded_event ASK_FILL ∷ decoded_event BID_FILL ∷ decoded_event BID_OUT ∷ []) }
 {
     let mut bytes = empty_queue();
     if check_events(&bytes).is_ok() && push_all(&mut bytes) {

@@ -41,23 +41,32 @@ pub fn a_history_trades_as_one_that_pays_at_once()
 /// account the same worth. Refused rows and cranks may stand anywhere. So it is at each two places up to which the same
 /// rows were accepted.
 pub fn delay_changes_no_trade()
-    ensures places { (m : Market) (first second : List Call) (early late : ℕ) → IsSound m → IsLegal m first → IsLegal m second →
+    ensures places { (m : Market) (first second : List Call) (early late : ℕ) → IsSound m → IsLegal m first
+        → IsLegal m second →
         let front = take early first in let other = take late second in
-        trades front ≡ trades other → eager_at (market_after m front) (moves_of m front) ≡ eager_at (market_after m other) (moves_of m other) }
-    ensures place_fills { (m : Market) (first second : List Call) (early late : ℕ) → IsSound m → IsLegal m first → IsLegal m second →
+        trades front ≡ trades other → eager_at (market_after m front) (moves_of m front)
+        ≡ eager_at (market_after m other) (moves_of m other) }
+    ensures place_fills { (m : Market) (first second : List Call) (early late : ℕ) → IsSound m → IsLegal m first
+        → IsLegal m second →
         let front = take early first in let other = take late second in
         trades front ≡ trades other → fills_of m front ≡ fills_of m other }
-    ensures bids { (m : Market) (first second : List Call) → IsSound m → IsLegal m first → IsLegal m second → trades first ≡ trades second →
+    ensures bids { (m : Market) (first second : List Call) → IsSound m → IsLegal m first → IsLegal m second
+        → trades first ≡ trades second →
         without_slots (market_after m first).bids ≡ without_slots (market_after m second).bids }
-    ensures asks { (m : Market) (first second : List Call) → IsSound m → IsLegal m first → IsLegal m second → trades first ≡ trades second →
+    ensures asks { (m : Market) (first second : List Call) → IsSound m → IsLegal m first → IsLegal m second
+        → trades first ≡ trades second →
         without_slots (market_after m first).asks ≡ without_slots (market_after m second).asks }
-    ensures fills { (m : Market) (first second : List Call) → IsSound m → IsLegal m first → IsLegal m second → trades first ≡ trades second →
+    ensures fills { (m : Market) (first second : List Call) → IsSound m → IsLegal m first → IsLegal m second
+        → trades first ≡ trades second →
         fills_of m first ≡ fills_of m second }
-    ensures takings { (m : Market) (first second : List Call) → IsSound m → IsLegal m first → IsLegal m second → trades first ≡ trades second →
+    ensures takings { (m : Market) (first second : List Call) → IsSound m → IsLegal m first → IsLegal m second
+        → trades first ≡ trades second →
         takings_of (market_after m first) (moves_of m first) ≡ takings_of (market_after m second) (moves_of m second) }
-    ensures worth { (m : Market) (first second : List Call) (owner : Address) (trader : Trader) → IsSound m → IsLegal m first → IsLegal m second →
+    ensures worth { (m : Market) (first second : List Call) (owner : Address) (trader : Trader) → IsSound m
+        → IsLegal m first → IsLegal m second →
         trades first ≡ trades second → trader_at owner m.traders ≡ Some trader →
-        worth_of owner (market_after m first) (moves_of m first) ≡ worth_of owner (market_after m second) (moves_of m second) }
+        worth_of owner (market_after m first) (moves_of m first)
+        ≡ worth_of owner (market_after m second) (moves_of m second) }
 {}
 
 /// Once no event is pending, a worth is what is free and what resting orders lock, less what was deposited net of what
@@ -65,5 +74,6 @@ pub fn delay_changes_no_trade()
 pub fn once_drained_worth_is_funds_less_deposits()
     ensures { (token : Token) (owner : Address) (m : Market) (ledger : Ledger) → m.events ≡ [] →
         worth_in token owner m ledger
-        ≡ pos (free_in token (trader_at owner m.traders) + own_locked token owner m) -ℤ (pos (ledger.deposited token owner) -ℤ pos (ledger.settled token owner)) }
+        ≡ pos (free_in token (trader_at owner m.traders) + own_locked token owner m) -ℤ
+        (pos (ledger.deposited token owner) -ℤ pos (ledger.settled token owner)) }
 {}

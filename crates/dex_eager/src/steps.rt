@@ -22,12 +22,14 @@ pub fn a_step_moves_worth_as_its_fills_do()
 /// A crank changes no side, nobody's worth and nothing that the market has taken, and appends no fill: what it pays an
 /// account was owed to it.
 pub fn a_crank_moves_no_worth()
-    ensures { (request : Request) (seen : Seen) (m : Market) (ledger : Ledger) → IsSound m → is_crank request.instruction ≡ true →
+    ensures { (request : Request) (seen : Seen) (m : Market) (ledger : Ledger) → IsSound m
+        → is_crank request.instruction ≡ true →
         IsPaidAs m ledger request.named (step request seen m) (unchanged (eager_at m ledger)) }
 {}
 
 /// Nor does a row that is refused.
 pub fn a_refused_row_moves_no_worth()
-    ensures { (request : Request) (seen : Seen) (m : Market) (ledger : Ledger) (refusal : Refusal) → why request seen m ≡ Some refusal →
+    ensures { (request : Request) (seen : Seen) (m : Market) (ledger : Ledger) (refusal : Refusal)
+        → why request seen m ≡ Some refusal →
         IsPaidAs m ledger request.named (step request seen m) (unchanged (eager_at m ledger)) }
 {}

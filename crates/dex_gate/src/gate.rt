@@ -50,7 +50,8 @@ impl<V: Journaled> Gate<V> {
     where
         V: Drop,
         requires { (1 ≤ passes) × (passes ≤ 16) }
-        ensures gate { IfOk result (λ r. (r.0.passes ≡ passes) × (r.0.origin ≡ V.origin value) × (r.0.opening ≡ V.entries value)) }
+        ensures gate { IfOk result (λ r. (r.0.passes ≡ passes) × (r.0.origin ≡ V.origin value)
+            × (r.0.opening ≡ V.entries value)) }
         ensures pass { IfOk result (λ r. r.1 ≡ first_pass r.0) }
     {
         let opened = Opened {
@@ -98,11 +99,13 @@ impl<V: Journaled> Gate<V> {
         requires gate { pass.old.gate ≡ Some self.now }
         requires waiting { pass.old.stage ≡ Waiting }
         ensures pass { pass.new ≡ record pass.old { stage = Out (V.entries result.value) } }
-        ensures turn { (result.gate ≡ Some self.now) × (result.number ≡ pass.old.number) × (result.start ≡ V.entries result.value) }
+        ensures turn { (result.gate ≡ Some self.now) × (result.number ≡ pass.old.number)
+            × (result.start ≡ V.entries result.value) }
         ensures origin { V.origin result.value ≡ self.now.origin }
         ensures begins { Extends self.now.opening (V.entries result.value) }
         ensures seen { Extends pass.old.seen (V.entries result.value) }
-        ensures mine { of_lane V.lane pass.old.number (added self.now.opening (V.entries result.value)) ≡ pass.old.mine }
+        ensures mine { of_lane V.lane pass.old.number (added self.now.opening (V.entries result.value))
+            ≡ pass.old.mine }
     {
         for _ in rt.forever() {
             match self.try_turn(pass) {
@@ -117,12 +120,15 @@ impl<V: Journaled> Gate<V> {
     fn try_turn(&self, pass: &mut Pass<V>) -> Result<Turn<V>, u64>
         requires gate { pass.old.gate ≡ Some self.now }
         requires waiting { pass.old.stage ≡ Waiting }
-        ensures pass { MatchResult result (λ t. pass.new ≡ record pass.old { stage = Out (V.entries t.value) }) (λ _. pass.new ≡ pass.old) }
-        ensures turn { IfOk result (λ t. (t.gate ≡ Some self.now) × (t.number ≡ pass.old.number) × (t.start ≡ V.entries t.value)) }
+        ensures pass { MatchResult result (λ t. pass.new ≡ record pass.old { stage = Out (V.entries t.value) })
+            (λ _. pass.new ≡ pass.old) }
+        ensures turn { IfOk result (λ t. (t.gate ≡ Some self.now) × (t.number ≡ pass.old.number)
+            × (t.start ≡ V.entries t.value)) }
         ensures origin { IfOk result (λ t. V.origin t.value ≡ self.now.origin) }
         ensures begins { IfOk result (λ t. Extends self.now.opening (V.entries t.value)) }
         ensures seen { IfOk result (λ t. Extends pass.old.seen (V.entries t.value)) }
-        ensures mine { IfOk result (λ t. of_lane V.lane pass.old.number (added self.now.opening (V.entries t.value)) ≡ pass.old.mine) }
+        ensures mine { IfOk result (λ t. of_lane V.lane pass.old.number (added self.now.opening (V.entries t.value))
+            ≡ pass.old.mine) }
     {
         let ticket = pass.ticket;
         let value = look(&self.table.shared, &mut pass.seat, ticket)?;
@@ -136,10 +142,15 @@ impl<V: Journaled> Gate<V> {
     /// Gives the value back, with exactly one entry more, and passes the turn on.
     pub fn leave(&self, pass: &mut Pass<V>, turn: Turn<V>)
         requires gate { pass.old.gate ≡ Some self.now }
-        requires turn { (turn.gate ≡ Some self.now) × (turn.number ≡ pass.old.number) × (pass.old.stage ≡ Out turn.start) }
+        requires turn { (turn.gate ≡ Some self.now) × (turn.number ≡ pass.old.number)
+            × (pass.old.stage ≡ Out turn.start) }
         requires origin { V.origin turn.value ≡ self.now.origin }
         requires entry { AddsOne V.lane pass.old.number turn.start (V.entries turn.value) }
-        ensures pass { pass.new ≡ record pass.old { seen = V.entries turn.value; mine = pass.old.mine ++ added turn.start (V.entries turn.value); stage = Idle } }
+        ensures pass { pass.new ≡ record pass.old {
+          seen = V.entries turn.value;
+          mine = pass.old.mine ++ added turn.start (V.entries turn.value);
+          stage = Idle;
+        } }
         ensures seen { Extends pass.old.seen (V.entries turn.value) }
     {
         let Turn {
@@ -159,7 +170,8 @@ impl<V: Journaled> Gate<V> {
         ensures begins { Extends self.opening (V.entries result) }
         ensures lanes { All (λ e. V.lane e < self.passes) (added self.opening (V.entries result)) }
         ensures seen { All (λ p. Extends p.seen (V.entries result)) passes.items }
-        ensures mine { All (λ p. of_lane V.lane p.number (added self.opening (V.entries result)) ≡ p.mine) passes.items }
+        ensures mine { All (λ p. of_lane V.lane p.number (added self.opening (V.entries result)) ≡ p.mine)
+            passes.items }
     {
         let seat = self.gather(passes);
         let Self { table } = self;

@@ -43,9 +43,13 @@ pub fn take_turn<R: Wait>(
     requires gate { pass.old.gate ≡ Some gate.now }
     requires number { pass.old.number ≡ number }
     requires idle { pass.old.stage ≡ Idle }
-    ensures ok { OnOk result (pass.new ≡ record pass.old { seen = pass.new.seen; mine = pass.old.mine ++ number ∷ [] }) }
+    ensures ok { OnOk result (pass.new ≡ record pass.old {
+      seen = pass.new.seen;
+      mine = pass.old.mine ++ number ∷ [];
+    }) }
     ensures seen { OnOk result (Extends pass.old.seen pass.new.seen) }
-    ensures err { IfErr result (λ turn. (pass.new ≡ record pass.old { stage = Out turn.start }) × (turn.value.lanes.items ≡ turn.start)) }
+    ensures err { IfErr result (λ turn. (pass.new ≡ record pass.old { stage = Out turn.start })
+        × (turn.value.lanes.items ≡ turn.start)) }
     ensures turn { IfErr result (λ turn. (turn.gate ≡ pass.old.gate) × (turn.number ≡ number)) }
 {
     gate.draw(pass);

@@ -50,7 +50,8 @@ pub(crate) fn pass_on<V: Journaled>(top: &Top<V>, seat: &mut Place<V>, value: V)
 pub(crate) fn take_out<V: Journaled>(table: Board<V>, seat: Place<V>) -> V
     requires table { IsBoard table.shared.table_id × (seat.table_id ≡ table.shared.table_id) }
     requires all { (seat.me.0.stage ≡ Idle) × ((k : ℕ) → k < table.shared.key.passes → 0 < claims k seat.me.0) }
-    ensures { IsEnd V.entries V.lane V.origin table.shared.key.value.value table.shared.key.passes seat.me.0.cards result }
+    ensures { IsEnd V.entries V.lane V.origin table.shared.key.value.value table.shared.key.passes seat.me.0.cards
+        result }
 {
     let mut closed = table.close_with(seat);
     let value = closed.take(0);

@@ -151,10 +151,12 @@ fn eight_threads_wait_parked(rt: HostRuntime) -> Result<(), Fail> {
     let eighth = gate.split(&mut first);
     let shared = &gate;
     let front = ||
-        requires { IsIdle shared.now 0 first × IsIdle shared.now 1 second × IsIdle shared.now 2 third × IsIdle shared.now 3 fourth }
+        requires { IsIdle shared.now 0 first × IsIdle shared.now 1 second × IsIdle shared.now 2 third
+            × IsIdle shared.now 3 fourth }
     { four_take_many(&rt, shared, first, second, third, fourth, 0) };
     let behind = ||
-        requires { IsIdle shared.now 4 fifth × IsIdle shared.now 5 sixth × IsIdle shared.now 6 seventh × IsIdle shared.now 7 eighth }
+        requires { IsIdle shared.now 4 fifth × IsIdle shared.now 5 sixth × IsIdle shared.now 6 seventh
+            × IsIdle shared.now 7 eighth }
     { four_take_many(&rt, shared, fifth, sixth, seventh, eighth, 4) };
     let _done = thread::join(&rt, front, behind);
     Ok(())

@@ -26,7 +26,8 @@ impl<V: Journaled> Model for Turn<V> {
 impl<V: Journaled> Turn<V> {
     /// Lends the value. What is written through it is what `Gate::leave` gives back.
     pub fn value(&mut self) -> &mut V
-        ensures* writes_back { sem 𝓛 (Lends (the_row V.row V.Entry.row V.Origin.row V.Journaled) V.row self.entry result (λ w. record self.old { value = w })) }
+        ensures* writes_back { sem 𝓛 (Lends (the_row V.row V.Entry.row V.Origin.row V.Journaled) V.row self.entry
+            result (λ w. record self.old { value = w })) }
         ensures value { result.now ≡ self.old.value }
     {
         &mut self.value

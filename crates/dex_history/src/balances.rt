@@ -21,7 +21,8 @@ ghost use Rattle.dex_history.specs.Moves.{Moves};
 /// No row is refused for a balance that would be too large, where each wallet that it sees has a balance that is below 2^64
 /// together with the market's vault of the same mint. So it is wherever wallets and vaults of a mint add up to its supply.
 pub fn no_balance_is_too_large_within_a_supply()
-    ensures { (asked : Asked) (seen : Seen) (m : Market) (balance amount : ℕ) → IsSound m → Sees asked seen → FitVaults seen m →
+    ensures { (asked : Asked) (seen : Seen) (m : Market) (balance amount : ℕ) → IsSound m → Sees asked seen
+        → FitVaults seen m →
         why asked.request seen m ≢ Some (BalanceTooLarge balance amount) }
 {}
 
@@ -32,7 +33,8 @@ pub fn a_row_moves_wallets_as_its_transfers_say()
     ensures each { (asked : Asked) (seen : Seen) (m : Market) (address : Address) → IsSound m → Sees asked seen →
         Moves seen (asked_step asked seen m).transfers address }
     ensures possible { (asked : Asked) (seen : Seen) (m : Market) → IsSound m → Sees asked seen →
-        All (λ (move : Movement). CanMove move.kind move.amount move.before) (movements seen (asked_step asked seen m).transfers) }
+        All (λ (move : Movement). CanMove move.kind move.amount move.before)
+        (movements seen (asked_step asked seen m).transfers) }
 {}
 
 /// A row makes and loses no amount. Of each token of a sound market, what the row's movements take from wallets of its mint
@@ -44,5 +46,6 @@ pub fn a_row_keeps_what_wallets_and_vaults_hold()
     ensures keeps { (asked : Asked) (seen : Seen) (m : Market) (token : Token) → IsSound m → Sees asked seen →
         let s = asked_step asked seen m in
         let moves = movements seen s.transfers in
-        vault token s.market + all_credited seen (mint_of token m) moves ≡ vault token m + all_debited seen (mint_of token m) moves }
+        vault token s.market + all_credited seen (mint_of token m) moves
+        ≡ vault token m + all_debited seen (mint_of token m) moves }
 {}

@@ -15,10 +15,12 @@ ghost use Rattle.dex_history.specs.Journal.{Asked, Call, IsLegal, Sees, Stands, 
 /// call keeps it legal exactly where it stands there: its row is one of the market, it saw the wallets that its row names,
 /// and it has the entry that it makes now.
 pub fn a_history_grows_at_its_end()
-    ensures parts { (calls later : List Call) (m : Market) → IsLegal m (calls ++ later) ↔ (IsLegal m calls × IsLegal (market_after m calls) later) }
+    ensures parts { (calls later : List Call) (m : Market)
+        → IsLegal m (calls ++ later) ↔ (IsLegal m calls × IsLegal (market_after m calls) later) }
     ensures one_more { (calls : List Call) (call : Call) (m : Market) →
         IsLegal m (calls ++ (call ∷ [])) ↔ (IsLegal m calls × Stands call (market_after m calls)) }
-    ensures after { (calls later : List Call) (m : Market) → market_after m (calls ++ later) ≡ market_after (market_after m calls) later }
+    ensures after { (calls later : List Call) (m : Market)
+        → market_after m (calls ++ later) ≡ market_after (market_after m calls) later }
     ensures after_one { (calls : List Call) (call : Call) (m : Market) →
         market_after m (calls ++ (call ∷ [])) ≡ (step_of call (market_after m calls)).market }
 {}
@@ -26,16 +28,20 @@ pub fn a_history_grows_at_its_end()
 /// The same of a wallet's movements, from a balance on.
 pub fn a_wallet_journal_grows_at_its_end()
     ensures parts { (entries later : List WalletEntry) (balance : ℕ) →
-        IsWalletLegal balance (entries ++ later) ↔ (IsWalletLegal balance entries × IsWalletLegal (balance_after balance entries) later) }
+        IsWalletLegal balance (entries ++ later) ↔ (IsWalletLegal balance entries
+        × IsWalletLegal (balance_after balance entries) later) }
     ensures after { (entries later : List WalletEntry) (balance : ℕ) →
         balance_after balance (entries ++ later) ≡ balance_after (balance_after balance entries) later }
-    ensures one_more { (entries : List WalletEntry) (entry : WalletEntry) (balance : ℕ) → IsWalletLegal balance entries →
-        entry.before ≡ balance_after balance entries → CanMove entry.kind entry.amount entry.before → IsWalletLegal balance (entries ++ (entry ∷ [])) }
+    ensures one_more { (entries : List WalletEntry) (entry : WalletEntry) (balance : ℕ)
+        → IsWalletLegal balance entries →
+        entry.before ≡ balance_after balance entries → CanMove entry.kind entry.amount entry.before
+        → IsWalletLegal balance (entries ++ (entry ∷ [])) }
 {}
 
 /// A row makes exactly one movement of each wallet that it names, by rising address.
 pub fn a_row_moves_the_wallets_that_it_names()
-    ensures { (asked : Asked) (seen : Seen) (t : Transfers) → Sees asked seen → map (λ (move : Movement). move.wallet) (movements seen t) ≡ asked_wallets asked }
+    ensures { (asked : Asked) (seen : Seen) (t : Transfers) → Sees asked seen
+        → map (λ (move : Movement). move.wallet) (movements seen t) ≡ asked_wallets asked }
 {}
 
 /// An entry loses no movement: the front of its four places is exactly the movements of its row.

@@ -25,12 +25,14 @@ pub fn every_row_keeps_a_market_sound()
 
 /// So does whatever is asked for that states a price, where it is an order or a take.
 pub fn what_is_asked_keeps_a_market_sound()
-    ensures { (asked : Asked) (seen : Seen) (m : Market) → IsSound m → HasPrice asked.request.instruction → IsSound (asked_step asked seen m).market }
+    ensures { (asked : Asked) (seen : Seen) (m : Market) → IsSound m → HasPrice asked.request.instruction
+        → IsSound (asked_step asked seen m).market }
 {}
 
 /// From a sound market each place of each legal history is sound: the market after its first so many calls, and after all.
 pub fn each_place_of_a_history_is_sound()
-    ensures places { (m : Market) (calls : List Call) (count : ℕ) → IsSound m → IsLegal m calls → IsSound (market_after m (take count calls)) }
+    ensures places { (m : Market) (calls : List Call) (count : ℕ) → IsSound m → IsLegal m calls
+        → IsSound (market_after m (take count calls)) }
     ensures end { (m : Market) (calls : List Call) → IsSound m → IsLegal m calls → IsSound (market_after m calls) }
 {}
 

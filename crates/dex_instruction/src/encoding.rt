@@ -45,7 +45,8 @@ fn put_market(
     dust: u64,
 ) -> usize
     ensures end { result ≡ 39 }
-    ensures bytes { out.new ≡ written 5 (spelled ((8, coin_lot) ∷ (8, pc_lot) ∷ (2, fee_rate_bps) ∷ (8, nonce) ∷ (8, dust) ∷ [])) out.old }
+    ensures bytes { out.new ≡ written 5 (spelled ((8, coin_lot) ∷ (8, pc_lot) ∷ (2, fee_rate_bps) ∷ (8, nonce)
+        ∷ (8, dust) ∷ [])) out.old }
 {
     let at = put_u64(out, 5, coin_lot);
     let at = put_u64(out, at, pc_lot);
@@ -57,7 +58,8 @@ fn put_market(
 /// Writes side, price and most quantities, with which an order and a take begin.
 fn put_terms(out: &mut [u8; 128], side: Side, price: u64, lots: u64, pc: u64) -> usize
     ensures end { result ≡ 33 }
-    ensures bytes { out.new ≡ written 5 (spelled ((4, side_code side) ∷ (8, price) ∷ (8, lots) ∷ (8, pc) ∷ [])) out.old }
+    ensures bytes { out.new ≡ written 5 (spelled ((4, side_code side) ∷ (8, price) ∷ (8, lots) ∷ (8, pc) ∷ []))
+        out.old }
 {
     let at = put_u32(out, 5, side_code(side));
     let at = put_u64(out, at, price);
@@ -87,7 +89,8 @@ fn put_order(
     latest: Option<i64>,
 ) -> usize
     ensures end { result ≡ 51 + widths (latest_fields latest) }
-    ensures bytes { out.new ≡ written 33 (spelled ((4, self_trade_code self_trade) ∷ (4, order_type_code order_type) ∷ (8, client) ∷ (2, limit) ∷ latest_fields latest)) out.old }
+    ensures bytes { out.new ≡ written 33 (spelled ((4, self_trade_code self_trade) ∷ (4, order_type_code order_type)
+        ∷ (8, client) ∷ (2, limit) ∷ latest_fields latest)) out.old }
     ensures typed { IfSome latest (λ time. FitsSigned w64 time) }
 {
     let at = put_u32(out, 33, self_trade_code(self_trade));

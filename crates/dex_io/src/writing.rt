@@ -32,7 +32,8 @@ pub trait Sink {
 pub fn write_all<K: Sink>(sink: &mut K, text: &[u8]) -> Result<(), WriteStop>
     ensures ok { OnOk result (K.taken sink.new ≡ append_known (K.taken sink.old) text.now) }
 
-    ensures stopped { IfErr result (λ stop. K.taken sink.new ≡ append_known (K.taken sink.old) (take stop.sent text.now)) }
+    ensures stopped { IfErr result (λ stop. K.taken sink.new
+        ≡ append_known (K.taken sink.old) (take stop.sent text.now)) }
     ensures sent { IfErr result (λ stop. stop.sent < length text.now) }
     ensures failed { OnErr result (Rose (K.faults sink.old) (K.faults sink.new)) }
 

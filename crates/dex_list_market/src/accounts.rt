@@ -97,7 +97,8 @@ pub(crate) fn settle_at(
     requires within { place < vec_len accounts.old }
     requires can { (default : OpenAccount) → CanSettle side moves (slice_index_or accounts.old.items place default) }
     ensures accounts { (default : OpenAccount) → accounts.new.items
-        ≡ slice_set accounts.old.items place (settled_account side moves held (slice_index_or accounts.old.items place default)) }
+        ≡ slice_set accounts.old.items place (settled_account side moves held
+        (slice_index_or accounts.old.items place default)) }
     ensures next { (default : OpenAccount) →
         let account = slice_index_or accounts.old.items place default in
         free_slot (settled_account side moves held account).slots ≡ free_slot account.slots + 1 }

@@ -24,7 +24,8 @@ pub(crate) struct State {
 }
 
 fn reply_of(deal: Deal) -> Reply
-    ensures { result ≡ Reply.Ordered deal.order.id deal.order.slot deal.sums.lots deal.sums.pc deal.outcome.fee deal.order.lots }
+    ensures { result ≡ Reply.Ordered deal.order.id deal.order.slot deal.sums.lots deal.sums.pc deal.outcome.fee
+        deal.order.lots }
 {
     Reply::Ordered {
         id: deal.order.id,
@@ -38,7 +39,8 @@ fn reply_of(deal: Deal) -> Reply
 
 /// The lock of an order that free funds of this amount pay, or why the order is refused.
 fn decide(side: Side, n: Incoming, free: u64) -> Result<u64, Refusal>
-    ensures { MatchResult result (IsPaid side (new_order n) free) (λ why. refusal_by side (new_order n) (lacking side (new_order n) free) ≡ Some why) }
+    ensures { MatchResult result (IsPaid side (new_order n) free)
+        (λ why. refusal_by side (new_order n) (lacking side (new_order n) free) ≡ Some why) }
 {
     let Some(lock) = full_lock(side, SIZES, n) else {
         return Err(Refusal::AskTooLarge);
@@ -66,7 +68,8 @@ impl State {
         requires few { self.old.counts.calls < 128 }
         requires place { IsPlace n.owner self.old.accounts.items place }
         requires lock { full_lock ≡ orders.full_lock side first_listing.sizes (new_order n) }
-        requires free { (default : OpenAccount) → full_lock ≤ (paying side (slice_index_or self.old.accounts.items place default)).free }
+        requires free { (default : OpenAccount) → full_lock
+            ≤ (paying side (slice_index_or self.old.accounts.items place default)).free }
         ensures sound { IsSound self.new }
         ensures calls { self.new.counts.calls ≡ self.old.counts.calls + 1 }
         ensures reply { (default : OpenAccount) →
@@ -76,7 +79,8 @@ impl State {
         ensures market { (default : OpenAccount) →
             let m = market_of self.old in
             let account = account_of (slice_index_or self.old.accounts.items place default) in
-            market_of self.new ≡ orders.after_order side account (new_order n) (orders.order_on side m account (new_order n)) m }
+            market_of self.new ≡ orders.after_order side account (new_order n)
+            (orders.order_on side m account (new_order n)) m }
     {
         let slot = self.accounts[place].slots.free_slot();
         let deal = trade(

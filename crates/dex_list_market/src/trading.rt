@@ -36,9 +36,11 @@ pub(crate) struct Book {
 /// A new order meets the opposite side of the book.
 pub(crate) fn meet_book(side: Side, n: Incoming, book: &mut Book, log: &mut EventLog) -> Met
     requires small { IsSmall first_listing.sizes (meeting_on side (new_order n) (side_of (opposite side) book.old)) }
-    requires room { length log.old + length (meeting_on side (new_order n) (side_of (opposite side) book.old)).events < 640 }
+    requires room { length log.old + length (meeting_on side (new_order n) (side_of (opposite side) book.old)).events
+        < 640 }
     requires locks { locked (opposite side) first_listing.sizes (side_of (opposite side) book.old) < 2 ^ 64 }
-    ensures met { HasMet (meeting_on side (new_order n) (side_of (opposite side) book.old)) log.old (side_of (opposite side) book.new) log.new result }
+    ensures met { HasMet (meeting_on side (new_order n) (side_of (opposite side) book.old)) log.old
+        (side_of (opposite side) book.new) log.new result }
     ensures own { side_of side book.new ≡ side_of side book.old }
 {
     let taker = taker_of(SIZES, n);
@@ -116,7 +118,8 @@ fn append_last(log: &mut EventLog, side: Side, order: Order)
 /// Appends the events of a new order itself.
 pub(crate) fn append_own(log: &mut EventLog, side: Side, order: Order, pc: u64, outcome: Outcome)
     requires { length log.old + 1 < 640 }
-    ensures { log.new ≡ log.old ++ taker_events side order pc (amounts_of outcome) ++ orders.last_events side first_listing.sizes order None }
+    ensures { log.new ≡ log.old ++ taker_events side order pc (amounts_of outcome)
+        ++ orders.last_events side first_listing.sizes order None }
 {
     let amounts = Amounts {
         released: outcome.moves.got,

@@ -62,7 +62,8 @@ fn moved(place: Option<Address>) -> Carry
 
 /// The step of an address whose place is to be found.
 fn put_new(place: Option<Address>, address: Address) -> (Option<Address>, Carry)
-    ensures { (others : List (Option Address)) → put (Carry.New address) (place ∷ others) ≡ result.0 ∷ put result.1 others }
+    ensures { (others : List (Option Address)) → put (Carry.New address) (place ∷ others)
+        ≡ result.0 ∷ put result.1 others }
 {
     match place {
         None => (Some(address), Carry::Nothing),
@@ -72,7 +73,8 @@ fn put_new(place: Option<Address>, address: Address) -> (Option<Address>, Carry)
 
 /// The same where an address stands in the place.
 fn put_before(first: Address, address: Address) -> (Option<Address>, Carry)
-    ensures { (others : List (Option Address)) → put (Carry.New address) (Some first ∷ others) ≡ result.0 ∷ put result.1 others }
+    ensures { (others : List (Option Address)) → put (Carry.New address) (Some first ∷ others)
+        ≡ result.0 ∷ put result.1 others }
 {
     if is_same(address, first) {
         return (Some(first), Carry::Nothing);

@@ -26,7 +26,8 @@ pub fn parts_have_addresses_of_their_own()
 /// made with accounts at those addresses.
 pub fn accounts_with_blank_ones_stand_for_the_market_with_them()
     ensures { (accounts : PlainMarketAccounts) (listing : Listing) (addresses : List Address)
-        → StandsFor accounts (made_market listing []) → StandsFor (with_blanks addresses accounts) (made_market listing addresses) }
+        → StandsFor accounts (made_market listing [])
+        → StandsFor (with_blanks addresses accounts) (made_market listing addresses) }
 {}
 
 /// What a market is made of makes a sound market, with accounts at any addresses that differ.

@@ -84,7 +84,8 @@ pub fn make_orders(alloc: Global) -> Result<Vec<u8>, NoMemory>
 fn market_account(alloc: Global, set: &MarketSet) -> Result<Vec<u8>, NoMemory>
     requires { IsMarketSet set.now }
     ensures bytes { IfOk result (λ bytes. bytes.items ≡ market_bytes set.now) }
-    ensures stands { IfOk result (λ bytes. CanTrade set.now → StandsForMarket bytes.items (made_market (listing_of set.now) [])) }
+    ensures stands { IfOk result (λ bytes. CanTrade set.now
+        → StandsForMarket bytes.items (made_market (listing_of set.now) [])) }
 {
     let mut bytes = zeros(alloc, market::LAYOUT.size)?;
     write_market(&mut bytes, set);

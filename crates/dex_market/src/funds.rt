@@ -71,7 +71,8 @@ impl MarketView<'_> {
         requires { account.IsMarket self.old.bytes.now }
         ensures place { self.new.bytes.ghost_name ≡ self.old.bytes.ghost_name }
         ensures bytes { self.new.bytes.now ≡ money.with_funds funds self.old.bytes.now }
-        ensures words { account.market_words self.new.bytes.now ≡ money.words_with_funds funds (account.market_words self.old.bytes.now) }
+        ensures words { account.market_words self.new.bytes.now
+            ≡ money.words_with_funds funds (account.market_words self.old.bytes.now) }
         ensures accepted { account.IsMarket self.new.bytes.now }
     {
         self.set_coin_deposits_total(funds.coin_deposits);

@@ -62,7 +62,8 @@ impl RequestView<'_> {
         requires accepted { IsRequestQueue self.old.bytes.now }
         requires left { next_sequence self.old.bytes.now < 2 ^ 64 - 1 }
         ensures place { self.new.bytes.ghost_name ≡ self.old.bytes.ghost_name }
-        ensures bytes { self.new.bytes.now ≡ with_number self.old.bytes.now NEXT_SEQ_NUM (next_sequence self.old.bytes.now + 1) }
+        ensures bytes { self.new.bytes.now ≡ with_number self.old.bytes.now NEXT_SEQ_NUM
+            (next_sequence self.old.bytes.now + 1) }
         ensures raised { next_sequence self.new.bytes.now ≡ next_sequence self.old.bytes.now + 1 }
         ensures accepted { IsRequestQueue self.new.bytes.now }
     {

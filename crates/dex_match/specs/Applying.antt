@@ -20,6 +20,7 @@ use Rattle.dex_market.specs.declared.funds.MarketFunds.{MarketFunds}
 use Rattle.dex_market.specs.MarketAccount.{MarketWords, market_words}
 use Rattle.dex_market.specs.MarketFunds.{with_funds, words_with_funds}
 use Rattle.dex_market.specs.RequestQueue.{next_sequence}
+use Rattle.dex_meet.specs.declared.event_kinds.Amounts.{Amounts}
 use Rattle.dex_meet.specs.Prospects.{FitsSums}
 use Rattle.dex_ring.specs.Appended.{HasRoom}
 use Rattle.dex_orders.specs.declared.amounts.Funds.{Funds}
@@ -155,11 +156,20 @@ order_by plan n = record {
   client = n.client;
 }
 
--- the one event of all the fills of a plan, where there are any
+-- the one event of all the fills of an order, where they have quote
+abbrev pub fill_events : Side → Order → ℕ → Amounts → List QueuedEvent
+fill_events side order pc amounts =
+    if pc == 0 then []
+    else event_of (TakerFill side) order amounts.released amounts.paid amounts.fee_or_rebate ∷ []
+
+-- the same of a plan
 abbrev pub fill_events_by : Side → Lots → OrderPlan → Order → List QueuedEvent
 fill_events_by side sizes plan order =
-    if plan.pc == 0 then []
-    else event_of (TakerFill side) order (got_by side sizes plan) (spent_by side sizes plan) plan.fee ∷ []
+    fill_events side order plan.pc (record { released = got_by side sizes plan; paid = spent_by side sizes plan; fee_or_rebate = plan.fee })
+
+-- the last events of an order that is posted on a side with this room
+abbrev pub end_events : Side → Lots → Order → ℕ → List Order → List QueuedEvent
+end_events side sizes order room own = last_events side sizes order (post side room order own).booted
 
 -- all events of a plan, from what it meets and from its posting
 abbrev pub events_by : Side → Lots → NewOrder → OrderPlan → Meeting → Posting → List QueuedEvent
@@ -188,6 +198,10 @@ met_with side sizes n opposing = meet side (terms_of sizes n) (demand_of side si
 abbrev pub posted_by : Side → NewOrder → OrderPlan → ℕ → List Order → Posting
 posted_by side n plan room own = post side room (order_by plan n) own
 
+-- all events of a plan that trades over these orders of its own side, which has this room, and of the other one
+abbrev pub trade_events : Side → Lots → NewOrder → OrderPlan → ℕ → List Order → List Order → List QueuedEvent
+trade_events side sizes n plan room own opposing = events_by side sizes n plan (met_with side sizes n opposing) (posted_by side n plan room own)
+
 -- an order can meet the other side and rest on its own, and the queue has room for its events
 pub record CanTrade (side : Side) (sizes : Lots) (n : NewOrder) (plan : OrderPlan) (room : ℕ) (own opposing : List Order) (ring : Ring) : Type 0 where
   pub sums : FitsSums side sizes (met_with side sizes n opposing)
@@ -195,4 +209,4 @@ pub record CanTrade (side : Side) (sizes : Lots) (n : NewOrder) (plan : OrderPla
   pub moves : CanMove side sizes n plan
   pub posts : CanPost side sizes (order_by plan n) room own
   pub counted : ring.seq_num < 2 ^ 64
-  pub queue : HasRoom (length (events_by side sizes n plan (met_with side sizes n opposing) (posted_by side n plan room own))) ring
+  pub queue : HasRoom (length (trade_events side sizes n plan room own opposing)) ring

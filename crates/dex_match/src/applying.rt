@@ -28,7 +28,8 @@ use dex_types::{Reply, SideBook};
 
 /// What the plan's order is answered.
 fn reply_by(plan: &OrderPlan) -> Reply
-    ensures { result ≡ replies.Ordered plan.now.id plan.now.slot plan.now.lots plan.now.pc plan.now.fee plan.now.rested }
+    ensures { result ≡ replies.Ordered plan.now.id plan.now.slot plan.now.lots plan.now.pc plan.now.fee
+        plan.now.rested }
 {
     Reply::Ordered {
         id: plan.id,
@@ -65,55 +66,65 @@ pub(crate) fn apply<B: SideBook, A: SideBook>(
     requires orders { IsOpen orders.old.bytes.now }
     requires side { B.side own.old ≡ taker.id_side }
     requires left { next_sequence requests.old.bytes.now < 2 ^ 64 - 1 }
-    requires can_trade { applying.CanTrade taker.id_side (sizes_of (market_words market.old.bytes.now)) (order_of taker) plan.now
+    requires can_trade { applying.CanTrade taker.id_side (sizes_of (market_words market.old.bytes.now))
+        (order_of taker) plan.now
         (B.room own.old) (B.orders own.old) (A.orders opposite.old) (ring_of ring.old.bytes.now) }
-    requires covers { referrer_part plan.now.fee + (meeting_with (sizes_of (market_words market.old.bytes.now)) taker (A.orders opposite.old)).rebates ≤ plan.now.fee }
-    requires can_take_in { applying.CanTakeIn
-        (applying.intake_by taker.id_side plan.now.deposit plan.now.fee (meeting_with (sizes_of (market_words market.old.bytes.now)) taker (A.orders opposite.old)).rebates)
-        (market_words market.old.bytes.now) }
+    requires covers { let sizes = sizes_of (market_words market.old.bytes.now) in
+        referrer_part plan.now.fee + (meeting_with sizes taker (A.orders opposite.old)).rebates ≤ plan.now.fee }
+    requires can_take_in { let words = market_words market.old.bytes.now in
+        let rebates = (meeting_with (sizes_of words) taker (A.orders opposite.old)).rebates in
+        applying.CanTakeIn (applying.intake_by taker.id_side plan.now.deposit plan.now.fee rebates) words }
     requires free { slice_index_or (account_of orders.old.bytes.now).slots plan.now.slot None ≡ None }
     requires fresh { HasNoOrder plan.now.id taker.id_side (account_of orders.old.bytes.now).slots }
-    requires can_pay { applying.CanPay taker.id_side (applying.moves_by taker.id_side (sizes_of (market_words market.old.bytes.now)) (order_of taker) plan.now)
-        (funds_of (account_of orders.old.bytes.now)) }
-    ensures reply { result ≡ replies.Ordered plan.now.id plan.now.slot plan.now.lots plan.now.pc plan.now.fee plan.now.rested }
+    requires can_pay { let sizes = sizes_of (market_words market.old.bytes.now) in
+        let moves = applying.moves_by taker.id_side sizes (order_of taker) plan.now in
+        applying.CanPay taker.id_side moves (funds_of (account_of orders.old.bytes.now)) }
+    ensures reply { result ≡ replies.Ordered plan.now.id plan.now.slot plan.now.lots plan.now.pc plan.now.fee
+        plan.now.rested }
     ensures market_place { market.new.bytes.ghost_name ≡ market.old.bytes.ghost_name }
-    ensures market_bytes { market.new.bytes.now ≡ applying.bytes_with
-        (applying.intake_by taker.id_side plan.now.deposit plan.now.fee (meeting_with (sizes_of (market_words market.old.bytes.now)) taker (A.orders opposite.old)).rebates)
-        market.old.bytes.now }
-    ensures market_words { market_words market.new.bytes.now ≡ applying.words_with
-        (applying.intake_by taker.id_side plan.now.deposit plan.now.fee (meeting_with (sizes_of (market_words market.old.bytes.now)) taker (A.orders opposite.old)).rebates)
-        (market_words market.old.bytes.now) }
+    ensures market_bytes { let words = market_words market.old.bytes.now in
+        let rebates = (meeting_with (sizes_of words) taker (A.orders opposite.old)).rebates in
+        let intake = applying.intake_by taker.id_side plan.now.deposit plan.now.fee rebates in
+        market.new.bytes.now ≡ applying.bytes_with intake market.old.bytes.now }
+    ensures market_words { let words = market_words market.old.bytes.now in
+        let rebates = (meeting_with (sizes_of words) taker (A.orders opposite.old)).rebates in
+        let intake = applying.intake_by taker.id_side plan.now.deposit plan.now.fee rebates in
+        market_words market.new.bytes.now ≡ applying.words_with intake words }
     ensures market_accepted { IsMarket market.new.bytes.now }
     ensures requests_place { requests.new.bytes.ghost_name ≡ requests.old.bytes.ghost_name }
     ensures requests_bytes { requests.new.bytes.now ≡ applying.requests_after requests.old.bytes.now }
     ensures requests_raised { next_sequence requests.new.bytes.now ≡ next_sequence requests.old.bytes.now + 1 }
     ensures requests_accepted { IsRequestQueue requests.new.bytes.now }
-    ensures own_orders { B.orders own.new ≡ (applying.posted_by taker.id_side (order_of taker) plan.now (B.room own.old) (B.orders own.old)).side }
+    ensures own_orders { B.orders own.new ≡ (applying.posted_by taker.id_side (order_of taker) plan.now
+        (B.room own.old) (B.orders own.old)).side }
     ensures own_holds { B.holds own.new }
     ensures own_side { B.side own.new ≡ B.side own.old }
     ensures own_room { B.room own.new ≡ B.room own.old }
     ensures own_place { B.same_place own.old own.new }
-    ensures opposite_orders { A.orders opposite.new ≡ (meeting_with (sizes_of (market_words market.old.bytes.now)) taker (A.orders opposite.old)).left }
+    ensures opposite_orders { A.orders opposite.new
+        ≡ (meeting_with (sizes_of (market_words market.old.bytes.now)) taker (A.orders opposite.old)).left }
     ensures opposite_holds { A.holds opposite.new }
     ensures opposite_side { A.side opposite.new ≡ A.side opposite.old }
     ensures opposite_room { A.room opposite.new ≡ A.room opposite.old }
     ensures opposite_place { A.same_place opposite.old opposite.new }
     ensures ring_place { ring.new.bytes.ghost_name ≡ ring.old.bytes.ghost_name }
-    ensures ring_list { ring_of ring.new.bytes.now ≡ appended (applying.events_by taker.id_side (sizes_of (market_words market.old.bytes.now)) (order_of taker) plan.now
-        (meeting_with (sizes_of (market_words market.old.bytes.now)) taker (A.orders opposite.old))
-        (applying.posted_by taker.id_side (order_of taker) plan.now (B.room own.old) (B.orders own.old))) (ring_of ring.old.bytes.now) }
-    ensures ring_bytes { ring.new.bytes.now ≡ pushed_all (applying.events_by taker.id_side (sizes_of (market_words market.old.bytes.now)) (order_of taker) plan.now
-        (meeting_with (sizes_of (market_words market.old.bytes.now)) taker (A.orders opposite.old))
-        (applying.posted_by taker.id_side (order_of taker) plan.now (B.room own.old) (B.orders own.old))) ring.old.bytes.now }
+    ensures ring_list { let sizes = sizes_of (market_words market.old.bytes.now) in
+        ring_of ring.new.bytes.now ≡ appended (applying.trade_events taker.id_side sizes (order_of taker) plan.now
+        (B.room own.old) (B.orders own.old) (A.orders opposite.old)) (ring_of ring.old.bytes.now) }
+    ensures ring_bytes { let sizes = sizes_of (market_words market.old.bytes.now) in
+        ring.new.bytes.now ≡ pushed_all (applying.trade_events taker.id_side sizes (order_of taker) plan.now
+        (B.room own.old) (B.orders own.old) (A.orders opposite.old)) ring.old.bytes.now }
     ensures ring_accepted { IsEventQueue ring.new.bytes.now }
     ensures orders_place { orders.new.bytes.ghost_name ≡ orders.old.bytes.ghost_name }
-    ensures orders_bytes { orders.new.bytes.now ≡ funded (added orders.old.bytes.now plan.now.slot plan.now.id taker.id_side taker.client)
-        (applying.funds_with taker.id_side (applying.moves_by taker.id_side (sizes_of (market_words market.old.bytes.now)) (order_of taker) plan.now)
-        (funds_of (account_of orders.old.bytes.now))) }
+    ensures orders_bytes { let sizes = sizes_of (market_words market.old.bytes.now) in
+        let moves = applying.moves_by taker.id_side sizes (order_of taker) plan.now in
+        orders.new.bytes.now ≡ funded (added orders.old.bytes.now plan.now.slot plan.now.id taker.id_side taker.client)
+        (applying.funds_with taker.id_side moves (funds_of (account_of orders.old.bytes.now))) }
     ensures orders_market { market_of orders.new.bytes.now ≡ market_of orders.old.bytes.now }
-    ensures orders_words { account_of orders.new.bytes.now ≡ with_funds
-        (applying.funds_with taker.id_side (applying.moves_by taker.id_side (sizes_of (market_words market.old.bytes.now)) (order_of taker) plan.now)
-        (funds_of (account_of orders.old.bytes.now)))
+    ensures orders_words { let sizes = sizes_of (market_words market.old.bytes.now) in
+        let moves = applying.moves_by taker.id_side sizes (order_of taker) plan.now in
+        account_of orders.new.bytes.now
+        ≡ with_funds (applying.funds_with taker.id_side moves (funds_of (account_of orders.old.bytes.now)))
         (record (account_of orders.old.bytes.now) {
           slots = slice_set (account_of orders.old.bytes.now).slots plan.now.slot
               (Some (record { id = plan.now.id; side = taker.id_side; client = taker.client }));

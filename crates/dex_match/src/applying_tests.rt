@@ -108,10 +108,12 @@ fn plan_of(
 ) -> Option<OrderPlan>
     requires opposite { IsListed opposite.now }
     requires locks { locked (book.opposite taker.id_side) sizes opposite.now.orders < 2 ^ 64 }
-    ensures foretells { IfSome result (λ plan. tests.Foretells taker.id_side sizes (order_of taker) opposite.now.orders plan) }
+    ensures foretells { IfSome result (λ plan. tests.Foretells taker.id_side sizes
+        (order_of taker) opposite.now.orders plan) }
     ensures lock { IfSome result (λ plan. full_lock taker.id_side sizes (order_of taker) < 2 ^ 64) }
     ensures deposit { IfSome result (λ plan. plan.deposit ≤ full_lock taker.id_side sizes (order_of taker)) }
-    ensures needed { IfSome result (λ plan. plan.needed ≡ length (meeting_with sizes taker opposite.now.orders).events) }
+    ensures needed { IfSome result (λ plan. plan.needed
+        ≡ length (meeting_with sizes taker opposite.now.orders).events) }
     ensures slot { IfSome result (λ plan. plan.slot ≡ slot) }
     ensures id { IfSome result (λ plan. plan.id ≡ book.id_of taker.id_side taker.price sequence) }
 {
@@ -247,8 +249,10 @@ fn act_on(
     requires opposite { IsListed opposite.old }
     requires side { own.old.side ≡ taker.id_side }
     requires counted { (ring_of ring.old.bytes.now).seq_num < 2 ^ 64 }
-    requires own_locks { All (λ (o : Order). order_lock taker.id_side (sizes_of (market_words market.old.bytes.now)) o < 2 ^ 64) own.old.orders }
-    requires locks { locked (book.opposite taker.id_side) (sizes_of (market_words market.old.bytes.now)) opposite.old.orders < 2 ^ 64 }
+    requires own_locks { All (λ (o : Order). order_lock taker.id_side (sizes_of (market_words market.old.bytes.now)) o
+        < 2 ^ 64) own.old.orders }
+    requires locks { locked (book.opposite taker.id_side)
+        (sizes_of (market_words market.old.bytes.now)) opposite.old.orders < 2 ^ 64 }
     ensures own { IsListed own.new }
     ensures opposite { IsListed opposite.new }
     ensures market_place { market.new.bytes.ghost_name ≡ market.old.bytes.ghost_name }

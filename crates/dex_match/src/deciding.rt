@@ -52,7 +52,8 @@ fn vaults_after(market: &MarketRef<'_>, side: Side, deposit: u64) -> Vaults
 
 /// Why an order is refused by what it would do, apart from what the vaults would hold.
 fn refused_late(foreseen: &Foreseen, room: u32, balance: u64) -> Option<Refusal>
-    ensures { result ≡ reasons.first_of (reasons.would_self_trade foreseen.now.aborts ∷ reasons.no_room foreseen.now.plan.needed room
+    ensures { result ≡ reasons.first_of (reasons.would_self_trade foreseen.now.aborts
+        ∷ reasons.no_room foreseen.now.plan.needed room
         ∷ reasons.short_by foreseen.now.plan.deposit (Some balance) ∷ []) }
 {
     would_self_trade(foreseen.aborts)
@@ -64,7 +65,8 @@ fn refused_late(foreseen: &Foreseen, room: u32, balance: u64) -> Option<Refusal>
 fn refused_beyond(vaults: Vaults, leaving: Leaving) -> Option<Refusal>
     requires coin { vaults.coin + leaving.coin < 2 ^ 128 }
     requires pc { vaults.pc + leaving.pc < 2 ^ 128 }
-    ensures { result ≡ reasons.first_of (reasons.beyond vaults.coin leaving.coin ∷ reasons.beyond vaults.pc leaving.pc ∷ []) }
+    ensures { result ≡ reasons.first_of (reasons.beyond vaults.coin leaving.coin ∷ reasons.beyond vaults.pc leaving.pc
+        ∷ []) }
 {
     beyond(vaults.coin, leaving.coin).or(beyond(vaults.pc, leaving.pc))
 }
@@ -103,7 +105,8 @@ fn answered(reason: Option<Refusal>, decided: Decided) -> Result<Decided, Refusa
 
 /// The plan alone.
 fn plan_of(decided: Result<Decided, Refusal>) -> Result<OrderPlan, Refusal>
-    ensures { (reason : Option Refusal) (d : Decided) → decided ≡ reasons.answered reason d → result ≡ reasons.answered reason d.plan }
+    ensures { (reason : Option Refusal) (d : Decided) → decided ≡ reasons.answered reason d
+        → result ≡ reasons.answered reason d.plan }
 {
     match decided {
         Ok(decided) => Ok(decided.plan),
@@ -131,9 +134,11 @@ fn decide_with<B: SideRead, A: SideRead>(
     requires events { IsEventQueue ring.now.bytes.now }
     requires account { IsOpen orders.now.bytes.now }
     requires room { 1 ≤ B.room own.now }
-    requires locks { locked (book.opposite taker.now.id_side) (sizes_of (market_words market.now.bytes.now)) (A.orders opposite.now) < 2 ^ 64 }
+    requires locks { locked (book.opposite taker.now.id_side) (sizes_of (market_words market.now.bytes.now))
+        (A.orders opposite.now) < 2 ^ 64 }
     requires known { IfSome known (λ sums. IsKnown sums (ring_of ring.now.bytes.now).events) }
-    ensures { result ≡ outcome_in taker.entry.now (shown B.orders B.room A.orders market.now requests.now ring.now orders.now own.now opposite.now) balance }
+    ensures { result ≡ outcome_in taker.entry.now (shown B.orders B.room A.orders market.now requests.now ring.now
+        orders.now own.now opposite.now) balance }
 {
     let taker = *taker;
     let sizes = market.sizes();
@@ -171,8 +176,10 @@ pub(crate) fn decide<B: SideRead, A: SideRead>(
     requires events { IsEventQueue ring.now.bytes.now }
     requires account { IsOpen orders.now.bytes.now }
     requires room { 1 ≤ B.room own.now }
-    requires locks { locked (book.opposite taker.now.id_side) (sizes_of (market_words market.now.bytes.now)) (A.orders opposite.now) < 2 ^ 64 }
-    ensures { result ≡ decided_in taker.entry.now (shown B.orders B.room A.orders market.now requests.now ring.now orders.now own.now opposite.now) balance }
+    requires locks { locked (book.opposite taker.now.id_side) (sizes_of (market_words market.now.bytes.now))
+        (A.orders opposite.now) < 2 ^ 64 }
+    ensures { result ≡ decided_in taker.entry.now (shown B.orders B.room A.orders market.now requests.now ring.now
+        orders.now own.now opposite.now) balance }
 {
     plan_of(decide_with(
         None, market, requests, own, opposite, ring, orders, taker, balance,

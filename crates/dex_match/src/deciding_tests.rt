@@ -129,7 +129,8 @@ fn put(book: &mut ListSide, sizes: Lots, order: Order)
     requires holds { IsListed book.old }
     requires can_rest { CanRest order }
     ensures holds { IsListed book.new }
-    ensures locks { locked sides.Ask sizes book.new.orders ≤ locked sides.Ask sizes book.old.orders + order.lots * sizes.coin }
+    ensures locks { locked sides.Ask sizes book.new.orders
+        ≤ locked sides.Ask sizes book.old.orders + order.lots * sizes.coin }
 {
     if book.find(order.id).is_none() && book.count() < book.capacity() {
         book.insert(order);

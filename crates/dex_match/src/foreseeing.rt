@@ -74,7 +74,8 @@ pub(crate) fn foresee_order<B: SideRead, A: SideRead>(
     requires room { 1 ≤ B.room own.now }
     requires lock { ask_too_large taker.id_side sizes taker.lots ≡ None }
     requires locks { locked (book.opposite taker.id_side) sizes (A.orders opposite.now) < 2 ^ 64 }
-    ensures { Foretells result (standing_at sizes sequence (B.orders own.now) (B.room own.now) (A.orders opposite.now)) (account_of orders.now.bytes.now) taker }
+    ensures { Foretells result (standing_at sizes sequence (B.orders own.now) (B.room own.now)
+        (A.orders opposite.now)) (account_of orders.now.bytes.now) taker }
 {
     let lock = lock_of(sizes, taker);
     let outlook = outlook(sizes, taker, lock, opposite);

@@ -22,16 +22,22 @@ ghost use Rattle.dex_types.specs.Why.{order_reading, payer, why_ordering};
 /// over parts of a sound market is why the market refuses it, apart from the reasons that ask for the row's accounts and
 /// signer alone.
 pub fn what_is_decided_is_the_markets()
-    ensures ordering { (side : Side) (n : NewOrder) (parts : MarketParts) (m : Market) (bytes : List ℕ) → AreOf parts m → HasOpen n.owner bytes parts →
+    ensures ordering { (side : Side) (n : NewOrder) (parts : MarketParts) (m : Market) (bytes : List ℕ)
+        → AreOf parts m → HasOpen n.owner bytes parts →
         ordering_over side n (order_given side bytes parts) ≡ order_on side m (account_of bytes) n }
-    ensures reason { (side : Side) (n : NewOrder) (parts : MarketParts) (m : Market) (bytes : List ℕ) (seen : Seen) (wallet : WalletSeen) →
+    ensures reason { (side : Side) (n : NewOrder) (parts : MarketParts) (m : Market) (bytes : List ℕ) (seen : Seen)
+        (wallet : WalletSeen) →
         IsSound m → AreOf parts m → HasOpen n.owner bytes parts → payer side seen ≡ Some wallet →
-        order_reason side n (parts_of (order_given side bytes parts)) wallet.balance ≡ why_ordering side n (order_reading side n seen m (account_of bytes)) }
+        order_reason side n (parts_of (order_given side bytes parts)) wallet.balance
+        ≡ why_ordering side n (order_reading side n seen m (account_of bytes)) }
 {}
 
 /// What a new order makes of parts of a sound market is of the market after the order.
 pub fn an_order_leaves_the_market_after_it()
-    ensures { (taker : Taker) (parts : MarketParts) (m : Market) (bytes : List ℕ) (after : OrderGiven) → IsSound m → AreOf parts m →
-        HasOpen taker.account bytes parts → IsDone taker (order_given taker.id_side bytes parts) after → AreOf (with_ordered taker after parts)
-        (after_order taker.id_side (account_of bytes) (order_of taker) (order_on taker.id_side m (account_of bytes) (order_of taker)) m) }
+    ensures { (taker : Taker) (parts : MarketParts) (m : Market) (bytes : List ℕ) (after : OrderGiven) → IsSound m
+        → AreOf parts m →
+        HasOpen taker.account bytes parts → IsDone taker (order_given taker.id_side bytes parts) after
+        → AreOf (with_ordered taker after parts)
+        (after_order taker.id_side (account_of bytes) (order_of taker)
+        (order_on taker.id_side m (account_of bytes) (order_of taker)) m) }
 {}

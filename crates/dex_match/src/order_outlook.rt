@@ -41,7 +41,8 @@ fn spent_of(side: Side, sizes: Lots, sums: Sums, fee: u64) -> u64
 /// The lots that rest of an order, where so much of its lock is left.
 fn rested_of(sizes: Lots, taker: Taker, prospect: Prospect, lock_left: u64) -> u64
     ensures { result ≡ (if posting.can_rest taker.order_type
-        then (if prospect.crosses then 0 else posting.affordable taker.id_side sizes taker.price prospect.met.want.lots lock_left) else 0) }
+        then (if prospect.crosses then 0 else posting.affordable taker.id_side sizes taker.price
+        prospect.met.want.lots lock_left) else 0) }
 {
     if !can_rest(taker.order_type) || prospect.crosses {
         return 0;
@@ -65,10 +66,13 @@ pub(crate) fn outlook<B: SideRead>(
     requires holds { B.holds opposing.now }
     requires lock { lock ≡ orders.full_lock taker.id_side sizes (order_of taker) }
     requires locks { locked (book.opposite taker.id_side) sizes (B.orders opposing.now) < 2 ^ 64 }
-    ensures prospect { IsForeseen taker.id_side taker.price (meeting_with sizes taker (B.orders opposing.now)) result.prospect }
+    ensures prospect { IsForeseen taker.id_side taker.price
+        (meeting_with sizes taker (B.orders opposing.now)) result.prospect }
     ensures fee { result.fee ≡ orders.fee_of (order_of taker) (meeting_with sizes taker (B.orders opposing.now)) }
-    ensures spent { result.spent ≡ orders.spent taker.id_side sizes (order_of taker) (meeting_with sizes taker (B.orders opposing.now)) }
-    ensures rested { result.rested ≡ orders.rested taker.id_side sizes (order_of taker) (meeting_with sizes taker (B.orders opposing.now)) }
+    ensures spent { result.spent ≡ orders.spent taker.id_side sizes (order_of taker)
+        (meeting_with sizes taker (B.orders opposing.now)) }
+    ensures rested { result.rested ≡ orders.rested taker.id_side sizes (order_of taker)
+        (meeting_with sizes taker (B.orders opposing.now)) }
 {
     let terms = terms_of(sizes, taker);
     let want = want_of(sizes, taker);

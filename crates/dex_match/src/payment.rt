@@ -93,10 +93,12 @@ pub(crate) fn pay(plan: &OrderPlan, taker: Taker, moves: Moves, orders: &mut Ord
     requires fresh { HasNoOrder plan.now.id taker.id_side (account_of orders.old.bytes.now).slots }
     requires can_pay { applying.CanPay taker.id_side moves (funds_of (account_of orders.old.bytes.now)) }
     ensures place { orders.new.bytes.ghost_name ≡ orders.old.bytes.ghost_name }
-    ensures bytes { orders.new.bytes.now ≡ funded (added orders.old.bytes.now plan.now.slot plan.now.id taker.id_side taker.client)
+    ensures bytes { orders.new.bytes.now ≡ funded (added orders.old.bytes.now plan.now.slot plan.now.id taker.id_side
+        taker.client)
         (applying.funds_with taker.id_side moves (funds_of (account_of orders.old.bytes.now))) }
     ensures market { market_of orders.new.bytes.now ≡ market_of orders.old.bytes.now }
-    ensures words { account_of orders.new.bytes.now ≡ with_funds (applying.funds_with taker.id_side moves (funds_of (account_of orders.old.bytes.now)))
+    ensures words { account_of orders.new.bytes.now
+        ≡ with_funds (applying.funds_with taker.id_side moves (funds_of (account_of orders.old.bytes.now)))
         (record (account_of orders.old.bytes.now) {
           slots = slice_set (account_of orders.old.bytes.now).slots plan.now.slot
               (Some (record { id = plan.now.id; side = taker.id_side; client = taker.client }));

@@ -12,7 +12,9 @@ ghost use Rattle.dex_types.specs.Soundness.{IsSound};
 /// In a sound market what a new order meets fits 64 bits, where its lots and its lock do: what the opposite side locks is in
 /// its vault, and the lock pays the fills with their fee, which covers the rebates. So a meeting's conditions can be met.
 pub fn what_a_new_order_meets_fits()
-    ensures sums { (side : Side) (m : Market) (n : NewOrder) → IsSound m → n.lots < 2 ^ 64 → full_lock side m.listing.sizes n < 2 ^ 64 →
+    ensures sums { (side : Side) (m : Market) (n : NewOrder) → IsSound m → n.lots < 2 ^ 64
+        → full_lock side m.listing.sizes n < 2 ^ 64 →
         FitsSums side m.listing.sizes (meeting_of side (standing_of side m) n) }
-    ensures locks { (side : Side) (m : Market) → IsSound m → locked (opposite side) m.listing.sizes (orders (opposite side) m) < 2 ^ 64 }
+    ensures locks { (side : Side) (m : Market) → IsSound m
+        → locked (opposite side) m.listing.sizes (orders (opposite side) m) < 2 ^ 64 }
 {}

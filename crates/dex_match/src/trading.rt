@@ -9,11 +9,9 @@ ghost use Rattle.dex_meet.specs.Prospects.{FitsSums};
 ghost use Rattle.dex_ring.specs.Appended.{appended, HasRoom, pushed_all};
 ghost use Rattle.dex_ring.specs.Ring.{IsEventQueue, ring_of};
 ghost use Rattle.dex_types.specs.BookSide.{CanRest, IsNewId};
-ghost use Rattle.dex_types.specs.Meeting as meeting;
 ghost use Rattle.dex_types.specs.NewOrder as orders;
 ghost use Rattle.dex_types.specs.Owed.{order_lock};
 ghost use Rattle.dex_types.specs.Posting as posting;
-ghost use Rattle.dex_types.specs.QueuedEvent as events;
 ghost use Rattle.dex_types.specs.Side as book;
 
 use crate::order_plan::OrderPlan;
@@ -37,13 +35,16 @@ fn meet_opposite<A: SideBook>(
     requires accepted { IsEventQueue ring.old.bytes.now }
     requires counted { (ring_of ring.old.bytes.now).seq_num < 2 ^ 64 }
     requires fits { FitsSums taker.id_side sizes (meeting_with sizes taker (A.orders opposite.old)) }
-    requires room { HasRoom (length (meeting_with sizes taker (A.orders opposite.old)).events) (ring_of ring.old.bytes.now) }
+    requires room { HasRoom (length (meeting_with sizes taker (A.orders opposite.old)).events)
+        (ring_of ring.old.bytes.now) }
     requires locks { locked (book.opposite taker.id_side) sizes (A.orders opposite.old) < 2 ^ 64 }
     ensures rebates { result ≡ (meeting_with sizes taker (A.orders opposite.old)).rebates }
     ensures left { A.orders opposite.new ≡ (meeting_with sizes taker (A.orders opposite.old)).left }
     ensures side { KeepsSide A.holds A.same_place A.side A.room opposite.old opposite.new }
-    ensures list { ring_of ring.new.bytes.now ≡ appended (meeting_with sizes taker (A.orders opposite.old)).events (ring_of ring.old.bytes.now) }
-    ensures bytes { ring.new.bytes.now ≡ pushed_all (meeting_with sizes taker (A.orders opposite.old)).events ring.old.bytes.now }
+    ensures list { ring_of ring.new.bytes.now ≡ appended (meeting_with sizes taker (A.orders opposite.old)).events
+        (ring_of ring.old.bytes.now) }
+    ensures bytes { ring.new.bytes.now ≡ pushed_all
+        (meeting_with sizes taker (A.orders opposite.old)).events ring.old.bytes.now }
     ensures queue { KeepsEvents ring.old ring.new }
 {
     let terms = terms_of(sizes, taker);
@@ -70,15 +71,13 @@ fn order_by(plan: &OrderPlan, taker: Taker) -> Order
 fn push_fills(ring: &mut RingView<'_>, side: Side, order: Order, pc: u64, amounts: Amounts)
     requires accepted { IsEventQueue ring.old.bytes.now }
     requires counted { (ring_of ring.old.bytes.now).seq_num < 2 ^ 64 }
-    requires room { HasRoom (length (if pc == 0 then []
-        else meeting.event_of (events.TakerFill side) order amounts.released amounts.paid amounts.fee_or_rebate ∷ [])) (ring_of ring.old.bytes.now) }
+    requires room { HasRoom (length (applying.fill_events side order pc amounts)) (ring_of ring.old.bytes.now) }
     requires slot { order.slot < 128 }
     requires tier { order.tier < 7 }
     ensures queue { KeepsEvents ring.old ring.new }
-    ensures list { ring_of ring.new.bytes.now ≡ appended (if pc == 0 then []
-        else meeting.event_of (events.TakerFill side) order amounts.released amounts.paid amounts.fee_or_rebate ∷ []) (ring_of ring.old.bytes.now) }
-    ensures bytes { ring.new.bytes.now ≡ pushed_all (if pc == 0 then []
-        else meeting.event_of (events.TakerFill side) order amounts.released amounts.paid amounts.fee_or_rebate ∷ []) ring.old.bytes.now }
+    ensures list { ring_of ring.new.bytes.now
+        ≡ appended (applying.fill_events side order pc amounts) (ring_of ring.old.bytes.now) }
+    ensures bytes { ring.new.bytes.now ≡ pushed_all (applying.fill_events side order pc amounts) ring.old.bytes.now }
 {
     if pc != 0 {
         push(ring, Kind::TakerFill, side, order, amounts);
@@ -91,7 +90,8 @@ fn post<B: SideBook>(book: &mut B, order: Order) -> Option<Order>
     requires new { IsNewId order.id (B.orders book.old) }
     requires can_rest { 1 ≤ order.lots → CanRest order }
     requires capacity { 1 ≤ B.room book.old }
-    ensures orders { B.orders book.new ≡ (posting.post (B.side book.old) (B.room book.old) order (B.orders book.old)).side }
+    ensures orders { B.orders book.new ≡ (posting.post (B.side book.old) (B.room book.old) order
+        (B.orders book.old)).side }
     ensures booted { result ≡ (posting.post (B.side book.old) (B.room book.old) order (B.orders book.old)).booted }
     ensures holds { B.holds book.new }
     ensures side { B.side book.new ≡ B.side book.old }
@@ -113,7 +113,8 @@ fn push_last(ring: &mut RingView<'_>, side: Side, sizes: Lots, order: Order, boo
     requires tier { order.tier < 7 }
     requires gone { IfSome booted (λ gone. applying.CanLeave side sizes gone) }
     ensures queue { KeepsEvents ring.old ring.new }
-    ensures list { ring_of ring.new.bytes.now ≡ appended (orders.last_events side sizes order booted) (ring_of ring.old.bytes.now) }
+    ensures list { ring_of ring.new.bytes.now ≡ appended (orders.last_events side sizes order booted)
+        (ring_of ring.old.bytes.now) }
     ensures bytes { ring.new.bytes.now ≡ pushed_all (orders.last_events side sizes order booted) ring.old.bytes.now }
 {
     match booted {
@@ -139,11 +140,14 @@ fn rest_or_end<B: SideBook>(
     requires posts { applying.CanPost side sizes order (B.room own.old) (B.orders own.old) }
     requires accepted { IsEventQueue ring.old.bytes.now }
     requires counted { (ring_of ring.old.bytes.now).seq_num < 2 ^ 64 }
-    requires room { HasRoom (length (orders.last_events side sizes order (posting.post side (B.room own.old) order (B.orders own.old)).booted)) (ring_of ring.old.bytes.now) }
+    requires room { let ends = applying.end_events side sizes order (B.room own.old) (B.orders own.old) in
+        HasRoom (length ends) (ring_of ring.old.bytes.now) }
     ensures orders { B.orders own.new ≡ (posting.post side (B.room own.old) order (B.orders own.old)).side }
     ensures side { KeepsSide B.holds B.same_place B.side B.room own.old own.new }
-    ensures list { ring_of ring.new.bytes.now ≡ appended (orders.last_events side sizes order (posting.post side (B.room own.old) order (B.orders own.old)).booted) (ring_of ring.old.bytes.now) }
-    ensures bytes { ring.new.bytes.now ≡ pushed_all (orders.last_events side sizes order (posting.post side (B.room own.old) order (B.orders own.old)).booted) ring.old.bytes.now }
+    ensures list { let ends = applying.end_events side sizes order (B.room own.old) (B.orders own.old) in
+        ring_of ring.new.bytes.now ≡ appended ends (ring_of ring.old.bytes.now) }
+    ensures bytes { let ends = applying.end_events side sizes order (B.room own.old) (B.orders own.old) in
+        ring.new.bytes.now ≡ pushed_all ends ring.old.bytes.now }
     ensures queue { KeepsEvents ring.old ring.new }
 {
     let booted = post(own, order);
@@ -164,16 +168,19 @@ pub(crate) fn trade<B: SideBook, A: SideBook>(
     requires opposite { A.holds opposite.old }
     requires side { B.side own.old ≡ taker.id_side }
     requires accepted { IsEventQueue ring.old.bytes.now }
-    requires can_trade { applying.CanTrade taker.id_side sizes (order_of taker) plan.now (B.room own.old) (B.orders own.old) (A.orders opposite.old) (ring_of ring.old.bytes.now) }
+    requires can_trade { applying.CanTrade taker.id_side sizes (order_of taker) plan.now (B.room own.old)
+        (B.orders own.old) (A.orders opposite.old) (ring_of ring.old.bytes.now) }
     ensures rebates { result ≡ (meeting_with sizes taker (A.orders opposite.old)).rebates }
-    ensures own { B.orders own.new ≡ (applying.posted_by taker.id_side (order_of taker) plan.now (B.room own.old) (B.orders own.old)).side }
+    ensures own { B.orders own.new ≡ (applying.posted_by taker.id_side (order_of taker) plan.now (B.room own.old)
+        (B.orders own.old)).side }
     ensures own_side { KeepsSide B.holds B.same_place B.side B.room own.old own.new }
     ensures opposite { A.orders opposite.new ≡ (meeting_with sizes taker (A.orders opposite.old)).left }
     ensures opposite_side { KeepsSide A.holds A.same_place A.side A.room opposite.old opposite.new }
-    ensures list { ring_of ring.new.bytes.now ≡ appended (applying.events_by taker.id_side sizes (order_of taker) plan.now (meeting_with sizes taker (A.orders opposite.old))
-        (applying.posted_by taker.id_side (order_of taker) plan.now (B.room own.old) (B.orders own.old))) (ring_of ring.old.bytes.now) }
-    ensures bytes { ring.new.bytes.now ≡ pushed_all (applying.events_by taker.id_side sizes (order_of taker) plan.now (meeting_with sizes taker (A.orders opposite.old))
-        (applying.posted_by taker.id_side (order_of taker) plan.now (B.room own.old) (B.orders own.old))) ring.old.bytes.now }
+    ensures list { ring_of ring.new.bytes.now ≡ appended (applying.trade_events taker.id_side sizes
+        (order_of taker) plan.now (B.room own.old) (B.orders own.old) (A.orders opposite.old))
+        (ring_of ring.old.bytes.now) }
+    ensures bytes { ring.new.bytes.now ≡ pushed_all (applying.trade_events taker.id_side sizes
+        (order_of taker) plan.now (B.room own.old) (B.orders own.old) (A.orders opposite.old)) ring.old.bytes.now }
     ensures queue { KeepsEvents ring.old ring.new }
 {
     let rebates = meet_opposite(sizes, taker, opposite, ring);

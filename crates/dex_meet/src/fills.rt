@@ -134,8 +134,16 @@ pub(crate) fn fill_met(taker: Terms, order: Order, lots: u64) -> Fill
 pub fn maker_amounts(side: Side, fill: Fill) -> Amounts
     requires rebate { fill.rebate ≤ fill.pc }
     requires fits { side ≡ Side.Ask → fill.pc + fill.rebate < 2 ^ 64 }
-    ensures bid { side ≡ Side.Bid → result ≡ record { released = fill.base; paid = fill.pc - fill.rebate; fee_or_rebate = fill.rebate } }
-    ensures ask { side ≡ Side.Ask → result ≡ record { released = fill.pc + fill.rebate; paid = fill.base; fee_or_rebate = fill.rebate } }
+    ensures bid { side ≡ Side.Bid → result ≡ record {
+      released = fill.base;
+      paid = fill.pc - fill.rebate;
+      fee_or_rebate = fill.rebate;
+    } }
+    ensures ask { side ≡ Side.Ask → result ≡ record {
+      released = fill.pc + fill.rebate;
+      paid = fill.base;
+      fee_or_rebate = fill.rebate;
+    } }
 {
     match side {
         Side::Bid => Amounts {
@@ -156,7 +164,11 @@ pub(crate) fn sums_with(sums: Sums, fill: Fill) -> Sums
     requires lots { sums.lots + fill.lots < 2 ^ 64 }
     requires pc { sums.pc + fill.pc < 2 ^ 64 }
     requires rebates { sums.rebates + fill.rebate < 2 ^ 64 }
-    ensures { result ≡ record { lots = sums.lots + fill.lots; pc = sums.pc + fill.pc; rebates = sums.rebates + fill.rebate } }
+    ensures { result ≡ record {
+      lots = sums.lots + fill.lots;
+      pc = sums.pc + fill.pc;
+      rebates = sums.rebates + fill.rebate;
+    } }
 {
     Sums {
         lots: sums.lots + fill.lots,

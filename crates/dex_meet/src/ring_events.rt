@@ -90,7 +90,8 @@ pub fn push_releasing_out(ring: &mut RingView<'_>, side: Side, sizes: Lots, orde
     ensures queue { KeepsEvents ring.old ring.new }
     ensures list { ring_of ring.new.bytes.now
         ≡ appended (meeting.releasing_out side sizes order lots ∷ []) (ring_of ring.old.bytes.now) }
-    ensures bytes { ring.new.bytes.now ≡ pushed_all (meeting.releasing_out side sizes order lots ∷ []) ring.old.bytes.now }
+    ensures bytes { ring.new.bytes.now ≡ pushed_all
+        (meeting.releasing_out side sizes order lots ∷ []) ring.old.bytes.now }
 {
     let price = price_of(order.id);
     let amounts = Amounts {
@@ -139,7 +140,8 @@ pub(crate) fn push_met(
     ensures queue { KeepsEvents ring.old ring.new }
     ensures list { ring_of ring.new.bytes.now
         ≡ appended (meeting.met_events side (taking taker) order lots) (ring_of ring.old.bytes.now) }
-    ensures bytes { ring.new.bytes.now ≡ pushed_all (meeting.met_events side (taking taker) order lots) ring.old.bytes.now }
+    ensures bytes { ring.new.bytes.now ≡ pushed_all
+        (meeting.met_events side (taking taker) order lots) ring.old.bytes.now }
 {
     let maker = side.opposite();
     if is_own(taker.owner, order) {

@@ -31,13 +31,15 @@ pub fn meet_side<B: SideBook>(
     requires accepted { IsEventQueue ring.old.bytes.now }
     requires counted { (ring_of ring.old.bytes.now).seq_num < 2 ^ 64 }
     requires fits { FitsSums side taker.sizes (met_by side taker want (B.orders opposing.old)) }
-    requires room { HasRoom (length (met_by side taker want (B.orders opposing.old)).events) (ring_of ring.old.bytes.now) }
+    requires room { HasRoom (length (met_by side taker want (B.orders opposing.old)).events)
+        (ring_of ring.old.bytes.now) }
     requires locks { locked (opposite side) taker.sizes (B.orders opposing.old) < 2 ^ 64 }
     ensures met { IsMet (met_by side taker want (B.orders opposing.old)) result }
     ensures left { B.orders opposing.new ≡ (met_by side taker want (B.orders opposing.old)).left }
     ensures list { ring_of ring.new.bytes.now
         ≡ appended (met_by side taker want (B.orders opposing.old)).events (ring_of ring.old.bytes.now) }
-    ensures bytes { ring.new.bytes.now ≡ pushed_all (met_by side taker want (B.orders opposing.old)).events ring.old.bytes.now }
+    ensures bytes { ring.new.bytes.now ≡ pushed_all
+        (met_by side taker want (B.orders opposing.old)).events ring.old.bytes.now }
     ensures queue { KeepsEvents ring.old ring.new }
     ensures side { KeepsSide B.holds B.same_place B.side B.room opposing.old opposing.new }
 {

@@ -77,7 +77,8 @@ fn prospect_at(side: Side, taker: Terms, met: Met, events: u32, order: Order) ->
     ensures met { result.met ≡ met }
     ensures events { result.events ≡ events }
     ensures crosses { result.crosses ≡ book.crosses side taker.limit_price (book.price_of order.id) }
-    ensures aborts { (others : List Order) → result.aborts ≡ meeting.aborts_at side (taking taker) (demand met.want) (order ∷ others) }
+    ensures aborts { (others : List Order) → result.aborts
+        ≡ meeting.aborts_at side (taking taker) (demand met.want) (order ∷ others) }
 {
     Prospect {
         met,

@@ -9,26 +9,33 @@ ghost use Rattle.dex_orders.specs.OrdersAccount.{FundsFit, HasNoOrder, IsOpen, a
 pub fn an_account_that_is_funded_has_the_funds()
     ensures words { (bytes : List ℕ) (funds : Funds) → IsOpen bytes → FundsFit funds
         → account_of (funded bytes funds) ≡ with_funds funds (account_of bytes) }
-    ensures market { (bytes : List ℕ) (funds : Funds) → IsOpen bytes → FundsFit funds → market_of (funded bytes funds) ≡ market_of bytes }
+    ensures market { (bytes : List ℕ) (funds : Funds) → IsOpen bytes → FundsFit funds
+        → market_of (funded bytes funds) ≡ market_of bytes }
     ensures accepted { (bytes : List ℕ) (funds : Funds) → IsOpen bytes → FundsFit funds → IsOpen (funded bytes funds) }
 {}
 
 /// A slot that is freed holds no order, and nothing else of the account changes.
 pub fn an_account_that_loses_an_order_has_a_free_slot()
     ensures words { (bytes : List ℕ) (slot : ℕ) → IsOpen bytes → slot < 128
-        → account_of (removed bytes slot) ≡ record (account_of bytes) { slots = slice_set (account_of bytes).slots slot None } }
-    ensures market { (bytes : List ℕ) (slot : ℕ) → IsOpen bytes → slot < 128 → market_of (removed bytes slot) ≡ market_of bytes }
+        → account_of (removed bytes slot) ≡ record (account_of bytes) {
+          slots = slice_set (account_of bytes).slots slot None;
+        } }
+    ensures market { (bytes : List ℕ) (slot : ℕ) → IsOpen bytes → slot < 128
+        → market_of (removed bytes slot) ≡ market_of bytes }
     ensures accepted { (bytes : List ℕ) (slot : ℕ) → IsOpen bytes → slot < 128 → IsOpen (removed bytes slot) }
 {}
 
 /// An order that is added stands in its slot, and nothing else of the account changes.
 pub fn an_account_that_gets_an_order_holds_it_in_its_slot()
-    ensures words { (bytes : List ℕ) (slot id : ℕ) (side : Side) (client : ℕ) → IsOpen bytes → slot < 128 → id < 2 ^ 128 → client < 2 ^ 64
+    ensures words { (bytes : List ℕ) (slot id : ℕ) (side : Side) (client : ℕ) → IsOpen bytes → slot < 128
+        → id < 2 ^ 128 → client < 2 ^ 64
         → account_of (added bytes slot id side client) ≡ record (account_of bytes) {
           slots = slice_set (account_of bytes).slots slot (Some (record { id = id; side = side; client = client }));
         } }
-    ensures market { (bytes : List ℕ) (slot id : ℕ) (side : Side) (client : ℕ) → IsOpen bytes → slot < 128 → id < 2 ^ 128 → client < 2 ^ 64
+    ensures market { (bytes : List ℕ) (slot id : ℕ) (side : Side) (client : ℕ) → IsOpen bytes → slot < 128
+        → id < 2 ^ 128 → client < 2 ^ 64
         → market_of (added bytes slot id side client) ≡ market_of bytes }
-    ensures accepted { (bytes : List ℕ) (slot id : ℕ) (side : Side) (client : ℕ) → IsOpen bytes → slot < 128 → id < 2 ^ 128 → client < 2 ^ 64
+    ensures accepted { (bytes : List ℕ) (slot id : ℕ) (side : Side) (client : ℕ) → IsOpen bytes → slot < 128
+        → id < 2 ^ 128 → client < 2 ^ 64
         → HasNoOrder id side (account_of bytes).slots → IsOpen (added bytes slot id side client) }
 {}

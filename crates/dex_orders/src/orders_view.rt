@@ -100,7 +100,8 @@ impl OrdersView<'_> {
         ensures bytes { self.new.bytes.now ≡ added self.old.bytes.now slot id side client }
         ensures market { market_of self.new.bytes.now ≡ market_of self.old.bytes.now }
         ensures words { account_of self.new.bytes.now ≡ record (account_of self.old.bytes.now) {
-          slots = slice_set (account_of self.old.bytes.now).slots slot (Some (record { id = id; side = side; client = client }));
+          slots = slice_set (account_of self.old.bytes.now).slots slot
+              (Some (record { id = id; side = side; client = client }));
         } }
         ensures accepted { IsOpen self.new.bytes.now }
     {

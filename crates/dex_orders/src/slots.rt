@@ -127,8 +127,10 @@ pub fn lowest_free(bytes: &[u8]) -> Option<u8>
 fn write_slot(bytes: &mut [u8], slot: u8, free_bits: u128, bid_bits: u128, id: u128, client: u64)
     requires accepted { IsOpen bytes.old }
     requires slot { slot < 128 }
-    requires free_others { (other : ℕ) → other < 128 → other ≢ slot → is_set free_bits other ≡ is_set (number_in bytes.old FREE_SLOT_BITS) other }
-    requires bid_others { (other : ℕ) → other < 128 → other ≢ slot → is_set bid_bits other ≡ is_set (number_in bytes.old IS_BID_BITS) other }
+    requires free_others { (other : ℕ) → other < 128 → other ≢ slot
+        → is_set free_bits other ≡ is_set (number_in bytes.old FREE_SLOT_BITS) other }
+    requires bid_others { (other : ℕ) → other < 128 → other ≢ slot
+        → is_set bid_bits other ≡ is_set (number_in bytes.old IS_BID_BITS) other }
     ensures bytes { bytes.new ≡ with_slot bytes.old slot free_bits bid_bits id client }
     ensures market { market_of bytes.new ≡ market_of bytes.old }
     ensures words { account_of bytes.new ≡ record (account_of bytes.old) {
@@ -178,7 +180,9 @@ pub fn remove_order(bytes: &mut [u8], slot: u8)
     requires slot { slot < 128 }
     ensures bytes { bytes.new ≡ removed bytes.old slot }
     ensures market { market_of bytes.new ≡ market_of bytes.old }
-    ensures words { account_of bytes.new ≡ record (account_of bytes.old) { slots = slice_set (slots_of bytes.old) slot None } }
+    ensures words { account_of bytes.new ≡ record (account_of bytes.old) {
+      slots = slice_set (slots_of bytes.old) slot None;
+    } }
     ensures accepted { IsOpen bytes.new }
 {
     let free_bits = with_bit(get_u128(bytes, FREE_SLOT_BITS), slot);

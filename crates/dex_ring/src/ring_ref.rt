@@ -72,7 +72,8 @@ impl RingRef<'_> {
     pub fn at(&self, index: u32) -> Event
         requires accepted { IsEventQueue self.now.bytes.now }
         requires index { index < length (ring_of self.now.bytes.now).events }
-        ensures event { (d : QueuedEvent) → result ≡ encoded_event (slice_index_or (ring_of self.now.bytes.now).events index d) }
+        ensures event { (d : QueuedEvent) → result
+            ≡ encoded_event (slice_index_or (ring_of self.now.bytes.now).events index d) }
         ensures queued { IsQueued result }
     {
         event_at(self.bytes, index)

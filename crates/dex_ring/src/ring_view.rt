@@ -95,7 +95,8 @@ impl RingView<'_> {
     pub fn at(&self, index: u32) -> Event
         requires accepted { IsEventQueue self.now.bytes.now }
         requires index { index < length (ring_of self.now.bytes.now).events }
-        ensures event { (d : QueuedEvent) → result ≡ encoded_event (slice_index_or (ring_of self.now.bytes.now).events index d) }
+        ensures event { (d : QueuedEvent) → result
+            ≡ encoded_event (slice_index_or (ring_of self.now.bytes.now).events index d) }
         ensures queued { IsQueued result }
     {
         event_at(self.bytes, index)
@@ -135,8 +136,11 @@ impl RingView<'_> {
         requires pending { 0 < length (ring_of self.old.bytes.now).events }
         ensures place { self.new.bytes.ghost_name ≡ self.old.bytes.ghost_name }
         ensures bytes { self.new.bytes.now ≡ popped self.old.bytes.now }
-        ensures event { (ring_of self.old.bytes.now).events ≡ decoded_event result ∷ (ring_of self.new.bytes.now).events }
-        ensures list { ring_of self.new.bytes.now ≡ record (ring_of self.old.bytes.now) { events = drop 1 (ring_of self.old.bytes.now).events } }
+        ensures event { (ring_of self.old.bytes.now).events
+            ≡ decoded_event result ∷ (ring_of self.new.bytes.now).events }
+        ensures list { ring_of self.new.bytes.now ≡ record (ring_of self.old.bytes.now) {
+          events = drop 1 (ring_of self.old.bytes.now).events;
+        } }
         ensures queued { IsQueued result }
         ensures accepted { IsEventQueue self.new.bytes.now }
     {

@@ -57,7 +57,8 @@ fn all_digits(text: &[u8]) -> bool
 
 // The word as text, where it is a numeral.
 fn numeral(text: &[u8]) -> Option<&str>
-    ensures { MatchOption result (is_numeral text.now ≡ false) (λ digits. (digits.now ≡ text.now) × (is_numeral text.now ≡ true)) }
+    ensures { MatchOption result (is_numeral text.now ≡ false)
+        (λ digits. (digits.now ≡ text.now) × (is_numeral text.now ≡ true)) }
 {
     if is_numeral(text) {
         str::from_utf8(text).ok()

@@ -48,7 +48,8 @@ impl<'a> Rows<'a> {
 
     /// Takes the next row, if there is one. After a want of memory there are no more rows.
     pub fn next_row(&mut self) -> Result<Option<ByteRecord>, NoMemory>
-        ensures next { IfOk result (λ next. MatchOption next (self.old ≡ []) (λ row. self.old ≡ fields_of row ∷ self.new)) }
+        ensures next { IfOk result (λ next. MatchOption next (self.old ≡ [])
+            (λ row. self.old ≡ fields_of row ∷ self.new)) }
         ensures stopped { OnErr result (self.new ≡ []) }
     {
         if self.is_over {
@@ -68,7 +69,8 @@ impl<'a> Rows<'a> {
 fn read_row(reader: &mut Reader<&[u8]>, row: &mut ByteRecord) -> Result<bool, NoMemory>
     requires { GivesRows reader.old }
     ensures goes_on { IfOk result (λ found. IsTrue found → GivesRows reader.new) }
-    ensures row { IfOk result (λ found. IsTrue found → rows_left reader.old ≡ fields_of row.new ∷ rows_left reader.new) }
+    ensures row { IfOk result (λ found. IsTrue found
+        → rows_left reader.old ≡ fields_of row.new ∷ rows_left reader.new) }
     ensures end { IfOk result (λ found. found ≡ false → rows_left reader.old ≡ []) }
 {
     let Ok(found) = reader.read_byte_record(row) else {

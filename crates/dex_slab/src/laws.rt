@@ -10,5 +10,6 @@ ghost use Rattle.dex_slab.specs.StandsFor.{IsSideAccount};
 /// account of that side again. Every call of a side for writing changes no others, so whoever calls it, or a call that is
 /// written for any side, keeps the accounts accepted.
 pub fn what_keeps_its_frame_stays_an_account()
-    ensures { (side : Side) (old new : List ℕ) → IsSideAccount side old → KeepsFrame old new → IsSlab new → IsSideAccount side new }
+    ensures { (side : Side) (old new : List ℕ) → IsSideAccount side old → KeepsFrame old new → IsSlab new
+        → IsSideAccount side new }
 {}

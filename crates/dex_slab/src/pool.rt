@@ -18,7 +18,8 @@ use dex_fields::{get_u32, get_u64, put_u32, put_u64};
 fn take_unused(bytes: &mut [u8]) -> u32
     requires spare { HasSpare bytes.old }
     requires none_free { free_len_of bytes.old ≡ 0 }
-    ensures shared { (used : List ℕ) → IsShared bytes.old used (free_of bytes.old) → length used < nodes_within (length bytes.old)
+    ensures shared { (used : List ℕ) → IsShared bytes.old used (free_of bytes.old)
+        → length used < nodes_within (length bytes.old)
         → IsShared bytes.new (result ∷ used) (free_of bytes.new) }
     ensures bump { bump_of bytes.new ≡ bump_of bytes.old + (1 - free_len_of bytes.old) }
     ensures freed { free_len_of bytes.new ≡ free_len_of bytes.old - 1 }
@@ -35,7 +36,8 @@ fn take_unused(bytes: &mut [u8]) -> u32
 fn take_freed(bytes: &mut [u8]) -> u32
     requires spare { HasSpare bytes.old }
     requires some_free { 1 ≤ free_len_of bytes.old }
-    ensures shared { (used : List ℕ) → IsShared bytes.old used (free_of bytes.old) → IsShared bytes.new (result ∷ used) (free_of bytes.new) }
+    ensures shared { (used : List ℕ) → IsShared bytes.old used (free_of bytes.old)
+        → IsShared bytes.new (result ∷ used) (free_of bytes.new) }
     ensures bump { bump_of bytes.new ≡ bump_of bytes.old + (1 - free_len_of bytes.old) }
     ensures freed { free_len_of bytes.new ≡ free_len_of bytes.old - 1 }
     ensures root { root_of bytes.new ≡ root_of bytes.old }
@@ -53,7 +55,8 @@ fn take_freed(bytes: &mut [u8]) -> u32
 /// Takes a node: the first of the free list, else the first that was never used. Its bytes are as they were left.
 pub fn take_node(bytes: &mut [u8]) -> u32
     requires { HasSpare bytes.old }
-    ensures shared { (used : List ℕ) → IsShared bytes.old used (free_of bytes.old) → length used < nodes_within (length bytes.old)
+    ensures shared { (used : List ℕ) → IsShared bytes.old used (free_of bytes.old)
+        → length used < nodes_within (length bytes.old)
         → IsShared bytes.new (result ∷ used) (free_of bytes.new) }
     ensures bump { bump_of bytes.new ≡ bump_of bytes.old + (1 - free_len_of bytes.old) }
     ensures freed { free_len_of bytes.new ≡ free_len_of bytes.old - 1 }
@@ -71,13 +74,15 @@ pub fn take_node(bytes: &mut [u8]) -> u32
 /// Gives a node back: it becomes the first of the free list.
 pub fn free_node(bytes: &mut [u8], node: u32)
     requires { IsUsed node bytes.old }
-    ensures shared { (used : List ℕ) → IsShared bytes.old (node ∷ used) (free_of bytes.old) → IsShared bytes.new used (free_of bytes.new) }
+    ensures shared { (used : List ℕ) → IsShared bytes.old (node ∷ used) (free_of bytes.old)
+        → IsShared bytes.new used (free_of bytes.new) }
     ensures bump { bump_of bytes.new ≡ bump_of bytes.old }
     ensures freed { free_len_of bytes.new ≡ free_len_of bytes.old + 1 }
     ensures root { root_of bytes.new ≡ root_of bytes.old }
     ensures count { count_of bytes.new ≡ count_of bytes.old }
     ensures nodes { (other : ℕ) → other ≢ node → node_bytes bytes.new other ≡ node_bytes bytes.old other }
-    ensures places { (place : ℕ) → IsBeside header place → IsBeside (node_field node) place → slice_index bytes.new place ≡ slice_index bytes.old place }
+    ensures places { (place : ℕ) → IsBeside header place → IsBeside (node_field node) place
+        → slice_index bytes.new place ≡ slice_index bytes.old place }
 {
     let freed = get_u64(bytes, FREE_LIST_LEN);
     let next = get_u32(bytes, FREE_LIST_HEAD);

@@ -53,7 +53,8 @@ pub fn child_beyond(side: Side, branch: Branch, id: u128) -> Option<u32>
 /// The leaf to which the bits of an id lead, of those below a node.
 pub fn leaf_towards(bytes: &[u8], node: u32, id: u128) -> u32
     requires { part.IsPart bytes.now (tree_at bytes.now node) }
-    ensures order { (side : Side) → order_with id (orders_of side (tree_at bytes.now node)) ≡ order_with id (order_of bytes.now result ∷ []) }
+    ensures order { (side : Side) → order_with id (orders_of side (tree_at bytes.now node))
+        ≡ order_with id (order_of bytes.now result ∷ []) }
     ensures inside { end_of (node_field result) ≤ length bytes.now }
 {
     let mut leaf = node;

@@ -17,8 +17,10 @@ ghost use Rattle.dex_sound.specs.Bounds.{IsBeyond, BreaksBound, IsRefusedForSum,
 pub fn a_sum_is_too_large_where_the_bound_would_break()
     ensures only { (request : Request) (seen : Seen) (m : Market) (held pending : ℕ) →
         why request seen m ≡ Some (SumTooLarge held pending) → IsBeyond (would_leave request seen m) held pending }
-    ensures always { (request : Request) (seen : Seen) (m : Market) (token : Token) → IsSound m → HasPrice request.instruction →
-        let after = would_leave request seen m in 2 ^ 64 ≤ vault token after + all_leaving token after.events → why request seen m ≢ None }
+    ensures always { (request : Request) (seen : Seen) (m : Market) (token : Token) → IsSound m
+        → HasPrice request.instruction →
+        let after = would_leave request seen m in 2 ^ 64 ≤ vault token after + all_leaving token after.events
+        → why request seen m ≢ None }
     ensures exactly { (request : Request) (seen : Seen) (m : Market) → IsSound m → HasPrice request.instruction →
         IsRefusedForSum request seen m ↔ (BreaksBound (would_leave request seen m) × HasNoOtherReason request seen m) }
 {}

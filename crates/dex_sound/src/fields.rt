@@ -14,7 +14,8 @@ ghost use Rattle.dex_sound.specs.Fields.{FieldsFit, CanBePaid, CanPayOut};
 /// free amounts, which are part of their totals, its totals and its referrer part. So it is after every step.
 pub fn every_amount_fits_its_field()
     ensures now { (m : Market) → IsSound m → FieldsFit m }
-    ensures after { (request : Request) (seen : Seen) (m : Market) → IsSound m → HasPrice request.instruction → FieldsFit (step request seen m).market }
+    ensures after { (request : Request) (seen : Seen) (m : Market) → IsSound m → HasPrice request.instruction
+        → FieldsFit (step request seen m).market }
 {}
 
 /// In a sound market each pending event can be paid, at once and also behind those before it: its owner's account is open and

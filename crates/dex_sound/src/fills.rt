@@ -15,7 +15,8 @@ ghost use Rattle.dex_sound.specs.Exchange.{taker_pays, taker_gets, IsBalanced};
 /// rebates on top.
 pub fn fills_pay_the_fee_less_the_rebates()
     ensures orders { (side : Side) (sizes : Lots) (n : NewOrder) (opposing : List Order) (token : Token) →
-        let met = meet side (terms_of sizes n) (demand_of side sizes n) opposing in IsBalanced side sizes met (fee_of n met) token }
+        let met = meet side (terms_of sizes n) (demand_of side sizes n) opposing in
+        IsBalanced side sizes met (fee_of n met) token }
     ensures takes { (side : Side) (sizes : Lots) (t : Take) (opposing : List Order) (token : Token) →
         let met = take_meeting side sizes t opposing in IsBalanced side sizes met (take_fee t met) token }
 {}

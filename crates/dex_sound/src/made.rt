@@ -8,5 +8,6 @@ ghost use Rattle.dex_sound.specs.Made.{made_market, CanMake};
 
 /// A market is sound as it is made.
 pub fn a_made_market_is_sound()
-    ensures { (listing : Listing) (addresses : List Address) → CanMake listing addresses → IsSound (made_market listing addresses) }
+    ensures { (listing : Listing) (addresses : List Address) → CanMake listing addresses
+        → IsSound (made_market listing addresses) }
 {}

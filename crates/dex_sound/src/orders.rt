@@ -18,7 +18,8 @@ ghost use Rattle.dex_types.specs.Why.{why_order_of, why_take};
 /// bound.
 pub fn a_new_order_leaves_a_sound_market()
     ensures { (side : Side) (n : NewOrder) (request : Request) (seen : Seen) (m : Market) (party : Party) →
-        IsSound m → trader_at party.address m.traders ≡ Some (Open party.account) → n.owner ≡ party.address → 1 ≤ n.price →
+        IsSound m → trader_at party.address m.traders ≡ Some (Open party.account) → n.owner ≡ party.address
+        → 1 ≤ n.price →
         why_order_of side n request seen m party ≡ None →
         let ordering = order_on side m party.account n in IsSound (after_order side party.account n ordering m) }
 {}

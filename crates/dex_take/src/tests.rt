@@ -138,7 +138,8 @@ fn side_of(alloc: Global, side: Side, order: Order) -> Result<ListSide, NoMemory
 /// The market account can take in and pay out what moves, and keep no more than the fee.
 fn can_pay(market: &MarketRef<'_>, moved: Exchange, fee: u64) -> bool
     requires { IsMarket market.now.bytes.now }
-    ensures { (kept : ℕ) → result ≡ true → kept ≤ fee → CanExchange (moves moved) kept (market_words market.now.bytes.now) }
+    ensures { (kept : ℕ) → result ≡ true → kept ≤ fee
+        → CanExchange (moves moved) kept (market_words market.now.bytes.now) }
 {
     let coin = market.coin_deposits_total();
     let pc = market.pc_deposits_total();
