@@ -143,7 +143,7 @@ unless-of : (reason : Option Refusal) (seen : Seen) (m : Market) (acted : Step) 
 unless-of None seen m acted are = are refl
 unless-of (Some refusal) seen m acted are = still-of seen m
 
-row-of : (row : Asked) (seen : Seen) (m : Market) → AreOfMints seen m (asked_step row seen m).transfers
+pub row-of : (row : Asked) (seen : Seen) (m : Market) → AreOfMints seen m (asked_step row seen m).transfers
 row-of row seen m =
     unless-of (why row.request seen m) seen m (act_decoded row.request.instruction row.request seen m)
     (decoded-of row.request.instruction row.request seen m)

@@ -5,5 +5,4 @@ pub mod IdList
 pub mod Spelling
 pub mod Rules
 pub mod Reading
-pub mod Built
 pub mod Writing

@@ -1,7 +1,6 @@
 //! Instruction data, between bytes and instructions: decoding with the first broken rule, and the one spelling.
 #![tactic(auto)]
 
-mod built;
 mod codes;
 mod decoding;
 mod encoding;
@@ -10,7 +9,6 @@ mod numbers;
 mod reading;
 mod rules;
 
-pub use built::is_built;
 pub use decoding::decode;
 pub use encoding::encode;
 pub use laws::{decodes_again, one_spelling};

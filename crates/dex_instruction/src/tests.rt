@@ -33,7 +33,6 @@ fn agree(rt: &impl Abort, ix: Ix, bytes: &[u8]) {
 
 fn refused(rt: &impl Abort, bytes: &[u8], fault: BadData) {
     assert!(rt; decode(bytes) == Err(fault));
-    assert!(rt; is_built(bytes));
 }
 
 #[test]
@@ -172,19 +171,4 @@ fn a_zero_is_encoded_and_refused(rt: HostRuntime) {
     let mut out = [0; 128];
     let size = encode(&ask(0, None), &mut out);
     refused(&rt, &out[..size], BadData::ZeroField);
-}
-
-#[test]
-fn served_so_far(rt: HostRuntime) {
-    assert!(rt; is_built(&ASK));
-    assert!(rt; !is_built(&[0, 5, 0, 0, 0]));
-    let mut other = ASK;
-    other[33] = 1;
-    assert!(rt; !is_built(&other));
-    other[33] = 0;
-    other[37] = 1;
-    assert!(rt; !is_built(&other));
-    let mut timed = [0; 59];
-    timed[..51].copy_from_slice(&ASK);
-    assert!(rt; !is_built(&timed));
 }

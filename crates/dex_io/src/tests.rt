@@ -5,10 +5,11 @@ ghost use Rattle.std.specs.Io.KnownBytes.{append_known};
 ghost use Rattle.dex_io.specs.Faults.{Rose};
 
 use crate::{
-    Failed, MemSink, MemSource, ReadAll, Sink, Source, StdSink, StdSource, SureSink, SureSource,
-    WriteStop, read_all, write_all,
+    Failed, MemSink, MemSource, NoPace, Pace, ReadAll, Sink, Source, StdSink, StdSource, SureSink,
+    SureSource, WriteStop, read_all, write_all,
 };
 use std::alloc::{AllocError, Global};
+use std::sync::atomic::{AtomicU32, Ordering};
 use std::test::Fail;
 
 #[derive(Clone, Copy, Debug, PartialEq, Eq)]
@@ -217,6 +218,34 @@ fn a_full_sink_takes_no_more(rt: HostRuntime) -> Result<(), Fail> {
 fn the_standard_ends_take_and_give_nothing(rt: HostRuntime) {
     assert_eq!(rt; StdSource::new(&rt).read(&mut []), Ok(0));
     assert_eq!(rt; StdSink::new(&rt).write(b""), Ok(0));
+}
+
+// Counts the rows that are inside, as a pace that threads share would.
+#[derive(Drop)]
+struct Counting {
+    rows: AtomicU32,
+}
+
+impl Pace for Counting {
+    fn inside(&self, _lane: u32, _row: u32) {
+        self.rows.fetch_add(1, Ordering::SeqCst);
+    }
+}
+
+// Two rows of two lanes, at a pace that lanes can share.
+fn two_rows<P: Pace + Sync>(pace: &P) {
+    pace.inside(0, 1);
+    pace.inside(1, 2);
+}
+
+#[test]
+fn a_pace_is_shared_and_hears_of_each_row(rt: HostRuntime) {
+    let counting = Counting {
+        rows: AtomicU32::new(0),
+    };
+    two_rows(&NoPace);
+    two_rows(&counting);
+    assert_eq!(rt; counting.rows.load(Ordering::SeqCst), 2);
 }
 
 fn numbered(alloc: Global, count: usize) -> Result<Vec<u8>, AllocError> {

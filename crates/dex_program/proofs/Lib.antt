@@ -1,5 +1,1 @@
 pub mod Endings
-mod Examples
-pub mod Journals
-pub mod RowCount
-pub mod ServedLaws

@@ -1,9 +1,2 @@
-pub mod OrderWords
-pub mod Script
-pub mod Served
-pub mod Telling
-pub mod Replay
-pub mod Report
-pub mod ExitCodes
-pub mod Stops
 pub mod Ending
+pub mod Stops

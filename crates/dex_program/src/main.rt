@@ -1,21 +1,15 @@
-//! The program `dex`: it replays the orders of a script, and writes the replies.
+//! The program `dex`: it replays scripts, and writes reports, dumps, audits, made scripts and summaries.
 #![tactic(auto)]
 
-mod building;
-mod journal;
+#[cfg(test)]
+mod dump_tests;
 mod program;
-mod reading;
-mod replay;
-mod report;
-mod script;
-mod statement;
-mod status;
 #[cfg(test)]
 mod tests;
 
 use crate::program::dex_main;
-use crate::status::Status;
-use dex_io::{StdSink, StdSource};
+use dex_answers::Status;
+use dex_io::{NoPace, StdSink, StdSource};
 use dex_types::NoMemory;
 use std::env;
 use std::io::ErrorKind;
@@ -31,6 +25,7 @@ fn main(rt: HostRuntime) -> ExitCode {
             &words,
             &mut StdSource::new(&rt),
             &mut StdSink::new(&rt),
+            &NoPace,
         ),
         Err(_) => Status::NoMemory,
     };

@@ -1,24 +1,24 @@
 //! A run of the program: its words, its input, its output and its status.
 
-ghost use Rattle.std.specs.Prelude.{◌≡◌, ◌≤◌, ◌↔◌, IfOk, IfErr, IsTrue, length, map};
+ghost use Rattle.std.specs.Prelude.{◌≡◌, IfOk, IfErr, IsTrue, Some, false, map};
 ghost use Rattle.std.specs.String.{string_bytes};
+ghost use Rattle.dex_words.specs.Commands.{command_of};
+ghost use Rattle.dex_words.specs.Spelling.{IsWithin};
 ghost use Rattle.dex_program.specs.declared.program.Stop.TheVariants.{NoMemory as OutOfMemory};
-ghost use Rattle.dex_program.specs.Ending.{Completes, Ends, IsCommand, Stands, input_limit};
-ghost use Rattle.dex_program.specs.Stops.{Answers, Writes, line_of, status_of, stop_of};
+ghost use Rattle.dex_program.specs.Ending.{Completes, Ends, IsReading, Stands, Took, input, output};
+ghost use Rattle.dex_program.specs.Stops.{Writes, line_of, status_of, stop_of};
 
-use crate::reading::{ScriptError, read_script};
-use crate::replay::replay;
-use crate::report::{refusal, report};
-use crate::status::Status;
-use dex_io::{ReadAll, Sink, Source, read_all, write_all};
+use dex_answers::{Status, StatusText, answer_to};
+use dex_io::{Pace, ReadAll, Sink, Source, read_all, write_all};
 use dex_types::NoMemory;
-use std::alloc::{AllocError, Global};
+use dex_words::{Command, WordsError, read_words};
+use std::alloc::Global;
 use thiserror::Error;
 
-/// The most bytes that a script may have.
+/// The most bytes that an input may have.
 const INPUT_LIMIT: usize = 67_108_864;
 
-/// Why a run has neither a report nor a faulty row to tell of.
+/// Why a run has no answer.
 #[derive(Clone, Copy, Debug, PartialEq, Eq, Error)]
 enum Stop {
     #[error("the words are no command")]
@@ -33,11 +33,13 @@ enum Stop {
 
 impl Stop {
     // The line that the run writes. It needs no memory.
+    #[tactic(auto, unfolding(crate::specs::Ending::usage_line))]
     fn line(self) -> &'static [u8]
         ensures { result.now ≡ line_of self }
     {
         match self {
-            Stop::Usage => b"usage: dex\n",
+            Stop::Usage =>
+                b"usage: dex replay, audit, dump, make NUMBER ROWS, bulk NUMBER ROWS or migrate NODES EVENTS\n",
             Stop::ReadFault => b"read failed\n",
             Stop::InputTooLong => b"input too long\n",
             Stop::NoMemory => b"no memory\n",
@@ -77,144 +79,106 @@ impl From<NoMemory> for Stop {
     }
 }
 
-impl From<AllocError> for Stop {
-    ghost from_gives = { λ _ stop. stop ≡ OutOfMemory };
-
-    fn from(_error: AllocError) -> Stop {
-        Stop::NoMemory
-    }
-}
-
-/// A text that was built, and the status under which it is written.
-#[derive(Drop)]
-struct StatusText {
-    status: Status,
-    text: String,
-}
-
-/// Runs the program on these words, those after its name. `replay` reads a script, lets its orders act one after the
-/// other, and writes the report. The whole text is built before the first byte is written.
-pub fn dex_main<S: Source, K: Sink>(
+/// Runs the program on these words, those after its name: the command that they are, or the line that tells how the
+/// program is used. The whole text is built before the first byte is written. The pace is for lanes, and no command has
+/// lanes yet.
+pub fn dex_main<S: Source, K: Sink, P: Pace>(
     alloc: Global,
     words: &[String],
     source: &mut S,
     sink: &mut K,
+    _pace: &P,
 ) -> Status
     // What each status says of the words, the source and the sink.
-    ensures ends { Ends
-        (record {
-          words = map (λ word. string_bytes word) words.now;
-          left = S.left source.old;
-          rest = S.left source.new;
-          faults = S.faults source.old;
-          faults_after = S.faults source.new;
-        })
-        (record {
-          taken = K.taken sink.old;
-          taken_after = K.taken sink.new;
-          faults = K.faults sink.old;
-          faults_after = K.faults sink.new;
-        })
-        result }
-    // A script within the limit is answered by its report, where no call fails and memory is there.
-    ensures completes { Completes
-        (record {
-          words = map (λ word. string_bytes word) words.now;
-          left = S.left source.old;
-          rest = S.left source.new;
-          faults = S.faults source.old;
-          faults_after = S.faults source.new;
-        })
-        (record {
-          taken = K.taken sink.old;
-          taken_after = K.taken sink.new;
-          faults = K.faults sink.old;
-          faults_after = K.faults sink.new;
-        })
-        result }
+    ensures ends { Ends (command_of (map (λ word. string_bytes word) words.now))
+        (input (S.left source.old) (S.left source.new) (S.faults source.old) (S.faults source.new))
+        (output (K.taken sink.old) (K.taken sink.new) (K.faults sink.old) (K.faults sink.new)) result }
+    // An input that suits the command is answered, where no call fails and memory is there.
+    ensures completes { Completes (command_of (map (λ word. string_bytes word) words.now))
+        (input (S.left source.old) (S.left source.new) (S.faults source.old) (S.faults source.new))
+        (output (K.taken sink.old) (K.taken sink.new) (K.faults sink.old) (K.faults sink.new)) result }
 {
-    match answer(alloc, words, source) {
-        Ok(built) => written(sink, built.text.as_bytes(), built.status),
+    match read_words(alloc, words) {
+        Ok(command) => plain(alloc, &command, source, sink),
+        Err(WordsError::Usage) => written(sink, Stop::Usage.line(), Status::Usage),
+        Err(WordsError::NoMemory) => written(sink, Stop::NoMemory.line(), Status::NoMemory),
+    }
+}
+
+/// Runs one command, whose numbers are within their limits.
+pub fn plain<S: Source, K: Sink>(
+    alloc: Global,
+    command: &Command,
+    source: &mut S,
+    sink: &mut K,
+) -> Status
+    requires { IsWithin command.now }
+    // What each status says of the source and the sink.
+    ensures ends { Ends (Some command.now)
+        (input (S.left source.old) (S.left source.new) (S.faults source.old) (S.faults source.new))
+        (output (K.taken sink.old) (K.taken sink.new) (K.faults sink.old) (K.faults sink.new)) result }
+    // An input that suits the command is answered, where no call fails and memory is there.
+    ensures completes { Completes (Some command.now)
+        (input (S.left source.old) (S.left source.new) (S.faults source.old) (S.faults source.new))
+        (output (K.taken sink.old) (K.taken sink.new) (K.faults sink.old) (K.faults sink.new)) result }
+{
+    run(alloc, *command, source, sink)
+}
+
+// Runs one command.
+fn run<S: Source, K: Sink>(alloc: Global, command: Command, source: &mut S, sink: &mut K) -> Status
+    requires { IsWithin command }
+    ensures { Ends (Some command)
+        (input (S.left source.old) (S.left source.new) (S.faults source.old) (S.faults source.new))
+        (output (K.taken sink.old) (K.taken sink.new) (K.faults sink.old) (K.faults sink.new)) result }
+{
+    match answer(alloc, command, source) {
+        Ok(built) => written(sink, &built.text, built.status),
         Err(stop) => written(sink, stop.line(), stop.status()),
     }
 }
 
-// Whether the words are a command.
-fn is_command(words: &[String]) -> bool
-    ensures { IsTrue result ↔ IsCommand (map (λ word. string_bytes word) words.now) }
+// Reads what the command reads, and answers the text that it asks for.
+fn answer<S: Source>(alloc: Global, command: Command, source: &mut S) -> Result<StatusText, Stop>
+    requires { IsWithin command }
+    ensures built { IfOk result (λ built. Stands built.status (Some command)
+        (input (S.left source.old) (S.left source.new) (S.faults source.old) (S.faults source.new)) built.text.items) }
+    ensures stopped { IfErr result (λ stop. Stands (status_of stop) (Some command)
+        (input (S.left source.old) (S.left source.new) (S.faults source.old) (S.faults source.new)) (line_of stop)) }
 {
-    match words {
-        [word] => word.as_str() == "replay",
-        _ => false,
-    }
+    let bytes = read_input(alloc, command, source)?;
+    let built = answer_to(alloc, command, &bytes)?;
+    Ok(built)
 }
 
-// Reads the whole input, and answers the text that it asks for.
-fn answer<S: Source>(alloc: Global, words: &[String], source: &mut S) -> Result<StatusText, Stop>
-    ensures built { IfOk result (λ built. Stands
-        (record {
-          words = map (λ word. string_bytes word) words.now;
-          left = S.left source.old;
-          rest = S.left source.new;
-          faults = S.faults source.old;
-          faults_after = S.faults source.new;
-        })
-        built.status (string_bytes built.text)) }
-    ensures stopped { IfErr result (λ stop. Stands
-        (record {
-          words = map (λ word. string_bytes word) words.now;
-          left = S.left source.old;
-          rest = S.left source.new;
-          faults = S.faults source.old;
-          faults_after = S.faults source.new;
-        })
-        (status_of stop) (line_of stop)) }
+// The bytes that the command looks at: all of its input, or none.
+fn read_input<S: Source>(alloc: Global, command: Command, source: &mut S) -> Result<Vec<u8>, Stop>
+    ensures read { IfOk result (λ bytes. Took command
+        (input (S.left source.old) (S.left source.new) (S.faults source.old) (S.faults source.new)) bytes.items) }
+    ensures stopped { IfErr result (λ stop. Stands (status_of stop) (Some command)
+        (input (S.left source.old) (S.left source.new) (S.faults source.old) (S.faults source.new)) (line_of stop)) }
 {
-    if !is_command(words) {
-        return Err(Stop::Usage);
+    if !is_reading(command) {
+        return Ok(Vec::new(alloc));
     }
     match read_all(alloc, source, INPUT_LIMIT) {
-        Ok(bytes) => answer_to(alloc, &bytes),
+        Ok(bytes) => Ok(bytes),
         Err(why) => Err(Stop::from(why)),
     }
 }
 
-// The text that a script asks for: its report, or the line that names its first faulty row.
-fn answer_to(alloc: Global, bytes: &[u8]) -> Result<StatusText, Stop>
-    requires { length bytes.now ≤ input_limit }
-    ensures built { IfOk result (λ built. Answers bytes.now built.status (string_bytes built.text)) }
-    ensures stopped { IfErr result (λ stop. stop ≡ Stop.NoMemory) }
+// Whether the command reads its input.
+fn is_reading(command: Command) -> bool
+    ensures reads { IsTrue result → IsReading command }
+    ensures other { result ≡ false → ¬ (IsReading command) }
 {
-    match read_script(alloc, bytes) {
-        Ok(script) => {
-            let journal = replay(alloc, &script)?;
-            let text = report(alloc, &journal)?;
-            Ok(StatusText {
-                status: Status::Ok,
-                text,
-            })
-        }
-        Err(ScriptError::Row(fault)) => {
-            let text = refusal(alloc, fault)?;
-            Ok(StatusText {
-                status: Status::ScriptRefused,
-                text,
-            })
-        }
-        Err(ScriptError::NoMemory) => Err(Stop::NoMemory),
-    }
+    !matches!(command, Command::Make { .. } | Command::Bulk { .. })
 }
 
 // Writes the text of a status that stands.
 fn written<K: Sink>(sink: &mut K, text: &[u8], stands: Status) -> Status
     ensures { Writes
-        (record {
-          taken = K.taken sink.old;
-          taken_after = K.taken sink.new;
-          faults = K.faults sink.old;
-          faults_after = K.faults sink.new;
-        })
-        stands text.now result }
+        (output (K.taken sink.old) (K.taken sink.new) (K.faults sink.old) (K.faults sink.new)) stands text.now result }
 {
     match write_all(sink, text) {
         Ok(()) => stands,

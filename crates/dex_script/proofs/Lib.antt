@@ -3,3 +3,17 @@ pub mod MintLaws
 pub mod MarketLaws
 pub mod NameLaws
 pub mod ScriptLaws
+pub mod FaultLaws
+pub mod KeptLaws
+pub mod OrderLaws
+pub mod RowParts
+pub mod StatedLaws
+pub mod MadeMarkets
+pub mod StartAddresses
+pub mod StartMints
+pub mod DistinctOrders
+pub mod Started
+pub mod StartSupplies
+pub mod StartOrders
+pub mod StartRows
+pub mod StartLaws

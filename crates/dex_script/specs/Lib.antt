@@ -1,9 +1,11 @@
 pub mod Drafts
+pub mod Facts
 pub mod Firsts
 pub mod Known
 pub mod Markets
 pub mod Mints
 pub mod Names
 pub mod Rows
+pub mod ScriptInside
 pub mod Scripts
 pub mod Telling

@@ -4,6 +4,7 @@ ghost use Rattle.std.specs.Prelude.{◌≡◌, IfOk};
 ghost use Rattle.dex_types.specs.Accounts.{accounts_of};
 ghost use Rattle.dex_dump.specs.Accepted.{AreAccepted};
 ghost use Rattle.dex_script.specs.Drafts as spec;
+ghost use Rattle.dex_script.specs.Facts.{IsScript};
 ghost use Rattle.dex_script.specs.Telling.{draft_of};
 
 use crate::mints::Mints;
@@ -88,6 +89,7 @@ impl Draft {
 
     /// What was read, as a script.
     pub(crate) fn into_script(self) -> Script
+        requires { IsScript (draft_of self).script }
         ensures { result ≡ (draft_of self).script }
     {
         Script {

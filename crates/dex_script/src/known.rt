@@ -1,14 +1,14 @@
 //! What earlier rows declared.
 
 ghost use Rattle.std.specs.Prelude.{◌≡◌, map};
-ghost use Rattle.std.specs.List.{list_any, position};
-ghost use Rattle.dex_types.specs.Accounts.{market_accounts_of, named_of, orders_account_of};
+ghost use Rattle.std.specs.List.{list_any};
+ghost use Rattle.dex_types.specs.Accounts.{named_of};
 ghost use Rattle.dex_types.specs.Addresses as addresses;
 ghost use Rattle.dex_dump.specs.Reading as dumps;
 ghost use Rattle.dex_script.specs.Known as spec;
 
 use dex_dump::{MarketPart, derived};
-use dex_types::{Address, MarketAccounts, Named, is_same};
+use dex_types::{Address, Named, is_same};
 
 /// The addresses that a market row declares: the market's, and those of its vaults, queues, sides and the vaults'
 /// owner.
@@ -55,30 +55,4 @@ fn is_named(address: Address, accounts: &[Named]) -> bool
     accounts
         .iter()
         .any(|account| is_same(address, account.address))
-}
-
-/// Whether a market has this address.
-#[tactic(auto, using(dex_dump::proofs::ReadingLaws::list_any_map))]
-pub(crate) fn has_market(address: Address, markets: &[MarketAccounts]) -> bool
-    ensures { result ≡ spec.has_market address (map market_accounts_of markets.now) }
-{
-    is_market(address, markets)
-}
-
-fn is_market(address: Address, markets: &[MarketAccounts]) -> bool
-    ensures { result ≡ list_any (λ market. addresses.is_same address market.address) markets.now }
-{
-    markets
-        .iter()
-        .any(|market| is_same(address, market.address))
-}
-
-/// Whether a role names no wallet, or one that is declared.
-pub(crate) fn is_known_role(wallets: &[Named], role: Option<Address>) -> bool
-    ensures { result ≡ spec.is_known_role (map named_of wallets.now) role }
-{
-    match role {
-        None => true,
-        Some(address) => has_account(address, wallets),
-    }
 }

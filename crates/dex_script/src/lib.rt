@@ -5,6 +5,7 @@ mod draft;
 mod fault;
 mod instruction;
 mod known;
+mod laws;
 mod markets;
 mod mints;
 mod names;
@@ -15,5 +16,8 @@ mod setup;
 mod taken;
 
 pub use fault::ScriptError;
+pub use laws::{
+    a_dump_at_the_start_is_accepted, a_script_starts_sound, rows_of_a_script_are_in_order,
+};
 pub use reading::read_script;
 pub use script::Script;

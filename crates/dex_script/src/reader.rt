@@ -4,6 +4,7 @@ ghost use Rattle.std.specs.Prelude.{◌≡◌, IfOk, IfSome};
 ghost use Rattle.csv.specs.Records.{fields_of};
 ghost use Rattle.dex_statement.specs.Telling.{Tells};
 ghost use Rattle.dex_script.specs.Drafts.{no_rows};
+ghost use Rattle.dex_script.specs.Facts.{IsScript};
 ghost use Rattle.dex_script.specs.Names.{AreNames};
 ghost use Rattle.dex_script.specs.Rows as spec;
 ghost use Rattle.dex_script.specs.Telling.{draft_of, start_of};
@@ -55,6 +56,7 @@ impl Reader {
 
     /// What was read, as a script.
     pub(crate) fn into_script(self) -> Script
+        requires { IsScript self.script }
         ensures { result ≡ self.script }
     {
         self.draft.into_script()

@@ -11,6 +11,7 @@ ghost use Rattle.dex_script.specs.Telling.{TellsDraft, TellsScript, TellsStart, 
 
 use crate::draft::Draft;
 use crate::fault::ScriptError;
+use crate::laws::{a_script_starts_sound, rows_of_a_script_are_in_order};
 use crate::reader::Reader;
 use crate::script::Script;
 use dex_audit::audit;
@@ -26,7 +27,11 @@ pub fn read_script(alloc: Global, bytes: &[u8]) -> Result<Script, ScriptError>
     ensures { TellsScript result bytes.now }
 {
     match read_text(alloc, bytes) {
-        Ok(reader) => Ok(reader.into_script()),
+        Ok(reader) => {
+            a_script_starts_sound();
+            rows_of_a_script_are_in_order();
+            Ok(reader.into_script())
+        }
         Err(error) => Err(error),
     }
 }

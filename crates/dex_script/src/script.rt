@@ -4,7 +4,8 @@ use dex_types::{Accounts, Program, Row};
 use std::marker::Model;
 
 /// A script: the accounts with which it starts, its instruction rows in their order, how many lanes it has (the highest
-/// lane and 1, or 1 where there is no row), and the program that runs.
+/// lane and 1, or 1 where there is no row), and the program that runs. Of each script its accounts are accepted, market by
+/// market those of a sound market, and each mint conserved; its rows are in order, and of these accounts.
 #[derive(Debug, Drop)]
 pub struct Script {
     pub start: Accounts,
@@ -14,17 +15,12 @@ pub struct Script {
 }
 
 impl Model for Script {
-    ghost use Rattle.std.specs.Prelude.{map};
-    ghost use Rattle.dex_types.specs.Accounts.{accounts_of};
-    ghost use Rattle.dex_types.specs.Rows.{row_of};
     ghost use Rattle.dex_script.specs.Drafts.{PlainScript};
+    ghost use Rattle.dex_script.specs.ScriptInside.{IsKept, script_inside};
 
     ghost Value = { PlainScript };
 
-    ghost view = { λ s. record {
-      start = accounts_of s.start;
-      rows = map row_of s.rows.items;
-      lanes = s.lanes;
-      program = s.program;
-    } };
+    ghost view = { script_inside };
+
+    ghost invariant = { IsKept };
 }

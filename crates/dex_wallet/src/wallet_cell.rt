@@ -87,6 +87,14 @@ impl WalletCell {
         }
     }
 
+    /// The address of the token account.
+    pub fn address(&self) -> Address
+        ensures address { result ≡ self.now.address }
+        ensures cell { IsWalletCell self.now }
+    {
+        self.address
+    }
+
     /// What a row sees of the wallet.
     pub fn seen(&self) -> WalletSeen
         ensures seen { result ≡ seen_of self.now }

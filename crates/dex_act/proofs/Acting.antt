@@ -1,0 +1,259 @@
+-- What a row does to a cell.
+use Rattle.std.proofs.Common.{◌≡◌, ℕ, zero, suc, ◌+◌, ◌<◌, ◌≤◌, ◌^◌, ◌⊎◌, inl, inr, true, false, List, [], ◌∷◌, ◌++◌, Option, refl, sym, ap, ◌∙◌, subst, arith, ⊎_elim}
+use Rattle.std.specs.List.{All}
+use Rattle.std.proofs.lemmas.List.Elements.{All-head, All-tail}
+use Rattle.std.proofs.lemmas.Bool.{cases_Bool, cases_lt, cond-true, cond-false, false≢true, lt-ltb, le-ltb}
+use Rattle.dex_types.specs.declared.addresses.Address.{Address}
+use Rattle.dex_types.specs.declared.movements.MoveKind.TheVariants.{Debit, Credit, Probe}
+use Rattle.dex_types.specs.declared.movements.Movement.{Movement}
+use Rattle.dex_types.specs.declared.rows.Seen.{Seen}
+use Rattle.dex_types.specs.declared.rows.WalletSeen.{WalletSeen}
+use Rattle.dex_types.specs.Addresses.{is_same}
+use Rattle.dex_types.specs.Market.{Market}
+use Rattle.dex_types.specs.Rows.{PlainRow}
+use Rattle.dex_types.specs.Transfers.{Transfers}
+use Rattle.dex_types.specs.Wallets.{amount_at, balance_seen, brought_to, movement_by, taken_from}
+use Rattle.dex_types.specs.WalletJournal.{CanMove, moved_balance}
+use Rattle.dex_token.specs.TokenAccount.{WalletWords, wallet_words}
+use Rattle.dex_laws.proofs.TraderLaws.{is_same-true, is_same-refl}
+use Rattle.dex_history.specs.Moves.{Moves}
+use Rattle.dex_history.proofs.MintLaws.{AreOfMints, IsOfMint}
+use Rattle.dex_wallet.specs.CellState.{CellState, HasSpare, IsWalletCell, balance_of, seen_of}
+use Rattle.dex_wallet.proofs.CellLaws.{words-with_entry}
+use Rattle.dex_types.specs.declared.movements.WalletEntry.{WalletEntry}
+use Rattle.dex_fold.specs.Fold.{wallet_moved}
+use Rattle.dex_fold.specs.World.{WalletState}
+use Rattle.dex_act.specs.Wallets.{CanGet, CanTake, IsOf, IsRight, any_hit, cell_credited, cell_debited, cell_moved, cell_paid, got_at, hits, moved_some, paid_at, roles_of, wallet_state_of}
+use Rattle.dex_act.proofs.CellLists.{moved_some-address, neither}
+use Rattle.dex_act.proofs.Seeing.{balance-hit, no-hit}
+use Rattle.dex_act.proofs.WalletMoves.{none-at}
+
+-- ---- a movement that is possible
+
+pub debits-as : (address : Address) (before taken brought : ℕ) → 0 < taken → movement_by address before taken brought ≡ record { wallet = address; kind = Debit; amount = taken; before = before }
+debits-as address before taken brought some = cond-true _ _ _ (lt-ltb 0 taken some)
+
+pub credits-as : (address : Address) (before taken brought : ℕ) → taken ≡ 0 → 0 < brought
+    → movement_by address before taken brought ≡ record { wallet = address; kind = Credit; amount = brought; before = before }
+credits-as address before taken brought none some = cond-false _ _ _ (le-ltb 0 taken (omega (arith, none))) ∙ cond-true _ _ _ (lt-ltb 0 brought some)
+
+pub probes-as : (address : Address) (before taken brought : ℕ) → taken ≡ 0 → brought ≡ 0
+    → movement_by address before taken brought ≡ record { wallet = address; kind = Probe; amount = 0; before = before }
+probes-as address before taken brought none nothing =
+    cond-false _ _ _ (le-ltb 0 taken (omega (arith, none))) ∙ cond-false _ _ _ (le-ltb 0 brought (omega (arith, nothing)))
+
+abbrev pub IsPossible : Movement → Type 0
+IsPossible move = CanMove move.kind move.amount move.before
+
+covered : (address : Address) (before taken brought : ℕ) → IsPossible (movement_by address before taken brought) → taken ≤ before
+covered address before taken brought possible =
+    ⊎_elim
+    (λ (some : 0 < taken).
+    let can : (1 ≤ taken) × (taken ≤ before) = subst IsPossible (debits-as address before taken brought some) possible in
+    can.1)
+    (λ (none : taken ≤ 0). omega (arith, none))
+    (cases_lt 0 taken)
+
+fits-in : (address : Address) (before taken brought : ℕ) → taken ≡ 0 → 0 < brought → IsPossible (movement_by address before taken brought) → before + brought < 2 ^ 64
+fits-in address before taken brought none some possible =
+    let can : (1 ≤ brought) × (before + brought < 2 ^ 64) = subst IsPossible (credits-as address before taken brought none some) possible in
+    can.1
+
+-- ---- what is known of one cell
+
+-- what a row moves: each wallet in a possible way, one token alone is taken, and wallets are of the mints
+pub record RowMoves (seen : Seen) (m : Market) (t : Transfers) : Type 0 where
+  pub moves : (address : Address) → Moves seen t address
+  pub one_in : (t.coin_in ≡ 0) ⊎ (t.pc_in ≡ 0)
+  pub mints : AreOfMints seen m t
+  pub apart : is_same m.listing.coin_mint m.listing.pc_mint ≡ false
+
+-- what a row moves of a cell
+pub record CellMoves (seen : Seen) (m : Market) (t : Transfers) (cell : CellState) : Type 0 where
+  pub one_way : (taken_from seen t cell.address ≡ 0) ⊎ (brought_to seen t cell.address ≡ 0)
+  pub takes : CanTake (taken_from seen t cell.address) cell
+  pub fits : (brought_to seen t cell.address ≡ 0) ⊎ (HasSpare cell × (balance_of cell.bytes + brought_to seen t cell.address < 2 ^ 64))
+  pub coin_in : IsOf m.listing.coin_mint (amount_at cell.address seen.coin t.coin_in) cell
+  pub pc_in : IsOf m.listing.pc_mint (amount_at cell.address seen.pc t.pc_in) cell
+  pub coin_out : IsOf m.listing.coin_mint (amount_at cell.address seen.coin t.coin_out) cell
+  pub pc_out : IsOf m.listing.pc_mint (amount_at cell.address seen.pc t.pc_out) cell
+  pub referrer_out : IsOf m.listing.pc_mint (amount_at cell.address seen.referrer t.referrer_out) cell
+
+-- a role's wallet that moves is of the mint
+is-of : (cell : CellState) (mint : Address) (role : Option WalletSeen) (amount : ℕ) → IsRight cell role → IsOfMint mint role amount → IsOf mint (amount_at cell.address role amount) cell
+is-of cell mint role amount right (inl none) = inl (none-at cell.address role amount none)
+is-of cell mint role amount right (inr named) =
+    let wallet : WalletSeen = named.0 in
+    ⊎_elim
+    (λ (own : is_same cell.address wallet.address ≡ true).
+    let is : wallet ≡ seen_of cell = right wallet named.1 own in
+    inr (is_same-true mint wallet.mint named.2 ∙ ap (λ (w : WalletSeen). w.mint) is))
+    (λ (other : is_same cell.address wallet.address ≡ false).
+    inl (ap (λ (r : Option WalletSeen). amount_at cell.address r amount) named.1 ∙ cond-false _ _ _ other))
+    (cases_Bool (is_same cell.address wallet.address))
+
+-- no role's wallet is at the address
+record NoHits (address : Address) (seen : Seen) : Type 0 where
+  coin : hits address seen.coin ≡ false
+  pc : hits address seen.pc ≡ false
+  referrer : hits address seen.referrer ≡ false
+
+no-hits : (address : Address) (seen : Seen) → any_hit address (roles_of seen) ≡ false → NoHits address seen
+no-hits address seen none =
+    let first = neither (hits address seen.coin) (any_hit address (seen.pc ∷ seen.discount ∷ seen.referrer ∷ [])) none in
+    let second = neither (hits address seen.pc) (any_hit address (seen.discount ∷ seen.referrer ∷ [])) first.1 in
+    let third = neither (hits address seen.discount) (any_hit address (seen.referrer ∷ [])) second.1 in
+    let fourth = neither (hits address seen.referrer) false third.1 in
+    record { coin = first.0; pc = second.0; referrer = fourth.0 }
+
+pub nothing-taken : (address : Address) (seen : Seen) (t : Transfers) → any_hit address (roles_of seen) ≡ false → taken_from seen t address ≡ 0
+nothing-taken address seen t none =
+    let no = no-hits address seen none in
+    omega (arith, no-hit address seen.coin t.coin_in no.coin, no-hit address seen.pc t.pc_in no.pc)
+
+pub nothing-brought : (address : Address) (seen : Seen) (t : Transfers) → any_hit address (roles_of seen) ≡ false → brought_to seen t address ≡ 0
+nothing-brought address seen t none =
+    let no = no-hits address seen none in
+    omega (
+      arith,
+      no-hit address seen.coin t.coin_out no.coin,
+      no-hit address seen.pc t.pc_out no.pc,
+      no-hit address seen.referrer t.referrer_out no.referrer,
+    )
+
+pub cell-moves : (seen : Seen) (m : Market) (t : Transfers) (cell : CellState) → RowMoves seen m t → All (IsRight cell) (roles_of seen)
+    → (any_hit cell.address (roles_of seen) ≡ true → HasSpare cell) → CellMoves seen m t cell
+cell-moves seen m t cell moves right spare =
+    let address : Address = cell.address in
+    let R : Option WalletSeen → Type 0 = IsRight cell in
+    let past = All-tail R seen.coin (seen.pc ∷ seen.discount ∷ seen.referrer ∷ []) right in
+    let later = All-tail R seen.pc (seen.discount ∷ seen.referrer ∷ []) past in
+    let coin : R seen.coin = All-head R seen.coin (seen.pc ∷ seen.discount ∷ seen.referrer ∷ []) right in
+    let pc : R seen.pc = All-head R seen.pc (seen.discount ∷ seen.referrer ∷ []) past in
+    let referrer : R seen.referrer = All-head R seen.referrer [] (All-tail R seen.discount (seen.referrer ∷ []) later) in
+    let taken : ℕ = taken_from seen t address in
+    let brought : ℕ = brought_to seen t address in
+    record {
+      one_way = (moves.moves address).one_way;
+      takes = ⊎_elim
+          (λ (hit : any_hit address (roles_of seen) ≡ true).
+          let before : balance_seen seen address ≡ balance_of cell.bytes = balance-hit cell (roles_of seen) right hit in
+          inr (spare hit, omega (arith, before, covered address (balance_seen seen address) taken brought (moves.moves address).possible)))
+          (λ (none : any_hit address (roles_of seen) ≡ false). inl (nothing-taken address seen t none))
+          (cases_Bool (any_hit address (roles_of seen)));
+      fits = ⊎_elim
+          (λ (hit : any_hit address (roles_of seen) ≡ true).
+          let before : balance_seen seen address ≡ balance_of cell.bytes = balance-hit cell (roles_of seen) right hit in
+          ⊎_elim
+          (λ (some : 0 < brought).
+          let none : taken ≡ 0 = ⊎_elim (λ (no : taken ≡ 0). no) (λ (no : brought ≡ 0). absurd (omega (arith, no, some))) (moves.moves address).one_way in
+          inr (spare hit, omega (arith, before, fits-in address (balance_seen seen address) taken brought none some (moves.moves address).possible)))
+          (λ (none : brought ≤ 0). inl (omega (arith, none)))
+          (cases_lt 0 brought))
+          (λ (none : any_hit address (roles_of seen) ≡ false). inl (nothing-brought address seen t none))
+          (cases_Bool (any_hit address (roles_of seen)));
+      coin_in = is-of cell m.listing.coin_mint seen.coin t.coin_in coin moves.mints.coin_in;
+      pc_in = is-of cell m.listing.pc_mint seen.pc t.pc_in pc moves.mints.pc_in;
+      coin_out = is-of cell m.listing.coin_mint seen.coin t.coin_out coin moves.mints.coin_out;
+      pc_out = is-of cell m.listing.pc_mint seen.pc t.pc_out pc moves.mints.pc_out;
+      referrer_out = is-of cell m.listing.pc_mint seen.referrer t.referrer_out referrer moves.mints.referrer_out;
+    }
+
+-- ---- what it gets
+
+gets-one : (seen : Seen) (m : Market) (t : Transfers) (cell : CellState) → is_same m.listing.coin_mint m.listing.pc_mint ≡ false → CellMoves seen m t cell
+    → CanGet m.listing.coin_mint m.listing.pc_mint (amount_at cell.address seen.coin t.coin_out) (got_at seen t.pc_out t.referrer_out cell) cell
+gets-one seen m t cell apart moves =
+    let coin : Address = m.listing.coin_mint in
+    let pc : Address = m.listing.pc_mint in
+    let mint : Address = (wallet_words cell.bytes).mint in
+    let first : ℕ = amount_at cell.address seen.coin t.coin_out in
+    let second : ℕ = amount_at cell.address seen.pc t.pc_out in
+    let third : ℕ = amount_at cell.address seen.referrer t.referrer_out in
+    let other : coin ≡ mint → pc ≡ mint → ⊥ = λ (a : coin ≡ mint) (b : pc ≡ mint).
+    false≢true (sym apart ∙ ap (is_same coin) (b ∙ sym a) ∙ is_same-refl coin) in
+    ⊎_elim
+    (λ (none : brought_to seen t cell.address ≡ 0). inl (omega (arith, none), inl (omega (arith, none))))
+    (λ (can : HasSpare cell × (balance_of cell.bytes + brought_to seen t cell.address < 2 ^ 64)).
+    ⊎_elim
+    (λ (no_coin : first ≡ 0).
+    inl (
+      no_coin,
+      ⊎_elim
+          (λ (no_pc : second ≡ 0).
+          ⊎_elim (λ (no_referrer : third ≡ 0). inl (omega (arith, no_pc, no_referrer))) (λ (is : pc ≡ mint). inr (can.0, is, omega (arith, can.1, no_coin))) moves.referrer_out)
+          (λ (is : pc ≡ mint). inr (can.0, is, omega (arith, can.1, no_coin)))
+          moves.pc_out,
+    ))
+    (λ (is_coin : coin ≡ mint).
+    let no_pc : second ≡ 0 = ⊎_elim (λ (no : second ≡ 0). no) (λ (is : pc ≡ mint). absurd (other is_coin is)) moves.pc_out in
+    let no_referrer : third ≡ 0 = ⊎_elim (λ (no : third ≡ 0). no) (λ (is : pc ≡ mint). absurd (other is_coin is)) moves.referrer_out in
+    inr (omega (arith, no_pc, no_referrer), inr (can.0, is_coin, omega (arith, can.1, no_pc, no_referrer))))
+    moves.coin_out)
+    moves.fits
+
+-- after it paid
+pub gets-after : (row : PlainRow) (seen : Seen) (m : Market) (t : Transfers) (cell : CellState) → is_same m.listing.coin_mint m.listing.pc_mint ≡ false → CellMoves seen m t cell
+    → let paid = cell_debited row seen t.coin_in t.pc_in cell in
+    CanGet m.listing.coin_mint m.listing.pc_mint (amount_at paid.address seen.coin t.coin_out) (got_at seen t.pc_out t.referrer_out paid) paid
+gets-after row seen m t cell apart moves =
+    let paid : CellState = cell_debited row seen t.coin_in t.pc_in cell in
+    let Gets : CellState → Type 0 =
+    λ c. CanGet m.listing.coin_mint m.listing.pc_mint (amount_at c.address seen.coin t.coin_out) (got_at seen t.pc_out t.referrer_out c) c in
+    let stays : paid.address ≡ cell.address = moved_some-address row Debit (paid_at seen t.coin_in t.pc_in cell) cell in
+    ⊎_elim
+    (λ (none : taken_from seen t cell.address ≡ 0).
+    let same : paid ≡ cell = ap (λ (n : ℕ). moved_some row Debit n cell) none in
+    subst Gets (sym same) (gets-one seen m t cell apart moves))
+    (λ (none : brought_to seen t cell.address ≡ 0).
+    let no_coin : amount_at cell.address seen.coin t.coin_out ≡ 0 = omega (arith, none) in
+    let no_pc : got_at seen t.pc_out t.referrer_out cell ≡ 0 = omega (arith, none) in
+    inl (
+      ap (λ (a : Address). amount_at a seen.coin t.coin_out) stays ∙ no_coin,
+      inl (ap (λ (a : Address). amount_at a seen.pc t.pc_out + amount_at a seen.referrer t.referrer_out) stays ∙ no_pc),
+    ))
+    moves.one_way
+
+-- ---- what it is after both
+
+pub paid-debit : (row : PlainRow) (seen : Seen) (t : Transfers) (cell : CellState) → 0 < taken_from seen t cell.address → brought_to seen t cell.address ≡ 0
+    → cell_paid row seen t cell ≡ cell_moved row Debit (taken_from seen t cell.address) cell
+paid-debit row seen t cell some none = debited (taken_from seen t cell.address) refl some
+  where
+    debited : (n : ℕ) → taken_from seen t cell.address ≡ n → 0 < n → cell_paid row seen t cell ≡ cell_moved row Debit (taken_from seen t cell.address) cell
+    debited zero is lt = absurd (omega arith)
+    debited (suc n) is lt =
+        let paid : CellState = cell_debited row seen t.coin_in t.pc_in cell in
+        let moved : paid ≡ cell_moved row Debit (suc n) cell = ap (λ (x : ℕ). moved_some row Debit x cell) is in
+        let stays : paid.address ≡ cell.address = moved_some-address row Debit (paid_at seen t.coin_in t.pc_in cell) cell in
+        let nothing : amount_at paid.address seen.coin t.coin_out + got_at seen t.pc_out t.referrer_out paid ≡ 0 =
+        ap (λ (a : Address). amount_at a seen.coin t.coin_out + (amount_at a seen.pc t.pc_out + amount_at a seen.referrer t.referrer_out)) stays ∙ omega (arith, none) in
+        ap (λ (x : ℕ). moved_some row Credit x paid) nothing ∙ moved ∙ ap (λ (x : ℕ). cell_moved row Debit x cell) (sym is)
+
+pub paid-not : (row : PlainRow) (seen : Seen) (t : Transfers) (cell : CellState) → taken_from seen t cell.address ≡ 0
+    → cell_paid row seen t cell ≡ moved_some row Credit (brought_to seen t cell.address) cell
+paid-not row seen t cell none =
+    let same : cell_debited row seen t.coin_in t.pc_in cell ≡ cell = ap (λ (n : ℕ). moved_some row Debit n cell) none in
+    let sum : amount_at cell.address seen.coin t.coin_out + got_at seen t.pc_out t.referrer_out cell ≡ brought_to seen t cell.address = omega arith in
+    ap (cell_credited row seen t.coin_out t.pc_out t.referrer_out) same ∙ ap (λ (n : ℕ). moved_some row Credit n cell) sum
+
+-- ---- the wallet that it is then
+
+pub state-moved : (row : PlainRow) (move : Movement) (cell : CellState) → IsWalletCell cell → balance_of cell.bytes < 2 ^ 64 → move.before ≡ balance_of cell.bytes
+    → CanMove move.kind move.amount (balance_of cell.bytes) → wallet_state_of (cell_moved row move.kind move.amount cell) ≡ wallet_moved row move (wallet_state_of cell)
+state-moved row move cell kept fits before can =
+    let entry : ℕ → WalletEntry = λ b. record {
+      market = row.market;
+      lane = row.lane;
+      row = row.number;
+      kind = move.kind;
+      amount = move.amount;
+      before = b;
+    } in
+    let words = words-with_entry cell (entry (balance_of cell.bytes)) kept fits can in
+    let state : WalletWords → List WalletEntry → WalletState = λ w es. record {
+      seen = record { address = cell.address; mint = w.mint; owner = w.owner; balance = w.amount };
+      entries = es;
+    } in
+    ap (λ (w : WalletWords). state w (cell.entries ++ entry (balance_of cell.bytes) ∷ [])) words
+    ∙ ap (λ (b : ℕ). state (record (wallet_words cell.bytes) { amount = moved_balance move.kind move.amount (balance_of cell.bytes) }) (cell.entries ++ entry b ∷ [])) (sym before)

@@ -1,0 +1,195 @@
+-- Cells of wallets, one of which changes.
+use Rattle.std.proofs.Common.{◌≡◌, ℕ, zero, suc, ◌<◌, Bool, true, false, ◌||◌, cond, List, [], ◌∷◌, length, map, set, get_or, Option, Some, None, refl, sym, ap, ◌∙◌, arith, ⊎_elim}
+use Rattle.std.specs.List.{All}
+use Rattle.std.proofs.lemmas.List.Elements.{All-nil, All-cons, All-head, All-tail}
+use Rattle.std.proofs.lemmas.Bool.{cases_Bool, false≢true}
+use Rattle.dex_types.specs.declared.addresses.Address.{Address}
+use Rattle.dex_types.specs.declared.movements.MoveKind.{MoveKind}
+use Rattle.dex_types.specs.declared.rows.WalletSeen.{WalletSeen}
+use Rattle.dex_types.specs.Addresses.{is_same}
+use Rattle.dex_types.specs.Rows.{PlainRow}
+use Rattle.dex_types.specs.Wallets.{amount_at}
+use Rattle.dex_laws.proofs.TraderLaws.{is_same-true, is_same-refl, is_same-sym}
+use Rattle.dex_wallet.specs.CellState.{CellState}
+use Rattle.dex_act.specs.Wallets.{AreApart, IsAt, IsHome, cell_moved, is_among, moved_some, role_moved}
+
+-- neither of two tests holds where one of them does not
+pub neither : (a b : Bool) → (a || b) ≡ false → (a ≡ false) × (b ≡ false)
+neither true b none = absurd (false≢true (sym none))
+neither false b none = (refl, none)
+
+-- ---- by address
+
+-- the address of a cell at a place is among theirs
+is_among-at : (cells : List CellState) (place : ℕ) (default : CellState) → place < length cells → is_among (get_or cells place default).address cells ≡ true
+is_among-at [] place default within = absurd (omega arith)
+is_among-at (first ∷ others) zero default within = rw (is_same-refl first.address) refl
+is_among-at (first ∷ others) (suc place) default within =
+    rw (is_among-at others place default (omega arith)) (either (is_same (get_or others place default).address first.address))
+  where
+    either : (a : Bool) → (a || true) ≡ true
+    either true = refl
+    either false = refl
+
+-- a change that keeps each address
+abbrev pub KeepsAddress : (CellState → CellState) → Type 0
+KeepsAddress change = (cell : CellState) → (change cell).address ≡ cell.address
+
+pub is_among-map : (address : Address) (change : CellState → CellState) (cells : List CellState) → KeepsAddress change → is_among address (map change cells) ≡ is_among address cells
+is_among-map address change [] keeps = refl
+is_among-map address change (first ∷ others) keeps =
+    ap (λ (a : Address). is_same address a || is_among address (map change others)) (keeps first)
+    ∙ ap (λ (b : Bool). is_same address first.address || b) (is_among-map address change others keeps)
+
+pub AreApart-map : (change : CellState → CellState) (cells : List CellState) → KeepsAddress change → AreApart cells → AreApart (map change cells)
+AreApart-map change [] keeps apart = tt
+AreApart-map change (first ∷ others) keeps apart = (
+  ap (λ (a : Address). is_among a (map change others)) (keeps first) ∙ is_among-map first.address change others keeps ∙ apart.0,
+  AreApart-map change others keeps apart.1,
+)
+
+-- ---- one cell changed
+
+-- a change that leaves the cells of other addresses
+abbrev pub ChangesAt : Address → (CellState → CellState) → Type 0
+ChangesAt address change = (cell : CellState) → is_same address cell.address ≡ false → change cell ≡ cell
+
+-- leaves all cells where the address is not among them
+pub map-none : (address : Address) (change : CellState → CellState) (cells : List CellState) → ChangesAt address change → is_among address cells ≡ false → map change cells ≡ cells
+map-none address change [] stays none = refl
+map-none address change (first ∷ others) stays none =
+    let each = neither (is_same address first.address) (is_among address others) none in
+    ap (λ (cell : CellState). cell ∷ map change others) (stays first each.0)
+    ∙ ap (λ (cells : List CellState). first ∷ cells) (map-none address change others stays each.1)
+
+-- and else changes the one cell of the address alone
+pub map-one : (address : Address) (change : CellState → CellState) (cells : List CellState) (place : ℕ) (default : CellState) → AreApart cells → IsAt address cells place
+    → ChangesAt address change → set cells place (change (get_or cells place default)) ≡ map change cells
+map-one address change [] place default apart at stays = absurd (omega (arith, at.within))
+map-one address change (first ∷ others) zero default apart at stays =
+    let is : address ≡ first.address = is_same-true address first.address (at.here default) in
+    ap (λ (cells : List CellState). change first ∷ cells)
+    (sym (map-none address change others stays (ap (λ (a : Address). is_among a others) is ∙ apart.0)))
+map-one address change (first ∷ others) (suc place) default apart at stays =
+    let there : IsAt address others place = record { within = omega (arith, at.within); here = at.here } in
+    let is : address ≡ (get_or others place default).address = is_same-true address (get_or others place default).address (at.here default) in
+    let among : is_among address others ≡ true = ap (λ (a : Address). is_among a others) is ∙ is_among-at others place default there.within in
+    ⊎_elim
+    (λ (same : is_same address first.address ≡ true).
+    let one : address ≡ first.address = is_same-true address first.address same in
+    absurd (false≢true (sym apart.0 ∙ ap (λ (a : Address). is_among a others) (sym one) ∙ among)))
+    (λ (other : is_same address first.address ≡ false).
+    ap (λ (cells : List CellState). first ∷ cells) (map-one address change others place default apart.1 there stays)
+    ∙ ap (λ (cell : CellState). cell ∷ map change others) (sym (stays first other)))
+    (cases_Bool (is_same address first.address))
+
+-- ---- movements
+
+pub moved_some-address : (row : PlainRow) (kind : MoveKind) (amount : ℕ) → KeepsAddress (moved_some row kind amount)
+moved_some-address row kind zero cell = refl
+moved_some-address row kind (suc amount) cell = refl
+
+pub role_moved-address : (row : PlainRow) (kind : MoveKind) (role : Option WalletSeen) (amount : ℕ) → KeepsAddress (role_moved row kind role amount)
+role_moved-address row kind role amount cell = moved_some-address row kind (amount_at cell.address role amount) cell
+
+-- a role's movement leaves all cells but its own
+pub role_moved-others : (row : PlainRow) (kind : MoveKind) (wallet : WalletSeen) (amount : ℕ) → ChangesAt wallet.address (role_moved row kind (Some wallet) amount)
+role_moved-others row kind wallet amount cell other =
+    let apart : is_same cell.address wallet.address ≡ false = is_same-sym cell.address wallet.address ∙ other in
+    ap (λ (b : Bool). moved_some row kind (cond b amount 0) cell) apart
+
+-- and moves that one
+pub role_moved-own : (row : PlainRow) (kind : MoveKind) (wallet : WalletSeen) (amount : ℕ) (cell : CellState) → is_same wallet.address cell.address ≡ true → 0 < amount
+    → role_moved row kind (Some wallet) amount cell ≡ cell_moved row kind amount cell
+role_moved-own row kind wallet zero cell own some = absurd (omega arith)
+role_moved-own row kind wallet (suc amount) cell own some =
+    let same : is_same cell.address wallet.address ≡ true = is_same-sym cell.address wallet.address ∙ own in
+    ap (λ (b : Bool). moved_some row kind (cond b (suc amount) 0) cell) same
+
+-- nothing is no part of anything
+pub amount_at-nothing : (address : Address) (role : Option WalletSeen) → amount_at address role 0 ≡ 0
+amount_at-nothing address None = refl
+amount_at-nothing address (Some wallet) = either (is_same address wallet.address)
+  where
+    either : (b : Bool) → ◌≡◌ {A = ℕ} (cond b 0 0) 0
+    either true = refl
+    either false = refl
+
+-- changes that agree on each cell
+pub map-same : (change other : CellState → CellState) (cells : List CellState) → ((cell : CellState) → change cell ≡ other cell) → map change cells ≡ map other cells
+map-same change other [] same = refl
+map-same change other (first ∷ others) same =
+    ap (λ (cell : CellState). cell ∷ map change others) (same first)
+    ∙ ap (λ (cells : List CellState). other first ∷ cells) (map-same change other others same)
+
+pub map-identity : (change : CellState → CellState) (cells : List CellState) → ((cell : CellState) → change cell ≡ cell) → map change cells ≡ cells
+map-identity change [] same = refl
+map-identity change (first ∷ others) same =
+    ap (λ (cell : CellState). cell ∷ map change others) (same first)
+    ∙ ap (λ (cells : List CellState). first ∷ cells) (map-identity change others same)
+
+-- on each of these cells
+pub map-same_where : (P : CellState → Type 0) (change other : CellState → CellState) (cells : List CellState) → All P cells → ((cell : CellState) → P cell → change cell ≡ other cell)
+    → map change cells ≡ map other cells
+map-same_where P change other [] all same = refl
+map-same_where P change other (first ∷ others) all same =
+    ap (λ (cell : CellState). cell ∷ map change others) (same first (All-head P first others all))
+    ∙ ap (λ (cells : List CellState). other first ∷ cells) (map-same_where P change other others (All-tail P first others all) same)
+
+-- what holds of each cell
+pub all-cells : (P : CellState → Type 0) (cells : List CellState) → ((cell : CellState) → P cell) → All P cells
+all-cells P [] each = All-nil P
+all-cells P (first ∷ others) each = All-cons P first others (each first) (all-cells P others each)
+
+-- what holds of each cell by two facts
+pub all-both : (P Q : CellState → Type 0) (cells : List CellState) → All P cells → All Q cells → All (λ (cell : CellState). P cell × Q cell) cells
+all-both P Q [] one two = All-nil _
+all-both P Q (first ∷ others) one two =
+    All-cons (λ (cell : CellState). P cell × Q cell) first others (All-head P first others one, All-head Q first others two)
+    (all-both P Q others (All-tail P first others one) (All-tail Q first others two))
+
+-- one of the cells has an address that is among theirs
+pub among-All : (P : CellState → Type 0) (address : Address) (cells : List CellState) → is_among address cells ≡ true → All P cells
+    → (cell : CellState) × (is_same address cell.address ≡ true) × P cell
+among-All P address [] among all = absurd (false≢true among)
+among-All P address (first ∷ others) among all =
+    ⊎_elim
+    (λ (same : is_same address first.address ≡ true). (first, same, All-head P first others all))
+    (λ (other : is_same address first.address ≡ false).
+    among-All P address others (sym (ap (λ (b : Bool). b || is_among address others) other) ∙ among) (All-tail P first others all))
+    (cases_Bool (is_same address first.address))
+
+-- a role's wallet stays at home
+pub IsHome-map : (change : CellState → CellState) (cells : List CellState) (role : Option WalletSeen) → KeepsAddress change → IsHome cells role → IsHome (map change cells) role
+IsHome-map change cells None keeps home = tt
+IsHome-map change cells (Some wallet) keeps home = is_among-map wallet.address change cells keeps ∙ home
+
+pub map-map : (change later : CellState → CellState) (cells : List CellState) → map later (map change cells) ≡ map (λ cell. later (change cell)) cells
+map-map change later [] = refl
+map-map change later (first ∷ others) = ap (λ (cells : List CellState). later (change first) ∷ cells) (map-map change later others)
+
+-- nothing moves no cell
+pub role_moved-nothing : (row : PlainRow) (kind : MoveKind) (role : Option WalletSeen) (amount : ℕ) (cells : List CellState) → amount ≡ 0
+    → map (role_moved row kind role amount) cells ≡ cells
+role_moved-nothing row kind role amount cells none =
+    map-identity (role_moved row kind role amount) cells (λ cell.
+    ap (λ (n : ℕ). role_moved row kind role n cell) none ∙ ap (λ (n : ℕ). moved_some row kind n cell) (amount_at-nothing cell.address role))
+
+-- no wallet is moved where a role names none
+pub role_moved-no_one : (row : PlainRow) (kind : MoveKind) (role : Option WalletSeen) (amount : ℕ) (cells : List CellState) → role ≡ None
+    → map (role_moved row kind role amount) cells ≡ cells
+role_moved-no_one row kind role amount cells none =
+    map-identity (role_moved row kind role amount) cells (λ cell. ap (λ (r : Option WalletSeen). role_moved row kind r amount cell) none)
+
+-- the cell at the place of a role's wallet is moved
+pub moved-here : (row : PlainRow) (kind : MoveKind) (role : Option WalletSeen) (wallet : WalletSeen) (amount : ℕ) (cells new : List CellState) (place : ℕ) → role ≡ Some wallet
+    → 0 < amount → AreApart cells → IsAt wallet.address cells place → ((default : CellState) → new ≡ set cells place (cell_moved row kind amount (get_or cells place default)))
+    → new ≡ map (role_moved row kind role amount) cells
+moved-here row kind role wallet amount [] new place is some apart at moved = absurd (omega (arith, at.within))
+moved-here row kind role wallet amount (first ∷ others) new place is some apart at moved =
+    let cells : List CellState = first ∷ others in
+    let here : CellState = get_or cells place first in
+    moved first
+    ∙ ap (set cells place) (sym (role_moved-own row kind wallet amount here (at.here first) some))
+    ∙ map-one wallet.address (role_moved row kind (Some wallet) amount) cells place first apart at (role_moved-others row kind wallet amount)
+    ∙ ap (λ (r : Option WalletSeen). map (role_moved row kind r amount) cells) (sym is)

@@ -1,0 +1,10 @@
+pub mod CellLists
+pub mod WalletMoves
+pub mod Probing
+pub mod Seeing
+pub mod Sights
+pub mod Made
+pub mod Acting
+pub mod Acted
+pub mod Paying
+pub mod Rowing

@@ -1,0 +1,234 @@
+-- The deposits and payouts of a row, and the cells that can make them.
+use Rattle.std.proofs.Common.{◌≡◌, ℕ, ◌+◌, inl, inr, Bool, true, false, cond, List, [], ◌∷◌, map, Option, Some, None, refl, sym, ap, ◌∙◌, subst, arith}
+use Rattle.std.specs.List.{All}
+use Rattle.std.proofs.lemmas.List.Elements.{All-nil, All-cons, All-head, All-tail, All-map, All-weaker}
+use Rattle.dex_types.specs.declared.addresses.Address.{Address}
+use Rattle.dex_types.specs.declared.movements.Movement.{Movement}
+use Rattle.dex_types.specs.declared.rows.Seen.{Seen}
+use Rattle.dex_types.specs.declared.rows.WalletSeen.{WalletSeen}
+use Rattle.dex_types.specs.Addresses.{is_same}
+use Rattle.dex_types.specs.Market.{Market}
+use Rattle.dex_types.specs.Rows.{PlainRow}
+use Rattle.dex_types.specs.Soundness.{IsSound}
+use Rattle.dex_types.specs.Transfers.{Transfers, no_transfers}
+use Rattle.dex_types.specs.declared.movements.MoveKind.TheVariants.{Debit, Credit}
+use Rattle.dex_types.specs.Wallets.{amount_at, balance_seen, brought_to, movement_of, movements, seen_wallets, taken_from}
+use Rattle.dex_history.specs.Journal.{Sees, asked_of, front, places, row_step}
+use Rattle.dex_history.proofs.MintLaws.{IsOfMint}
+use Rattle.dex_history.proofs.StepMoves.{row-can, row-moves}
+use Rattle.dex_history.proofs.WalletLaws.{places-movements, wallet-movement_by}
+use Rattle.dex_cell.specs.Paying.{paid_out, parcel_of}
+use Rattle.dex_fold.specs.Fold.{wallet_acted}
+use Rattle.dex_fold.specs.World.{WalletState}
+use Rattle.dex_wallet.specs.CellState.{CellState, HasSpare, IsWalletCell}
+use Rattle.dex_act.specs.Wallets.{AreMovedHere, CanBePaid, CanGet, CanLook, CanPay, CanTake, IsHome, IsOf, IsRight, NamesFor, SeesCells, amount_in, any_hit, cell_acted, cell_credited, cell_debited, cell_paid, got_at, is_among, moved_some, moves_probed, paid_at, roles_of, wallet_state_of}
+use Rattle.dex_act.proofs.CellLists.{AreApart-map, IsHome-map, KeepsAddress, all-both, is_among-map, map-identity, map-map, moved_some-address}
+use Rattle.dex_act.proofs.WalletMoves.{amount_in-parcel_of}
+use Rattle.dex_history.proofs.StepMints.{row-of}
+use Rattle.dex_act.proofs.Seeing.{seen-home}
+use Rattle.dex_act.proofs.Sights.{named-hit}
+use Rattle.dex_act.proofs.Acting.{CellMoves, RowMoves, cell-moves, gets-after}
+use Rattle.dex_act.proofs.Acted.{acted-state, acted-whole}
+
+-- what a row moves on a sound market
+pub row-moves-of : (row : PlainRow) (seen : Seen) (m : Market) → IsSound m → Sees (asked_of row) seen → RowMoves seen m (row_step row seen m).transfers
+row-moves-of row seen m sound sees = record {
+  moves = λ address. row-moves (asked_of row) seen m address sound sees;
+  one_in = (row-can (asked_of row) seen m sound sees).one_in;
+  mints = row-of (asked_of row) seen m;
+  apart = sound.form.mints;
+}
+
+-- what is known of a cell
+abbrev pub IsSeenRight : Seen → CellState → Type 0
+IsSeenRight seen cell = All (IsRight cell) (roles_of seen) × (any_hit cell.address (roles_of seen) ≡ true → HasSpare cell)
+
+seen-right : (seen : Seen) (cells : List CellState) → SeesCells seen cells → All (IsSeenRight seen) cells
+seen-right seen cells sees =
+    all-both (λ (cell : CellState). All (IsRight cell) (roles_of seen)) (λ (cell : CellState). any_hit cell.address (roles_of seen) ≡ true → HasSpare cell) cells sees.right sees.spare
+
+all-moves : (seen : Seen) (m : Market) (t : Transfers) (cells : List CellState) → RowMoves seen m t → SeesCells seen cells → All (CellMoves seen m t) cells
+all-moves seen m t cells moves sees =
+    All-weaker (IsSeenRight seen) (CellMoves seen m t) (λ cell right. cell-moves seen m t cell moves right.0 right.1) cells (seen-right seen cells sees)
+
+named : (mint : Address) (role : Option WalletSeen) (amount : ℕ) → IsOfMint mint role amount → NamesFor amount role
+named mint role amount (inl none) = inl none
+named mint role amount (inr is) = inr (is.0, is.1)
+
+-- the homes of the roles
+record Homes (seen : Seen) (cells : List CellState) : Type 0 where
+  coin : IsHome cells seen.coin
+  pc : IsHome cells seen.pc
+  referrer : IsHome cells seen.referrer
+
+homes : (seen : Seen) (cells : List CellState) → SeesCells seen cells → Homes seen cells
+homes seen cells sees =
+    let H : Option WalletSeen → Type 0 = IsHome cells in
+    let past = All-tail H seen.coin (seen.pc ∷ seen.discount ∷ seen.referrer ∷ []) sees.home in
+    let later = All-tail H seen.pc (seen.discount ∷ seen.referrer ∷ []) past in
+    record {
+      coin = All-head H seen.coin (seen.pc ∷ seen.discount ∷ seen.referrer ∷ []) sees.home;
+      pc = All-head H seen.pc (seen.discount ∷ seen.referrer ∷ []) past;
+      referrer = All-head H seen.referrer [] (All-tail H seen.discount (seen.referrer ∷ []) later);
+    }
+
+pub can-pay : (seen : Seen) (m : Market) (t : Transfers) (cells : List CellState) → RowMoves seen m t → SeesCells seen cells → CanPay seen t.coin_in t.pc_in cells
+can-pay seen m t cells moves sees =
+    let home = homes seen cells sees in
+    record {
+      apart = sees.apart;
+      coin_home = home.coin;
+      pc_home = home.pc;
+      coin_named = named m.listing.coin_mint seen.coin t.coin_in moves.mints.coin_in;
+      pc_named = named m.listing.pc_mint seen.pc t.pc_in moves.mints.pc_in;
+      one = moves.one_in;
+      each = All-weaker (CellMoves seen m t) (λ (cell : CellState). CanTake (paid_at seen t.coin_in t.pc_in cell) cell) (λ cell known. known.takes) cells
+          (all-moves seen m t cells moves sees);
+    }
+
+pub coin-mints : (seen : Seen) (m : Market) (t : Transfers) (cells : List CellState) → RowMoves seen m t → SeesCells seen cells
+    → All (λ (cell : CellState). IsOf m.listing.coin_mint (amount_at cell.address seen.coin t.coin_in) cell) cells
+coin-mints seen m t cells moves sees =
+    All-weaker (CellMoves seen m t) (λ (cell : CellState). IsOf m.listing.coin_mint (amount_at cell.address seen.coin t.coin_in) cell) (λ cell known. known.coin_in) cells
+    (all-moves seen m t cells moves sees)
+
+pub pc-mints : (seen : Seen) (m : Market) (t : Transfers) (cells : List CellState) → RowMoves seen m t → SeesCells seen cells
+    → All (λ (cell : CellState). IsOf m.listing.pc_mint (amount_at cell.address seen.pc t.pc_in) cell) cells
+pc-mints seen m t cells moves sees =
+    All-weaker (CellMoves seen m t) (λ (cell : CellState). IsOf m.listing.pc_mint (amount_at cell.address seen.pc t.pc_in) cell) (λ cell known. known.pc_in) cells
+    (all-moves seen m t cells moves sees)
+
+-- behind the deposits
+pub debited-address : (row : PlainRow) (seen : Seen) (coin pc : ℕ) → KeepsAddress (cell_debited row seen coin pc)
+debited-address row seen coin pc cell = moved_some-address row Debit (paid_at seen coin pc cell) cell
+
+paid-cells : (row : PlainRow) (seen : Seen) (m : Market) (t : Transfers) (cells : List CellState) → RowMoves seen m t → SeesCells seen cells
+    → (a b c : ℕ) → a ≡ t.coin_out → b ≡ t.pc_out → c ≡ t.referrer_out
+    → All (λ (cell : CellState). CanGet m.listing.coin_mint m.listing.pc_mint (amount_at cell.address seen.coin a) (got_at seen b c cell) cell)
+    (map (cell_debited row seen t.coin_in t.pc_in) cells)
+paid-cells row seen m t cells moves sees a b c coin_is pc_is referrer_is =
+    let Gets : ℕ → ℕ → ℕ → CellState → Type 0 =
+    λ x y z cell. CanGet m.listing.coin_mint m.listing.pc_mint (amount_at cell.address seen.coin x) (got_at seen y z cell) cell in
+    let change : CellState → CellState = cell_debited row seen t.coin_in t.pc_in in
+    let all : All (Gets t.coin_out t.pc_out t.referrer_out) (map change cells) =
+    All-map (Gets t.coin_out t.pc_out t.referrer_out) change cells
+    (All-weaker (CellMoves seen m t) (λ (cell : CellState). Gets t.coin_out t.pc_out t.referrer_out (change cell))
+    (λ cell known. gets-after row seen m t cell moves.apart known) cells (all-moves seen m t cells moves sees)) in
+    subst (λ (x : ℕ). All (Gets x b c) (map change cells)) (sym coin_is)
+    (subst (λ (y : ℕ). All (Gets t.coin_out y c) (map change cells)) (sym pc_is)
+    (subst (λ (z : ℕ). All (Gets t.coin_out t.pc_out z) (map change cells)) (sym referrer_is) all))
+
+pub can-be-paid : (row : PlainRow) (seen : Seen) (m : Market) (t : Transfers) (cells : List CellState) → RowMoves seen m t → SeesCells seen cells
+    → let payouts = paid_out m t in CanBePaid seen payouts.coin payouts.pc payouts.referrer (map (cell_debited row seen t.coin_in t.pc_in) cells)
+can-be-paid row seen m t cells moves sees =
+    let home = homes seen cells sees in
+    let change : CellState → CellState = cell_debited row seen t.coin_in t.pc_in in
+    let keeps : KeepsAddress change = debited-address row seen t.coin_in t.pc_in in
+    let coin_is : amount_in (parcel_of m.listing.coin_mint t.coin_out) ≡ t.coin_out = amount_in-parcel_of m.listing.coin_mint t.coin_out in
+    let pc_is : amount_in (parcel_of m.listing.pc_mint t.pc_out) ≡ t.pc_out = amount_in-parcel_of m.listing.pc_mint t.pc_out in
+    let referrer_is : amount_in (parcel_of m.listing.pc_mint t.referrer_out) ≡ t.referrer_out = amount_in-parcel_of m.listing.pc_mint t.referrer_out in
+    record {
+      coin_mint = m.listing.coin_mint;
+      pc_mint = m.listing.pc_mint;
+      coin_is = ap (parcel_of m.listing.coin_mint) (sym coin_is);
+      pc_is = ap (parcel_of m.listing.pc_mint) (sym pc_is);
+      referrer_is = ap (parcel_of m.listing.pc_mint) (sym referrer_is);
+      apart = AreApart-map change cells keeps sees.apart;
+      coin_home = IsHome-map change cells seen.coin keeps home.coin;
+      pc_home = IsHome-map change cells seen.pc keeps home.pc;
+      referrer_home = IsHome-map change cells seen.referrer keeps home.referrer;
+      coin_named = subst (λ (n : ℕ). NamesFor n seen.coin) (sym coin_is) (named m.listing.coin_mint seen.coin t.coin_out moves.mints.coin_out);
+      pc_named = subst (λ (n : ℕ). NamesFor n seen.pc) (sym pc_is) (named m.listing.pc_mint seen.pc t.pc_out moves.mints.pc_out);
+      referrer_named = subst (λ (n : ℕ). NamesFor n seen.referrer) (sym referrer_is) (named m.listing.pc_mint seen.referrer t.referrer_out moves.mints.referrer_out);
+      each = paid-cells row seen m t cells moves sees (amount_in (parcel_of m.listing.coin_mint t.coin_out)) (amount_in (parcel_of m.listing.pc_mint t.pc_out))
+          (amount_in (parcel_of m.listing.pc_mint t.referrer_out)) coin_is pc_is referrer_is;
+    }
+
+-- the cells behind both
+pub paid-whole : (row : PlainRow) (seen : Seen) (m : Market) (t : Transfers) (cells : List CellState)
+    → let payouts = paid_out m t in
+    map (cell_credited row seen (amount_in payouts.coin) (amount_in payouts.pc) (amount_in payouts.referrer)) (map (cell_debited row seen t.coin_in t.pc_in) cells)
+    ≡ map (cell_paid row seen t) cells
+paid-whole row seen m t cells =
+    let Credited : ℕ → ℕ → ℕ → List CellState = λ x y z. map (cell_credited row seen x y z) (map (cell_debited row seen t.coin_in t.pc_in) cells) in
+    ap (λ (x : ℕ). Credited x (amount_in (parcel_of m.listing.pc_mint t.pc_out)) (amount_in (parcel_of m.listing.pc_mint t.referrer_out)))
+    (amount_in-parcel_of m.listing.coin_mint t.coin_out)
+    ∙ ap (λ (y : ℕ). Credited t.coin_out y (amount_in (parcel_of m.listing.pc_mint t.referrer_out))) (amount_in-parcel_of m.listing.pc_mint t.pc_out)
+    ∙ ap (λ (z : ℕ). Credited t.coin_out t.pc_out z) (amount_in-parcel_of m.listing.pc_mint t.referrer_out)
+    ∙ map-map (cell_debited row seen t.coin_in t.pc_in) (cell_credited row seen t.coin_out t.pc_out t.referrer_out) cells
+
+pub paid-address : (row : PlainRow) (seen : Seen) (t : Transfers) → KeepsAddress (cell_paid row seen t)
+paid-address row seen t cell =
+    let paid : CellState = cell_debited row seen t.coin_in t.pc_in cell in
+    moved_some-address row Credit (amount_at paid.address seen.coin t.coin_out + got_at seen t.pc_out t.referrer_out paid) paid ∙ debited-address row seen t.coin_in t.pc_in cell
+
+-- where nothing moves all stay
+pub paid-nothing : (row : PlainRow) (seen : Seen) (t : Transfers) (cells : List CellState) → t ≡ no_transfers → map (cell_paid row seen t) cells ≡ cells
+paid-nothing row seen t cells none =
+    ap (λ (x : Transfers). map (cell_paid row seen x) cells) none ∙ map-identity (cell_paid row seen no_transfers) cells (λ cell. still cell)
+  where
+    zero-at : (address : Address) (role : Option WalletSeen) → amount_at address role 0 ≡ 0
+    zero-at address None = refl
+    zero-at address (Some wallet) = either (is_same address wallet.address)
+      where
+        either : (b : Bool) → ◌≡◌ {A = ℕ} (cond b 0 0) 0
+        either true = refl
+        either false = refl
+
+    still : (cell : CellState) → cell_paid row seen no_transfers cell ≡ cell
+    still cell =
+        let taken : paid_at seen 0 0 cell ≡ 0 = omega (arith, zero-at cell.address seen.coin, zero-at cell.address seen.pc) in
+        let same : cell_debited row seen 0 0 cell ≡ cell = ap (λ (n : ℕ). moved_some row Debit n cell) taken in
+        let got : amount_at cell.address seen.coin 0 + got_at seen 0 0 cell ≡ 0 =
+        omega (arith, zero-at cell.address seen.coin, zero-at cell.address seen.pc, zero-at cell.address seen.referrer) in
+        ap (cell_credited row seen 0 0 0) same ∙ ap (λ (n : ℕ). moved_some row Credit n cell) got
+
+-- ---- probes behind that
+
+pub moved-here-all : (row : PlainRow) (seen : Seen) (t : Transfers) (cells : List CellState) → SeesCells seen cells
+    → AreMovedHere (map (cell_paid row seen t) cells) (front (places (movements seen t)))
+moved-here-all row seen t cells sees =
+    let Among : List CellState → Address → Type 0 = λ list a. is_among a list ≡ true in
+    let paid : List CellState = map (cell_paid row seen t) cells in
+    subst (AreMovedHere paid) (sym (places-movements seen t))
+    (All-map (λ (move : Movement). Among paid move.wallet) (movement_of seen t) (seen_wallets seen)
+    (All-weaker (Among cells) (λ (a : Address). Among paid (movement_of seen t a).wallet)
+    (λ a among.
+    ap (λ (x : Address). is_among x paid) (wallet-movement_by a (balance_seen seen a) (taken_from seen t a) (brought_to seen t a)) ∙ is_among-map a (cell_paid row seen t) cells (paid-address row seen t) ∙ among)
+    (seen_wallets seen) (seen-home cells seen sees.home)))
+
+pub look-all : (row : PlainRow) (seen : Seen) (m : Market) (t : Transfers) (cells : List CellState) → RowMoves seen m t → SeesCells seen cells
+    → All (CanLook row (front (places (movements seen t)))) (map (cell_paid row seen t) cells)
+look-all row seen m t cells moves sees =
+    All-map (CanLook row (front (places (movements seen t)))) (cell_paid row seen t) cells
+    (All-weaker (IsSeenRight seen) (λ (cell : CellState). CanLook row (front (places (movements seen t))) (cell_paid row seen t cell))
+    (λ cell right. (acted-whole row seen m t cell (cell-moves seen m t cell moves right.0 right.1) right.0 right.1).1)
+    cells (seen-right seen cells sees))
+
+pub acted-all : (row : PlainRow) (seen : Seen) (t : Transfers) (cells : List CellState)
+    → map (moves_probed row (front (places (movements seen t)))) (map (cell_paid row seen t) cells) ≡ map (cell_acted row seen t) cells
+acted-all row seen t cells = map-map (cell_paid row seen t) (moves_probed row (front (places (movements seen t)))) cells
+
+-- ---- what it is to the wallets
+
+pub states-acted : (row : PlainRow) (seen : Seen) (m : Market) (t : Transfers) (cells : List CellState) → RowMoves seen m t → Sees (asked_of row) seen → SeesCells seen cells
+    → (map wallet_state_of (map (cell_acted row seen t) cells) ≡ map (wallet_acted row seen t) (map wallet_state_of cells)) × All IsWalletCell (map (cell_acted row seen t) cells)
+states-acted row seen m t cells moves sees_row sees = each cells (all-both (IsSeenRight seen) IsWalletCell cells (seen-right seen cells sees) sees.kept)
+  where
+    one : (cell : CellState) → IsSeenRight seen cell × IsWalletCell cell
+        → (wallet_state_of (cell_acted row seen t cell) ≡ wallet_acted row seen t (wallet_state_of cell)) × IsWalletCell (cell_acted row seen t cell)
+    one cell known =
+        acted-state row seen m t cell (cell-moves seen m t cell moves known.0.0 known.0.1) known.0.0 known.0.1 (named-hit row seen cell.address sees_row) known.1 sees.fits
+        (moves.moves cell.address).possible
+
+    each : (list : List CellState) → All (λ (cell : CellState). IsSeenRight seen cell × IsWalletCell cell) list
+        → (map wallet_state_of (map (cell_acted row seen t) list) ≡ map (wallet_acted row seen t) (map wallet_state_of list)) × All IsWalletCell (map (cell_acted row seen t) list)
+    each [] all = (refl, All-nil _)
+    each (first ∷ others) all =
+        let Known : CellState → Type 0 = λ cell. IsSeenRight seen cell × IsWalletCell cell in
+        let here = one first (All-head Known first others all) in
+        let rest = each others (All-tail Known first others all) in (
+          ap (λ (s : WalletState). s ∷ map wallet_state_of (map (cell_acted row seen t) others)) here.0
+              ∙ ap (λ (l : List WalletState). wallet_acted row seen t (wallet_state_of first) ∷ l) rest.0,
+          All-cons IsWalletCell (cell_acted row seen t first) (map (cell_acted row seen t) others) here.1 rest.1,
+        )

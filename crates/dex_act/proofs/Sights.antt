@@ -1,0 +1,167 @@
+-- What a row of a world sees, where the wallets of the world are cells.
+use Rattle.std.proofs.Common.{◌≡◌, Bool, true, false, ◌||◌, cond, List, [], ◌∷◌, map, Option, Some, None, refl, sym, ap, ◌∙◌, subst, ⊎_elim}
+use Rattle.std.specs.List.{All, list_any}
+use Rattle.std.proofs.lemmas.List.Elements.{All-nil, All-cons, All-head, All-tail, All-weaker}
+use Rattle.std.proofs.lemmas.Bool.{cases_Bool, cond-true, cond-false, cond_both, false≢true}
+use Rattle.dex_types.specs.declared.addresses.Address.{Address}
+use Rattle.dex_types.specs.declared.rows.Seen.{Seen}
+use Rattle.dex_types.specs.declared.rows.WalletSeen.{WalletSeen}
+use Rattle.dex_types.specs.Addresses.{is_same}
+use Rattle.dex_types.specs.Rows.{PlainRow}
+use Rattle.dex_types.specs.Wallets.{address_seen, is_lower, row_wallets, with_address, with_role}
+use Rattle.dex_laws.proofs.TraderLaws.{is_same-true}
+use Rattle.dex_history.specs.Journal.{Agree, Sees, asked_of}
+use Rattle.dex_movements.proofs.PlaceLaws.{seen-wallets}
+use Rattle.dex_fold.specs.Fold.{names}
+use Rattle.dex_fold.specs.World.{WalletState, World, role_at, seen_by, wallet_at}
+use Rattle.dex_wallet.specs.CellState.{CellState, HasSpare, IsWalletCell, seen_of}
+use Rattle.dex_act.specs.Wallets.{AreApart, Fits, IsHome, IsRight, SeesCells, any_hit, is_among, roles_of, wallet_state_of}
+use Rattle.dex_act.proofs.CellLists.{all-both, all-cells}
+use Rattle.dex_act.proofs.Seeing.{any-seen, role_at-home, role_at-right, wallet_at-address}
+
+-- ---- one role
+
+-- a wallet that is among the cells is found
+found-at : (address : Address) (cells : List CellState) → is_among address cells ≡ true
+    → (wallet : WalletSeen) × (wallet_at address (map wallet_state_of cells) ≡ Some wallet)
+found-at address [] among = absurd (false≢true among)
+found-at address (first ∷ others) among =
+    ⊎_elim
+    (λ (same : is_same address first.address ≡ true). (seen_of first, cond-true _ _ _ same))
+    (λ (other : is_same address first.address ≡ false).
+    let rest = found-at address others (sym (ap (λ (b : Bool). b || is_among address others) other) ∙ among) in
+    (rest.0, cond-false _ _ _ other ∙ rest.1))
+    (cases_Bool (is_same address first.address))
+
+-- the wallet that a role names is among the cells
+abbrev IsNamed : List CellState → Option Address → Type 0
+IsNamed cells None = Unit {0}
+IsNamed cells (Some address) = is_among address cells ≡ true
+
+role-seen : (role : Option Address) (cells : List CellState) → IsNamed cells role → address_seen (role_at role (map wallet_state_of cells)) ≡ role
+role-seen None cells named = refl
+role-seen (Some address) cells named =
+    let found = found-at address cells named in
+    ap address_seen found.1 ∙ ap (λ (a : Address). Some a) (sym (wallet_at-address address cells found.0 found.1))
+
+-- two roles of one address see one wallet
+same-seen : (one other : Option Address) (cells : List CellState) (wallet another : WalletSeen) → role_at one (map wallet_state_of cells) ≡ Some wallet
+    → role_at other (map wallet_state_of cells) ≡ Some another → wallet.address ≡ another.address → wallet ≡ another
+same-seen None other cells wallet another first second same = absurd (cc)
+same-seen (Some address) None cells wallet another first second same = absurd (cc)
+same-seen (Some address) (Some other) cells wallet another first second same =
+    let at : address ≡ other = wallet_at-address address cells wallet first ∙ same ∙ sym (wallet_at-address other cells another second) in
+    let both : Some wallet ≡ Some another = sym first ∙ ap (λ (a : Address). wallet_at a (map wallet_state_of cells)) at ∙ second in
+    cc
+
+agree : (one other : Option WalletSeen)
+    → ((wallet another : WalletSeen) → one ≡ Some wallet → other ≡ Some another → wallet.address ≡ another.address → wallet ≡ another) → Agree one other
+agree None None same = tt
+agree None (Some another) same = tt
+agree (Some wallet) None same = tt
+agree (Some wallet) (Some another) same = same wallet another refl refl
+
+roles-agree : (one other : Option Address) (cells : List CellState) → Agree (role_at one (map wallet_state_of cells)) (role_at other (map wallet_state_of cells))
+roles-agree one other cells =
+    agree (role_at one (map wallet_state_of cells)) (role_at other (map wallet_state_of cells)) (λ wallet another first second same. same-seen one other cells wallet another first second same)
+
+-- ---- all roles
+
+-- what holds of addresses with one more holds of that one and of the others
+all-parts : (P : Address → Type 0) (address : Address) (addresses : List Address) → All P (with_address address addresses) → P address × All P addresses
+all-parts P address [] all = (All-head P address [] all, All-nil P)
+all-parts P address (first ∷ others) all =
+    cond_both (is_same address first) (first ∷ others) (cond (is_lower address first) (address ∷ first ∷ others) (first ∷ with_address address others))
+    (λ list. All P list → P address × All P (first ∷ others))
+    (λ same these. (subst P (sym (is_same-true address first same)) (All-head P first others these), these))
+    (λ apart.
+    cond_both (is_lower address first) (address ∷ first ∷ others) (first ∷ with_address address others) (λ list. All P list → P address × All P (first ∷ others))
+    (λ lower these. (All-head P address (first ∷ others) these, All-tail P address (first ∷ others) these))
+    (λ higher these.
+    let rest = all-parts P address others (All-tail P first (with_address address others) these) in
+    (rest.0, All-cons P first others (All-head P first (with_address address others) these) rest.1)))
+    all
+
+-- one of the cells has the address
+abbrev IsHere : List CellState → Address → Type 0
+IsHere cells address = is_among address cells ≡ true
+
+role-parts : (cells : List CellState) (role : Option Address) (addresses : List Address) → All (IsHere cells) (with_role role addresses)
+    → IsNamed cells role × All (IsHere cells) addresses
+role-parts cells None addresses all = (tt, all)
+role-parts cells (Some address) addresses all = all-parts (IsHere cells) address addresses all
+
+-- what a row sees of these wallets
+abbrev sight : PlainRow → World → List WalletState → Seen
+sight row world wallets = record {
+  coin = role_at row.coin wallets;
+  pc = role_at row.pc wallets;
+  discount = role_at row.discount wallets;
+  referrer = role_at row.referrer wallets;
+  srm = world.srm;
+  msrm = world.msrm;
+  program = world.program;
+}
+
+-- a row whose wallets are among the cells sees exactly those that it names
+pub row-sees : (row : PlainRow) (world : World) (cells : List CellState) → world.wallets ≡ map wallet_state_of cells
+    → All (λ (address : Address). is_among address cells ≡ true) (row_wallets row) → Sees (asked_of row) (seen_by row world)
+row-sees row world cells are named =
+    let one = role-parts cells row.coin (with_role row.pc (with_role row.discount (with_role row.referrer []))) named in
+    let two = role-parts cells row.pc (with_role row.discount (with_role row.referrer [])) one.1 in
+    let three = role-parts cells row.discount (with_role row.referrer []) two.1 in
+    let four = role-parts cells row.referrer [] three.1 in
+    let sees : Sees (asked_of row) (sight row world (map wallet_state_of cells)) = record {
+      coin = role-seen row.coin cells one.0;
+      pc = role-seen row.pc cells two.0;
+      discount = role-seen row.discount cells three.0;
+      referrer = role-seen row.referrer cells four.0;
+      coin_pc = roles-agree row.coin row.pc cells;
+      coin_discount = roles-agree row.coin row.discount cells;
+      coin_referrer = roles-agree row.coin row.referrer cells;
+      pc_discount = roles-agree row.pc row.discount cells;
+      pc_referrer = roles-agree row.pc row.referrer cells;
+      discount_referrer = roles-agree row.discount row.referrer cells;
+    } in
+    subst (λ (wallets : List WalletState). Sees (asked_of row) (sight row world wallets)) (sym are) sees
+
+-- the wallets that a row names are those that one of its roles sees
+pub named-hit : (row : PlainRow) (seen : Seen) (address : Address) → Sees (asked_of row) seen → names row address ≡ any_hit address (roles_of seen)
+named-hit row seen address sees = ap (list_any (is_same address)) (sym (seen-wallets row seen sees)) ∙ any-seen address seen
+
+-- ---- the cells
+
+right-all : (roles : List (Option Address)) (cells : List CellState) → AreApart cells
+    → All (λ (cell : CellState). All (IsRight cell) (map (λ (role : Option Address). role_at role (map wallet_state_of cells)) roles)) cells
+right-all [] cells apart = all-cells (λ (cell : CellState). All (IsRight cell) []) cells (λ cell. All-nil (IsRight cell))
+right-all (role ∷ roles) cells apart =
+    let see : Option Address → Option WalletSeen = λ r. role_at r (map wallet_state_of cells) in
+    let First : CellState → Type 0 = λ cell. IsRight cell (see role) in
+    let Others : CellState → Type 0 = λ cell. All (IsRight cell) (map see roles) in
+    All-weaker (λ (cell : CellState). First cell × Others cell) (λ (cell : CellState). All (IsRight cell) (see role ∷ map see roles))
+    (λ cell both. All-cons (IsRight cell) (see role) (map see roles) both.0 both.1) cells
+    (all-both First Others cells (role_at-right role cells apart) (right-all roles cells apart))
+
+home-all : (roles : List (Option Address)) (cells : List CellState) → All (IsHome cells) (map (λ (role : Option Address). role_at role (map wallet_state_of cells)) roles)
+home-all [] cells = All-nil (IsHome cells)
+home-all (role ∷ roles) cells =
+    let see : Option Address → Option WalletSeen = λ r. role_at r (map wallet_state_of cells) in
+    All-cons (IsHome cells) (see role) (map see roles) (role_at-home role cells) (home-all roles cells)
+
+-- a row whose wallets are among the cells, and of which each has room for an entry, sees the cells as they are
+pub sees-cells : (row : PlainRow) (world : World) (cells : List CellState) → world.wallets ≡ map wallet_state_of cells → AreApart cells → All IsWalletCell cells
+    → All (λ (address : Address). is_among address cells ≡ true) (row_wallets row)
+    → All (λ (cell : CellState). names row cell.address ≡ true → HasSpare cell) cells → All Fits (roles_of (seen_by row world)) → SeesCells (seen_by row world) cells
+sees-cells row world cells are apart kept named spare fits =
+    let roles : List (Option Address) = row.coin ∷ row.pc ∷ row.discount ∷ row.referrer ∷ [] in
+    record {
+      apart = apart;
+      kept = kept;
+      right = subst (λ (wallets : List WalletState). All (λ (cell : CellState). All (IsRight cell) (roles_of (sight row world wallets))) cells) (sym are)
+          (right-all roles cells apart);
+      home = subst (λ (wallets : List WalletState). All (IsHome cells) (roles_of (sight row world wallets))) (sym are) (home-all roles cells);
+      fits = fits;
+      spare = All-weaker (λ (cell : CellState). names row cell.address ≡ true → HasSpare cell)
+          (λ (cell : CellState). any_hit cell.address (roles_of (seen_by row world)) ≡ true → HasSpare cell)
+          (λ cell can hit. can (named-hit row (seen_by row world) cell.address (row-sees row world cells are named) ∙ hit)) cells spare;
+    }

@@ -1,0 +1,247 @@
+-- What a row takes from cells and brings to them.
+use Rattle.std.proofs.Common.{◌≡◌, ℕ, zero, suc, ◌+◌, ◌<◌, ◌≤◌, ◌^◌, ◌⊎◌, inl, inr, Bool, true, false, cond, List, [], ◌∷◌, map, set, get_or, Option, Some, None, refl, sym, ap, ◌∙◌, subst, arith, ⊎_elim}
+use Rattle.std.specs.List.{All}
+use Rattle.std.proofs.Math.Dec.{eqb-suc-zero}
+use Rattle.std.proofs.lemmas.List.Elements.{All-get_or, All-map, All-weaker}
+use Rattle.std.proofs.lemmas.Bool.{cases_Bool, cond-true, cond-false, false≢true}
+use Rattle.dex_types.specs.declared.addresses.Address.{Address}
+use Rattle.dex_types.specs.declared.movements.MoveKind.{MoveKind}
+use Rattle.dex_types.specs.declared.movements.MoveKind.TheVariants.{Debit, Credit}
+use Rattle.dex_types.specs.declared.rows.Seen.{Seen}
+use Rattle.dex_types.specs.declared.rows.WalletSeen.{WalletSeen}
+use Rattle.dex_types.specs.Addresses.{is_same}
+use Rattle.dex_types.specs.Rows.{PlainRow}
+use Rattle.dex_types.specs.Wallets.{amount_at}
+use Rattle.dex_token.specs.TokenAccount.{wallet_words}
+use Rattle.dex_laws.proofs.TraderLaws.{is_same-true, is_same-sym}
+use Rattle.dex_wallet.specs.CellState.{CellState, HasSpare, balance_of}
+use Rattle.dex_wallet.specs.TokenAmount.{TokenAmount}
+use Rattle.dex_cell.specs.Paying.{parcel_of}
+use Rattle.dex_act.specs.Wallets.{AreApart, CanCredit, CanGet, CanPay, CanPut, CanTake, IsAt, IsHome, IsOf, NamesFor, amount_in, cell_credited, cell_debited, cell_moved, got_at, is_one, moved_some, paid_at, pc_credited, role_moved}
+use Rattle.dex_act.proofs.CellLists.{all-cells, among-All, amount_at-nothing, map-map, map-same, map-same_where, moved-here, role_moved-address, role_moved-nothing}
+
+-- ---- parcels
+
+pub parcel_of-some : (mint : Address) (amount : ℕ) → 0 < amount → parcel_of mint amount ≡ Some (record { mint = mint; amount = amount })
+parcel_of-some mint zero some = absurd (omega arith)
+parcel_of-some mint (suc amount) some = cond-false _ _ _ (eqb-suc-zero amount)
+
+pub amount_in-parcel_of : (mint : Address) (amount : ℕ) → amount_in (parcel_of mint amount) ≡ amount
+amount_in-parcel_of mint zero = refl
+amount_in-parcel_of mint (suc amount) = ap amount_in (parcel_of-some mint (suc amount) (omega arith))
+
+-- a role's wallet has the whole amount
+pub amount-own : (address : Address) (role : Option WalletSeen) (wallet : WalletSeen) (amount : ℕ) → role ≡ Some wallet → is_same wallet.address address ≡ true
+    → amount_at address role amount ≡ amount
+amount-own address role wallet amount is own =
+    ap (λ (r : Option WalletSeen). amount_at address r amount) is
+    ∙ cond-true (is_same address wallet.address) amount 0 (is_same-sym address wallet.address ∙ own)
+
+-- what was taken from it is a parcel of its mint
+pub parcel-here : (mint : Address) (role : Option WalletSeen) (wallet : WalletSeen) (amount : ℕ) (cells : List CellState) (place : ℕ) (parcel : TokenAmount) → role ≡ Some wallet
+    → 0 < amount → IsAt wallet.address cells place
+    → ((default : CellState) → parcel ≡ record { mint = (wallet_words (get_or cells place default).bytes).mint; amount = amount })
+    → All (λ (cell : CellState). IsOf mint (amount_at cell.address role amount) cell) cells → Some parcel ≡ parcel_of mint amount
+parcel-here mint role wallet amount [] place parcel is some at taken of = absurd (omega (arith, at.within))
+parcel-here mint role wallet amount (first ∷ others) place parcel is some at taken of =
+    let cells : List CellState = first ∷ others in
+    let here : CellState = get_or cells place first in
+    let whole : amount_at here.address role amount ≡ amount = amount-own here.address role wallet amount is (at.here first) in
+    let own : IsOf mint (amount_at here.address role amount) here =
+    All-get_or (λ (cell : CellState). IsOf mint (amount_at cell.address role amount) cell) cells place first at.within of in
+    let right : mint ≡ (wallet_words here.bytes).mint =
+    ⊎_elim (λ (none : amount_at here.address role amount ≡ 0). absurd (omega (arith, whole, none, some)))
+    (λ (one : mint ≡ (wallet_words here.bytes).mint). one) own in
+    let of_mint : Address → Option TokenAmount = λ m. Some (record { mint = m; amount = amount }) in
+    ap (λ (p : TokenAmount). Some p) (taken first) ∙ ap of_mint (sym right) ∙ sym (parcel_of-some mint amount some)
+
+-- the cell of a role's wallet, with a parcel more
+pub credited-here : (row : PlainRow) (role : Option WalletSeen) (wallet : WalletSeen) (given : Option TokenAmount) (parcel : TokenAmount) (cells new : List CellState) (place : ℕ)
+    → given ≡ Some parcel → role ≡ Some wallet → AreApart cells → CanCredit role given cells → IsAt wallet.address cells place
+    → ((default : CellState) → new ≡ set cells place (cell_moved row Credit parcel.amount (get_or cells place default)))
+    → new ≡ map (role_moved row Credit role (amount_in given)) cells
+credited-here row role wallet given parcel cells new place is role_is apart can at moved =
+    let may : CanCredit role (Some parcel) cells = subst (λ (p : Option TokenAmount). CanCredit role p cells) is can in
+    moved-here row Credit role wallet parcel.amount cells new place role_is may.0 apart at moved
+    ∙ ap (λ (p : Option TokenAmount). map (role_moved row Credit role (amount_in p)) cells) (sym is)
+
+-- a parcel that is put in is one that can be
+pub can-credit : (role : Option WalletSeen) (given : Option TokenAmount) (mint : Address) (cells : List CellState) → given ≡ parcel_of mint (amount_in given)
+    → NamesFor (amount_in given) role → All (λ (cell : CellState). CanPut mint (amount_at cell.address role (amount_in given)) cell) cells → CanCredit role given cells
+can-credit role None mint cells is named can = tt
+can-credit role (Some parcel) mint cells is named can = some parcel.amount refl
+  where
+    some : (amount : ℕ) → amount ≡ parcel.amount → CanCredit role (Some parcel) cells
+    some zero none = absurd (let nothing : Some parcel ≡ None = is ∙ ap (parcel_of mint) (sym none) in cc)
+    some (suc amount) one =
+        let made : Some parcel ≡ Some (record { mint = mint; amount = parcel.amount }) = is ∙ parcel_of-some mint parcel.amount (omega (arith, one)) in
+        let right : mint ≡ parcel.mint = cc in
+        (omega (arith, one), named, subst (λ (m : Address). All (λ (cell : CellState). CanPut m (amount_at cell.address role parcel.amount) cell) cells) right can)
+
+-- ---- two movements, one of which is nothing
+
+moved-twice : (row : PlainRow) (kind : MoveKind) (first second : ℕ) (cell : CellState) → (first ≡ 0) ⊎ (second ≡ 0)
+    → moved_some row kind second (moved_some row kind first cell) ≡ moved_some row kind (first + second) cell
+moved-twice row kind first second cell (inl none) =
+    let all : second ≡ first + second = omega (arith, none) in
+    ap (λ (n : ℕ). moved_some row kind second (moved_some row kind n cell)) none ∙ ap (λ (n : ℕ). moved_some row kind n cell) all
+moved-twice row kind first second cell (inr none) =
+    let all : first ≡ first + second = omega (arith, none) in
+    ap (λ (n : ℕ). moved_some row kind n (moved_some row kind first cell)) none ∙ ap (λ (n : ℕ). moved_some row kind n cell) all
+
+-- behind the movement of a role
+pub later-moved : (row : PlainRow) (kind : MoveKind) (role : Option WalletSeen) (amount : ℕ) (later : Address → ℕ) (cell : CellState)
+    → (amount_at cell.address role amount ≡ 0) ⊎ (later cell.address ≡ 0)
+    → moved_some row kind (later (role_moved row kind role amount cell).address) (role_moved row kind role amount cell)
+    ≡ moved_some row kind (amount_at cell.address role amount + later cell.address) cell
+later-moved row kind role amount later cell one =
+    ap (λ (a : Address). moved_some row kind (later a) (role_moved row kind role amount cell)) (role_moved-address row kind role amount cell)
+    ∙ moved-twice row kind (amount_at cell.address role amount) (later cell.address) cell one
+
+-- ---- what wallets pay
+
+-- what holds of each cell holds after the first payment, where it holds of all cells if the second is nothing
+pub second-All : (row : PlainRow) (seen : Seen) (coin pc : ℕ) (cells : List CellState) (P : CellState → Type 0) → (coin ≡ 0) ⊎ (pc ≡ 0) → All P cells
+    → (pc ≡ 0 → (cell : CellState) → P cell) → All P (map (role_moved row Debit seen.coin coin) cells)
+second-All row seen coin pc cells P (inl none) all otherwise = subst (All P) (sym (role_moved-nothing row Debit seen.coin coin cells none)) all
+second-All row seen coin pc cells P (inr none) all otherwise = all-cells P (map (role_moved row Debit seen.coin coin) cells) (otherwise none)
+
+-- nothing under a role
+pub none-at : (address : Address) (role : Option WalletSeen) (amount : ℕ) → amount ≡ 0 → amount_at address role amount ≡ 0
+none-at address role amount none = ap (amount_at address role) none ∙ amount_at-nothing address role
+
+pub second-can : (row : PlainRow) (seen : Seen) (coin pc : ℕ) (cells : List CellState) → CanPay seen coin pc cells
+    → All (λ (cell : CellState). CanTake (amount_at cell.address seen.pc pc) cell) (map (role_moved row Debit seen.coin coin) cells)
+second-can row seen coin pc cells can =
+    let P : CellState → Type 0 = λ cell. CanTake (amount_at cell.address seen.pc pc) cell in
+    second-All row seen coin pc cells P can.one
+    (All-weaker (λ (cell : CellState). CanTake (paid_at seen coin pc cell) cell) P
+    (λ cell whole.
+    ⊎_elim (λ (none : paid_at seen coin pc cell ≡ 0). inl (omega (arith, none)))
+    (λ (some : HasSpare cell × (paid_at seen coin pc cell ≤ balance_of cell.bytes)). inr (some.0, omega (arith, some.1))) whole)
+    cells can.each)
+    (λ none cell. inl (none-at cell.address seen.pc pc none))
+
+pub debited-together : (row : PlainRow) (seen : Seen) (coin pc : ℕ) (cells : List CellState) → (coin ≡ 0) ⊎ (pc ≡ 0)
+    → map (role_moved row Debit seen.pc pc) (map (role_moved row Debit seen.coin coin) cells) ≡ map (cell_debited row seen coin pc) cells
+debited-together row seen coin pc cells one =
+    map-map (role_moved row Debit seen.coin coin) (role_moved row Debit seen.pc pc) cells
+    ∙ map-same (λ cell. role_moved row Debit seen.pc pc (role_moved row Debit seen.coin coin cell)) (cell_debited row seen coin pc) cells (λ cell.
+    later-moved row Debit seen.coin coin (λ a. amount_at a seen.pc pc) cell
+    (⊎_elim (λ (none : coin ≡ 0). inl (none-at cell.address seen.coin coin none)) (λ (none : pc ≡ 0). inr (none-at cell.address seen.pc pc none)) one))
+
+-- ---- what they are paid
+
+-- two roles of one wallet
+pub one-amount : (address : Address) (first second : Option WalletSeen) (a b : ℕ) → is_one first second ≡ true
+    → amount_at address first (a + b) ≡ amount_at address first a + amount_at address second b
+one-amount address None second a b one = absurd (false≢true one)
+one-amount address (Some wallet) None a b one = absurd (false≢true one)
+one-amount address (Some wallet) (Some other) a b one =
+    let same : wallet.address ≡ other.address = is_same-true wallet.address other.address one in
+    both (is_same address wallet.address) ∙ ap (λ (x : Address). cond (is_same address wallet.address) a 0 + cond (is_same address x) b 0) same
+  where
+    both : (own : Bool) → cond own (a + b) 0 ≡ cond own a 0 + cond own b 0
+    both true = refl
+    both false = refl
+
+-- and of two wallets
+pub apart-amounts : (address : Address) (first second : Option WalletSeen) (a b : ℕ) → is_one first second ≡ false
+    → (amount_at address first a ≡ 0) ⊎ (amount_at address second b ≡ 0)
+apart-amounts address None second a b apart = inl refl
+apart-amounts address (Some wallet) None a b apart = inr refl
+apart-amounts address (Some wallet) (Some other) a b apart =
+    ⊎_elim
+    (λ (own : is_same address wallet.address ≡ true).
+    let is : address ≡ wallet.address = is_same-true address wallet.address own in
+    inr (cond-false (is_same address other.address) b 0 (ap (λ (x : Address). is_same x other.address) is ∙ apart)))
+    (λ (not : is_same address wallet.address ≡ false). inl (cond-false (is_same address wallet.address) a 0 not))
+    (cases_Bool (is_same address wallet.address))
+
+-- what two roles of one wallet get fits together
+pub fits-together : (first second : Option WalletSeen) (a b : ℕ) (mint : Address) (cells : List CellState) → is_one first second ≡ true → IsHome cells first
+    → All (λ (cell : CellState). CanPut mint (amount_at cell.address first a + amount_at cell.address second b) cell) cells → a + b < 2 ^ 64
+fits-together None second a b mint cells one home each = absurd (false≢true one)
+fits-together (Some wallet) second a b mint cells one home each =
+    let P : CellState → Type 0 = λ cell. CanPut mint (amount_at cell.address (Some wallet) a + amount_at cell.address second b) cell in
+    let found = among-All P wallet.address cells home each in
+    let cell : CellState = found.0 in
+    let whole : amount_at cell.address (Some wallet) (a + b) ≡ a + b = amount-own cell.address (Some wallet) wallet (a + b) refl found.1 in
+    let split : amount_at cell.address (Some wallet) (a + b) ≡ amount_at cell.address (Some wallet) a + amount_at cell.address second b =
+    one-amount cell.address (Some wallet) second a b one in
+    ⊎_elim (λ (none : amount_at cell.address (Some wallet) a + amount_at cell.address second b ≡ 0). omega (arith, whole, split, none))
+    (λ (some : HasSpare cell × (mint ≡ (wallet_words cell.bytes).mint) × (balance_of cell.bytes + (amount_at cell.address (Some wallet) a + amount_at cell.address second b) < 2 ^ 64)). omega (arith, whole, split, some.2))
+    found.2
+
+pub credited-one : (row : PlainRow) (seen : Seen) (a b n : ℕ) (cells : List CellState) → is_one seen.pc seen.referrer ≡ true → n ≡ a + b
+    → map (role_moved row Credit seen.pc n) cells ≡ map (pc_credited row seen a b) cells
+credited-one row seen a b n cells one is =
+    map-same (role_moved row Credit seen.pc n) (pc_credited row seen a b) cells (λ cell.
+    ap (λ (x : ℕ). moved_some row Credit (amount_at cell.address seen.pc x) cell) is
+    ∙ ap (λ (x : ℕ). moved_some row Credit x cell) (one-amount cell.address seen.pc seen.referrer a b one))
+
+pub credited-apart : (row : PlainRow) (seen : Seen) (a b : ℕ) (cells : List CellState) → is_one seen.pc seen.referrer ≡ false
+    → map (role_moved row Credit seen.referrer b) (map (role_moved row Credit seen.pc a) cells) ≡ map (pc_credited row seen a b) cells
+credited-apart row seen a b cells apart =
+    map-map (role_moved row Credit seen.pc a) (role_moved row Credit seen.referrer b) cells
+    ∙ map-same (λ cell. role_moved row Credit seen.referrer b (role_moved row Credit seen.pc a cell)) (pc_credited row seen a b) cells (λ cell.
+    later-moved row Credit seen.pc a (λ x. amount_at x seen.referrer b) cell (apart-amounts cell.address seen.pc seen.referrer a b apart))
+
+-- what can be put into a cell can be behind the movement of a role, where one of them is nothing
+put-after : (row : PlainRow) (role : Option WalletSeen) (amount : ℕ) (mint : Address) (later : Address → ℕ) (cell : CellState)
+    → ((amount_at cell.address role amount ≡ 0) × CanPut mint (later cell.address) cell) ⊎ (later cell.address ≡ 0)
+    → CanPut mint (later (role_moved row Credit role amount cell).address) (role_moved row Credit role amount cell)
+put-after row role amount mint later cell (inl can) =
+    let stays : role_moved row Credit role amount cell ≡ cell = ap (λ (n : ℕ). moved_some row Credit n cell) can.0 in
+    subst (λ (x : CellState). CanPut mint (later x.address) x) (sym stays) can.1
+put-after row role amount mint later cell (inr none) = inl (ap later (role_moved-address row Credit role amount cell) ∙ none)
+
+-- the second of two roles can get its part
+pub second-put : (row : PlainRow) (seen : Seen) (a b : ℕ) (mint : Address) (cells : List CellState) → is_one seen.pc seen.referrer ≡ false
+    → All (λ (cell : CellState). CanPut mint (got_at seen a b cell) cell) cells
+    → All (λ (cell : CellState). CanPut mint (amount_at cell.address seen.referrer b) cell) (map (role_moved row Credit seen.pc a) cells)
+second-put row seen a b mint cells apart each =
+    let Q : CellState → Type 0 = λ cell. CanPut mint (amount_at cell.address seen.referrer b) cell in
+    All-map Q (role_moved row Credit seen.pc a) cells
+    (All-weaker (λ (cell : CellState). CanPut mint (got_at seen a b cell) cell) (λ cell. Q (role_moved row Credit seen.pc a cell))
+    (λ cell can.
+    put-after row seen.pc a mint (λ x. amount_at x seen.referrer b) cell
+    (⊎_elim
+    (λ (none : amount_at cell.address seen.pc a ≡ 0).
+    let all : got_at seen a b cell ≡ amount_at cell.address seen.referrer b = omega (arith, none) in
+    inl (none, subst (λ (n : ℕ). CanPut mint n cell) all can))
+    (λ (none : amount_at cell.address seen.referrer b ≡ 0). inr none)
+    (apart-amounts cell.address seen.pc seen.referrer a b apart)))
+    cells each)
+
+-- after the base token, the quote token can be brought
+pub pc-put : (row : PlainRow) (seen : Seen) (coin pc referrer : ℕ) (coin_mint pc_mint : Address) (cells : List CellState)
+    → All (λ (cell : CellState). CanGet coin_mint pc_mint (amount_at cell.address seen.coin coin) (got_at seen pc referrer cell) cell) cells
+    → All (λ (cell : CellState). CanPut pc_mint (got_at seen pc referrer cell) cell) (map (role_moved row Credit seen.coin coin) cells)
+pc-put row seen coin pc referrer coin_mint pc_mint cells each =
+    let Q : CellState → Type 0 = λ cell. CanPut pc_mint (got_at seen pc referrer cell) cell in
+    All-map Q (role_moved row Credit seen.coin coin) cells
+    (All-weaker (λ (cell : CellState). CanGet coin_mint pc_mint (amount_at cell.address seen.coin coin) (got_at seen pc referrer cell) cell)
+    (λ cell. Q (role_moved row Credit seen.coin coin cell))
+    (λ cell can.
+    put-after row seen.coin coin pc_mint (λ x. amount_at x seen.pc pc + amount_at x seen.referrer referrer) cell (one_of cell can))
+    cells each)
+  where
+    one_of : (cell : CellState) → CanGet coin_mint pc_mint (amount_at cell.address seen.coin coin) (got_at seen pc referrer cell) cell
+        → ((amount_at cell.address seen.coin coin ≡ 0) × CanPut pc_mint (got_at seen pc referrer cell) cell) ⊎ (got_at seen pc referrer cell ≡ 0)
+    one_of cell (inl can) = inl can
+    one_of cell (inr can) = inr can.0
+
+pub credited-together : (row : PlainRow) (seen : Seen) (coin pc referrer : ℕ) (coin_mint pc_mint : Address) (cells : List CellState)
+    → All (λ (cell : CellState). CanGet coin_mint pc_mint (amount_at cell.address seen.coin coin) (got_at seen pc referrer cell) cell) cells
+    → map (pc_credited row seen pc referrer) (map (role_moved row Credit seen.coin coin) cells) ≡ map (cell_credited row seen coin pc referrer) cells
+credited-together row seen coin pc referrer coin_mint pc_mint cells each =
+    map-map (role_moved row Credit seen.coin coin) (pc_credited row seen pc referrer) cells
+    ∙ map-same_where (λ (cell : CellState). CanGet coin_mint pc_mint (amount_at cell.address seen.coin coin) (got_at seen pc referrer cell) cell)
+    (λ cell. pc_credited row seen pc referrer (role_moved row Credit seen.coin coin cell)) (cell_credited row seen coin pc referrer) cells each
+    (λ cell can. later-moved row Credit seen.coin coin (λ x. amount_at x seen.pc pc + amount_at x seen.referrer referrer) cell (one_of cell can))
+  where
+    one_of : (cell : CellState) → CanGet coin_mint pc_mint (amount_at cell.address seen.coin coin) (got_at seen pc referrer cell) cell
+        → (amount_at cell.address seen.coin coin ≡ 0) ⊎ (got_at seen pc referrer cell ≡ 0)
+    one_of cell (inl can) = inl can.0
+    one_of cell (inr can) = inr can.0

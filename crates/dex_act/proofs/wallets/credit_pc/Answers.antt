@@ -1,0 +1,47 @@
+use Rattle.std.proofs.Common.{◌≡◌, true, false, List, map, sym, ap, ◌∙◌, subst}
+use Rattle.std.specs.List.{All}
+use Rattle.dex_types.specs.declared.movements.MoveKind.TheVariants.{Credit}
+use Rattle.dex_types.specs.Rows.{row_of}
+use Rattle.dex_types.specs.Wallets.{amount_at}
+use Rattle.dex_wallet.specs.CellState.{CellState}
+use Rattle.dex_act.specs.Wallets.{AreApart, CanPut, IsHome, amount_in, is_one, role_moved}
+use Rattle.dex_act.proofs.CellLists.{AreApart-map, IsHome-map, role_moved-address}
+use Rattle.dex_act.proofs.WalletMoves.{can-credit, credited-apart, fits-together, second-put}
+use Rattle.dex_act.proofs.wallets.credit_pc.Goals as goal
+
+pub join-both-requires : goal.join-both-requires
+join-both-requires c =
+    let one : is_one c.args.seen.now.pc c.args.seen.now.referrer ≡ true = sym c.is_one.ensures ∙ c.if-is_one.true in
+    record {
+      mint = c.requires.mint;
+      first_is = c.requires.pc_is;
+      second_is = c.requires.referrer_is;
+      fits = fits-together c.args.seen.now.pc c.args.seen.now.referrer (amount_in c.args.pc) (amount_in c.args.referrer) c.requires.mint c.args.cells.now one
+          c.requires.pc_home c.requires.each;
+    }
+
+pub credit-requires-else-is_one-2-clause-apart : goal.credit-requires-else-is_one-2-clause-apart
+credit-requires-else-is_one-2-clause-apart c =
+    let change = role_moved (row_of c.args.row.now) Credit c.args.seen.now.pc (amount_in c.args.pc) in
+    subst AreApart (sym c.credit-else-is_one.ensures)
+    (AreApart-map change c.args.cells.now (role_moved-address (row_of c.args.row.now) Credit c.args.seen.now.pc (amount_in c.args.pc)) c.requires.apart)
+
+pub credit-requires-else-is_one-2-clause-home : goal.credit-requires-else-is_one-2-clause-home
+credit-requires-else-is_one-2-clause-home c =
+    let change = role_moved (row_of c.args.row.now) Credit c.args.seen.now.pc (amount_in c.args.pc) in
+    subst (λ (cells : List CellState). IsHome cells c.args.seen.now.referrer) (sym c.credit-else-is_one.ensures)
+    (IsHome-map change c.args.cells.now c.args.seen.now.referrer (role_moved-address (row_of c.args.row.now) Credit c.args.seen.now.pc (amount_in c.args.pc)) c.requires.referrer_home)
+
+pub credit-requires-else-is_one-2-clause-can : goal.credit-requires-else-is_one-2-clause-can
+credit-requires-else-is_one-2-clause-can c =
+    let apart : is_one c.args.seen.now.pc c.args.seen.now.referrer ≡ false = sym c.is_one.ensures ∙ c.if-is_one.false in
+    can-credit c.args.seen.now.referrer c.args.referrer c.requires.mint c.credit-else-is_one.new.cells c.requires.referrer_is c.requires.referrer_named
+    (subst (All (λ (cell : CellState). CanPut c.requires.mint (amount_at cell.address c.args.seen.now.referrer (amount_in c.args.referrer)) cell)) (sym c.credit-else-is_one.ensures)
+    (second-put (row_of c.args.row.now) c.args.seen.now (amount_in c.args.pc) (amount_in c.args.referrer) c.requires.mint c.args.cells.now apart c.requires.each))
+
+pub returns-else-is_one : goal.returns-else-is_one
+returns-else-is_one c =
+    let apart : is_one c.args.seen.now.pc c.args.seen.now.referrer ≡ false = sym c.is_one.ensures ∙ c.if-is_one.false in
+    c.credit-else-is_one-2.ensures
+    ∙ ap (λ (cells : List CellState). map (role_moved (row_of c.args.row.now) Credit c.args.seen.now.referrer (amount_in c.args.referrer)) cells) c.credit-else-is_one.ensures
+    ∙ credited-apart (row_of c.args.row.now) c.args.seen.now (amount_in c.args.pc) (amount_in c.args.referrer) c.args.cells.now apart

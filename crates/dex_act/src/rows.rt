@@ -1,0 +1,98 @@
+//! One row, on its market's cell and on the cells of the wallets that it names.
+
+ghost use Rattle.std.specs.Prelude.{◌≡◌, ◌<◌, ◌++◌, ◌∷◌, [], List, Ok, length, map};
+ghost use Rattle.std.specs.List.{All};
+ghost use Rattle.dex_types.specs.declared.refusals.Refusal.{Refusal};
+ghost use Rattle.dex_types.specs.declared.replies.Reply.TheVariants.{Refused};
+ghost use Rattle.dex_history.specs.Journal.{Call};
+ghost use Rattle.dex_cell.specs.CellState.{HasActed, HasSpare, IsDone, IsFor, IsMarketCell, answer_on, refused_on, step_on};
+ghost use Rattle.dex_wallet.specs.CellState.{IsWalletCell};
+ghost use Rattle.dex_act.specs.Wallets.{AreApart, SeesCells, cells_acted, cells_paid, made_of, states_acted, wallet_state_of};
+
+use crate::wallets::{credits, debits, probe_each};
+use dex_cell::{MarketCell, Plan};
+use dex_types::{Movement, Reply, Row, Seen};
+use dex_wallet::WalletCell;
+
+/// Does a row as it was decided: its deposits leave its wallets, its market makes its step, and its payouts enter its
+/// wallets.
+fn accept(
+    market: &mut MarketCell,
+    wallets: &mut [WalletCell],
+    row: &Row,
+    seen: &Seen,
+    plan: Plan,
+) -> Reply
+    requires row { IsFor row.now seen.now market.old }
+    requires market { IsMarketCell market.old }
+    requires spare { HasSpare market.old }
+    requires wallets { SeesCells seen.now wallets.old }
+    requires decided { Ok plan ≡ answer_on row.now seen.now market.old }
+    ensures reply { result ≡ (step_on row.entry.now seen.now market.old).reply }
+    ensures done { IsDone result }
+    ensures acted { HasActed row.entry.now seen.now market.old market.new }
+    ensures cell { IsMarketCell market.new }
+    ensures wallets { wallets.new ≡ cells_paid row.entry.now seen.now market.old wallets.old }
+{
+    let deposit = plan.deposit();
+    let (coin, pc) = debits(wallets, row, seen, deposit.coin, deposit.pc);
+    let (reply, payouts) = market.apply(row, seen, plan, coin, pc);
+    credits(wallets, row, seen, payouts);
+    reply
+}
+
+/// Decides a row, and does it or writes down that it is refused.
+fn answer(market: &mut MarketCell, wallets: &mut [WalletCell], row: &Row, seen: &Seen) -> Reply
+    requires row { IsFor row.now seen.now market.old }
+    requires market { IsMarketCell market.old }
+    requires spare { HasSpare market.old }
+    requires wallets { SeesCells seen.now wallets.old }
+    ensures reply { result ≡ (step_on row.entry.now seen.now market.old).reply }
+    ensures acted { HasActed row.entry.now seen.now market.old market.new }
+    ensures refused { (why : Refusal) → result ≡ Refused why → market.new ≡ refused_on row.entry.now seen.now market.old }
+    ensures cell { IsMarketCell market.new }
+    ensures wallets { wallets.new ≡ cells_paid row.entry.now seen.now market.old wallets.old }
+{
+    match market.decide(row, seen) {
+        Ok(plan) => accept(market, wallets, row, seen, plan),
+        Err(refusal) => {
+            market.refuse(row, seen, refusal);
+            Reply::Refused(refusal)
+        }
+    }
+}
+
+/// The movements of the last row of a market's journal.
+fn last_moves(market: &MarketCell) -> [Option<Movement>; 4]
+    requires { 0 < length market.now.calls }
+    ensures { (calls : List Call) (call : Call) → market.now.calls ≡ calls ++ call ∷ [] → result ≡ call.entry.moves }
+{
+    let entries = market.entries();
+    entries[entries.len() - 1].moves
+}
+
+/// A row acts on its market's cell and on the cells of the wallets that it names, and this is its market's reply: its
+/// deposits and payouts move as parcels, and it looks at each other wallet that it names. It takes no memory.
+///
+/// Where the row is refused, nothing moves: the journals say that it was refused and that it looked at its wallets.
+pub fn act(market: &mut MarketCell, wallets: &mut [WalletCell], row: &Row, seen: &Seen) -> Reply
+    requires row { IsFor row.now seen.now market.old }
+    requires market { IsMarketCell market.old }
+    requires spare { HasSpare market.old }
+    requires wallets { SeesCells seen.now wallets.old }
+    ensures reply { result ≡ (step_on row.entry.now seen.now market.old).reply }
+    ensures acted { HasActed row.entry.now seen.now market.old market.new }
+    ensures refused { (why : Refusal) → result ≡ Refused why → market.new ≡ refused_on row.entry.now seen.now market.old }
+    ensures cell { IsMarketCell market.new }
+    ensures wallets { wallets.new ≡ cells_acted row.entry.now seen.now market.old wallets.old }
+    ensures states { map wallet_state_of wallets.new
+        ≡ states_acted row.entry.now seen.now market.old (map wallet_state_of wallets.old) }
+    ensures kept { All IsWalletCell wallets.new }
+    ensures apart { AreApart wallets.new }
+    ensures made { map made_of wallets.new ≡ map made_of wallets.old }
+{
+    let reply = answer(market, wallets, row, seen);
+    let moves = last_moves(market);
+    probe_each(wallets, row, &moves);
+    reply
+}

@@ -1,0 +1,11 @@
+-- What is known of a text and its status, of the two.
+use Rattle.std.proofs.Common.{◌≡◌, ℕ, List, Result, Ok, Err, IfOk, subst, sym}
+use Rattle.dex_answers.specs.declared.status.Status.{Status}
+use Rattle.dex_answers.specs.declared.told.StatusText.{StatusText}
+use Rattle.dex_answers.specs.Telling.{IsText}
+
+pub says : {E : Type 0} (result : Result StatusText E) (P : Status → List ℕ → Type 0) (stood : Status) (text : List ℕ)
+    → IfOk result (λ told. IsText told stood text) → P stood text → IfOk result (λ told. P told.status told.text.items)
+says (Ok told) P stood text is holds =
+    subst (λ (s : Status). P s told.text.items) (sym is.status) (subst (λ (t : List ℕ). P stood t) (sym is.text) holds)
+says (Err e) P stood text is holds = tt

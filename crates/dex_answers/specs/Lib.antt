@@ -1,0 +1,4 @@
+pub mod Answers
+pub mod ExitCodes
+pub mod Suits
+pub mod Telling

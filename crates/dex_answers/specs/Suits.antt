@@ -1,0 +1,20 @@
+-- Bytes to which a command has an answer that is no refusal.
+use Rattle.std.specs.Prelude.{ℕ, ◌≡◌, List, None}
+use Rattle.dex_types.specs.Accounts.{PlainAccounts}
+use Rattle.dex_words.specs.declared.command.Command.{Command}
+use Rattle.dex_words.specs.declared.command.Command.TheVariants.{Replay, Dump, Audit, Make, Bulk, Migrate}
+use Rattle.dex_migrate.specs.TooSmall.{first_fault}
+use Rattle.dex_script.specs.Drafts.{PlainScript}
+use Rattle.dex_script.specs.Scripts.{Reads}
+use Rattle.dex_answers.specs.Answers.{IsClean}
+
+-- the bytes are a script, or the dump of accounts without findings, all of which fits where they are migrated. `make`
+-- and `bulk` look at no bytes
+abbrev pub Suits : Command → List ℕ → Type 0
+Suits Replay bytes = (script : PlainScript) × Reads bytes script
+Suits Dump bytes = (script : PlainScript) × Reads bytes script
+Suits Audit bytes = (accounts : PlainAccounts) × IsClean bytes accounts
+Suits (Make number rows) bytes = Unit {0}
+Suits (Bulk number rows) bytes = Unit {0}
+Suits (Migrate nodes events) bytes =
+    (accounts : PlainAccounts) × IsClean bytes accounts × (first_fault nodes events accounts.markets ≡ None)

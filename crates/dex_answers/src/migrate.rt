@@ -1,0 +1,55 @@
+//! The command `migrate`.
+
+ghost use Rattle.std.specs.Prelude.{◌≤◌, IfOk};
+ghost use Rattle.dex_dump.specs.DumpText.{dump_text};
+ghost use Rattle.dex_lines.specs.Lines as lines;
+ghost use Rattle.dex_types.specs.Accounts.{accounts_of};
+ghost use Rattle.dex_words.specs.declared.command.Command.TheVariants.{Migrate};
+ghost use Rattle.dex_answers.specs.Answers.{Answers};
+ghost use Rattle.dex_answers.specs.Telling.{IsText};
+ghost use Rattle.dex_answers.specs.declared.status.Status.TheVariants as status;
+
+use crate::clean::{Checked, check_dump};
+use crate::dump::dump_of;
+use crate::status::Status;
+use crate::told::StatusText;
+use dex_lines::migrate_refused_text;
+use dex_migrate::{MigrateError, MigrateFault, migrate};
+use dex_types::NoMemory;
+use std::alloc::Global;
+
+/// The dump of the accounts with sides of so many nodes and event queues for so many events; or what would not fit; or
+/// the findings of the accounts, or the first faulty row of the dump.
+pub(crate) fn migrate_answer(
+    alloc: Global,
+    bytes: &[u8],
+    nodes: u32,
+    events: u32,
+) -> Result<StatusText, NoMemory>
+    requires nodes { (1 ≤ nodes) × (nodes ≤ 65536) }
+    requires events { (1 ≤ events) × (events ≤ 65535) }
+    ensures { IfOk result (λ told. Answers (Migrate nodes events) bytes.now told.status told.text.items) }
+{
+    let accounts = match check_dump(alloc, bytes)? {
+        Checked::Clean(accounts) => accounts,
+        Checked::Refused(told) => return Ok(told),
+    };
+    match migrate(alloc, accounts, nodes, events) {
+        Ok(migrated) => dump_of(alloc, &migrated),
+        Err(MigrateError::TooSmall(fault)) => migrate_refused(alloc, fault),
+        Err(MigrateError::NoMemory) => Err(NoMemory),
+    }
+}
+
+/// Names what would not fit.
+fn migrate_refused(alloc: Global, fault: MigrateFault) -> Result<StatusText, NoMemory>
+    ensures { IfOk result (λ told. IsText told status.MigrateRefused (lines.migrate_refused fault)) }
+{
+    match migrate_refused_text(alloc, fault) {
+        Ok(text) => Ok(StatusText {
+            status: Status::MigrateRefused,
+            text: text.into_bytes(),
+        }),
+        Err(_) => Err(NoMemory),
+    }
+}

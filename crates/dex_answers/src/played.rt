@@ -1,0 +1,53 @@
+//! What the rows of a script leave.
+
+ghost use Rattle.std.specs.Prelude.{ℕ, List, IfOk};
+ghost use Rattle.dex_script.specs.Telling.{TellsError};
+ghost use Rattle.dex_answers.specs.Answers.{IsNoScript};
+ghost use Rattle.dex_answers.specs.Telling.{TellsPlayed};
+
+use crate::lines::{audit_failed, dump_refused, script_refused};
+use crate::told::StatusText;
+use dex_lines::ScriptRefused;
+use dex_replay::replay;
+use dex_report::Outcome;
+use dex_script::{ScriptError, read_script};
+use dex_types::NoMemory;
+use std::alloc::Global;
+
+/// What a script came to.
+#[derive(Drop)]
+pub(crate) enum Played {
+    /// All its rows, of which there are so many, have acted, and left this.
+    Left { rows: u32, outcome: Outcome },
+    /// The bytes are no script: the text that tells why.
+    Refused(StatusText),
+}
+
+/// Reads a script, and lets its rows act one after the other.
+pub(crate) fn play_script(alloc: Global, bytes: &[u8]) -> Result<Played, NoMemory>
+    ensures { IfOk result (λ played. TellsPlayed played bytes.now) }
+{
+    match read_script(alloc, bytes) {
+        Ok(script) => {
+            let outcome = replay(alloc, &script)?;
+            let rows = script.rows.len() as u32;
+            Ok(Played::Left { rows, outcome })
+        }
+        Err(error) => Ok(Played::Refused(no_script(alloc, error)?)),
+    }
+}
+
+/// The text that tells why bytes are no script.
+fn no_script(alloc: Global, error: ScriptError) -> Result<StatusText, NoMemory>
+    ensures { (bytes : List ℕ) → TellsError error bytes
+        → IfOk result (λ told. IsNoScript bytes told.status told.text.items) }
+{
+    match error {
+        ScriptError::Row { row, kind, code } => {
+            script_refused(alloc, ScriptRefused { row, kind, code })
+        }
+        ScriptError::Dump(fault) => dump_refused(alloc, fault),
+        ScriptError::Audit(found) => audit_failed(alloc, &found),
+        ScriptError::NoMemory => Err(NoMemory),
+    }
+}

@@ -1,0 +1,28 @@
+//! The command `replay`.
+
+ghost use Rattle.std.specs.Prelude.{IfOk};
+ghost use Rattle.dex_words.specs.declared.command.Command.TheVariants.{Replay};
+ghost use Rattle.dex_answers.specs.Answers.{Answers};
+
+use crate::played::{Played, play_script};
+use crate::status::Status;
+use crate::told::StatusText;
+use dex_report::report_text;
+use dex_types::NoMemory;
+use std::alloc::Global;
+
+/// The report of what is left when all rows of a script have acted, or why the bytes are no script.
+pub(crate) fn replay_answer(alloc: Global, bytes: &[u8]) -> Result<StatusText, NoMemory>
+    ensures { IfOk result (λ told. Answers Replay bytes.now told.status told.text.items) }
+{
+    match play_script(alloc, bytes)? {
+        Played::Left { rows, outcome } => {
+            let text = report_text(alloc, &outcome, rows)?;
+            Ok(StatusText {
+                status: Status::Ok,
+                text,
+            })
+        }
+        Played::Refused(told) => Ok(told),
+    }
+}

@@ -1,0 +1,6 @@
+mod OpenCells
+mod OpenCounts
+mod OpenLists
+pub mod StepMarkets
+pub mod StepCells
+pub mod StepWorld

@@ -1,0 +1,117 @@
+-- The cells with which a script starts are cells.
+use Rattle.std.proofs.Common.{◌≡◌, ℕ, ◌+◌, ◌<◌, ◌≤◌, Bool, true, false, ◌||◌, cond, List, [], ◌∷◌, ◌++◌, map, slice_index, refl, sym, ap, subst, ◌∙◌, arith, ⊎_elim}
+use Rattle.std.specs.List.{All, flat_map}
+use Rattle.std.proofs.lemmas.List.Elements.{All-nil, All-cons, All-head, All-tail, All-map}
+use Rattle.std.proofs.lemmas.List.Sums.{sum_by-append, sum_by-cons}
+use Rattle.std.proofs.lemmas.Bool.{cases_Bool}
+use Rattle.dex_types.specs.declared.addresses.Address.{Address}
+use Rattle.dex_types.specs.Accounts.{PlainAccount, PlainAccounts, PlainMarketAccounts}
+use Rattle.dex_types.specs.Addresses.{is_same}
+use Rattle.dex_types.specs.Rows.{PlainRow}
+use Rattle.dex_laws.proofs.TraderLaws.{is_same-refl}
+use Rattle.dex_token.specs.TokenAccount.{IsWallet}
+use Rattle.dex_token.proofs.AmountWrites.{with_amount-same}
+use Rattle.dex_accounts.specs.Accepted.{IsAccepted}
+use Rattle.dex_accounts.specs.Decoded.{AreSound}
+use Rattle.dex_cell.specs.CellState as market
+use Rattle.dex_cell.specs.CellState.{IsMarketCell}
+use Rattle.dex_wallet.specs.CellState as wallet
+use Rattle.dex_wallet.specs.CellState.{IsWalletCell}
+use Rattle.dex_act.specs.Wallets.{AreApart, is_among}
+use Rattle.dex_dump.specs.Accepted.{AreAccepted, address_of, all_of_market, times}
+use Rattle.dex_script.specs.Drafts.{PlainScript}
+use Rattle.dex_script.specs.Facts.{IsStart}
+use Rattle.dex_bank.specs.Cells.{AreCells, CellsState}
+use Rattle.dex_bank.specs.Opened.{market_opened, wallet_opened}
+
+-- ---- each of them
+
+pub IsMarketCell-new : (accounts : PlainMarketAccounts) (room : ℕ) → AreSound accounts → IsAccepted accounts → IsMarketCell (market.new_cell accounts room)
+IsMarketCell-new accounts room sound accepted = record {
+  sound = sound;
+  accepted = accepted;
+  one_market = record { address = refl; authority = refl; orders = refl };
+  start = sound.sound;
+  legal = tt;
+  end_is = refl;
+  coin = refl;
+  pc = refl;
+  room = omega arith;
+}
+
+pub IsWalletCell-new : (address : Address) (bytes : List ℕ) (room : ℕ) → ((place : ℕ) → slice_index bytes place < 256) → IsWallet bytes
+    → IsWalletCell (wallet.new_cell address bytes room)
+IsWalletCell-new address bytes room low accepted = record {
+  accepted = accepted;
+  others = sym (with_amount-same bytes low accepted);
+  balance = refl;
+  legal = tt;
+  share = refl;
+  room = omega arith;
+}
+
+both : (P Q R : PlainMarketAccounts → Type 0) (markets : List PlainMarketAccounts) → ((accounts : PlainMarketAccounts) → P accounts → Q accounts → R accounts)
+    → All P markets → All Q markets → All R markets
+both P Q R [] joined one other = All-nil R
+both P Q R (first ∷ others) joined one other =
+    All-cons R first others (joined first (All-head P first others one) (All-head Q first others other))
+    (both P Q R others joined (All-tail P first others one) (All-tail Q first others other))
+
+market_cells : (rows : List PlainRow) (markets : List PlainMarketAccounts) → All AreSound markets → All IsAccepted markets → All IsMarketCell (map (market_opened rows) markets)
+market_cells rows markets sound accepted =
+    All-map IsMarketCell (market_opened rows) markets
+    (both AreSound IsAccepted (λ accounts. IsMarketCell (market_opened rows accounts)) markets (λ accounts. IsMarketCell-new accounts _) sound accepted)
+
+-- ---- no two wallets have one address
+
+-- one where it is so
+abbrev one : Bool → ℕ
+one b = cond b 1 0
+
+times-cons : (address x : Address) (xs : List Address) → times address (x ∷ xs) ≡ one (is_same address x) + times address xs
+times-cons address x xs = sum_by-cons (λ (y : Address). one (is_same address y)) x xs
+
+times-append : (address : Address) (xs ys : List Address) → times address (xs ++ ys) ≡ times address xs + times address ys
+times-append address xs ys = sum_by-append (λ (y : Address). one (is_same address y)) xs ys
+
+-- an address that does not stand there is that of no cell
+none-among : (rows : List PlainRow) (address : Address) (accounts : List PlainAccount) → times address (map address_of accounts) ≡ 0
+    → is_among address (map (wallet_opened rows) accounts) ≡ false
+none-among rows address [] none = refl
+none-among rows address (first ∷ others) none =
+    let counted = times-cons address first.address (map address_of others) in
+    ⊎_elim
+    (λ (same : is_same address first.address ≡ true). absurd (omega (arith, counted, ap one same)))
+    (λ (apart : is_same address first.address ≡ false).
+    ap (λ (b : Bool). b || is_among address (map (wallet_opened rows) others)) apart ∙ none-among rows address others (omega arith))
+    (cases_Bool (is_same address first.address))
+
+cells-apart : (rows : List PlainRow) (accounts : List PlainAccount) → ((address : Address) → times address (map address_of accounts) ≤ 1)
+    → AreApart (map (wallet_opened rows) accounts)
+cells-apart rows [] once = tt
+cells-apart rows (first ∷ others) once = (
+  none-among rows first.address others
+      (omega (arith, once first.address, times-cons first.address first.address (map address_of others), ap one (is_same-refl first.address))),
+  cells-apart rows others (λ address. omega (arith, once address, times-cons address first.address (map address_of others))),
+)
+
+wallets-apart : (rows : List PlainRow) (accounts : PlainAccounts) → AreAccepted accounts → AreApart (map (wallet_opened rows) accounts.wallets)
+wallets-apart rows accounts accepted =
+    cells-apart rows accounts.wallets
+    (λ address.
+    omega (
+      arith,
+      accepted.once address,
+      times-append address (map address_of accounts.mints) (map address_of accounts.wallets ++ flat_map all_of_market accounts.markets),
+      times-append address (map address_of accounts.wallets) (flat_map all_of_market accounts.markets),
+    ))
+
+-- ---- all of them
+
+pub AreCells-opened : (script : PlainScript) (cells : CellsState) → IsStart script.start → cells.markets ≡ map (market_opened script.rows) script.start.markets
+    → cells.wallets ≡ map (wallet_opened script.rows) script.start.wallets → All IsWalletCell cells.wallets → AreCells cells
+AreCells-opened script cells start markets wallets kept = record {
+  markets = subst (All IsMarketCell) (sym markets) (market_cells script.rows script.start.markets start.sound start.accepted.markets);
+  wallets = kept;
+  apart = subst AreApart (sym wallets) (wallets-apart script.rows script.start start.accepted);
+}

@@ -1,0 +1,147 @@
+-- Counts of addresses, in one pass over the rows.
+use Rattle.std.proofs.Common.{◌≡◌, ℕ, ◌+◌, ◌<◌, ◌≤◌, Bool, true, false, ◌&&◌, ◌||◌, not, cond, List, [], ◌∷◌, length, get_or, map, take, count_by, unwrap_or, Option, Some, None, refl, sym, ap, ◌∙◌, arith, ⊎_elim}
+use Rattle.std.specs.List.{list_any}
+use Rattle.std.proofs.lemmas.Bool.{cases_Bool, cond_both}
+use Rattle.std.proofs.lemmas.List.{length-map, length-take-le, map-append, take_more}
+use Rattle.std.proofs.lemmas.List.Sums.{count_by-le-length, sum_by-append, sum_by-cons}
+use Rattle.dex_types.specs.declared.addresses.Address.{Address}
+use Rattle.dex_types.specs.declared.rows.Row.{Row}
+use Rattle.dex_types.specs.Addresses.{is_same}
+use Rattle.dex_types.specs.Rows.{PlainRow, row_of}
+use Rattle.dex_types.specs.Wallets.{is_lower, with_address, with_role}
+use Rattle.dex_laws.proofs.TraderLaws.{is_same-true, is_same-sym}
+use Rattle.dex_fold.specs.Fold.{names}
+use Rattle.dex_bank.specs.Counts.{is_earlier, is_role, one}
+
+-- ---- one address more
+
+pub counted-once : (found : Address → Option ℕ) (address other : Address) (more : ℕ) → more ≡ unwrap_or (found address) 0 + 1
+    → unwrap_or (cond (is_same address other) (Some more) (found other)) 0 ≡ unwrap_or (found other) 0 + one (is_same other address)
+counted-once found address other more is_more =
+    ⊎_elim
+    (λ (same : is_same address other ≡ true).
+    ap (λ (b : Bool). unwrap_or (cond b (Some more) (found other)) 0) same
+    ∙ is_more
+    ∙ ap (λ (a : Address). unwrap_or (found a) 0 + 1) (is_same-true address other same)
+    ∙ ap (λ (b : Bool). unwrap_or (found other) 0 + one b) (sym (is_same-sym other address ∙ same)))
+    (λ (apart : is_same address other ≡ false).
+    let none : one (is_same other address) ≡ 0 = ap one (is_same-sym other address ∙ apart) in
+    ap (λ (b : Bool). unwrap_or (cond b (Some more) (found other)) 0) apart ∙ omega (arith, none))
+    (cases_Bool (is_same address other))
+
+-- ---- one row more
+
+pub counted-more : (test : PlainRow → Bool) (rows : List Row) (i : ℕ) (row : Row) → i < length rows → row ≡ get_or rows i row
+    → count_by test (map row_of (take (i + 1) rows)) ≡ count_by test (map row_of (take i rows)) + one (test (row_of row))
+counted-more test rows i row within at =
+    let before : List PlainRow = map row_of (take i rows) in
+    let last : PlainRow = row_of (get_or rows i row) in
+    let counted : PlainRow → ℕ = λ r. one (test r) in
+    ap (λ (l : List Row). count_by test (map row_of l)) (take_more rows i row within)
+    ∙ ap (count_by test) (map-append row_of (take i rows) (get_or rows i row ∷ []))
+    ∙ sum_by-append counted before (last ∷ [])
+    ∙ ap (λ (n : ℕ). count_by test before + n) (sum_by-cons counted last [] ∙ omega arith)
+    ∙ ap (λ (r : Row). count_by test before + one (test (row_of r))) (sym at)
+
+pub counted-le : (test : PlainRow → Bool) (rows : List Row) (i : ℕ) → i < length rows → count_by test (map row_of (take i rows)) ≤ i
+counted-le test rows i within =
+    let so_far : List Row = take i rows in
+    omega (arith, count_by-le-length test (map row_of so_far), length-map so_far row_of, length-take-le i rows (omega arith))
+
+-- ---- roles
+
+-- the wallet of an earlier role is not counted again
+pub counted-earlier : (earlier : List (Option Address)) (wallet other : Address) → is_earlier earlier wallet ≡ true
+    → one (not (is_earlier earlier other) && is_same other wallet) ≡ 0
+counted-earlier earlier wallet other before =
+    ⊎_elim
+    (λ (same : is_same other wallet ≡ true).
+    ap (λ (b : Bool). one (not b && is_same other wallet)) (ap (is_earlier earlier) (is_same-true other wallet same) ∙ before))
+    (λ (apart : is_same other wallet ≡ false).
+    ap (λ (b : Bool). one (not (is_earlier earlier other) && b)) apart ∙ never (not (is_earlier earlier other)))
+    (cases_Bool (is_same other wallet))
+  where
+    never : (b : Bool) → ◌≡◌ {A = ℕ} (one (b && false)) 0
+    never true = refl
+    never false = refl
+
+-- another one is
+pub counted-new : (earlier : List (Option Address)) (wallet other : Address) → is_earlier earlier wallet ≡ false
+    → one (not (is_earlier earlier other) && is_same other wallet) ≡ one (is_same other wallet)
+counted-new earlier wallet other before =
+    ⊎_elim
+    (λ (same : is_same other wallet ≡ true).
+    ap (λ (b : Bool). one (not b && is_same other wallet)) (ap (is_earlier earlier) (is_same-true other wallet same) ∙ before))
+    (λ (apart : is_same other wallet ≡ false).
+    ap (λ (b : Bool). one (not (is_earlier earlier other) && b)) apart ∙ never (not (is_earlier earlier other)) ∙ ap one (sym apart))
+    (cases_Bool (is_same other wallet))
+  where
+    never : (b : Bool) → one (b && false) ≡ one false
+    never true = refl
+    never false = refl
+
+-- the wallets that a row names are those of its roles
+or-swap : (a b c : Bool) → (a || (b || c)) ≡ (b || (a || c))
+or-swap true true c = refl
+or-swap true false c = refl
+or-swap false true c = refl
+or-swap false false c = refl
+
+or-again : (a c : Bool) → (a || c) ≡ (a || (a || c))
+or-again true c = refl
+or-again false c = refl
+
+any-with_address : (address new : Address) (addresses : List Address)
+    → list_any (is_same address) (with_address new addresses) ≡ (is_same address new || list_any (is_same address) addresses)
+any-with_address address new [] = refl
+any-with_address address new (first ∷ others) =
+    let rest : Bool = list_any (is_same address) others in
+    cond_both (is_same new first) (first ∷ others) (cond (is_lower new first) (new ∷ first ∷ others) (first ∷ with_address new others))
+    (λ list. list_any (is_same address) list ≡ (is_same address new || (is_same address first || rest)))
+    (λ same.
+    let is : new ≡ first = is_same-true new first same in
+    or-again (is_same address first) rest ∙ ap (λ (x : Address). is_same address x || (is_same address first || rest)) (sym is))
+    (λ apart.
+    cond_both (is_lower new first) (new ∷ first ∷ others) (first ∷ with_address new others)
+    (λ list. list_any (is_same address) list ≡ (is_same address new || (is_same address first || rest)))
+    (λ lower. refl)
+    (λ higher. ap (λ (b : Bool). is_same address first || b) (any-with_address address new others) ∙ or-swap (is_same address first) (is_same address new) rest))
+
+any-with_role : (address : Address) (role : Option Address) (addresses : List Address)
+    → list_any (is_same address) (with_role role addresses) ≡ (is_role role address || list_any (is_same address) addresses)
+any-with_role address None addresses = refl
+any-with_role address (Some wallet) addresses = any-with_address address wallet addresses
+
+names-roles : (row : PlainRow) (address : Address)
+    → names row address ≡ (is_role row.coin address || (is_role row.pc address || (is_role row.discount address || (is_role row.referrer address || false))))
+names-roles row address =
+    let one_role : List Address = with_role row.referrer [] in
+    let two : List Address = with_role row.discount one_role in
+    let three : List Address = with_role row.pc two in
+    any-with_role address row.coin three
+    ∙ ap (λ (b : Bool). is_role row.coin address || b) (any-with_role address row.pc two
+    ∙ ap (λ (b : Bool). is_role row.pc address || b) (any-with_role address row.discount one_role
+    ∙ ap (λ (b : Bool). is_role row.discount address || b) (any-with_role address row.referrer [])))
+
+-- each counted where no earlier one was, all together count a wallet of any once
+roles-once : (n : ℕ) (coin pc discount referrer : Bool)
+    → ((n + one (not false && coin)) + one (not (coin || false) && pc)) + one (not (coin || (pc || false)) && discount)
+    + one (not (coin || (pc || (discount || false))) && referrer)
+    ≡ n + one (coin || (pc || (discount || (referrer || false))))
+roles-once n true pc discount referrer = omega arith
+roles-once n false true discount referrer = omega arith
+roles-once n false false true referrer = omega arith
+roles-once n false false false true = omega arith
+roles-once n false false false false = omega arith
+
+pub counted-roles : (row : PlainRow) (wallet : Address) (before first second third after : ℕ)
+    → first ≡ before + one (not (is_earlier (None ∷ None ∷ None ∷ []) wallet) && is_role row.coin wallet)
+    → second ≡ first + one (not (is_earlier (row.coin ∷ None ∷ None ∷ []) wallet) && is_role row.pc wallet)
+    → third ≡ second + one (not (is_earlier (row.coin ∷ row.pc ∷ None ∷ []) wallet) && is_role row.discount wallet)
+    → after ≡ third + one (not (is_earlier (row.coin ∷ row.pc ∷ row.discount ∷ []) wallet) && is_role row.referrer wallet)
+    → after ≡ before + one (names row wallet)
+counted-roles row wallet before first second third after coin pc discount referrer =
+    let named : one (names row wallet) ≡ one (is_role row.coin wallet || (is_role row.pc wallet || (is_role row.discount wallet || (is_role row.referrer wallet || false)))) =
+    ap one (names-roles row wallet) in
+    let all = roles-once before (is_role row.coin wallet) (is_role row.pc wallet) (is_role row.discount wallet) (is_role row.referrer wallet) in
+    omega (arith, coin, pc, discount, referrer, named, all)

@@ -1,0 +1,78 @@
+-- The cells of an exchange, and the world that they are.
+use Rattle.std.specs.Prelude.{◌≡◌, Bool, true, false, List, map, All, Option}
+use Rattle.std.specs.List.{AllZip, list_any}
+use Rattle.dex_types.specs.declared.addresses.Address.{Address}
+use Rattle.dex_types.specs.declared.terms.Program.{Program}
+use Rattle.dex_types.specs.Accounts.{PlainAccount, PlainMarketAccounts}
+use Rattle.dex_types.specs.Addresses.{is_same}
+use Rattle.dex_types.specs.Rows.{PlainRow}
+use Rattle.dex_types.specs.Wallets.{row_wallets}
+use Rattle.dex_cell.specs.CellState as market_cell
+use Rattle.dex_cell.specs.CellState.{IsMarketCell, MarketCellState, entries_of}
+use Rattle.dex_wallet.specs.CellState as wallet_cell
+use Rattle.dex_wallet.specs.CellState.{CellState, IsWalletCell}
+use Rattle.dex_fold.specs.Fold.{names}
+use Rattle.dex_fold.specs.World.{MarketState, World}
+use Rattle.dex_act.specs.Wallets.{AreApart, is_among, wallet_state_of}
+
+-- the mints and which of them are SRM and MSRM, the cells of the markets and of the wallets in declared order, and the program
+pub record CellsState : Type 0 where
+  pub mints : List PlainAccount
+  pub srm : Option Address
+  pub msrm : Option Address
+  pub markets : List MarketCellState
+  pub wallets : List CellState
+  pub program : Program
+
+-- a cell's market, with its journal
+abbrev pub market_state_of : MarketCellState → MarketState
+market_state_of cell = record { market = market_cell.market_at cell; entries = entries_of cell }
+
+-- the world of all cells
+abbrev pub world_of : CellsState → World
+world_of cells = record {
+  markets = map market_state_of cells.markets;
+  wallets = map wallet_state_of cells.wallets;
+  srm = cells.srm;
+  msrm = cells.msrm;
+  program = cells.program;
+}
+
+-- what always holds of cells: each is one, and no two wallets have one address
+pub record AreCells (cells : CellsState) : Type 0 where
+  pub markets : All IsMarketCell cells.markets
+  pub wallets : All IsWalletCell cells.wallets
+  pub apart : AreApart cells.wallets
+
+-- ---- what a row needs
+
+-- one of the cells is that of the market of this address
+abbrev pub is_market : Address → List MarketCellState → Bool
+is_market address cells = list_any (λ (cell : MarketCellState). is_same address cell.accounts.address) cells
+
+-- the row names a market and wallets that are here, and each cell that it names has room for one entry more
+pub record CanAct (row : PlainRow) (cells : CellsState) : Type 0 where
+  pub market : is_market row.market cells.markets ≡ true
+  pub wallets : All (λ (address : Address). is_among address cells.wallets ≡ true) (row_wallets row)
+  pub market_spare :
+      All (λ (cell : MarketCellState). is_same row.market cell.accounts.address ≡ true → market_cell.HasSpare cell)
+      cells.markets
+  pub wallet_spare : All (λ (cell : CellState). names row cell.address ≡ true → wallet_cell.HasSpare cell) cells.wallets
+
+-- ---- what no row changes
+
+-- the cells as they were opened
+abbrev pub opened_of : CellsState → CellsState
+opened_of cells = record cells {
+  markets = map (λ (cell : MarketCellState). market_cell.new_cell cell.start cell.room) cells.markets;
+  wallets = map (λ (cell : CellState). wallet_cell.new_cell cell.address cell.start cell.room) cells.wallets;
+}
+
+-- the accounts of markets
+abbrev pub accounts_in : List MarketCellState → List PlainMarketAccounts
+accounts_in cells = map (λ (cell : MarketCellState). cell.accounts) cells
+
+-- the cells of other markets than that of this address are as they were
+abbrev pub OthersStay : Address → List MarketCellState → List MarketCellState → Type 0
+OthersStay address before after =
+    AllZip (λ (old new : MarketCellState). is_same address old.accounts.address ≡ false → new ≡ old) before after

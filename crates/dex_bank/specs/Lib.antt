@@ -1,0 +1,6 @@
+pub mod Cells
+pub mod Opened
+pub mod Closed
+pub mod CellsInside
+pub mod Stepping
+pub mod Counts

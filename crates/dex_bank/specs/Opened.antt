@@ -1,0 +1,40 @@
+-- The cells with which a script starts.
+use Rattle.std.specs.Prelude.{ℕ, List, map, count_by}
+use Rattle.dex_types.specs.declared.addresses.Address.{Address}
+use Rattle.dex_types.specs.Accounts.{PlainAccount, PlainMarketAccounts}
+use Rattle.dex_types.specs.Addresses.{is_same}
+use Rattle.dex_types.specs.Rows.{PlainRow}
+use Rattle.dex_cell.specs.CellState as market
+use Rattle.dex_cell.specs.CellState.{MarketCellState}
+use Rattle.dex_wallet.specs.CellState as wallet
+use Rattle.dex_wallet.specs.CellState.{CellState}
+use Rattle.dex_fold.specs.Fold.{names}
+use Rattle.dex_script.specs.Drafts.{PlainScript}
+use Rattle.dex_bank.specs.Cells.{CellsState}
+
+-- how many rows are on the market of an address
+abbrev pub rows_on : Address → List PlainRow → ℕ
+rows_on address rows = count_by (λ (row : PlainRow). is_same row.market address) rows
+
+-- how many rows name the wallet of an address
+abbrev pub rows_naming : Address → List PlainRow → ℕ
+rows_naming address rows = count_by (λ (row : PlainRow). names row address) rows
+
+-- the cell of a market, without an entry, with room for as many as there are rows on it
+abbrev pub market_opened : List PlainRow → PlainMarketAccounts → MarketCellState
+market_opened rows accounts = market.new_cell accounts (rows_on accounts.address rows)
+
+-- the cell of a wallet, without an entry, with room for as many as there are rows that name it
+abbrev pub wallet_opened : List PlainRow → PlainAccount → CellState
+wallet_opened rows account = wallet.new_cell account.address account.bytes (rows_naming account.address rows)
+
+-- one cell for each market and each wallet
+abbrev pub opened : PlainScript → CellsState
+opened script = record {
+  mints = script.start.mints;
+  srm = script.start.srm;
+  msrm = script.start.msrm;
+  markets = map (market_opened script.rows) script.start.markets;
+  wallets = map (wallet_opened script.rows) script.start.wallets;
+  program = script.program;
+}

@@ -1,0 +1,85 @@
+//! All cells of an exchange.
+
+ghost use Rattle.std.specs.Prelude.{◌≡◌, IfErr, IfOk, Some};
+
+use crate::closing::closed;
+use crate::opening::opened;
+use crate::stepping::stepped;
+use dex_cell::MarketCell;
+use dex_report::Outcome;
+use dex_script::Script;
+use dex_types::{Address, Named, NoMemory, Program, Reply, Row};
+use dex_wallet::WalletCell;
+use std::alloc::Global;
+use std::marker::Model;
+
+/// The cells of all markets and wallets of an exchange, on which rows act one after the other.
+#[derive(Drop)]
+pub struct Cells {
+    pub(crate) mints: Vec<Named>,
+    pub(crate) srm: Option<Address>,
+    pub(crate) msrm: Option<Address>,
+    pub(crate) markets: Vec<MarketCell>,
+    pub(crate) wallets: Vec<WalletCell>,
+    pub(crate) program: Program,
+}
+
+impl Model for Cells {
+    ghost use Rattle.std.specs.Prelude.{map};
+    ghost use Rattle.dex_types.specs.Accounts.{named_of};
+    ghost use Rattle.dex_bank.specs.Cells.{AreCells, CellsState};
+    ghost use Rattle.dex_bank.specs.CellsInside.{cells_inside, IsKept};
+
+    ghost Value = { CellsState };
+
+    ghost view = { cells_inside };
+
+    ghost invariant = { IsKept };
+}
+
+impl Cells {
+    ghost use Rattle.dex_types.specs.declared.refusals.Refusal.{Refusal};
+    ghost use Rattle.dex_types.specs.declared.replies.Reply.TheVariants.{Refused};
+    ghost use Rattle.dex_types.specs.Market.{Market};
+    ghost use Rattle.dex_types.specs.Rows.{row_of};
+    ghost use Rattle.dex_history.specs.Journal.{row_step};
+    ghost use Rattle.dex_fold.specs.Fold.{act};
+    ghost use Rattle.dex_fold.specs.World.{market_at, seen_by};
+    ghost use Rattle.dex_report.specs.Outcomes.{outcome_of};
+    ghost use Rattle.dex_bank.specs.Cells as spec;
+    ghost use Rattle.dex_bank.specs.Cells.{AreCells, CanAct};
+    ghost use Rattle.dex_bank.specs.Closed as left;
+    ghost use Rattle.dex_bank.specs.Opened as first;
+
+    /// The cells with which a script starts: one for each market and each wallet, with room for an entry of each row that names it.
+    pub fn open(alloc: Global, script: &Script) -> Result<Cells, NoMemory>
+        ensures cells { IfOk result (λ cells. cells ≡ first.opened script.now) }
+    {
+        opened(alloc, script)
+    }
+
+    /// A row acts on its market and on the wallets that it names, and this is its market's reply. It takes no memory.
+    pub fn step(&mut self, row: &Row) -> Reply
+        requires { CanAct (row_of row.now) self.old }
+        ensures reply { (m : Market) → market_at row.entry.now.market (spec.world_of self.old).markets ≡ Some m
+            → result
+            ≡ (row_step (row_of row.entry.now) (seen_by (row_of row.entry.now) (spec.world_of self.old)) m).reply }
+        ensures acted { spec.world_of self.new ≡ act (row_of row.entry.now) (spec.world_of self.old) }
+        ensures kept { spec.opened_of self.new ≡ spec.opened_of self.old }
+        ensures others { spec.OthersStay row.entry.now.market self.old.markets self.new.markets }
+        ensures refused { (why : Refusal) → result ≡ Refused why → spec.accounts_in self.new.markets ≡ spec.accounts_in self.old.markets }
+        ensures cells { AreCells self.new }
+    {
+        stepped(self, row)
+    }
+
+    /// The accounts and the journals of all cells, as they are. Where there is no memory for them, all cells are given back as they
+    /// were.
+    pub fn close(self, alloc: Global) -> Result<Outcome, Cells>
+        ensures outcome { IfOk result (λ outcome. outcome_of outcome ≡ left.closed self) }
+        ensures refused { IfErr result (λ cells. cells ≡ self) }
+        ensures cells { AreCells self }
+    {
+        closed(alloc, self)
+    }
+}

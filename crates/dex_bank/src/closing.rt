@@ -1,0 +1,157 @@
+//! What cells leave where they are closed.
+
+ghost use Rattle.std.specs.Prelude.{◌≡◌, ◌<◌, ◌≤◌, ◌++◌, ◌∷◌, [], IfErr, IfOk, IfSome, length, map};
+ghost use Rattle.std.specs.Prelude.{vec_len, vec_capacity};
+ghost use Rattle.dex_types.specs.Accounts.{market_accounts_of, named_of};
+ghost use Rattle.dex_cell.specs.CellState.{MarketCellState};
+ghost use Rattle.dex_report.specs.Outcomes.{market_journal_of, outcome_of, wallet_journal_of};
+ghost use Rattle.dex_bank.specs.Closed as left;
+
+use crate::cells::Cells;
+use dex_cell::MarketCell;
+use dex_report::{MarketJournal, Outcome, WalletJournal};
+use dex_types::{Accounts, MarketAccounts, Named};
+use dex_wallet::WalletCell;
+use std::alloc::Global;
+
+/// What cells leave, or room for it: the accounts of each, and its journal.
+#[derive(Drop)]
+struct Left<A, J> {
+    accounts: Vec<A>,
+    journals: Vec<J>,
+}
+
+/// Room for what so many cells leave, if there is memory for it.
+fn room_for<A: Drop, J: Drop>(alloc: Global, count: usize) -> Option<Left<A, J>>
+    ensures accounts { IfSome result (λ room. (room.accounts.items ≡ []) × (count ≤ vec_capacity room.accounts)) }
+    ensures journals { IfSome result (λ room. (room.journals.items ≡ []) × (count ≤ vec_capacity room.journals)) }
+{
+    let accounts = Vec::with_capacity(alloc, count).ok()?;
+    let journals = Vec::with_capacity(alloc, count).ok()?;
+    Some(Left { accounts, journals })
+}
+
+/// Writes an item behind the others, where room for it is reserved.
+fn append<T: Drop>(items: &mut Vec<T>, item: T)
+    requires { vec_len items.old < vec_capacity items.old }
+    ensures items { items.new.items ≡ items.old.items ++ item ∷ [] }
+    ensures reserved { vec_capacity items.old ≤ vec_capacity items.new }
+{
+    items.push(item).unwrap();
+}
+
+/// What a market's cell leaves.
+fn market_left(cell: MarketCell) -> (MarketAccounts, MarketJournal)
+    ensures accounts { market_accounts_of result.0 ≡ cell.accounts }
+    ensures journal { market_journal_of result.1 ≡ left.market_journal_in cell }
+{
+    let (accounts, entries) = cell.into_parts();
+    let address = accounts.address;
+    (accounts, MarketJournal { address, entries })
+}
+
+/// What the cells of markets leave, written into the room for it.
+fn markets_left(
+    cells: Vec<MarketCell>,
+    room: Left<MarketAccounts, MarketJournal>,
+) -> Left<MarketAccounts, MarketJournal>
+    requires accounts { (room.accounts.items ≡ []) × (vec_len cells ≤ vec_capacity room.accounts) }
+    requires journals { (room.journals.items ≡ []) × (vec_len cells ≤ vec_capacity room.journals) }
+    ensures accounts { map market_accounts_of result.accounts.items
+        ≡ map (λ (cell : MarketCellState). cell.accounts) cells.items }
+    ensures journals { map market_journal_of result.journals.items ≡ map left.market_journal_in cells.items }
+{
+    let Left {
+        mut accounts,
+        mut journals,
+    } = room;
+    for cell in cells {
+        let (own, journal) = market_left(cell);
+        append(&mut accounts, own);
+        append(&mut journals, journal);
+    }
+    Left { accounts, journals }
+}
+
+/// What a wallet's cell leaves.
+fn wallet_left(cell: WalletCell) -> (Named, WalletJournal)
+    ensures account { named_of result.0 ≡ left.account_in cell }
+    ensures journal { wallet_journal_of result.1 ≡ left.wallet_journal_in cell }
+{
+    let address = cell.address();
+    let (bytes, entries) = cell.into_parts();
+    (Named { address, bytes }, WalletJournal { address, entries })
+}
+
+/// What the cells of wallets leave, written into the room for it.
+fn wallets_left(
+    cells: Vec<WalletCell>,
+    room: Left<Named, WalletJournal>,
+) -> Left<Named, WalletJournal>
+    requires accounts { (room.accounts.items ≡ []) × (vec_len cells ≤ vec_capacity room.accounts) }
+    requires journals { (room.journals.items ≡ []) × (vec_len cells ≤ vec_capacity room.journals) }
+    ensures accounts { map named_of result.accounts.items ≡ map left.account_in cells.items }
+    ensures journals { map wallet_journal_of result.journals.items ≡ map left.wallet_journal_in cells.items }
+{
+    let Left {
+        mut accounts,
+        mut journals,
+    } = room;
+    for cell in cells {
+        let (own, journal) = wallet_left(cell);
+        append(&mut accounts, own);
+        append(&mut journals, journal);
+    }
+    Left { accounts, journals }
+}
+
+/// What all cells leave, written into the room for it.
+fn left_by(
+    cells: Cells,
+    of_markets: Left<MarketAccounts, MarketJournal>,
+    of_wallets: Left<Named, WalletJournal>,
+) -> Outcome
+    requires accounts { (of_markets.accounts.items ≡ []) × (length cells.markets ≤ vec_capacity of_markets.accounts) }
+    requires journals { (of_markets.journals.items ≡ []) × (length cells.markets ≤ vec_capacity of_markets.journals) }
+    requires wallet_accounts { (of_wallets.accounts.items ≡ [])
+        × (length cells.wallets ≤ vec_capacity of_wallets.accounts) }
+    requires wallet_journals { (of_wallets.journals.items ≡ [])
+        × (length cells.wallets ≤ vec_capacity of_wallets.journals) }
+    ensures { outcome_of result ≡ left.closed cells }
+{
+    let Cells {
+        mints,
+        srm,
+        msrm,
+        markets,
+        wallets,
+        program: _,
+    } = cells;
+    let markets = markets_left(markets, of_markets);
+    let wallets = wallets_left(wallets, of_wallets);
+    Outcome {
+        accounts: Accounts {
+            mints,
+            srm,
+            msrm,
+            wallets: wallets.accounts,
+            markets: markets.accounts,
+        },
+        markets: markets.journals,
+        wallets: wallets.journals,
+    }
+}
+
+/// The accounts and the journals of all cells, or all cells as they were where there is no memory.
+pub(crate) fn closed(alloc: Global, cells: Cells) -> Result<Outcome, Cells>
+    ensures outcome { IfOk result (λ outcome. outcome_of outcome ≡ left.closed cells) }
+    ensures refused { IfErr result (λ same. same ≡ cells) }
+{
+    match room_for(alloc, cells.markets.len()) {
+        Some(of_markets) => match room_for(alloc, cells.wallets.len()) {
+            Some(of_wallets) => Ok(left_by(cells, of_markets, of_wallets)),
+            None => Err(cells),
+        },
+        None => Err(cells),
+    }
+}

@@ -1,0 +1,17 @@
+//! Where a row of a lane may be held up.
+
+/// Called once for each row, when the row has the turn of everything that it acts on and before it is decided. A
+/// pace promises nothing and reaches no account: the replies are the same under each. Tests hold a row here, to see
+/// others go on beside it.
+pub trait Pace {
+    /// The row of this number is inside on this lane.
+    fn inside(&self, lane: u32, row: u32);
+}
+
+/// Lets each row go on at once.
+#[derive(Clone, Copy, Debug, Default, PartialEq, Eq)]
+pub struct NoPace;
+
+impl Pace for NoPace {
+    fn inside(&self, _lane: u32, _row: u32) {}
+}

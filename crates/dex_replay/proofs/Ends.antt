@@ -1,0 +1,64 @@
+-- What cells leave at the end is the replay of their script.
+use Rattle.std.proofs.Common.{◌≡◌, ℕ, List, [], ◌∷◌, map, refl, sym, ap, ◌∙◌, subst}
+use Rattle.std.specs.List.{All, AllZip}
+use Rattle.std.proofs.lemmas.List.Elements.{All-head, All-tail}
+use Rattle.dex_types.specs.Accounts.{PlainAccount, PlainMarketAccounts}
+use Rattle.dex_accounts.specs.StandsFor.{StandsFor}
+use Rattle.dex_cell.specs.CellState.{AreOfOneMarket, MarketCellState}
+use Rattle.dex_token.specs.TokenAccount.{with_amount}
+use Rattle.dex_wallet.specs.CellState.{CellState, IsWalletCell, balance_of}
+use Rattle.dex_act.specs.Wallets.{wallet_state_of}
+use Rattle.dex_dump.specs.Accepted.{AreAccepted, address_of}
+use Rattle.dex_fold.specs.World.{MarketState, WalletState, World}
+use Rattle.dex_report.specs.Outcomes.{PlainMarketJournal, PlainWalletJournal}
+use Rattle.dex_script.specs.Drafts.{PlainScript}
+use Rattle.dex_bank.specs.Cells.{AreCells, CellsState, market_state_of, world_of}
+use Rattle.dex_bank.specs.Closed.{account_in, closed, market_journal_in, wallet_journal_in}
+use Rattle.dex_replay.specs.Replays.{IsOfStart, IsReplayOf, end_world, with_amounts}
+use Rattle.dex_replay.proofs.LastAccounts.{last-accepted}
+use Rattle.dex_replay.proofs.MappedLists.{AllZip-maps, map-map}
+use Rattle.dex_replay.proofs.Starts.{AreOfScript, its-address, market-addresses, start_account, wallet-addresses}
+
+-- wallets are their starting accounts with their last amounts
+amounts-of : (cells : List CellState) → All IsWalletCell cells → map account_in cells ≡ with_amounts (map start_account cells) (map wallet_state_of cells)
+amounts-of [] kept = refl
+amounts-of (cell ∷ cells) kept =
+    let last : PlainAccount = record { address = cell.address; bytes = with_amount cell.start (balance_of cell.bytes) } in
+    ap (λ (bytes : List ℕ). record { address = cell.address; bytes = bytes } ∷ map account_in cells) (All-head IsWalletCell cell cells kept).others
+    ∙ ap (λ (accounts : List PlainAccount). last ∷ accounts) (amounts-of cells (All-tail IsWalletCell cell cells kept))
+
+module _ (script : PlainScript) (cells : CellsState) (own : AreOfScript script cells) (kept : AreCells cells) where
+  pub of-start : IsOfStart script (closed cells)
+  of-start = record {
+    mints = own.mints;
+    srm = own.srm;
+    msrm = own.msrm;
+    wallets = map-map account_in address_of cells.wallets ∙ wallet-addresses script cells own;
+    markets = subst (λ (first : List PlainMarketAccounts). AllZip AreOfOneMarket first (map (λ (cell : MarketCellState). cell.accounts) cells.markets)) own.markets
+        (AllZip-maps AreOfOneMarket (λ (cell : MarketCellState). cell.start) (λ (cell : MarketCellState). cell.accounts) cells.markets
+        (λ k d within. (kept.markets k d within).one_market));
+    market_journals = map-map market_journal_in (λ (journal : PlainMarketJournal). journal.address) cells.markets ∙ market-addresses script cells own (its-address cells kept);
+    wallet_journals = map-map wallet_journal_in (λ (journal : PlainWalletJournal). journal.address) cells.wallets ∙ wallet-addresses script cells own;
+  }
+
+  pub is-replay : AreAccepted script.start → world_of cells ≡ end_world script → IsReplayOf script (closed cells)
+  is-replay accepted ended =
+      let end_markets : map market_state_of cells.markets ≡ (end_world script).markets = ap (λ (world : World). world.markets) ended in
+      let end_wallets : map wallet_state_of cells.wallets ≡ (end_world script).wallets = ap (λ (world : World). world.wallets) ended in
+      record {
+        start = of-start;
+        accepted = last-accepted script cells own kept accepted;
+        markets = map-map market_journal_in (λ (journal : PlainMarketJournal). journal.entries) cells.markets
+            ∙ sym (map-map market_state_of (λ (state : MarketState). state.entries) cells.markets)
+            ∙ ap (λ (states : List MarketState). map (λ (state : MarketState). state.entries) states) end_markets;
+        wallets = map-map wallet_journal_in (λ (journal : PlainWalletJournal). journal.entries) cells.wallets
+            ∙ sym (map-map wallet_state_of (λ (state : WalletState). state.entries) cells.wallets)
+            ∙ ap (λ (states : List WalletState). map (λ (state : WalletState). state.entries) states) end_wallets;
+        stand = subst (λ (states : List MarketState). AllZip (λ (accounts : PlainMarketAccounts) (state : MarketState). StandsFor accounts state.market)
+            (map (λ (cell : MarketCellState). cell.accounts) cells.markets) states) end_markets
+            (AllZip-maps (λ (accounts : PlainMarketAccounts) (state : MarketState). StandsFor accounts state.market) (λ (cell : MarketCellState). cell.accounts)
+            market_state_of cells.markets (λ k d within. (kept.markets k d within).sound.stands));
+        amounts = amounts-of cells.wallets kept.wallets
+            ∙ ap (λ (accounts : List PlainAccount). with_amounts accounts (map wallet_state_of cells.wallets)) own.wallets
+            ∙ ap (λ (states : List WalletState). with_amounts script.start.wallets states) end_wallets;
+      }

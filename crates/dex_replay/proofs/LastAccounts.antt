@@ -1,0 +1,157 @@
+-- The accounts that cells leave are accepted, as those with which they started.
+use Rattle.std.proofs.Common.{◌≡◌, ℕ, ◌≤◌, List, [], ◌∷◌, ◌++◌, length, map, get_or, Option, Some, None, refl, sym, ap, ◌∙◌, subst, arith}
+use Rattle.std.specs.List.{All, flat_map, list_any}
+use Rattle.std.specs.Option.{IfSome}
+use Rattle.std.proofs.lemmas.List.{length-map}
+use Rattle.std.proofs.lemmas.List.Elements.{All-map}
+use Rattle.std.proofs.lemmas.List.Folds.{flat_map-map}
+use Rattle.dex_types.specs.declared.addresses.Address.{Address}
+use Rattle.dex_types.specs.Accounts.{PlainAccount, PlainAccounts, PlainMarketAccounts}
+use Rattle.dex_types.specs.Addresses.{is_same}
+use Rattle.dex_types.specs.Market.{Listing, Market}
+use Rattle.dex_sound.proofs.KeepLaws.{step-keeps}
+use Rattle.dex_market.specs.MarketAccount.{market_words}
+use Rattle.dex_token.specs.MintAccount.{IsMint}
+use Rattle.dex_token.specs.TokenAccount.{IsWallet, WalletWords, wallet_words}
+use Rattle.dex_token.proofs.AmountWrites.{wallet_words-with_amount}
+use Rattle.dex_accounts.specs.Accepted.{IsAccepted}
+use Rattle.dex_accounts.specs.Decoded.{listing_in, market_in}
+use Rattle.dex_history.specs.Journal.{Call, market_after, step_of}
+use Rattle.dex_cell.specs.CellState.{IsMarketCell, MarketCellState}
+use Rattle.dex_wallet.specs.CellState.{CellState, IsWalletCell, balance_of}
+use Rattle.dex_dump.specs.Accepted.{AreAccepted, AreApart, HasMints, IsMintOf, address_of, addresses_of, all_of_market, times}
+use Rattle.dex_dump.specs.Reading.{market_addresses}
+use Rattle.dex_script.specs.Drafts.{PlainScript}
+use Rattle.dex_bank.specs.Cells.{AreCells, CellsState}
+use Rattle.dex_bank.specs.Closed.{account_in, closed}
+use Rattle.dex_replay.proofs.MappedLists.{All-unmap, flat_map-agree, map-map}
+use Rattle.dex_replay.proofs.Starts.{AreOfScript, start_account, wallet-addresses}
+
+-- ---- of one market
+
+-- its listing stays
+pub market_after-listing : (calls : List Call) (m : Market) → (market_after m calls).listing ≡ m.listing
+market_after-listing [] m = refl
+market_after-listing (call ∷ calls) m = market_after-listing calls (step_of call m).market ∙ (step-keeps call.asked.request call.seen m).listing
+
+-- the listing that accounts tell
+pub listing-in : (accounts : PlainMarketAccounts) → (market_in accounts).listing ≡ listing_in accounts
+unfolding market_in
+listing-in accounts = refl
+
+pub listing-stays : (cell : MarketCellState) → IsMarketCell cell → listing_in cell.accounts ≡ listing_in cell.start
+listing-stays cell is =
+    sym (listing-in cell.accounts) ∙ ap (λ (m : Market). m.listing) is.end_is ∙ market_after-listing cell.calls (market_in cell.start) ∙ listing-in cell.start
+
+-- the parts that a listing names
+abbrev listed_parts : Listing → List Address
+listed_parts listing = listing.coin_vault ∷ listing.pc_vault ∷ listing.request_queue ∷ listing.event_queue ∷ listing.bids ∷ listing.asks ∷ []
+
+all-of-market : (cell : MarketCellState) → IsMarketCell cell → all_of_market cell.accounts ≡ all_of_market cell.start
+all-of-market cell is =
+    ap (λ (address : Address). (address ∷ listed_parts (listing_in cell.accounts)) ++ map address_of cell.accounts.orders) is.one_market.address
+    ∙ ap (λ (listing : Listing). (cell.start.address ∷ listed_parts listing) ++ map address_of cell.accounts.orders) (listing-stays cell is)
+    ∙ ap (λ (addresses : List Address). market_addresses cell.start ++ addresses) is.one_market.orders
+
+-- ---- of one wallet
+
+pub mint-stays : (cell : CellState) → IsWalletCell cell → (wallet_words cell.bytes).mint ≡ (wallet_words cell.start).mint
+mint-stays cell is =
+    ap (λ (bytes : List ℕ). (wallet_words bytes).mint) is.others
+    ∙ ap (λ (words : WalletWords). words.mint) (wallet_words-with_amount cell.start (balance_of cell.bytes) (ap balance_of (sym is.others)))
+
+-- ---- of all
+
+module _ (script : PlainScript) (cells : CellsState) (own : AreOfScript script cells) (kept : AreCells cells) where
+  abbrev last : PlainAccounts
+  last = (closed cells).accounts
+
+  still-mint : (address : Address) → IsMintOf script.start address → IsMintOf last address
+  still-mint address is =
+      ap (λ (mints : List PlainAccount). list_any (λ (mint : PlainAccount). is_same address mint.address) mints) own.mints ∙ is
+
+  wallet-mint : (cell : CellState) → IsWalletCell cell → IsMintOf script.start (wallet_words cell.start).mint → IsMintOf last (wallet_words cell.bytes).mint
+  wallet-mint cell is of_start = still-mint (wallet_words cell.bytes).mint (subst (λ (mint : Address). IsMintOf script.start mint) (sym (mint-stays cell is)) of_start)
+
+  market-mints : (cell : MarketCellState) → IsMarketCell cell → HasMints script.start cell.start → HasMints last cell.accounts
+  market-mints cell is of_start = record {
+    coin = still-mint (market_words cell.accounts.market).terms.coin_mint
+        (subst (λ (listing : Listing). IsMintOf script.start listing.coin_mint) (sym (listing-stays cell is)) of_start.coin);
+    pc = still-mint (market_words cell.accounts.market).terms.pc_mint
+        (subst (λ (listing : Listing). IsMintOf script.start listing.pc_mint) (sym (listing-stays cell is)) of_start.pc);
+  }
+
+  -- no address is another one than at the start
+  same-addresses : addresses_of last ≡ addresses_of script.start
+  same-addresses =
+      let mints : map address_of cells.mints ≡ map address_of script.start.mints = ap (λ (some : List PlainAccount). map address_of some) own.mints in
+      let wallets : map address_of (map account_in cells.wallets) ≡ map address_of script.start.wallets =
+      map-map account_in address_of cells.wallets ∙ wallet-addresses script cells own in
+      let markets : flat_map all_of_market (map (λ (cell : MarketCellState). cell.accounts) cells.markets) ≡ flat_map all_of_market script.start.markets =
+      flat_map-map all_of_market (λ (cell : MarketCellState). cell.accounts) cells.markets
+      ∙ flat_map-agree (λ (cell : MarketCellState). all_of_market cell.accounts) (λ (cell : MarketCellState). all_of_market cell.start) cells.markets
+      (λ k d within. all-of-market (get_or cells.markets k d) (kept.markets k d within))
+      ∙ sym (flat_map-map all_of_market (λ (cell : MarketCellState). cell.start) cells.markets)
+      ∙ ap (λ (some : List PlainMarketAccounts). flat_map all_of_market some) own.markets in
+      ap (λ (first : List Address). first ++ (map address_of last.wallets ++ flat_map all_of_market last.markets)) mints
+      ∙ ap (λ (second : List Address). map address_of script.start.mints ++ (second ++ flat_map all_of_market last.markets)) wallets
+      ∙ ap (λ (third : List Address). map address_of script.start.mints ++ (map address_of script.start.wallets ++ third)) markets
+
+  few-orders : (cell : MarketCellState) → IsMarketCell cell → length cell.start.orders ≤ 64 → length cell.accounts.orders ≤ 64
+  few-orders cell is few =
+      let now = length-map cell.accounts.orders address_of in
+      let first = length-map cell.start.orders address_of in
+      let same : ◌≡◌ {A = ℕ} (length (map address_of cell.accounts.orders)) (length (map address_of cell.start.orders)) =
+      ap (λ (addresses : List Address). length addresses) is.one_market.orders in
+      omega (arith, few, now, first, same)
+
+  module _ (accepted : AreAccepted script.start) where
+    start-of : MarketCellState → PlainMarketAccounts
+    start-of cell = cell.start
+
+    -- what holds of each market of the start holds of each cell's
+    each-start : (P : PlainMarketAccounts → Type 0) → All P script.start.markets → All (λ (cell : MarketCellState). P cell.start) cells.markets
+    each-start P all = All-unmap P (λ (cell : MarketCellState). cell.start) cells.markets
+        (subst (λ (some : List PlainMarketAccounts). All P some) (sym own.markets) all)
+
+    each-wallet : (P : PlainAccount → Type 0) → All P script.start.wallets → All (λ (cell : CellState). P (start_account cell)) cells.wallets
+    each-wallet P all = All-unmap P start_account cells.wallets (subst (λ (some : List PlainAccount). All P some) (sym own.wallets) all)
+
+    few : {A B : Type 0} (f : A → B) (xs : List A) (ys : List B) (most : ℕ) → map f xs ≡ ys → length ys ≤ most → length xs ≤ most
+    few f xs ys most same most_is =
+        let lengths = length-map xs f in
+        let equal : ◌≡◌ {A = ℕ} (length (map f xs)) (length ys) = ap (λ zs. length zs) same in
+        omega (arith, lengths, equal, most_is)
+
+    pub last-accepted : AreAccepted last
+    last-accepted =
+        let markets = each-start (HasMints script.start) accepted.market_mints in
+        let wallets = each-wallet (λ (wallet : PlainAccount). IsMintOf script.start (wallet_words wallet.bytes).mint) accepted.wallet_mints in
+        let orders = each-start (λ (market : PlainMarketAccounts). length market.orders ≤ 64) accepted.few_orders in
+        record {
+          mints = subst (λ (some : List PlainAccount). All (λ (mint : PlainAccount). IsMint mint.bytes) some) (sym own.mints) accepted.mints;
+          wallets = All-map (λ (wallet : PlainAccount). IsWallet wallet.bytes) account_in cells.wallets (λ k d within. (kept.wallets k d within).accepted);
+          markets = All-map IsAccepted (λ (cell : MarketCellState). cell.accounts) cells.markets (λ k d within. (kept.markets k d within).accepted);
+          wallet_mints = All-map (λ (wallet : PlainAccount). IsMintOf last (wallet_words wallet.bytes).mint) account_in cells.wallets
+              (λ k d within. wallet-mint (get_or cells.wallets k d) (kept.wallets k d within) (wallets k d within));
+          market_mints = All-map (HasMints last) (λ (cell : MarketCellState). cell.accounts) cells.markets
+              (λ k d within. market-mints (get_or cells.markets k d) (kept.markets k d within) (markets k d within));
+          once = λ address. subst (λ (addresses : List Address). times address addresses ≤ 1) (sym same-addresses) (accepted.once address);
+          srm = named script.start.srm cells.srm own.srm accepted.srm;
+          msrm = named script.start.msrm cells.msrm own.msrm accepted.msrm;
+          apart = subst (λ (srm : Option Address). AreApart srm cells.msrm) (sym own.srm)
+              (subst (λ (msrm : Option Address). AreApart script.start.srm msrm) (sym own.msrm) accepted.apart);
+          few_mints = subst (λ (some : List PlainAccount). length some ≤ 16) (sym own.mints) accepted.few_mints;
+          few_wallets = subst (λ (n : ℕ). n ≤ 256) (sym (length-map cells.wallets account_in)) (few start_account cells.wallets script.start.wallets 256 own.wallets accepted.few_wallets);
+          few_markets = subst (λ (n : ℕ). n ≤ 16) (sym (length-map cells.markets (λ (cell : MarketCellState). cell.accounts)))
+              (few (λ (cell : MarketCellState). cell.start) cells.markets script.start.markets 16 own.markets accepted.few_markets);
+          few_orders = All-map (λ (market : PlainMarketAccounts). length market.orders ≤ 64) (λ (cell : MarketCellState). cell.accounts) cells.markets
+              (λ k d within. few-orders (get_or cells.markets k d) (kept.markets k d within) (orders k d within));
+        }
+      where
+        some-mint : (role : Option Address) → IfSome role (IsMintOf script.start) → IfSome role (IsMintOf last)
+        some-mint None is = tt
+        some-mint (Some address) is = still-mint address is
+
+        named : (first now : Option Address) → now ≡ first → IfSome first (IsMintOf script.start) → IfSome now (IsMintOf last)
+        named first now same is = subst (λ (role : Option Address). IfSome role (IsMintOf last)) (sym same) (some-mint first is)

@@ -1,0 +1,10 @@
+mod Counting
+mod Ends
+mod LastAccounts
+mod Lawfulness
+mod MappedLists
+mod Numbers
+mod Room
+mod RunSteps
+mod Runs
+mod Starts

@@ -1,0 +1,87 @@
+-- Facts of lists that are made of others, element by element.
+use Rattle.std.proofs.Common.{◌≡◌, ℕ, zero, suc, ◌<◌, Bool, true, false, ◌||◌, cond, List, [], ◌∷◌, ◌++◌, length, get_or, map, refl, sym, ap, ◌∙◌, subst, arith}
+use Rattle.std.specs.List.{All, AllZip, Any, filter, flat_map, list_any}
+use Rattle.std.proofs.lemmas.Bool.{cond-false, cond-true}
+use Rattle.std.proofs.lemmas.List.{append-nil, get_or-map, length-map}
+use Rattle.std.proofs.lemmas.List.Elements.{All-nil, All-cons, All-head, All-tail, All-map, filter-append}
+
+pub map-map : {A B C : Type 0} (f : A → B) (g : B → C) (xs : List A) → map g (map f xs) ≡ map (λ x. g (f x)) xs
+map-map f g [] = refl
+map-map f g (x ∷ xs) = ap (λ ys. g (f x) ∷ ys) (map-map f g xs)
+
+-- two functions that agree at each element
+pub map-agree : {A B : Type 0} (f g : A → B) (xs : List A) → All (λ x. f x ≡ g x) xs → map f xs ≡ map g xs
+map-agree f g [] agree = refl
+map-agree f g (x ∷ xs) agree =
+    ap (λ y. y ∷ map f xs) (All-head (λ x. f x ≡ g x) x xs agree) ∙ ap (λ ys. g x ∷ ys) (map-agree f g xs (All-tail (λ x. f x ≡ g x) x xs agree))
+
+pub flat_map-agree : {A B : Type 0} (f g : A → List B) (xs : List A) → All (λ x. f x ≡ g x) xs → flat_map f xs ≡ flat_map g xs
+flat_map-agree f g [] agree = refl
+flat_map-agree f g (x ∷ xs) agree =
+    ap (λ ys. ys ++ flat_map f xs) (All-head (λ x. f x ≡ g x) x xs agree) ∙ ap (λ ys. g x ++ ys) (flat_map-agree f g xs (All-tail (λ x. f x ≡ g x) x xs agree))
+
+pub list_any-map : {A B : Type 0} (p : B → Bool) (f : A → B) (xs : List A) → list_any p (map f xs) ≡ list_any (λ x. p (f x)) xs
+list_any-map p f [] = refl
+list_any-map p f (x ∷ xs) = ap (λ b. p (f x) || b) (list_any-map p f xs)
+
+-- what holds of what is made of the elements holds of what is made of each
+pub All-unmap : {A B : Type 0} (P : B → Type 0) (f : A → B) (xs : List A) → All P (map f xs) → All (λ x. P (f x)) xs
+All-unmap P f [] all = All-nil (λ x. P (f x))
+All-unmap P f (x ∷ xs) all = All-cons (λ x. P (f x)) x xs (All-head P (f x) (map f xs) all) (All-unmap P f xs (All-tail P (f x) (map f xs) all))
+
+-- two lists that are made into the same
+pub All-across : {A B C : Type 0} (P : C → Type 0) (f : A → C) (g : B → C) (xs : List A) (ys : List B) → map f xs ≡ map g ys
+    → All (λ y. P (g y)) ys → All (λ x. P (f x)) xs
+All-across P f g xs ys same all = All-unmap P f xs (subst (λ zs. All P zs) (sym same) (All-map P g ys all))
+
+pub AllZip-maps : {A B C : Type 0} (R : B → C → Type 0) (f : A → B) (g : A → C) (xs : List A) → All (λ x. R (f x) (g x)) xs → AllZip R (map f xs) (map g xs)
+AllZip-maps R f g [] all = tt
+AllZip-maps R f g (x ∷ xs) all = (All-head (λ x. R (f x) (g x)) x xs all, AllZip-maps R f g xs (All-tail (λ x. R (f x) (g x)) x xs all))
+
+pub AllZip-changed : {A B : Type 0} (R S : A → B → Type 0) (f : B → B) (xs : List A) (ys : List B) → AllZip R xs ys → ((x : A) (y : B) → R x y → S x (f y)) → AllZip S xs (map f ys)
+AllZip-changed R S f [] [] all each = tt
+AllZip-changed R S f [] (y ∷ ys) all each = absurd all
+AllZip-changed R S f (x ∷ xs) [] all each = absurd all
+AllZip-changed R S f (x ∷ xs) (y ∷ ys) all each = (each x y all.0, AllZip-changed R S f xs ys all.1 each)
+
+-- ---- one of a list
+
+pub any-here : {A : Type 0} (P : A → Type 0) (x : A) (xs : List A) → P x → Any P (x ∷ xs)
+any-here P x xs is = (0, x, omega arith, refl, is)
+
+pub any-there : {A : Type 0} (P : A → Type 0) (x : A) (xs : List A) → Any P xs → Any P (x ∷ xs)
+any-there P x xs any = (suc any.0, any.1, omega (arith, any.2), any.3, any.4)
+
+pub Any-map : {A B : Type 0} (P : A → Type 0) (Q : B → Type 0) (f : A → B) → ((x : A) → P x → Q (f x)) → (xs : List A) → Any P xs → Any Q (map f xs)
+Any-map P Q f each xs any =
+    (any.0, f any.1, subst (λ n. any.0 < n) (sym (length-map xs f)) any.2, get_or-map f xs any.0 any.1 (f any.1) any.2 ∙ ap f any.3, each any.1 any.4)
+
+pub Any-across : {A B C : Type 0} (P : B → Type 0) (Q : C → Type 0) (f : A → B) (g : A → C) → ((x : A) → P (f x) → Q (g x)) → (xs : List A) → Any P (map f xs) → Any Q (map g xs)
+Any-across P Q f g each xs any = at xs any.0 any.1 any.2 any.3 any.4
+  where
+    at : (ys : List _) (k : ℕ) (y : _) → k < length (map f ys) → get_or (map f ys) k y ≡ y → P y → Any Q (map g ys)
+    at [] k y within is holds = absurd (omega (arith, within))
+    at (x ∷ ys) zero y within is holds = any-here Q (g x) (map g ys) (each x (subst (λ z. P z) (sym is) holds))
+    at (x ∷ ys) (suc k) y within is holds = any-there Q (g x) (map g ys) (at ys k y (omega (arith, within)) is holds)
+
+-- ---- what a filter keeps of one element more
+
+pub filter-push_yes : {A : Type 0} (p : A → Bool) (xs : List A) (x : A) → p x ≡ true → filter p (xs ++ x ∷ []) ≡ filter p xs ++ x ∷ []
+filter-push_yes p xs x passes = filter-append p xs (x ∷ []) ∙ ap (λ ys. filter p xs ++ ys) (cond-true (p x) (x ∷ []) [] passes)
+
+pub filter-push_no : {A : Type 0} (p : A → Bool) (xs : List A) (x : A) → p x ≡ false → filter p (xs ++ x ∷ []) ≡ filter p xs
+filter-push_no p xs x fails = filter-append p xs (x ∷ []) ∙ ap (λ ys. filter p xs ++ ys) (cond-false (p x) (x ∷ []) [] fails) ∙ append-nil (filter p xs)
+
+-- lists that are made into the same have the same where a test of what is made passes
+pub filter-of : {A B : Type 0} (f : A → B) (test : B → Bool) (xs : List A) → map f (filter (λ x. test (f x)) xs) ≡ filter test (map f xs)
+filter-of f test [] = refl
+filter-of f test (x ∷ xs) = either (test (f x)) (filter-of f test xs)
+  where
+    either : (b : Bool) → map f (filter (λ y. test (f y)) xs) ≡ filter test (map f xs)
+        → map f (cond b (x ∷ filter (λ y. test (f y)) xs) (filter (λ y. test (f y)) xs)) ≡ cond b (f x ∷ filter test (map f xs)) (filter test (map f xs))
+    either true rest = ap (λ ys. f x ∷ ys) rest
+    either false rest = rest
+
+pub filter-across : {A B C : Type 0} (f : A → C) (g : B → C) (test : C → Bool) (xs : List A) (ys : List B) → map f xs ≡ map g ys
+    → map f (filter (λ x. test (f x)) xs) ≡ map g (filter (λ y. test (g y)) ys)
+filter-across f g test xs ys same = filter-of f test xs ∙ ap (λ zs. filter test zs) same ∙ sym (filter-of g test ys)

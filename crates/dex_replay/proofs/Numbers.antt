@@ -1,0 +1,76 @@
+-- Lawful journals have one entry for each row.
+use Rattle.std.proofs.Common.{◌≡◌, ◌==◌, ◌<◌, ℕ, Bool, List, [], ◌∷◌, map, refl, sym, ap, ◌∙◌}
+use Rattle.std.specs.List.{AllPairs, filter}
+use Rattle.std.proofs.lemmas.List.Kept.{AllPairs-filter}
+use Rattle.dex_types.specs.declared.addresses.Address.{Address}
+use Rattle.dex_types.specs.declared.movements.Entry.{Entry}
+use Rattle.dex_types.specs.declared.movements.WalletEntry.{WalletEntry}
+use Rattle.dex_types.specs.Accounts.{PlainAccount, PlainMarketAccounts}
+use Rattle.dex_types.specs.Addresses.{is_same}
+use Rattle.dex_types.specs.Market.{Market}
+use Rattle.dex_types.specs.Rows.{PlainRow}
+use Rattle.dex_accounts.specs.Decoded.{market_in}
+use Rattle.dex_history.specs.Journal.{Asked, Call, IsLegal, asked_of, step_of}
+use Rattle.dex_fold.specs.Fold.{names}
+use Rattle.dex_report.specs.Outcomes.{PlainMarketJournal, PlainWalletJournal}
+use Rattle.dex_script.specs.Drafts.{PlainScript}
+use Rattle.dex_script.specs.Facts.{AreRows}
+use Rattle.dex_replay.specs.Lawful.{IsLawfulMarket, IsLawfulWallet, Origin, origin_of_entry, origin_of_row, rows_of_market, rows_of_wallet}
+use Rattle.dex_replay.proofs.MappedLists.{filter-across, filter-of, map-map}
+
+-- the lane and the number of a call, as its entry and as its row have them
+abbrev entry_sign : Call → ℕ × ℕ
+entry_sign call = (call.entry.lane, call.entry.row)
+
+abbrev asked_sign : Call → ℕ × ℕ
+asked_sign call = (call.asked.lane, call.asked.number)
+
+-- are the same in a legal history
+signs : (calls : List Call) (m : Market) → IsLegal m calls → map entry_sign calls ≡ map asked_sign calls
+signs [] m legal = refl
+signs (call ∷ calls) m legal =
+    ap (λ (entry : Entry). (entry.lane, entry.row) ∷ map entry_sign calls) legal.0.entry
+    ∙ ap (λ (rest : List (ℕ × ℕ)). asked_sign call ∷ rest) (signs calls (step_of call m).market legal.1)
+
+pub market-numbers : (script : PlainScript) (first last : PlainMarketAccounts) (journal : PlainMarketJournal) (lane : ℕ)
+    → IsLawfulMarket script first last journal
+    → map (λ (entry : Entry). entry.row) (filter (λ (entry : Entry). entry.lane == lane) journal.entries)
+    ≡ map (λ (row : PlainRow). row.number) (rows_of_market lane first.address script.rows)
+market-numbers script first last journal lane lawful =
+    let calls = lawful.calls in
+    let number : ℕ × ℕ → ℕ = λ sign. sign.1 in
+    let by_entry : List Call = filter (λ (call : Call). call.entry.lane == lane) calls in
+    let by_row : List Call = filter (λ (call : Call). call.asked.lane == lane) calls in
+    ap (λ (entries : List Entry). map (λ (entry : Entry). entry.row) (filter (λ (entry : Entry). entry.lane == lane) entries)) lawful.entries
+    ∙ ap (λ (entries : List Entry). map (λ (entry : Entry). entry.row) entries) (sym (filter-of (λ (call : Call). call.entry) (λ (entry : Entry). entry.lane == lane) calls))
+    ∙ map-map (λ (call : Call). call.entry) (λ (entry : Entry). entry.row) by_entry
+    ∙ sym (map-map entry_sign number by_entry)
+    ∙ ap (λ (some : List (ℕ × ℕ)). map number some) (filter-across entry_sign asked_sign (λ (sign : ℕ × ℕ). sign.0 == lane) calls calls (signs calls (market_in first) lawful.legal))
+    ∙ map-map asked_sign number by_row
+    ∙ sym (map-map (λ (call : Call). call.asked) (λ (asked : Asked). asked.number) by_row)
+    ∙ ap (λ (some : List Asked). map (λ (asked : Asked). asked.number) some) (lawful.rows lane)
+    ∙ map-map asked_of (λ (asked : Asked). asked.number) (rows_of_market lane first.address script.rows)
+
+pub wallet-numbers : (script : PlainScript) (first last : PlainAccount) (journal : PlainWalletJournal) (lane : ℕ)
+    → IsLawfulWallet script first last journal
+    → map (λ (entry : WalletEntry). entry.row) (filter (λ (entry : WalletEntry). entry.lane == lane) journal.entries)
+    ≡ map (λ (row : PlainRow). row.number) (rows_of_wallet lane first.address script.rows)
+wallet-numbers script first last journal lane lawful =
+    sym (map-map origin_of_entry (λ (origin : Origin). origin.row) (filter (λ (entry : WalletEntry). entry.lane == lane) journal.entries))
+    ∙ ap (λ (some : List Origin). map (λ (origin : Origin). origin.row) some) (lawful.rows lane)
+    ∙ map-map origin_of_row (λ (origin : Origin). origin.row) (rows_of_wallet lane first.address script.rows)
+
+-- a part of the rows has rising numbers, as all have
+abbrev Rises : List PlainRow → Type 0
+Rises rows = AllPairs (λ (one other : PlainRow). one.number < other.number) rows
+
+part-rises : (lane : ℕ) (test : PlainRow → Bool) (rows : List PlainRow) → Rises rows → Rises (filter (λ (row : PlainRow). row.lane == lane) (filter test rows))
+part-rises lane test rows rises =
+    AllPairs-filter (λ (one other : PlainRow). one.number < other.number) (λ (row : PlainRow). row.lane == lane) (filter test rows)
+    (AllPairs-filter (λ (one other : PlainRow). one.number < other.number) test rows rises)
+
+pub market-rises : (script : PlainScript) (lane : ℕ) (address : Address) → AreRows script → Rises (rows_of_market lane address script.rows)
+market-rises script lane address rows = part-rises lane (λ (row : PlainRow). is_same row.market address) script.rows rows.rising
+
+pub wallet-rises : (script : PlainScript) (lane : ℕ) (address : Address) → AreRows script → Rises (rows_of_wallet lane address script.rows)
+wallet-rises script lane address rows = part-rises lane (λ (row : PlainRow). names row address) script.rows rows.rising

@@ -1,0 +1,345 @@
+-- One row more leaves a run of rows with that row.
+use Rattle.std.proofs.Common.{◌≡◌, ℕ, ◌≤◌, Bool, true, false, ◌||◌, cond, List, [], ◌∷◌, ◌++◌, map, get_or, Option, Some, refl, sym, ap, ◌∙◌, subst, arith}
+use Rattle.std.specs.List.{All, AllZip, Contains, flat_map, list_any}
+use Rattle.std.proofs.lemmas.Bool.{cond-true, cond-false, cond_both, false≢true}
+use Rattle.std.proofs.lemmas.List.{append-nil, append_assoc, map_push}
+use Rattle.std.proofs.lemmas.List.Elements.{All-nil, All-cons, All-head, All-tail, All-map, All-push, All-weaker, Contains-append_left, Contains-push}
+use Rattle.std.proofs.lemmas.List.Folds.{Any-from_list_any, list_any_at}
+use Rattle.std.proofs.lemmas.List.Sums.{sum_by-append, sum_by-cons}
+use Rattle.dex_types.specs.declared.addresses.Address.{Address}
+use Rattle.dex_types.specs.declared.movements.Entry.{Entry}
+use Rattle.dex_types.specs.declared.movements.Movement.{Movement}
+use Rattle.dex_types.specs.declared.movements.WalletEntry.{WalletEntry}
+use Rattle.dex_types.specs.declared.replies.Reply.{Reply}
+use Rattle.dex_types.specs.declared.rows.Seen.{Seen}
+use Rattle.dex_types.specs.Accounts.{PlainAccount, PlainAccounts, PlainMarketAccounts}
+use Rattle.dex_types.specs.Addresses.{is_same}
+use Rattle.dex_types.specs.Market.{Listing, Market}
+use Rattle.dex_types.specs.Rows.{PlainRow}
+use Rattle.dex_types.specs.Transfers.{Transfers}
+use Rattle.dex_types.specs.Wallets.{balance_seen, brought_to, movement_of, row_wallets, seen_wallets, taken_from}
+use Rattle.dex_laws.proofs.TraderLaws.{is_same-true, is_same-refl}
+use Rattle.dex_accounts.specs.Decoded.{market_in}
+use Rattle.dex_history.specs.Journal.{Asked, Call, Sees, Stands, asked_of, front, request_of, row_step, wallet_entry_of}
+use Rattle.dex_history.proofs.HistoryLaws.{IsLegal-one, market_after-one}
+use Rattle.dex_history.proofs.PriceLaws.{decoded-priced}
+use Rattle.dex_history.proofs.WalletLaws.{places-movements, wallet-movement_by}
+use Rattle.dex_movements.specs.Entries.{entry_by, wallet_entry_by}
+use Rattle.dex_movements.proofs.PlaceLaws.{seen-wallets}
+use Rattle.dex_sound.proofs.KeepLaws.{step-keeps}
+use Rattle.dex_cell.specs.CellState.{call_made}
+use Rattle.dex_market.specs.MarketAccount.{market_words}
+use Rattle.dex_dump.specs.Accepted.{address_of, addresses_of, all_of_market, times}
+use Rattle.dex_dump.specs.Reading.{parts_of}
+use Rattle.dex_fold.specs.Fold.{act, acted, fold, market_acted, markets_acted, names, wallet_acted, wallet_moved}
+use Rattle.dex_fold.specs.World.{MarketState, WalletState, World, market_at, seen_by}
+use Rattle.dex_script.specs.Drafts.{PlainScript}
+use Rattle.dex_script.specs.Facts.{IsRowOf}
+use Rattle.dex_script.specs.Known.{has_market}
+use Rattle.dex_replay.specs.Lawful.{IsSight, origin_of_entry, origin_of_row}
+use Rattle.dex_replay.specs.Replays.{market_state, start_world, wallet_state}
+use Rattle.dex_replay.proofs.LastAccounts.{listing-in, market_after-listing}
+use Rattle.dex_replay.proofs.MappedLists.{AllZip-changed, Any-map, filter-push_no, filter-push_yes}
+use Rattle.dex_replay.proofs.Runs.{AllStandIn, IsHistory, IsMoved, IsRun, StandIn, StandsIn, naming, on, row-sees, row-sight, still-there}
+use Rattle.dex_replay.proofs.Room.{roles-all}
+
+-- ---- markets
+
+-- one address is not more often among the markets than among all accounts
+times-markets : (address : Address) (markets : List PlainMarketAccounts)
+    → times address (map (λ (accounts : PlainMarketAccounts). accounts.address) markets) ≤ times address (flat_map all_of_market markets)
+times-markets address [] = omega arith
+times-markets address (first ∷ markets) =
+    let one : Address → ℕ = λ (a : Address). cond (is_same address a) 1 0 in
+    omega (
+      arith,
+      sum_by-cons one first.address (map (λ (accounts : PlainMarketAccounts). accounts.address) markets),
+      sum_by-append one (all_of_market first) (flat_map all_of_market markets),
+      first-of first,
+      times-markets address markets,
+    )
+  where
+    first-of : (accounts : PlainMarketAccounts) → cond (is_same address accounts.address) 1 0 ≤ times address (all_of_market accounts)
+    first-of accounts = omega (arith, sum_by-cons (λ (a : Address). cond (is_same address a) 1 0) accounts.address (parts_of (market_words accounts.market).terms ++ map address_of accounts.orders))
+
+pub market-once : (accounts : PlainAccounts) (address : Address) → times address (addresses_of accounts) ≤ 1
+    → times address (map (λ (market : PlainMarketAccounts). market.address) accounts.markets) ≤ 1
+market-once accounts address once =
+    let one : Address → ℕ = λ (a : Address). cond (is_same address a) 1 0 in
+    omega (
+      arith,
+      once,
+      times-markets address accounts.markets,
+      sum_by-append one (map address_of accounts.mints) (map address_of accounts.wallets ++ flat_map all_of_market accounts.markets),
+      sum_by-append one (map address_of accounts.wallets) (flat_map all_of_market accounts.markets),
+    )
+
+history-address : (script : PlainScript) (done : List PlainRow) (first : PlainMarketAccounts) (state : MarketState) → IsHistory script done first state
+    → state.market.listing.address ≡ first.address
+history-address script done first state is =
+    ap (λ (m : Market). m.listing.address) is.end_is
+    ∙ ap (λ (listing : Listing). listing.address) (market_after-listing is.calls (market_in first))
+    ∙ ap (λ (listing : Listing). listing.address) (listing-in first)
+
+-- a market of the start is still there
+market-there : (script : PlainScript) (done : List PlainRow) (address : Address) (firsts : List PlainMarketAccounts) (states : List MarketState)
+    → AllZip (IsHistory script done) firsts states
+    → list_any (λ (state : MarketState). is_same address state.market.listing.address) states ≡ has_market address firsts
+market-there script done address [] [] are = refl
+market-there script done address [] (state ∷ states) are = absurd are
+market-there script done address (first ∷ firsts) [] are = absurd are
+market-there script done address (first ∷ firsts) (state ∷ states) are =
+    ap (λ (a : Address). is_same address a || list_any (λ (one : MarketState). is_same address one.market.listing.address) states) (history-address script done first state are.0)
+    ∙ ap (λ (b : Bool). is_same address first.address || b) (market-there script done address firsts states are.1)
+
+found : (address : Address) (states : List MarketState) → list_any (λ (state : MarketState). is_same address state.market.listing.address) states ≡ true
+    → (m : Market) × (market_at address states ≡ Some m)
+found address [] known = absurd (false≢true known)
+found address (state ∷ states) known = either (is_same address state.market.listing.address) refl (found address states)
+  where
+    either : (b : Bool) → is_same address state.market.listing.address ≡ b
+        → (list_any (λ (one : MarketState). is_same address one.market.listing.address) states ≡ true → (m : Market) × (market_at address states ≡ Some m)) → (m : Market) × (market_at address (state ∷ states) ≡ Some m)
+    either true same later = (state.market, cond-true (is_same address state.market.listing.address) (Some state.market) (market_at address states) same)
+    either false apart later =
+        let rest : (m : Market) × (market_at address states ≡ Some m) = later (sym (ap (λ (b : Bool). b || list_any (λ (one : MarketState). is_same address one.market.listing.address) states) apart) ∙ known) in
+        (rest.0, cond-false (is_same address state.market.listing.address) (Some state.market) (market_at address states) apart ∙ rest.1)
+
+module _ (script : PlainScript) (done : List PlainRow) (row : PlainRow) (seen : Seen) (sees : Sees (asked_of row) seen) (sight : IsSight script seen) where
+  -- a row of another market leaves a history
+  idle : (first : PlainMarketAccounts) (state : MarketState) → is_same row.market first.address ≡ false → IsHistory script done first state
+      → IsHistory script (done ++ row ∷ []) first state
+  idle first state apart is = record {
+    calls = is.calls;
+    entries = is.entries;
+    legal = is.legal;
+    end_is = is.end_is;
+    asked = is.asked ∙ sym (ap (λ (rows : List PlainRow). map asked_of rows) (filter-push_no (λ (one : PlainRow). is_same one.market first.address) done row apart));
+    sees = is.sees;
+  }
+
+  -- and one of this market makes it longer by a call
+  acts : (first : PlainMarketAccounts) (state : MarketState) → is_same row.market first.address ≡ true → IsHistory script done first state
+      → IsHistory script (done ++ row ∷ []) first (market_acted row seen state)
+  acts first state same is =
+      let call : Call = call_made row seen state.market in
+      let own : row.market ≡ state.market.listing.address = is_same-true row.market first.address same ∙ sym (history-address script done first state is) in
+      let stands : Stands call state.market = record { market = own; price = decoded-priced row.bytes; sees = sees; entry = refl } in
+      record {
+        calls = is.calls ++ call ∷ [];
+        entries = ap (λ (entries : List Entry). entries ++ call.entry ∷ []) is.entries ∙ sym (map_push (λ (one : Call). one.entry) is.calls call);
+        legal = (IsLegal-one is.calls call (market_in first)).1 (is.legal, subst (λ (m : Market). Stands call m) is.end_is stands);
+        end_is = ap (λ (m : Market). (row_step row seen m).market) is.end_is ∙ sym (market_after-one is.calls call (market_in first));
+        asked = map_push (λ (one : Call). one.asked) is.calls call
+            ∙ ap (λ (asked : List Asked). asked ++ asked_of row ∷ []) is.asked
+            ∙ sym (map_push asked_of (on first.address done) row)
+            ∙ sym (ap (λ (rows : List PlainRow). map asked_of rows) (filter-push_yes (λ (one : PlainRow). is_same one.market first.address) done row same));
+        sees = All-push (λ (one : Call). IsSight script one.seen) is.calls call is.sees sight;
+      }
+
+  all-idle : (firsts : List PlainMarketAccounts) (states : List MarketState) → AllZip (IsHistory script done) firsts states
+      → times row.market (map (λ (accounts : PlainMarketAccounts). accounts.address) firsts) ≤ 0 → AllZip (IsHistory script (done ++ row ∷ [])) firsts states
+  all-idle [] [] are none = tt
+  all-idle [] (state ∷ states) are none = absurd are
+  all-idle (first ∷ firsts) [] are none = absurd are
+  all-idle (first ∷ firsts) (state ∷ states) are none =
+      let one : Address → ℕ = λ (a : Address). cond (is_same row.market a) 1 0 in
+      let sum = sum_by-cons one first.address (map (λ (accounts : PlainMarketAccounts). accounts.address) firsts) in
+      (idle first state (no (is_same row.market first.address) (omega (arith, none, sum))) are.0, all-idle firsts states are.1 (omega (arith, none, sum)))
+    where
+      no : (b : Bool) → cond b 1 0 ≤ 0 → b ≡ false
+      no true none = absurd (omega (arith, none))
+      no false none = refl
+
+  pub markets-run : (firsts : List PlainMarketAccounts) (states : List MarketState) → AllZip (IsHistory script done) firsts states
+      → times row.market (map (λ (accounts : PlainMarketAccounts). accounts.address) firsts) ≤ 1 → AllZip (IsHistory script (done ++ row ∷ [])) firsts (markets_acted row seen states)
+  markets-run [] [] are once = tt
+  markets-run [] (state ∷ states) are once = absurd are
+  markets-run (first ∷ firsts) [] are once = absurd are
+  markets-run (first ∷ firsts) (state ∷ states) are once =
+      let one : Address → ℕ = λ (a : Address). cond (is_same row.market a) 1 0 in
+      let sum = sum_by-cons one first.address (map (λ (accounts : PlainMarketAccounts). accounts.address) firsts) in
+      let here : is_same row.market state.market.listing.address ≡ is_same row.market first.address =
+      ap (λ (a : Address). is_same row.market a) (history-address script done first state are.0) in
+      cond_both (is_same row.market state.market.listing.address) (market_acted row seen state ∷ states) (state ∷ markets_acted row seen states)
+      (λ (all : List MarketState). AllZip (IsHistory script (done ++ row ∷ [])) (first ∷ firsts) all)
+      (λ same.
+      let counted : ◌≡◌ {A = ℕ} (cond (is_same row.market first.address) 1 0) 1 = ap (λ (b : Bool). cond b 1 0) (sym here ∙ same) in
+      (acts first state (sym here ∙ same) are.0, all-idle firsts states are.1 (omega (arith, once, sum, counted))))
+      (λ apart. (idle first state (sym here ∙ apart) are.0, markets-run firsts states are.1 (omega (arith, once, sum))))
+
+  -- ---- wallets
+
+  wallet-run : (t : Transfers) (first : PlainAccount) (state : WalletState) → IsMoved done first state → IsMoved (done ++ row ∷ []) first (wallet_acted row seen t state)
+  wallet-run t first state is =
+      let move = movement_of seen t state.seen.address in
+      let here : names row state.seen.address ≡ names row first.address = ap (λ (a : Address). names row a) is.address in
+      cond_both (names row state.seen.address) (wallet_moved row move state) state (IsMoved (done ++ row ∷ []) first)
+      (λ named. record {
+        address = is.address;
+        mint = is.mint;
+        owner = is.owner;
+        origins = map_push origin_of_entry state.entries (wallet_entry_by row move)
+            ∙ ap (λ origins. origins ++ origin_of_row row ∷ []) is.origins
+            ∙ sym (map_push origin_of_row (naming first.address done) row)
+            ∙ sym (ap (λ (rows : List PlainRow). map origin_of_row rows) (filter-push_yes (λ (one : PlainRow). names one first.address) done row (sym here ∙ named)));
+      })
+      (λ apart. record {
+        address = is.address;
+        mint = is.mint;
+        owner = is.owner;
+        origins = is.origins
+            ∙ sym (ap (λ (rows : List PlainRow). map origin_of_row rows) (filter-push_no (λ (one : PlainRow). names one first.address) done row (sym here ∙ apart)));
+      })
+
+  pub wallets-run : (t : Transfers) (firsts : List PlainAccount) (states : List WalletState) → AllZip (IsMoved done) firsts states
+      → AllZip (IsMoved (done ++ row ∷ [])) firsts (map (wallet_acted row seen t) states)
+  wallets-run t firsts states are = AllZip-changed (IsMoved done) (IsMoved (done ++ row ∷ [])) (wallet_acted row seen t) firsts states are (wallet-run t)
+
+-- ---- movements
+
+module _ (row : PlainRow) (seen : Seen) (t : Transfers) (wallets : List WalletState) where
+  abbrev after : List WalletState
+  after = map (wallet_acted row seen t) wallets
+
+  -- what stands in a journal still does
+  abbrev Has : Address → WalletEntry → WalletState → Type 0
+  Has wallet entry state = (state.seen.address ≡ wallet) × Contains state.entries entry
+
+  stands-still : (market : Address) (entry : Entry) (move : Movement) → StandsIn wallets market entry move → StandsIn after market entry move
+  stands-still market entry move stands =
+      let told : WalletEntry = wallet_entry_of market entry move in
+      Any-map (Has move.wallet told) (Has move.wallet told) (wallet_acted row seen t)
+      (λ state has.
+      let moved : WalletEntry = wallet_entry_by row (movement_of seen t state.seen.address) in
+      cond_both (names row state.seen.address) (wallet_moved row (movement_of seen t state.seen.address) state) state (Has move.wallet told)
+      (λ named. (has.0, Contains-append_left state.entries (moved ∷ []) told has.1))
+      (λ apart. has))
+      wallets stands
+
+  stand-still : (market : Address) (entry : Entry) → StandIn wallets market entry → StandIn after market entry
+  stand-still market entry stand = All-weaker (StandsIn wallets market entry) (StandsIn after market entry) (stands-still market entry) (front entry.moves) stand
+
+  -- a movement of the row stands in the journal of its wallet
+  stands-new : (reply : Reply) (address : Address) → list_any (λ (state : WalletState). is_same address state.seen.address) wallets ≡ true
+      → names row address ≡ true → StandsIn after row.market (entry_by row seen reply t) (movement_of seen t address)
+  stands-new reply address known named =
+      let told : WalletEntry = wallet_entry_by row (movement_of seen t address) in
+      Any-map (λ (state : WalletState). is_same address state.seen.address ≡ true) (Has (movement_of seen t address).wallet told) (wallet_acted row seen t)
+      (λ state same.
+      let is : address ≡ state.seen.address = is_same-true address state.seen.address same in
+      let also : names row state.seen.address ≡ true = ap (λ (a : Address). names row a) (sym is) ∙ named in
+      let moved : WalletState = wallet_moved row (movement_of seen t state.seen.address) state in
+      subst (Has (movement_of seen t address).wallet told) (sym (cond-true (names row state.seen.address) moved state also)) (
+        sym is ∙ sym (wallet-movement_by address (balance_seen seen address) (taken_from seen t address) (brought_to seen t address)),
+        subst (λ (a : Address). Contains moved.entries (wallet_entry_by row (movement_of seen t a))) (sym is)
+            (Contains-push state.entries (wallet_entry_by row (movement_of seen t state.seen.address))),
+      ))
+      wallets (Any-from_list_any (λ (state : WalletState). is_same address state.seen.address) wallets known)
+
+  stand-new : (reply : Reply) → Sees (asked_of row) seen
+      → All (λ (address : Address). list_any (λ (state : WalletState). is_same address state.seen.address) wallets ≡ true) (row_wallets row)
+      → StandIn after row.market (entry_by row seen reply t)
+  stand-new reply sees known =
+      let each : All (λ (address : Address). StandsIn after row.market (entry_by row seen reply t) (movement_of seen t address)) (row_wallets row) =
+      λ k d within. stands-new reply (get_or (row_wallets row) k d) (known k d within)
+      (list_any_at (is_same (get_or (row_wallets row) k d)) (row_wallets row) k d within (is_same-refl (get_or (row_wallets row) k d))) in
+      subst (λ (moves : List Movement). All (StandsIn after row.market (entry_by row seen reply t)) moves) (sym (places-movements seen t))
+      (All-map (StandsIn after row.market (entry_by row seen reply t)) (movement_of seen t) (seen_wallets seen)
+      (subst (λ (addresses : List Address). All (λ (address : Address). StandsIn after row.market (entry_by row seen reply t) (movement_of seen t address)) addresses)
+      (sym (seen-wallets row seen sees)) each))
+
+module _ (row : PlainRow) (seen : Seen) (m : Market) (wallets : List WalletState) (sees : Sees (asked_of row) seen)
+    (known : All (λ (address : Address). list_any (λ (state : WalletState). is_same address state.seen.address) wallets ≡ true) (row_wallets row)) where
+  abbrev later : List WalletState
+  later = map (wallet_acted row seen (row_step row seen m).transfers) wallets
+
+  still : (state : MarketState) → AllStandIn wallets state → AllStandIn later state
+  still state all =
+      All-weaker (StandIn wallets state.market.listing.address) (StandIn later state.market.listing.address)
+      (stand-still row seen (row_step row seen m).transfers wallets state.market.listing.address) state.entries all
+
+  grown : (state : MarketState) → is_same row.market state.market.listing.address ≡ true → state.market ≡ m → AllStandIn wallets state
+      → AllStandIn later (market_acted row seen state)
+  grown state same own all =
+      let entry_on : Market → Entry = λ (market : Market). let s = row_step row seen market in entry_by row seen s.reply s.transfers in
+      let new : StandIn later row.market (entry_on m) = stand-new row seen (row_step row seen m).transfers wallets (row_step row seen m).reply sees known in
+      let here : StandIn later state.market.listing.address (entry_on state.market) =
+      subst (λ (address : Address). StandIn later address (entry_on state.market)) (is_same-true row.market state.market.listing.address same)
+      (subst (λ (market : Market). StandIn later row.market (entry_on market)) (sym own) new) in
+      let stays : (row_step row seen state.market).market.listing.address ≡ state.market.listing.address =
+      ap (λ (listing : Listing). listing.address) (step-keeps (request_of row) seen state.market).listing in
+      subst (λ (address : Address). All (StandIn later address) (state.entries ++ entry_on state.market ∷ [])) (sym stays)
+      (All-push (StandIn later state.market.listing.address) state.entries (entry_on state.market) (still state all) here)
+
+  pub stand-run : (states : List MarketState) → market_at row.market states ≡ Some m → All (AllStandIn wallets) states
+      → All (AllStandIn later) (markets_acted row seen states)
+  stand-run [] at all = absurd cc
+  stand-run (state ∷ states) at all =
+      let head = All-head (AllStandIn wallets) state states all in
+      let tail = All-tail (AllStandIn wallets) state states all in
+      cond_both (is_same row.market state.market.listing.address) (market_acted row seen state ∷ states) (state ∷ markets_acted row seen states) (All (AllStandIn later))
+      (λ same.
+      let first : Some state.market ≡ Some m =
+      sym (cond-true (is_same row.market state.market.listing.address) (Some state.market) (market_at row.market states) same) ∙ at in
+      let own : state.market ≡ m = cc in
+      All-cons (AllStandIn later) (market_acted row seen state) states (grown state same own head) (All-weaker (AllStandIn wallets) (AllStandIn later) still states tail))
+      (λ apart.
+      let rest : market_at row.market states ≡ Some m =
+      sym (cond-false (is_same row.market state.market.listing.address) (Some state.market) (market_at row.market states) apart) ∙ at in
+      All-cons (AllStandIn later) state (markets_acted row seen states) (still state head) (stand-run states rest tail))
+
+-- ---- the world
+
+pub act-run : (script : PlainScript) (done : List PlainRow) (row : PlainRow) (world : World)
+    → ((address : Address) → times address (addresses_of script.start) ≤ 1) → IsRowOf script.start row → IsRun script done world
+    → IsRun script (done ++ row ∷ []) (act row world)
+act-run script done row world once fits run =
+    let at = found row.market world.markets (market-there script done row.market script.start.markets world.markets run.markets ∙ fits.market) in
+    let seen : Seen = seen_by row world in
+    let sees : Sees (asked_of row) seen = row-sees script done world run row fits in
+    let t : Transfers = (row_step row seen at.0).transfers in
+    let known = roles-all (λ (address : Address). list_any (λ (state : WalletState). is_same address state.seen.address) world.wallets ≡ true) script.start
+    (λ address has. still-there script done address script.start.wallets world.wallets run.wallets ∙ has) row fits in
+    let next : IsRun script (done ++ row ∷ []) (acted row (Some at.0) world) = record {
+      srm = run.srm;
+      msrm = run.msrm;
+      program = run.program;
+      markets = markets-run script done row seen sees (row-sight script done world run row) script.start.markets world.markets run.markets
+          (market-once script.start row.market (once row.market));
+      wallets = wallets-run script done row seen sees (row-sight script done world run row) t script.start.wallets world.wallets run.wallets;
+      stand = stand-run row seen at.0 world.wallets sees known world.markets at.1 run.stand;
+    } in
+    subst (λ (one : Option Market). IsRun script (done ++ row ∷ []) (acted row one world)) (sym at.1) next
+
+pub fold-run : (script : PlainScript) (rows done : List PlainRow) (world : World)
+    → ((address : Address) → times address (addresses_of script.start) ≤ 1) → All (IsRowOf script.start) rows → IsRun script done world
+    → IsRun script (done ++ rows) (fold rows world)
+fold-run script [] done world once all run = subst (λ (rows : List PlainRow). IsRun script rows world) (sym (append-nil done)) run
+fold-run script (row ∷ rows) done world once all run =
+    subst (λ (some : List PlainRow). IsRun script some (fold rows (act row world))) (append_assoc done (row ∷ []) rows)
+    (fold-run script rows (done ++ row ∷ []) (act row world) once (All-tail (IsRowOf script.start) row rows all)
+    (act-run script done row world once (All-head (IsRowOf script.start) row rows all) run))
+
+-- ---- the start
+
+start-markets : (script : PlainScript) (markets : List PlainMarketAccounts) → AllZip (IsHistory script []) markets (map market_state markets)
+start-markets script [] = tt
+start-markets script (first ∷ markets) = (
+  record { calls = []; entries = refl; legal = tt; end_is = refl; asked = refl; sees = All-nil (λ (call : Call). IsSight script call.seen) },
+  start-markets script markets,
+)
+
+start-wallets : (wallets : List PlainAccount) → AllZip (IsMoved []) wallets (map wallet_state wallets)
+start-wallets [] = tt
+start-wallets (first ∷ wallets) = (record { address = refl; mint = refl; owner = refl; origins = refl }, start-wallets wallets)
+
+pub start-run : (script : PlainScript) → IsRun script [] (start_world script)
+start-run script = record {
+  srm = refl;
+  msrm = refl;
+  program = refl;
+  markets = start-markets script script.start.markets;
+  wallets = start-wallets script.start.wallets;
+  stand = All-map (AllStandIn (start_world script).wallets) market_state script.start.markets
+      (λ k d within. All-nil (StandIn (start_world script).wallets (market_in (get_or script.start.markets k d)).listing.address));
+}

@@ -1,0 +1,173 @@
+-- Rows that act one after the other leave each market a history, and each wallet a journal, of the rows that name it.
+use Rattle.std.proofs.Common.{◌≡◌, Bool, true, false, ◌||◌, List, [], ◌∷◌, map, Option, Some, None, refl, sym, ap, ◌∙◌, ⊎_elim}
+use Rattle.std.specs.List.{All, AllZip, Any, Contains, filter, list_any}
+use Rattle.std.proofs.lemmas.Bool.{cases_Bool, cond-true, cond-false, cond_both, false≢true}
+use Rattle.dex_types.specs.declared.addresses.Address.{Address}
+use Rattle.dex_types.specs.declared.movements.Entry.{Entry}
+use Rattle.dex_types.specs.declared.movements.Movement.{Movement}
+use Rattle.dex_types.specs.declared.rows.WalletSeen.{WalletSeen}
+use Rattle.dex_types.specs.Accounts.{PlainAccount, PlainMarketAccounts}
+use Rattle.dex_types.specs.Addresses.{is_same}
+use Rattle.dex_types.specs.Rows.{PlainRow}
+use Rattle.dex_types.specs.Wallets.{address_seen}
+use Rattle.dex_laws.proofs.TraderLaws.{is_same-true}
+use Rattle.dex_accounts.specs.Decoded.{market_in}
+use Rattle.dex_history.specs.Journal.{Agree, Call, IsLegal, Sees, asked_of, front, market_after, wallet_entry_of}
+use Rattle.dex_fold.specs.Fold.{names}
+use Rattle.dex_fold.specs.World.{MarketState, WalletState, World, role_at, seen_by, wallet_at}
+use Rattle.dex_script.specs.Drafts.{PlainScript}
+use Rattle.dex_script.specs.Facts.{IsRowOf}
+use Rattle.dex_script.specs.Known.{has_account, is_known_role}
+use Rattle.dex_token.specs.TokenAccount.{wallet_words}
+use Rattle.dex_replay.specs.Lawful.{IsSight, IsWalletSeen, origin_of_entry, origin_of_row}
+use Rattle.dex_replay.proofs.MappedLists.{any-here, any-there}
+
+-- ---- what a run of rows leaves
+
+-- the rows on the market of an address, and those that name the wallet of one
+abbrev pub on : Address → List PlainRow → List PlainRow
+on address rows = filter (λ (row : PlainRow). is_same row.market address) rows
+
+abbrev pub naming : Address → List PlainRow → List PlainRow
+naming address rows = filter (λ (row : PlainRow). names row address) rows
+
+-- a market of a script after some rows: its calls are those of the rows on it
+pub record IsHistory (script : PlainScript) (done : List PlainRow) (first : PlainMarketAccounts) (state : MarketState) : Type 0 where
+  pub calls : List Call
+  pub entries : state.entries ≡ map (λ (call : Call). call.entry) calls
+  pub legal : IsLegal (market_in first) calls
+  pub end_is : state.market ≡ market_after (market_in first) calls
+  pub asked : map (λ (call : Call). call.asked) calls ≡ map asked_of (on first.address done)
+  pub sees : All (λ (call : Call). IsSight script call.seen) calls
+
+-- a wallet after them: its entries are of those that name it
+pub record IsMoved (done : List PlainRow) (first : PlainAccount) (state : WalletState) : Type 0 where
+  pub address : state.seen.address ≡ first.address
+  pub mint : state.seen.mint ≡ (wallet_words first.bytes).mint
+  pub owner : state.seen.owner ≡ (wallet_words first.bytes).owner
+  pub origins : map origin_of_entry state.entries ≡ map origin_of_row (naming first.address done)
+
+-- a movement stands in its wallet's journal
+abbrev pub StandsIn : List WalletState → Address → Entry → Movement → Type 0
+StandsIn wallets market entry move =
+    Any (λ (state : WalletState). (state.seen.address ≡ move.wallet) × Contains state.entries (wallet_entry_of market entry move)) wallets
+
+-- so does each of an entry, and each of a journal
+abbrev pub StandIn : List WalletState → Address → Entry → Type 0
+StandIn wallets market entry = All (StandsIn wallets market entry) (front entry.moves)
+
+abbrev pub AllStandIn : List WalletState → MarketState → Type 0
+AllStandIn wallets state = All (StandIn wallets state.market.listing.address) state.entries
+
+pub record IsRun (script : PlainScript) (done : List PlainRow) (world : World) : Type 0 where
+  pub srm : world.srm ≡ script.start.srm
+  pub msrm : world.msrm ≡ script.start.msrm
+  pub program : world.program ≡ script.program
+  pub markets : AllZip (IsHistory script done) script.start.markets world.markets
+  pub wallets : AllZip (IsMoved done) script.start.wallets world.wallets
+  pub stand : All (AllStandIn world.wallets) world.markets
+
+-- ---- what a row sees
+
+-- a wallet of an address is found where there is one
+wallet-seen : (address : Address) (states : List WalletState) → list_any (λ (state : WalletState). is_same address state.seen.address) states ≡ true
+    → address_seen (wallet_at address states) ≡ Some address
+wallet-seen address [] known = absurd (false≢true known)
+wallet-seen address (state ∷ states) known =
+    ⊎_elim
+    (λ (same : is_same address state.seen.address ≡ true).
+    ap address_seen (cond-true (is_same address state.seen.address) (Some state.seen) (wallet_at address states) same)
+    ∙ ap (λ (a : Address). Some a) (sym (is_same-true address state.seen.address same)))
+    (λ (apart : is_same address state.seen.address ≡ false).
+    ap address_seen (cond-false (is_same address state.seen.address) (Some state.seen) (wallet_at address states) apart)
+    ∙ wallet-seen address states (sym (ap (λ (b : Bool). b || list_any (λ (one : WalletState). is_same address one.seen.address) states) apart) ∙ known))
+    (cases_Bool (is_same address state.seen.address))
+
+-- wallets of one address are one wallet
+agree : (wallets : List WalletState) (address other : Address) (one two : Option WalletSeen) → one ≡ wallet_at address wallets → two ≡ wallet_at other wallets
+    → address_seen one ≡ Some address → address_seen two ≡ Some other → Agree one two
+agree wallets address other None two is is_two at at_two = tt
+agree wallets address other (Some wallet) None is is_two at at_two = tt
+agree wallets address other (Some wallet) (Some second) is is_two at at_two = λ same. cc
+
+module _ (script : PlainScript) (done : List PlainRow) where
+  -- an account of the start is still there
+  pub still-there : (address : Address) (firsts : List PlainAccount) (states : List WalletState) → AllZip (IsMoved done) firsts states
+      → list_any (λ (state : WalletState). is_same address state.seen.address) states ≡ has_account address firsts
+  still-there address [] [] are = refl
+  still-there address [] (state ∷ states) are = absurd are
+  still-there address (first ∷ firsts) [] are = absurd are
+  still-there address (first ∷ firsts) (state ∷ states) are =
+      ap (λ (a : Address). is_same address a || list_any (λ (one : WalletState). is_same address one.seen.address) states) are.0.address
+      ∙ ap (λ (b : Bool). is_same address first.address || b) (still-there address firsts states are.1)
+
+  sight-of : (address : Address) (firsts : List PlainAccount) (states : List WalletState) → AllZip (IsMoved done) firsts states
+      → IsWalletSeen firsts (wallet_at address states)
+  sight-of address [] [] are = tt
+  sight-of address [] (state ∷ states) are = absurd are
+  sight-of address (first ∷ firsts) [] are = absurd are
+  sight-of address (first ∷ firsts) (state ∷ states) are =
+      cond_both (is_same address state.seen.address) (Some state.seen) (wallet_at address states) (IsWalletSeen (first ∷ firsts))
+      (λ same. any-here _ first firsts (seen-by state.seen are.0.address are.0.mint are.0.owner))
+      (λ apart. later (wallet_at address states) (sight-of address firsts states are.1))
+    where
+      seen-by : (seen : WalletSeen) → seen.address ≡ first.address → seen.mint ≡ (wallet_words first.bytes).mint → seen.owner ≡ (wallet_words first.bytes).owner
+          → seen ≡ record { address = first.address; mint = (wallet_words first.bytes).mint; owner = (wallet_words first.bytes).owner; balance = seen.balance }
+      seen-by seen address mint owner =
+          ap (λ (a : Address). record seen { address = a }) address
+          ∙ ap (λ (a : Address). record seen { address = first.address; mint = a }) mint
+          ∙ ap (λ (a : Address). record seen { address = first.address; mint = (wallet_words first.bytes).mint; owner = a }) owner
+
+      later : (role : Option WalletSeen) → IsWalletSeen firsts role → IsWalletSeen (first ∷ firsts) role
+      later None is = tt
+      later (Some seen) is = any-there _ first firsts is
+
+  module _ (world : World) (run : IsRun script done world) where
+    here : (address : Address) → has_account address script.start.wallets ≡ true
+        → list_any (λ (state : WalletState). is_same address state.seen.address) world.wallets ≡ true
+    here address known = still-there address script.start.wallets world.wallets run.wallets ∙ known
+
+    role-seen : (role : Option Address) → is_known_role script.start.wallets role ≡ true → address_seen (role_at role world.wallets) ≡ role
+    role-seen None known = refl
+    role-seen (Some address) known = wallet-seen address world.wallets (here address known)
+
+    roles-agree : (role other : Option Address) → is_known_role script.start.wallets role ≡ true → is_known_role script.start.wallets other ≡ true
+        → Agree (role_at role world.wallets) (role_at other world.wallets)
+    roles-agree None other known known_other = tt
+    roles-agree (Some address) None known known_other = with-none (wallet_at address world.wallets)
+      where
+        with-none : (one : Option WalletSeen) → Agree one None
+        with-none None = tt
+        with-none (Some wallet) = tt
+    roles-agree (Some address) (Some other) known known_other =
+        agree world.wallets address other (wallet_at address world.wallets) (wallet_at other world.wallets) refl refl
+        (role-seen (Some address) known) (role-seen (Some other) known_other)
+
+    role-sight : (role : Option Address) → IsWalletSeen script.start.wallets (role_at role world.wallets)
+    role-sight None = tt
+    role-sight (Some address) = sight-of address script.start.wallets world.wallets run.wallets
+
+    pub row-sees : (row : PlainRow) → IsRowOf script.start row → Sees (asked_of row) (seen_by row world)
+    row-sees row fits = record {
+      coin = role-seen row.coin fits.coin;
+      pc = role-seen row.pc fits.pc;
+      discount = role-seen row.discount fits.discount;
+      referrer = role-seen row.referrer fits.referrer;
+      coin_pc = roles-agree row.coin row.pc fits.coin fits.pc;
+      coin_discount = roles-agree row.coin row.discount fits.coin fits.discount;
+      coin_referrer = roles-agree row.coin row.referrer fits.coin fits.referrer;
+      pc_discount = roles-agree row.pc row.discount fits.pc fits.discount;
+      pc_referrer = roles-agree row.pc row.referrer fits.pc fits.referrer;
+      discount_referrer = roles-agree row.discount row.referrer fits.discount fits.referrer;
+    }
+
+    pub row-sight : (row : PlainRow) → IsSight script (seen_by row world)
+    row-sight row = record {
+      coin = role-sight row.coin;
+      pc = role-sight row.pc;
+      discount = role-sight row.discount;
+      referrer = role-sight row.referrer;
+      srm = run.srm;
+      msrm = run.msrm;
+      program = run.program;
+    }

@@ -1,0 +1,113 @@
+-- What cells keep of the script with which they were opened.
+use Rattle.std.proofs.Common.{◌≡◌, List, map, refl, sym, ap, ◌∙◌, subst}
+use Rattle.std.specs.List.{All}
+use Rattle.std.proofs.lemmas.List.{map-id}
+use Rattle.std.proofs.lemmas.List.Elements.{All-map}
+use Rattle.dex_types.specs.Accounts.{PlainAccount, PlainMarketAccounts}
+use Rattle.dex_cell.specs.CellState as market
+use Rattle.dex_cell.specs.CellState.{IsMarketCell, MarketCellState}
+use Rattle.dex_wallet.specs.CellState as wallet
+use Rattle.dex_wallet.specs.CellState.{CellState, IsWalletCell}
+use Rattle.dex_dump.specs.Accepted.{address_of}
+use Rattle.dex_script.specs.Drafts.{PlainScript}
+use Rattle.dex_act.specs.Wallets.{wallet_state_of}
+use Rattle.dex_fold.specs.World.{MarketState, WalletState}
+use Rattle.dex_bank.specs.Cells.{AreCells, CellsState, market_state_of, opened_of, world_of}
+use Rattle.dex_bank.specs.Opened.{market_opened, opened, rows_naming, rows_on, wallet_opened}
+use Rattle.dex_replay.specs.Replays.{start_world}
+use Rattle.dex_replay.proofs.MappedLists.{All-across, map-agree, map-map}
+
+-- the wallet of a cell as it was when the cell was made
+abbrev pub start_account : CellState → PlainAccount
+start_account cell = record { address = cell.address; bytes = cell.start }
+
+-- the cells are those of the script's start, with room for the rows that name them
+pub record AreOfScript (script : PlainScript) (cells : CellsState) : Type 0 where
+  pub mints : cells.mints ≡ script.start.mints
+  pub srm : cells.srm ≡ script.start.srm
+  pub msrm : cells.msrm ≡ script.start.msrm
+  pub program : cells.program ≡ script.program
+  pub markets : map (λ (cell : MarketCellState). cell.start) cells.markets ≡ script.start.markets
+  pub market_room : All (λ (cell : MarketCellState). cell.room ≡ rows_on cell.start.address script.rows) cells.markets
+  pub wallets : map start_account cells.wallets ≡ script.start.wallets
+  pub wallet_room : All (λ (cell : CellState). cell.room ≡ rows_naming cell.address script.rows) cells.wallets
+
+module _ (script : PlainScript) (cells : CellsState) (same : opened_of cells ≡ opened script) where
+  abbrev opened_market : MarketCellState → MarketCellState
+  opened_market cell = market.new_cell cell.start cell.room
+
+  abbrev opened_wallet : CellState → CellState
+  opened_wallet cell = wallet.new_cell cell.address cell.start cell.room
+
+  same-markets : map opened_market cells.markets ≡ map (market_opened script.rows) script.start.markets
+  same-markets = ap (λ (some : CellsState). some.markets) same
+
+  same-wallets : map opened_wallet cells.wallets ≡ map (wallet_opened script.rows) script.start.wallets
+  same-wallets = ap (λ (some : CellsState). some.wallets) same
+
+  pub are-of-script : AreOfScript script cells
+  are-of-script = record {
+    mints = ap (λ (some : CellsState). some.mints) same;
+    srm = ap (λ (some : CellsState). some.srm) same;
+    msrm = ap (λ (some : CellsState). some.msrm) same;
+    program = ap (λ (some : CellsState). some.program) same;
+    markets = sym (map-map opened_market (λ (cell : MarketCellState). cell.start) cells.markets)
+        ∙ ap (λ (some : List MarketCellState). map (λ (cell : MarketCellState). cell.start) some) same-markets
+        ∙ map-map (market_opened script.rows) (λ (cell : MarketCellState). cell.start) script.start.markets
+        ∙ map-id script.start.markets;
+    market_room = All-across (λ (cell : MarketCellState). cell.room ≡ rows_on cell.start.address script.rows) opened_market (market_opened script.rows)
+        cells.markets script.start.markets same-markets (λ k d within. refl);
+    wallets = sym (map-map opened_wallet start_account cells.wallets)
+        ∙ ap (λ (some : List CellState). map start_account some) same-wallets
+        ∙ map-map (wallet_opened script.rows) start_account script.start.wallets
+        ∙ map-id script.start.wallets;
+    wallet_room = All-across (λ (cell : CellState). cell.room ≡ rows_naming cell.address script.rows) opened_wallet (wallet_opened script.rows)
+        cells.wallets script.start.wallets same-wallets (λ k d within. refl);
+  }
+
+-- ---- addresses
+
+-- a market's cell has the address of its start
+abbrev pub HasItsAddress : MarketCellState → Type 0
+HasItsAddress cell = cell.accounts.address ≡ cell.start.address
+
+pub its-address : (cells : CellsState) → AreCells cells → All HasItsAddress cells.markets
+its-address cells kept = λ k d within. (kept.markets k d within).one_market.address
+
+-- the cells' markets have the addresses of the start
+pub market-addresses : (script : PlainScript) (cells : CellsState) → AreOfScript script cells → All HasItsAddress cells.markets
+    → map (λ (cell : MarketCellState). cell.accounts.address) cells.markets ≡ map (λ (accounts : PlainMarketAccounts). accounts.address) script.start.markets
+market-addresses script cells own its =
+    map-agree (λ (cell : MarketCellState). cell.accounts.address) (λ (cell : MarketCellState). cell.start.address) cells.markets its
+    ∙ sym (map-map (λ (cell : MarketCellState). cell.start) (λ (accounts : PlainMarketAccounts). accounts.address) cells.markets)
+    ∙ ap (λ (some : List PlainMarketAccounts). map (λ (accounts : PlainMarketAccounts). accounts.address) some) own.markets
+
+-- and so have their wallets
+pub wallet-addresses : (script : PlainScript) (cells : CellsState) → AreOfScript script cells
+    → map (λ (cell : CellState). cell.address) cells.wallets ≡ map address_of script.start.wallets
+wallet-addresses script cells own =
+    sym (map-map start_account address_of cells.wallets) ∙ ap (λ (some : List PlainAccount). map address_of some) own.wallets
+
+-- ---- the start
+
+-- cells as they were opened are as they were opened
+opened-again : (script : PlainScript) → opened_of (opened script) ≡ opened script
+opened-again script =
+    ap (λ (cells : List MarketCellState). record (opened_of (opened script)) { markets = cells })
+    (map-map (market_opened script.rows) (λ (cell : MarketCellState). market.new_cell cell.start cell.room) script.start.markets)
+    ∙ ap (λ (cells : List CellState). record (opened script) { wallets = cells })
+    (map-map (wallet_opened script.rows) (λ (cell : CellState). wallet.new_cell cell.address cell.start cell.room) script.start.wallets)
+
+pub opened-opened : (script : PlainScript) (cells : CellsState) → cells ≡ opened script → opened_of cells ≡ opened script
+opened-opened script cells made = ap opened_of made ∙ opened-again script
+
+pub opened-address : (script : PlainScript) (cells : CellsState) → cells ≡ opened script → All HasItsAddress cells.markets
+opened-address script cells made =
+    subst (λ (some : CellsState). All HasItsAddress some.markets) (sym made)
+    (All-map HasItsAddress (market_opened script.rows) script.start.markets (λ k d within. refl))
+
+-- the cells with which a script starts are the world with which it does
+pub opened-world : (script : PlainScript) → world_of (opened script) ≡ start_world script
+opened-world script =
+    ap (λ (states : List MarketState). record (world_of (opened script)) { markets = states }) (map-map (market_opened script.rows) market_state_of script.start.markets)
+    ∙ ap (λ (states : List WalletState). record (start_world script) { wallets = states }) (map-map (wallet_opened script.rows) wallet_state_of script.start.wallets)

@@ -1,0 +1,120 @@
+-- What a run of a script may leave, in whatever order its lanes act.
+use Rattle.std.specs.Prelude.{◌≡◌, ◌==◌, ℕ, Option, Some, None, List, [], ◌∷◌, map, All}
+use Rattle.std.specs.List.{Any, Contains, filter}
+use Rattle.dex_types.specs.declared.addresses.Address.{Address}
+use Rattle.dex_types.specs.declared.movements.Entry.{Entry}
+use Rattle.dex_types.specs.declared.movements.Movement.{Movement}
+use Rattle.dex_types.specs.declared.movements.WalletEntry.{WalletEntry}
+use Rattle.dex_types.specs.declared.rows.Seen.{Seen}
+use Rattle.dex_types.specs.declared.rows.WalletSeen.{WalletSeen}
+use Rattle.dex_types.specs.Accounts.{PlainAccount, PlainMarketAccounts}
+use Rattle.dex_types.specs.Addresses.{is_same}
+use Rattle.dex_types.specs.Rows.{PlainRow}
+use Rattle.dex_types.specs.WalletJournal.{IsWalletLegal, balance_after}
+use Rattle.dex_accounts.specs.Decoded.{market_in}
+use Rattle.dex_accounts.specs.StandsFor.{StandsFor}
+use Rattle.dex_history.specs.Journal.{Call, IsLegal, asked_of, front, market_after, wallet_entry_of}
+use Rattle.dex_fold.specs.Fold.{names}
+use Rattle.dex_report.specs.Outcomes.{PlainMarketJournal, PlainOutcome, PlainWalletJournal}
+use Rattle.dex_script.specs.Drafts.{PlainScript}
+use Rattle.dex_token.specs.TokenAccount.{wallet_words, with_amount}
+use Rattle.dex_wallet.specs.CellState.{balance_of}
+use Rattle.dex_replay.specs.Replays.{IsOfStart}
+
+-- R holds of the elements of three lists, place by place
+abbrev pub AllThree : {A B C : Type 0} → (A → B → C → Type 0) → List A → List B → List C → Type 0
+AllThree R [] [] [] = Unit {0}
+AllThree R (x ∷ xs) (y ∷ ys) (z ∷ zs) = R x y z × AllThree R xs ys zs
+AllThree R _ _ _ = ⊥
+
+-- ---- which rows a journal tells of
+
+-- the rows of a lane on the market of an address
+abbrev pub rows_of_market : ℕ → Address → List PlainRow → List PlainRow
+rows_of_market lane address rows =
+    filter (λ (row : PlainRow). row.lane == lane) (filter (λ (row : PlainRow). is_same row.market address) rows)
+
+-- the rows of a lane that name the wallet of an address
+abbrev pub rows_of_wallet : ℕ → Address → List PlainRow → List PlainRow
+rows_of_wallet lane address rows =
+    filter (λ (row : PlainRow). row.lane == lane) (filter (λ (row : PlainRow). names row address) rows)
+
+-- where a wallet's entry is from: the market, and the lane and the number of the row
+pub record Origin : Type 0 where
+  pub market : Address
+  pub lane : ℕ
+  pub row : ℕ
+
+abbrev pub origin_of_row : PlainRow → Origin
+origin_of_row row = record { market = row.market; lane = row.lane; row = row.number }
+
+abbrev pub origin_of_entry : WalletEntry → Origin
+origin_of_entry entry = record { market = entry.market; lane = entry.lane; row = entry.row }
+
+-- ---- a market
+
+-- what is seen under a role is a wallet of these, with some balance
+abbrev pub IsWalletSeen : List PlainAccount → Option WalletSeen → Type 0
+IsWalletSeen wallets None = Unit {0}
+IsWalletSeen wallets (Some seen) = Any (λ (wallet : PlainAccount).
+    let words = wallet_words wallet.bytes in
+    seen ≡ record { address = wallet.address; mint = words.mint; owner = words.owner; balance = seen.balance }) wallets
+
+-- what a row of the script may see: its wallets, mints and program
+pub record IsSight (script : PlainScript) (seen : Seen) : Type 0 where
+  pub coin : IsWalletSeen script.start.wallets seen.coin
+  pub pc : IsWalletSeen script.start.wallets seen.pc
+  pub discount : IsWalletSeen script.start.wallets seen.discount
+  pub referrer : IsWalletSeen script.start.wallets seen.referrer
+  pub srm : seen.srm ≡ script.start.srm
+  pub msrm : seen.msrm ≡ script.start.msrm
+  pub program : seen.program ≡ script.program
+
+-- a market's journal is that of a legal history from its first accounts, its last accounts stand for the market at the
+-- end, and for each lane the calls ask what the script's rows of that lane on this market do, one for each, in their order
+pub record IsLawfulMarket (script : PlainScript) (first last : PlainMarketAccounts) (journal : PlainMarketJournal)
+    : Type 0 where
+  pub calls : List Call
+  pub entries : journal.entries ≡ map (λ (call : Call). call.entry) calls
+  pub legal : IsLegal (market_in first) calls
+  pub stands : StandsFor last (market_after (market_in first) calls)
+  pub rows : (lane : ℕ)
+      → map (λ (call : Call). call.asked) (filter (λ (call : Call). call.asked.lane == lane) calls)
+      ≡ map asked_of (rows_of_market lane first.address script.rows)
+  pub sees : All (λ (call : Call). IsSight script call.seen) calls
+
+-- ---- a wallet
+
+-- a wallet's account at the end of some entries: the amount is theirs, all else as it was
+abbrev pub account_after : PlainAccount → List WalletEntry → PlainAccount
+account_after first entries =
+    record first { bytes = with_amount first.bytes (balance_after (balance_of first.bytes) entries) }
+
+-- a wallet's journal is legal from its first amount, its last account is that at the end, and for each lane the entries
+-- are those of the script's rows of that lane that name it, one for each, in their order
+pub record IsLawfulWallet (script : PlainScript) (first last : PlainAccount) (journal : PlainWalletJournal) : Type 0 where
+  pub legal : IsWalletLegal (balance_of first.bytes) journal.entries
+  pub account : last ≡ account_after first journal.entries
+  pub rows : (lane : ℕ)
+      → map origin_of_entry (filter (λ (entry : WalletEntry). entry.lane == lane) journal.entries)
+      ≡ map origin_of_row (rows_of_wallet lane first.address script.rows)
+
+-- ---- both
+
+-- a movement of a market's entry stands in its wallet's journal, with the market, the lane and the row of the entry
+abbrev pub IsTold : List PlainWalletJournal → Address → Entry → Movement → Type 0
+IsTold journals market entry move = Any (λ (journal : PlainWalletJournal).
+    (journal.address ≡ move.wallet) × Contains journal.entries (wallet_entry_of market entry move)) journals
+
+-- so does each movement of each entry of a market's journal
+abbrev pub AreTold : List PlainWalletJournal → PlainMarketJournal → Type 0
+AreTold journals journal =
+    All (λ (entry : Entry). All (IsTold journals journal.address entry) (front entry.moves)) journal.entries
+
+-- the outcome is one that the script allows: it is of the script's start; each market and each wallet has a lawful journal
+-- and what stands at its end; and what moved between them stands in both
+pub record IsLawful (script : PlainScript) (outcome : PlainOutcome) : Type 0 where
+  pub start : IsOfStart script outcome
+  pub markets : AllThree (IsLawfulMarket script) script.start.markets outcome.accounts.markets outcome.markets
+  pub wallets : AllThree (IsLawfulWallet script) script.start.wallets outcome.accounts.wallets outcome.wallets
+  pub told : All (AreTold outcome.wallets) outcome.markets

@@ -1,0 +1,72 @@
+-- What is left when all rows of a script have acted, one after the other.
+use Rattle.std.specs.Prelude.{◌≡◌, List, [], ◌∷◌, map}
+use Rattle.std.specs.List.{AllZip}
+use Rattle.dex_types.specs.Accounts.{PlainAccount, PlainMarketAccounts}
+use Rattle.dex_accounts.specs.Decoded.{market_in}
+use Rattle.dex_accounts.specs.StandsFor.{StandsFor}
+use Rattle.dex_cell.specs.CellState.{AreOfOneMarket}
+use Rattle.dex_dump.specs.Accepted.{AreAccepted, address_of}
+use Rattle.dex_fold.specs.Fold.{fold}
+use Rattle.dex_fold.specs.World.{MarketState, WalletState, World}
+use Rattle.dex_report.specs.Outcomes.{PlainMarketJournal, PlainOutcome, PlainWalletJournal}
+use Rattle.dex_script.specs.Drafts.{PlainScript}
+use Rattle.dex_token.specs.TokenAccount.{wallet_words, with_amount}
+
+-- a market with which a script starts
+abbrev pub market_state : PlainMarketAccounts → MarketState
+market_state accounts = record { market = market_in accounts; entries = [] }
+
+-- and a wallet
+abbrev pub wallet_state : PlainAccount → WalletState
+wallet_state account =
+    let words = wallet_words account.bytes in
+    record {
+      seen = record { address = account.address; mint = words.mint; owner = words.owner; balance = words.amount };
+      entries = [];
+    }
+
+-- the world with which a script starts
+abbrev pub start_world : PlainScript → World
+start_world script = record {
+  markets = map market_state script.start.markets;
+  wallets = map wallet_state script.start.wallets;
+  srm = script.start.srm;
+  msrm = script.start.msrm;
+  program = script.program;
+}
+
+-- the world when all its rows have acted in their order
+abbrev pub end_world : PlainScript → World
+end_world script = fold script.rows (start_world script)
+
+-- token accounts with the amounts of these wallets
+abbrev pub with_amounts : List PlainAccount → List WalletState → List PlainAccount
+with_amounts (account ∷ accounts) (state ∷ states) =
+    record account { bytes = with_amount account.bytes state.seen.balance } ∷ with_amounts accounts states
+with_amounts _ _ = []
+
+-- the outcome is of the script's start: its mints as they were, and its wallets, markets and open-orders accounts, by address and in
+-- their order, with one journal for each market and each wallet
+pub record IsOfStart (script : PlainScript) (outcome : PlainOutcome) : Type 0 where
+  pub mints : outcome.accounts.mints ≡ script.start.mints
+  pub srm : outcome.accounts.srm ≡ script.start.srm
+  pub msrm : outcome.accounts.msrm ≡ script.start.msrm
+  pub wallets : map address_of outcome.accounts.wallets ≡ map address_of script.start.wallets
+  pub markets : AllZip AreOfOneMarket script.start.markets outcome.accounts.markets
+  pub market_journals : map (λ (journal : PlainMarketJournal). journal.address) outcome.markets
+      ≡ map (λ (accounts : PlainMarketAccounts). accounts.address) script.start.markets
+  pub wallet_journals : map (λ (journal : PlainWalletJournal). journal.address) outcome.wallets
+      ≡ map address_of script.start.wallets
+
+-- the outcome is what is left when all rows of the script have acted: the journals are those of that world, the accounts of markets
+-- stand for its markets, and the wallets have its amounts and are else as they were
+pub record IsReplayOf (script : PlainScript) (outcome : PlainOutcome) : Type 0 where
+  pub start : IsOfStart script outcome
+  pub accepted : AreAccepted outcome.accounts
+  pub markets : map (λ (journal : PlainMarketJournal). journal.entries) outcome.markets
+      ≡ map (λ (state : MarketState). state.entries) (end_world script).markets
+  pub wallets : map (λ (journal : PlainWalletJournal). journal.entries) outcome.wallets
+      ≡ map (λ (state : WalletState). state.entries) (end_world script).wallets
+  pub stand : AllZip (λ (accounts : PlainMarketAccounts) (state : MarketState). StandsFor accounts state.market)
+      outcome.accounts.markets (end_world script).markets
+  pub amounts : outcome.accounts.wallets ≡ with_amounts script.start.wallets (end_world script).wallets

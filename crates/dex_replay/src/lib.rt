@@ -1,0 +1,7 @@
+//! All rows of a script, one after the other.
+#![tactic(auto)]
+
+pub mod laws;
+mod replaying;
+
+pub use replaying::replay;

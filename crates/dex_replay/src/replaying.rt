@@ -1,0 +1,28 @@
+//! A script's rows act one after the other.
+
+ghost use Rattle.std.specs.Prelude.{IfOk};
+ghost use Rattle.dex_report.specs.Outcomes.{outcome_of};
+ghost use Rattle.dex_replay.specs.Lawful.{IsLawful};
+ghost use Rattle.dex_replay.specs.Replays.{IsReplayOf};
+
+use dex_bank::Cells;
+use dex_report::Outcome;
+use dex_script::Script;
+use dex_types::NoMemory;
+use std::alloc::Global;
+
+/// What is left when all rows of a script have acted in their order: the accounts, and the journal of each market and
+/// each wallet.
+pub fn replay(alloc: Global, script: &Script) -> Result<Outcome, NoMemory>
+    ensures outcome { IfOk result (λ outcome. IsReplayOf script.now (outcome_of outcome)) }
+    ensures lawful { IfOk result (λ outcome. IsLawful script.now (outcome_of outcome)) }
+{
+    let mut cells = Cells::open(alloc, script)?;
+    for row in &script.rows {
+        cells.step(row);
+    }
+    match cells.close(alloc) {
+        Ok(outcome) => Ok(outcome),
+        Err(_) => Err(NoMemory),
+    }
+}

@@ -1,0 +1,58 @@
+-- Where no address stands twice, no open-orders account of a market does.
+use Rattle.std.proofs.Common.{◌≡◌, ℕ, zero, suc, ◌<◌, ◌≤◌, List, [], ◌∷◌, ◌++◌, None, arith, get_or, inl, inr, length, map, refl}
+use Rattle.std.specs.List.{All, flat_map}
+use Rattle.std.proofs.lemmas.Bool.{cases_Bool}
+use Rattle.dex_types.specs.declared.addresses.Address.{Address}
+use Rattle.dex_types.specs.Accounts.{PlainAccount, PlainAccounts, PlainMarketAccounts}
+use Rattle.dex_types.specs.Addresses.{is_same}
+use Rattle.dex_types.specs.Soundness.{AreDistinct}
+use Rattle.dex_types.specs.Trader.{trader_at}
+use Rattle.dex_laws.proofs.TraderLaws.{is_same-refl}
+use Rattle.dex_orders.specs.StandsFor.{traders_of}
+use Rattle.dex_dump.specs.Accepted.{address_of, addresses_of, all_of_market, times}
+use Rattle.dex_dump.specs.Reading.{market_addresses}
+use Rattle.dex_dump.proofs.TakenLaws.{one, times-append, times-cons}
+
+-- an address that does not stand there has no trader
+none-at : (address : Address) (accounts : List PlainAccount) → times address (map address_of accounts) ≡ 0 → trader_at address (traders_of accounts) ≡ None
+none-at address [] none = refl
+none-at address (account ∷ accounts) none =
+    let more = times-cons address account.address (map address_of accounts) in
+    elim (cases_Bool (is_same address account.address)) [
+      | inl same ↦
+          let first : one address account.address ≡ 1 = rw same refl in
+          absurd (omega arith)
+      | inr apart ↦ rw apart (none-at address accounts (omega arith))
+    ]
+
+distinct-of : (accounts : List PlainAccount) → ((address : Address) → times address (map address_of accounts) ≤ 1) → AreDistinct (traders_of accounts)
+distinct-of [] once = tt
+distinct-of (account ∷ accounts) once =
+    let mine : one account.address account.address ≡ 1 = rw (is_same-refl account.address) refl in
+    let all = times-cons account.address account.address (map address_of accounts) in (
+      none-at account.address accounts (omega (arith, once account.address)),
+      distinct-of accounts (λ address. omega (arith, once address, times-cons address account.address (map address_of accounts))),
+    )
+
+-- a market's addresses are among those of all markets
+among-all : (address : Address) (markets : List PlainMarketAccounts) (k : ℕ) (d : PlainMarketAccounts) → k < length markets
+    → times address (all_of_market (get_or markets k d)) ≤ times address (flat_map all_of_market markets)
+among-all address [] k d lt = absurd (omega arith)
+among-all address (market ∷ markets) zero d lt = omega (arith, times-append address (all_of_market market) (flat_map all_of_market markets))
+among-all address (market ∷ markets) (suc k) d lt =
+    omega (arith, times-append address (all_of_market market) (flat_map all_of_market markets), among-all address markets k d (omega arith))
+
+pub orders-distinct : (accounts : PlainAccounts) → ((address : Address) → times address (addresses_of accounts) ≤ 1)
+    → All (λ (market : PlainMarketAccounts). AreDistinct (traders_of market.orders)) accounts.markets
+orders-distinct accounts once k d lt =
+    let market : PlainMarketAccounts = get_or accounts.markets k d in
+    distinct-of market.orders
+    (λ address.
+    omega (
+      arith,
+      once address,
+      times-append address (map address_of accounts.mints) (map address_of accounts.wallets ++ flat_map all_of_market accounts.markets),
+      times-append address (map address_of accounts.wallets) (flat_map all_of_market accounts.markets),
+      among-all address accounts.markets k d lt,
+      times-append address (market_addresses market) (map address_of market.orders),
+    ))

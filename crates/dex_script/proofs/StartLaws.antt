@@ -1,0 +1,116 @@
+-- What a script starts with: accounts that are accepted, those of sound markets, and whose mints are conserved.
+use Rattle.std.proofs.Common.{◌≡◌, ◌∷◌, [], ℕ, List, Bool, true, false, Result, Ok, ap, arith, subst, sym}
+use Rattle.std.specs.List.{All}
+use Rattle.std.proofs.lemmas.List.Elements.{All-nil}
+use Rattle.dex_types.specs.Accounts.{PlainAccount, PlainAccounts}
+use Rattle.dex_rows.specs.Records.{rows_of}
+use Rattle.dex_token.specs.MintAccount.{IsMint}
+use Rattle.dex_accounts.specs.Decoded.{AreSound}
+use Rattle.dex_audit.specs.Audited.{IsConserved}
+use Rattle.dex_audit.specs.Findings.{findings}
+use Rattle.dex_dump.specs.Accepted.{AreAccepted, HasMints, HoldBytes}
+use Rattle.dex_dump.specs.Answers.{next_number}
+use Rattle.dex_statement.specs.declared.statement.Statement.{Statement}
+use Rattle.dex_statement.specs.declared.statement.Statement.TheVariants as row
+use Rattle.dex_statement.specs.Statements.{statement_of}
+use Rattle.dex_statement.specs.Words.{Fields}
+use Rattle.dex_script.specs.Drafts.{PlainDraft, PlainScript, no_accounts, no_rows}
+use Rattle.dex_script.specs.Facts.{IsStart}
+use Rattle.dex_script.specs.Rows.{with_row, with_statement}
+use Rattle.dex_script.specs.Scripts.{AnswersBy, Reads, Refusal, begins_with_dump, draft_after, fault_in, script_from}
+use Rattle.dex_script.proofs.FaultLaws.{bind-ok, ok-same}
+use Rattle.dex_script.proofs.KeptLaws.{clock-row, program-row}
+use Rattle.dex_script.proofs.OrderLaws.{fault-ok, from-dump, instruction-row, last_script}
+use Rattle.dex_script.proofs.RowParts.{market-row, mint-row, msrm-row, orders-row, srm-row, wallet-row}
+use Rattle.dex_script.proofs.StartRows.{IsDeclared, market-declared, mint-declared, msrm-declared, orders-declared, srm-declared, wallet-declared}
+use Rattle.dex_script.proofs.StartSupplies.{IsBacked, conserved}
+use Rattle.dex_script.proofs.StartAddresses.{AreTaken}
+use Rattle.dex_script.proofs.Started.{AreDeclared, HasFew, IsMade, IsWalletOf, declared-start}
+use Rattle.dex_script.proofs.StatedLaws.{IsStated, row-stated}
+
+nothing-declared : IsDeclared no_rows
+nothing-declared = record {
+  declared = record {
+    mints = All-nil (λ (mint : PlainAccount). IsMint mint.bytes);
+    wallets = All-nil (IsWalletOf []);
+    markets = All-nil IsMade;
+    market_mints = All-nil (HasMints no_accounts);
+    srm = tt;
+    msrm = tt;
+    few_mints = omega arith;
+    few_wallets = omega arith;
+    few_markets = omega arith;
+    few_orders = All-nil HasFew;
+  };
+  taken = record { all = λ address. omega arith; once = λ address. omega arith };
+  backed = All-nil (IsBacked []);
+}
+
+-- a row that leaves the accounts and what is taken
+same-declared : (before after : PlainDraft) → IsDeclared before → before.script.start ≡ after.script.start → before.taken ≡ after.taken → IsDeclared after
+same-declared before after is start taken = record {
+  declared = subst AreDeclared start is.declared;
+  taken = subst (AreTaken after.script.start) taken (subst (λ (s : PlainAccounts). AreTaken s before.taken) start is.taken);
+  backed = subst (λ (s : PlainAccounts). All (IsBacked s.wallets) s.mints) start is.backed;
+}
+
+by-statement : (number : ℕ) (before after : PlainDraft) (statement : Statement) → IsDeclared before → IsStated statement
+    → with_statement before number statement ≡ Ok after → IsDeclared after
+by-statement number before after (row.Program program) so stated is =
+    same-declared before after so (ap (λ (d : PlainDraft). d.script.start) (program-row before after program is)) (ap (λ (d : PlainDraft). d.taken) (program-row before after program is))
+by-statement number before after (row.Clock now) so stated is =
+    same-declared before after so (ap (λ (d : PlainDraft). d.script.start) (clock-row before after now is)) (ap (λ (d : PlainDraft). d.taken) (clock-row before after now is))
+by-statement number before after (row.Mint address decimals) so stated is = mint-declared before after so address decimals stated (mint-row before after address decimals is)
+by-statement number before after (row.Srm mint) so stated is = srm-declared before after so mint (srm-row before after mint is)
+by-statement number before after (row.Msrm mint) so stated is = msrm-declared before after so mint (msrm-row before after mint is)
+by-statement number before after (row.Wallet address mint owner amount) so stated is =
+    wallet-declared before after so address mint owner amount stated (wallet-row before after address mint owner amount is)
+by-statement number before after (row.Market words) so stated is = market-declared before after so words stated (market-row before after words is)
+by-statement number before after (row.Orders market address) so stated is = orders-declared before after so market address (orders-row before after market address is)
+by-statement number before after (row.Instruction words) so stated is =
+    let same = instruction-row number before after words is in
+    same-declared before after so (ap (λ (d : PlainDraft). d.script.start) same) (ap (λ (d : PlainDraft). d.taken) same)
+
+by-row : (number : ℕ) (before after : PlainDraft) (fields : Fields) → IsDeclared before → with_row before number fields ≡ Ok after → IsDeclared after
+unfolding with_row
+by-row number before after fields so is =
+    let a = bind-ok (statement_of fields) (with_statement before number) after is in
+    by-statement number before after a.0 so (row-stated fields a.0 a.1) a.2
+
+by-rows : (number : ℕ) (before last : PlainDraft) (rows : List Fields) → IsDeclared before → draft_after before number rows ≡ Ok last → IsDeclared last
+by-rows number before last [] so is = subst IsDeclared (ok-same {E = Refusal} before last is) so
+by-rows number before last (fields ∷ rows) so is =
+    let next : PlainDraft → Result PlainDraft Refusal = λ d. draft_after d (next_number number) rows in
+    let a = bind-ok (fault_in number (with_row before number fields)) next last is in
+    by-rows (next_number number) a.0 last rows (by-row number before a.0 fields so (fault-ok number (with_row before number fields) a.0 a.1)) a.2
+
+-- what rows without a dump give
+from-rows : (rows : List Fields) (script : PlainScript) → Ok script ≡ script_from no_rows 1 rows → IsStart script.start
+from-rows rows script is =
+    let a = bind-ok (draft_after no_rows 1 rows) last_script script (sym is) in
+    let last = by-rows 1 no_rows a.0 rows nothing-declared a.1 in
+    let start = a.0.script.start in
+    let here = declared-start start a.0.taken last.declared last.taken (conserved start last.declared.markets last.backed) in
+    subst (λ (s : PlainScript). IsStart s.start) (ok-same {E = Refusal} a.0.script script a.2) here
+
+-- accounts without findings are those of sound markets
+abbrev pub AuditedAreSound : Type 0
+AuditedAreSound = (accounts : PlainAccounts) → AreAccepted accounts → HoldBytes accounts → findings accounts ≡ [] → All AreSound accounts.markets
+
+-- and their mints are conserved
+abbrev pub AuditedAreConserved : Type 0
+AuditedAreConserved =
+    (accounts : PlainAccounts) → AreAccepted accounts → HoldBytes accounts → findings accounts ≡ [] → All (IsConserved accounts) accounts.mints
+
+by-answer : AuditedAreSound → AuditedAreConserved → (begins : Bool) (rows : List Fields) (script : PlainScript) → AnswersBy begins rows (Ok script) → IsStart script.start
+by-answer are-sound are-conserved true rows script told =
+    let starts = from-dump rows told.0 script told.1 told.2 in
+    record {
+      accepted = starts.accepted;
+      sound = are-sound script.start starts.accepted starts.held starts.none;
+      conserved = are-conserved script.start starts.accepted starts.held starts.none;
+    }
+by-answer are-sound are-conserved false rows script is = from-rows rows script is
+
+pub starts-sound : AuditedAreSound → AuditedAreConserved → (text : List ℕ) (script : PlainScript) → Reads text script → IsStart script.start
+starts-sound are-sound are-conserved text script reads = by-answer are-sound are-conserved (begins_with_dump (rows_of text)) (rows_of text) script reads

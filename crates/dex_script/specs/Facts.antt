@@ -1,0 +1,45 @@
+-- What holds of every script.
+use Rattle.std.specs.Prelude.{◌≡◌, ℕ, ◌+◌, ◌<◌, ◌≤◌, true, List, [], ◌∷◌, length, max, All}
+use Rattle.std.specs.List.{AllPairs}
+use Rattle.dex_types.specs.Accounts.{PlainAccounts}
+use Rattle.dex_types.specs.Rows.{PlainRow}
+use Rattle.dex_accounts.specs.Decoded.{AreSound}
+use Rattle.dex_audit.specs.Audited.{IsConserved}
+use Rattle.dex_dump.specs.Accepted.{AreAccepted}
+use Rattle.dex_script.specs.Drafts.{PlainScript}
+use Rattle.dex_script.specs.Known.{has_market, is_known_role}
+
+-- accounts that a script can start with: they are accepted, market by market those of a sound market, and of each mint
+-- wallets and vaults hold its supply
+pub record IsStart (accounts : PlainAccounts) : Type 0 where
+  pub accepted : AreAccepted accounts
+  pub sound : All AreSound accounts.markets
+  pub conserved : All (IsConserved accounts) accounts.mints
+
+-- the highest lane of some rows and 1, or 1
+abbrev pub lanes_of : List PlainRow → ℕ
+lanes_of [] = 1
+lanes_of (row ∷ rows) = max (row.lane + 1) (lanes_of rows)
+
+-- a row names only markets and wallets of these accounts, and is within the limits
+pub record IsRowOf (start : PlainAccounts) (row : PlainRow) : Type 0 where
+  pub market : has_market row.market start.markets ≡ true
+  pub coin : is_known_role start.wallets row.coin ≡ true
+  pub pc : is_known_role start.wallets row.pc ≡ true
+  pub discount : is_known_role start.wallets row.discount ≡ true
+  pub referrer : is_known_role start.wallets row.referrer ≡ true
+  pub lane : row.lane < 16
+  pub named : length row.named ≤ 16
+  pub bytes : length row.bytes ≤ 256
+
+-- the rows of a script: not too many, each of the start, with rising numbers
+pub record AreRows (script : PlainScript) : Type 0 where
+  pub few : length script.rows ≤ 100000
+  pub each : All (IsRowOf script.start) script.rows
+  pub rising : AllPairs (λ (one other : PlainRow). one.number < other.number) script.rows
+  pub lanes : script.lanes ≡ lanes_of script.rows
+
+-- what holds of every script
+pub record IsScript (script : PlainScript) : Type 0 where
+  pub start : IsStart script.start
+  pub rows : AreRows script

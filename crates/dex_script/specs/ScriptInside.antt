@@ -1,0 +1,20 @@
+-- What the fields of a script stand for.
+use Rattle.std.specs.Prelude.{map}
+use Rattle.dex_types.specs.Accounts.{accounts_of}
+use Rattle.dex_types.specs.Rows.{row_of}
+use Rattle.dex_script.specs.declared.script.Script.TheInside.{Inside}
+use Rattle.dex_script.specs.Drafts.{PlainScript}
+use Rattle.dex_script.specs.Facts.{IsScript}
+
+-- the script that the fields are
+abbrev pub script_inside : Inside → PlainScript
+script_inside inside = record {
+  start = accounts_of inside.start;
+  rows = map row_of inside.rows.items;
+  lanes = inside.lanes;
+  program = inside.program;
+}
+
+-- it is as every script is
+abbrev pub IsKept : Inside → Type 0
+IsKept inside = IsScript (script_inside inside)

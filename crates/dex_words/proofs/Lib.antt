@@ -1,0 +1,3 @@
+pub mod CommandLaws
+mod Line
+mod Placing

@@ -1,0 +1,12 @@
+//! The words after the program's name, and the command that they are.
+#![tactic(auto)]
+
+mod command;
+pub mod laws;
+mod positionals;
+mod reading;
+#[cfg(test)]
+mod tests;
+
+pub use command::{Command, WordsError};
+pub use reading::read_words;
