@@ -5,6 +5,8 @@
 mod dump_tests;
 mod program;
 #[cfg(test)]
+mod rows_tests;
+#[cfg(test)]
 mod tests;
 
 use crate::program::dex_main;
