@@ -1,0 +1,170 @@
+//! A row that acts on a market's cell.
+
+ghost use Rattle.dex_cell.specs.CellState.{HasSpare, IsFor, IsMarketCell, answer_on, market_at};
+ghost use Rattle.dex_cell.specs.Paying.{parcel_of};
+ghost use Rattle.dex_history.specs.Balances.{mint_of};
+ghost use Rattle.dex_history.specs.Journal.{Agree, Sees, asked_of};
+ghost use Rattle.dex_types.specs.Rows.{row_of};
+ghost use Rattle.dex_types.specs.Side.{Coin, Pc};
+ghost use Rattle.dex_types.specs.Wallets.{address_seen};
+ghost use Rattle.std.specs.Prelude.{◌≡◌, IfSome, IsTrue, Ok};
+
+use dex_cell::{MarketCell, Payouts, Plan};
+use dex_market::MarketRef;
+use dex_types::{Address, Reply, Row, Seen, WalletSeen};
+use dex_wallet::Parcel;
+
+/// What a row moves, in native amounts: what its wallets pay, and what the wallets of its roles are paid.
+#[derive(Clone, Copy)]
+pub(crate) struct Moved {
+    pub coin_in: u64,
+    pub pc_in: u64,
+    pub coin_out: u64,
+    pub pc_out: u64,
+    pub referrer_out: u64,
+}
+
+/// Nothing is moved.
+const NOTHING: Moved = Moved {
+    coin_in: 0,
+    pc_in: 0,
+    coin_out: 0,
+    pc_out: 0,
+    referrer_out: 0,
+};
+
+/// The wallet of an address among these; one that is not among them has nothing, and is nobody's and of no mint.
+fn wallet_at(wallets: &[WalletSeen], address: Address) -> WalletSeen
+    ensures { result.address ≡ address }
+{
+    for wallet in wallets {
+        if wallet.address == address {
+            return WalletSeen { address, ..*wallet };
+        }
+    }
+    WalletSeen {
+        address,
+        mint: Address([0; 32]),
+        owner: Address([0; 32]),
+        balance: 0,
+    }
+}
+
+/// The wallet that a role names.
+pub(crate) fn role(wallets: &[WalletSeen], named: Option<Address>) -> Option<WalletSeen>
+    ensures { address_seen result ≡ named }
+{
+    match named {
+        Some(address) => Some(wallet_at(wallets, address)),
+        None => None,
+    }
+}
+
+/// Whether two roles of one wallet see one wallet.
+fn agree(first: Option<WalletSeen>, second: Option<WalletSeen>) -> bool
+    ensures { IsTrue result → Agree first second }
+{
+    match (first, second) {
+        (Some(wallet), Some(other)) => wallet.address != other.address || wallet == other,
+        _ => true,
+    }
+}
+
+/// Whether what is seen for a row has one wallet wherever two roles name one.
+pub(crate) fn sees(row: &Row, seen: &Seen) -> bool
+    requires coin { address_seen seen.now.coin ≡ row.now.coin }
+    requires pc { address_seen seen.now.pc ≡ row.now.pc }
+    requires discount { address_seen seen.now.discount ≡ row.now.discount }
+    requires referrer { address_seen seen.now.referrer ≡ row.now.referrer }
+    ensures { IsTrue result → Sees (asked_of (row_of row.entry.now)) seen.now }
+{
+    let coin_pc = agree(seen.coin, seen.pc);
+    let coin_discount = agree(seen.coin, seen.discount);
+    let coin_referrer = agree(seen.coin, seen.referrer);
+    let pc_discount = agree(seen.pc, seen.discount);
+    let pc_referrer = agree(seen.pc, seen.referrer);
+    let discount_referrer = agree(seen.discount, seen.referrer);
+    coin_pc & coin_discount & coin_referrer & pc_discount & pc_referrer & discount_referrer
+}
+
+/// The mint of the market's base.
+#[tactic(auto, unfolding(dex_accounts::specs::Decoded::market_in))]
+fn coin_mint(cell: &MarketCell) -> Address
+    ensures { result ≡ mint_of Coin (market_at cell.now) }
+{
+    let market = MarketRef {
+        bytes: &cell.accounts().market,
+    };
+    market.coin_mint()
+}
+
+/// The mint of the market's quote.
+#[tactic(auto, unfolding(dex_accounts::specs::Decoded::market_in))]
+fn pc_mint(cell: &MarketCell) -> Address
+    ensures { result ≡ mint_of Pc (market_at cell.now) }
+{
+    let market = MarketRef {
+        bytes: &cell.accounts().market,
+    };
+    market.pc_mint()
+}
+
+/// So much of a mint, and none of nothing.
+fn parcel(mint: Address, amount: u64) -> Option<Parcel>
+    ensures { result ≡ parcel_of mint amount }
+{
+    if amount == 0 {
+        None
+    } else {
+        Some(Parcel::of_supply(mint, amount))
+    }
+}
+
+/// How much a parcel is, which ends here.
+fn spent(parcel: Option<Parcel>) -> u64 {
+    match parcel {
+        Some(parcel) => {
+            let amount = parcel.amount();
+            parcel.give_up();
+            amount
+        }
+        None => 0,
+    }
+}
+
+/// Does a row as it was decided.
+fn accept(cell: &mut MarketCell, row: &Row, seen: &Seen, plan: Plan) -> (Reply, Moved)
+    requires row { IsFor row.now seen.now cell.old }
+    requires cell { IsMarketCell cell.old }
+    requires spare { HasSpare cell.old }
+    requires decided { Ok plan ≡ answer_on row.now seen.now cell.old }
+{
+    let deposit = plan.deposit();
+    let coin = parcel(coin_mint(cell), deposit.coin);
+    let pc = parcel(pc_mint(cell), deposit.pc);
+    let (reply, payouts) = cell.apply(row, seen, plan, coin, pc);
+    let Payouts { coin, pc, referrer } = payouts;
+    let moved = Moved {
+        coin_in: deposit.coin,
+        pc_in: deposit.pc,
+        coin_out: spent(coin),
+        pc_out: spent(pc),
+        referrer_out: spent(referrer),
+    };
+    (reply, moved)
+}
+
+/// Decides a row, and does it or writes down that it is refused.
+pub(crate) fn act(cell: &mut MarketCell, row: &Row, seen: &Seen) -> (Reply, Moved)
+    requires row { IsFor row.now seen.now cell.old }
+    requires cell { IsMarketCell cell.old }
+    requires spare { HasSpare cell.old }
+{
+    match cell.decide(row, seen) {
+        Ok(plan) => accept(cell, row, seen, plan),
+        Err(refusal) => {
+            cell.refuse(row, seen, refusal);
+            (Reply::Refused(refusal), NOTHING)
+        }
+    }
+}

@@ -1,0 +1,193 @@
+//! A market's cell and the wallets beside it, on which rows of scripts act.
+
+ghost use Rattle.dex_cell.specs.CellState.{IsFor};
+ghost use Rattle.std.specs.Prelude.{IfSome};
+
+use crate::acting::{Moved, act, role, sees};
+use crate::making::{Terms, fits, new_cell};
+use crate::words::{add_line, row_of};
+use dex_cell::MarketCell;
+use dex_rows::records::Rows;
+use dex_statement::{InstructionWords, Statement, statement_of};
+use dex_types::{Address, Program, Reply, Row, Seen, WalletSeen};
+use std::alloc::Global;
+use std::test::Fail;
+
+/// A market's cell, the wallets that rows may name, the mints that give discounts, the program, the number of the last row
+/// and the clock.
+#[derive(Drop)]
+pub(crate) struct Exchange {
+    alloc: Global,
+    pub cell: MarketCell,
+    wallets: Vec<WalletSeen>,
+    srm: Option<Address>,
+    msrm: Option<Address>,
+    program: Program,
+    number: u32,
+    clock: i64,
+}
+
+/// What no test is to come to: a market that can not be made, a row of another market, no room for a row more, a row that makes accounts, a row without an
+/// entry or with an entry of another reply, and a side that is no slab.
+#[derive(Debug, Drop)]
+pub(crate) enum Unfit {
+    Terms,
+    OtherMarket,
+    NoSpare,
+    Making,
+    NoEntry,
+    OtherReply,
+    NoSlab,
+}
+
+/// Wallets, and the rows that open the accounts `amy` of `ann` and `ben` of `bob`.
+const BASE: &[u8] = b"wallet,ann_coin,coin,ann,1000
+wallet,ann_usd,usd,ann,0
+wallet,bob_coin,coin,bob,0
+wallet,bob_usd,usd,bob,5000
+do,0,m,ann,amy,-,-,-,-,init
+do,1,m,bob,ben,-,-,-,-,init
+";
+
+impl Exchange {
+    /// A market as it is made, with the accounts `amy` of `ann` and `ben` of `bob` opened by the rows 10 and 11.
+    pub fn open(alloc: Global, terms: Terms) -> Result<Exchange, Fail> {
+        if !fits(terms) {
+            return Err(Unfit::Terms)?;
+        }
+        let cell = new_cell(alloc, terms)?;
+        let mut exchange = Exchange {
+            alloc,
+            cell,
+            wallets: Vec::new(alloc),
+            srm: None,
+            msrm: None,
+            program: Program::Serum,
+            number: 9,
+            clock: 0,
+        };
+        exchange.run(BASE)?;
+        Ok(exchange)
+    }
+
+    /// Takes each row of a text, and answers the lines of the entries that it adds to the journal.
+    pub fn run(&mut self, text: &[u8]) -> Result<String, Fail> {
+        let mut lines = String::new(self.alloc);
+        let mut rows = Rows::new(self.alloc, text);
+        for _ in 0..u64::MAX {
+            let Some(row) = rows.next_row()? else {
+                return Ok(lines);
+            };
+            let statement = statement_of(self.alloc, &row)?;
+            self.take(statement, &mut lines)?;
+        }
+        Ok(lines)
+    }
+
+    /// Takes one row. Only clocks and instructions have numbers.
+    fn take(&mut self, statement: Statement, lines: &mut String) -> Result<(), Fail> {
+        match statement {
+            Statement::Program(program) => self.program = program,
+            Statement::Srm(mint) => self.srm = Some(mint),
+            Statement::Msrm(mint) => self.msrm = Some(mint),
+            Statement::Clock(now) => {
+                self.number = self.number.wrapping_add(1);
+                self.clock = now;
+            }
+            Statement::Wallet {
+                address,
+                mint,
+                owner,
+                amount,
+            } => self.keep(WalletSeen {
+                address,
+                mint,
+                owner,
+                balance: amount,
+            })?,
+            Statement::Instruction(words) => self.submit(words, lines)?,
+            Statement::Mint { .. } | Statement::Market(_) | Statement::Orders { .. } => {
+                return Err(Unfit::Making)?;
+            }
+        }
+        Ok(())
+    }
+
+    /// Keeps a wallet, in place of one that has its address.
+    fn keep(&mut self, wallet: WalletSeen) -> Result<(), Fail> {
+        for kept in self.wallets.iter_mut() {
+            if kept.address == wallet.address {
+                *kept = wallet;
+                return Ok(());
+            }
+        }
+        self.wallets.push(wallet)?;
+        Ok(())
+    }
+
+    /// An instruction acts on the market and on the wallets that it names.
+    fn submit(&mut self, words: InstructionWords, lines: &mut String) -> Result<(), Fail> {
+        self.number = self.number.wrapping_add(1);
+        let row = row_of(words, self.number, self.clock);
+        let reply = self.act(&row)?;
+        let Some(entry) = self.cell.entries().last() else {
+            return Err(Unfit::NoEntry)?;
+        };
+        if entry.reply != reply {
+            return Err(Unfit::OtherReply)?;
+        }
+        add_line(lines, entry)?;
+        Ok(())
+    }
+
+    /// A row acts on the market and on the wallets that it names.
+    fn act(&mut self, row: &Row) -> Result<Reply, Fail> {
+        let Some(seen) = self.seen_by(row) else {
+            return Err(Unfit::OtherMarket)?;
+        };
+        if self.cell.spare() == 0 {
+            return Err(Unfit::NoSpare)?;
+        }
+        let (reply, moved) = act(&mut self.cell, row, &seen);
+        self.pay(&seen, moved);
+        Ok(reply)
+    }
+
+    /// What a row of the market sees; none of a row of another market.
+    fn seen_by(&self, row: &Row) -> Option<Seen>
+        ensures { IfSome result (λ seen. IsFor row.entry.now seen self.now.cell) }
+    {
+        let seen = Seen {
+            coin: role(&self.wallets, row.coin),
+            pc: role(&self.wallets, row.pc),
+            discount: role(&self.wallets, row.discount),
+            referrer: role(&self.wallets, row.referrer),
+            srm: self.srm,
+            msrm: self.msrm,
+            program: self.program,
+        };
+        if self.cell.accounts().address == row.market && sees(row, &seen) {
+            Some(seen)
+        } else {
+            None
+        }
+    }
+
+    /// What a row moves leaves and enters the wallets of its roles.
+    fn pay(&mut self, seen: &Seen, moved: Moved) {
+        self.move_by(seen.coin, moved.coin_in, moved.coin_out);
+        self.move_by(seen.pc, moved.pc_in, moved.pc_out);
+        self.move_by(seen.referrer, 0, moved.referrer_out);
+    }
+
+    /// An amount leaves a wallet, and another enters it.
+    fn move_by(&mut self, role: Option<WalletSeen>, out: u64, into: u64) {
+        if let Some(seen) = role {
+            for wallet in self.wallets.iter_mut() {
+                if wallet.address == seen.address {
+                    wallet.balance = wallet.balance.wrapping_sub(out).wrapping_add(into);
+                }
+            }
+        }
+    }
+}
