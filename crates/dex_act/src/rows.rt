@@ -49,7 +49,8 @@ fn answer(market: &mut MarketCell, wallets: &mut [WalletCell], row: &Row, seen: 
     requires wallets { SeesCells seen.now wallets.old }
     ensures reply { result ≡ (step_on row.entry.now seen.now market.old).reply }
     ensures acted { HasActed row.entry.now seen.now market.old market.new }
-    ensures refused { (why : Refusal) → result ≡ Refused why → market.new ≡ refused_on row.entry.now seen.now market.old }
+    ensures refused { (why : Refusal) → result ≡ Refused why
+        → market.new ≡ refused_on row.entry.now seen.now market.old }
     ensures cell { IsMarketCell market.new }
     ensures wallets { wallets.new ≡ cells_paid row.entry.now seen.now market.old wallets.old }
 {
@@ -82,7 +83,8 @@ pub fn act(market: &mut MarketCell, wallets: &mut [WalletCell], row: &Row, seen:
     requires wallets { SeesCells seen.now wallets.old }
     ensures reply { result ≡ (step_on row.entry.now seen.now market.old).reply }
     ensures acted { HasActed row.entry.now seen.now market.old market.new }
-    ensures refused { (why : Refusal) → result ≡ Refused why → market.new ≡ refused_on row.entry.now seen.now market.old }
+    ensures refused { (why : Refusal) → result ≡ Refused why
+        → market.new ≡ refused_on row.entry.now seen.now market.old }
     ensures cell { IsMarketCell market.new }
     ensures wallets { wallets.new ≡ cells_acted row.entry.now seen.now market.old wallets.old }
     ensures states { map wallet_state_of wallets.new

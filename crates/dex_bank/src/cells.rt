@@ -67,7 +67,8 @@ impl Cells {
         ensures acted { spec.world_of self.new ≡ act (row_of row.entry.now) (spec.world_of self.old) }
         ensures kept { spec.opened_of self.new ≡ spec.opened_of self.old }
         ensures others { spec.OthersStay row.entry.now.market self.old.markets self.new.markets }
-        ensures refused { (why : Refusal) → result ≡ Refused why → spec.accounts_in self.new.markets ≡ spec.accounts_in self.old.markets }
+        ensures refused { (why : Refusal) → result ≡ Refused why
+            → spec.accounts_in self.new.markets ≡ spec.accounts_in self.old.markets }
         ensures cells { AreCells self.new }
     {
         stepped(self, row)

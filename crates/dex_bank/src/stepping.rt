@@ -73,7 +73,8 @@ fn act_at(
         result ≡ (step_on row.entry.now seen.now (slice_index_or markets.old place default)).reply }
     ensures market { HasActedAt row.entry.now seen.now place markets.old markets.new }
     ensures refused { (why : Refusal) (default : MarketCellState) → result ≡ Refused why
-        → markets.new ≡ slice_set markets.old place (refused_on row.entry.now seen.now (slice_index_or markets.old place default)) }
+        → markets.new
+        ≡ slice_set markets.old place (refused_on row.entry.now seen.now (slice_index_or markets.old place default)) }
     ensures wallets { (default : MarketCellState) →
         HaveActed row.entry.now seen.now
         (step_on row.entry.now seen.now (slice_index_or markets.old place default)).transfers wallets.old wallets.new }
@@ -90,7 +91,8 @@ pub(crate) fn stepped(cells: &mut Cells, row: &Row) -> Reply
     ensures acted { world_of cells.new ≡ fold.act (row_of row.entry.now) (world_of cells.old) }
     ensures kept { opened_of cells.new ≡ opened_of cells.old }
     ensures others { OthersStay row.entry.now.market cells.old.markets cells.new.markets }
-    ensures refused { (why : Refusal) → result ≡ Refused why → accounts_in cells.new.markets ≡ accounts_in cells.old.markets }
+    ensures refused { (why : Refusal) → result ≡ Refused why
+        → accounts_in cells.new.markets ≡ accounts_in cells.old.markets }
     ensures cells { AreCells cells.new }
 {
     let seen = seen_by(cells, row);

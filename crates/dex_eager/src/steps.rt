@@ -15,8 +15,9 @@ ghost use Rattle.dex_eager.specs.Worth.{Ledger};
 /// A row that is not refused changes the sides, but for slots, the next sequence number, each account's worth and what
 /// the market has taken as it changes those of a market that pays at once, and appends the fills that it makes there.
 pub fn a_step_moves_worth_as_its_fills_do()
-    ensures { (request : Request) (seen : Seen) (m : Market) (ledger : Ledger) → IsSound m → why request seen m ≡ None →
-        IsPaidAs m ledger request.named (step request seen m) (eager_step request seen (eager_at m ledger)) }
+    ensures { (request : Request) (seen : Seen) (m : Market) (ledger : Ledger) → IsSound m
+        → why request seen m ≡ None
+        → IsPaidAs m ledger request.named (step request seen m) (eager_step request seen (eager_at m ledger)) }
 {}
 
 /// A crank changes no side, nobody's worth and nothing that the market has taken, and appends no fill: what it pays an

@@ -24,7 +24,7 @@ pub struct Amounts {
 }
 
 /// The flags of an event: Fill 1, Out 2, Bid 4, Maker 8 and ReleaseFunds 16.
-pub fn flags(kind: Kind, side: Side) -> u8
+pub(crate) fn flags(kind: Kind, side: Side) -> u8
     ensures { result ≡ flags_of (kind_on kind side) }
 {
     let of_kind = match kind {

@@ -92,7 +92,7 @@ pub struct Fill {
 }
 
 /// What lots of an order that fill move.
-pub fn fill_of(taker: Terms, order: Order, lots: u64) -> Fill
+pub(crate) fn fill_of(taker: Terms, order: Order, lots: u64) -> Fill
     requires tier { order.tier < 7 }
     requires base { lots * taker.sizes.coin < 2 ^ 64 }
     requires pc { meeting.fill_pc taker.sizes order lots < 2 ^ 64 }
@@ -131,7 +131,7 @@ pub(crate) fn fill_met(taker: Terms, order: Order, lots: u64) -> Fill
 }
 
 /// The amounts of a maker's fill: an ask is owed quote and the rebate, a bid pays quote less the rebate.
-pub fn maker_amounts(side: Side, fill: Fill) -> Amounts
+pub(crate) fn maker_amounts(side: Side, fill: Fill) -> Amounts
     requires rebate { fill.rebate ≤ fill.pc }
     requires fits { side ≡ Side.Ask → fill.pc + fill.rebate < 2 ^ 64 }
     ensures bid { side ≡ Side.Bid → result ≡ record {

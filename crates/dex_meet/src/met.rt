@@ -40,7 +40,7 @@ pub(crate) fn met_with(
 }
 
 /// What came of meeting, with one more order that lost these lots.
-pub fn met_after(side: Side, taker: Terms, met: Met, order: Order, lots: u64) -> Met
+pub(crate) fn met_after(side: Side, taker: Terms, met: Met, order: Order, lots: u64) -> Met
     requires tier { order.tier < 7 }
     requires lots { met.sums.lots + meeting.met_lots (taking taker) order lots < 2 ^ 64 }
     requires pc { met.sums.pc + meeting.met_pc (taking taker) order lots < 2 ^ 64 }

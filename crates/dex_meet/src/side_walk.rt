@@ -24,7 +24,7 @@ pub struct Prospect {
 }
 
 /// A taker that has met nothing.
-pub fn unmet(want: Want) -> Met
+pub(crate) fn unmet(want: Want) -> Met
     ensures { result ≡ record { want = want; sums = record { lots = 0; pc = 0; rebates = 0 } } }
 {
     Met {
