@@ -3,7 +3,7 @@ use Rattle.std.proofs.Common.{◌≡◌, ◌∙◌, ◌∷◌, [], ℕ, Bool, tr
 use Rattle.std.proofs.lemmas.Option.{none-some}
 use Rattle.dex_types.specs.Accounts.{PlainAccounts}
 use Rattle.dex_words.specs.declared.command.Command.{Command}
-use Rattle.dex_words.specs.declared.command.Command.TheVariants.{Replay, Dump, Audit, Make, Bulk, Migrate}
+use Rattle.dex_words.specs.declared.command.Command.TheVariants.{Replay, Run, Dump, Audit, Make, Bulk, Migrate}
 use Rattle.dex_rows.specs.Records.{rows_of}
 use Rattle.dex_statement.specs.Words.{Fields}
 use Rattle.dex_statement.specs.Faults.{◌>>=◌}
@@ -111,6 +111,8 @@ found-some text found is empty = by (begins_with_dump (rows_of text)) is
 pub answered : (command : Command) (bytes : List ℕ) (stood : Status) (text : List ℕ) → Suits command bytes → Answers command bytes stood text → stood ≡ status.Ok
 answered Replay bytes status.Ok text suits told = refl
 answered Replay bytes stood text suits told = absurd (read-told bytes suits.0 stood text suits.1 told)
+answered Run bytes status.Ok text suits told = refl
+answered Run bytes stood text suits told = absurd (read-told bytes suits.0 stood text suits.1 told)
 answered Dump bytes status.Ok text suits told = refl
 answered Dump bytes stood text suits told = absurd (read-told bytes suits.0 stood text suits.1 told)
 answered Audit bytes status.Ok text suits told = refl

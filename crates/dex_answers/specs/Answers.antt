@@ -2,7 +2,7 @@
 use Rattle.std.specs.Prelude.{ℕ, ◌≡◌, List, [], length, Option, Some, Result, Ok, Err}
 use Rattle.dex_types.specs.Accounts.{PlainAccounts}
 use Rattle.dex_words.specs.declared.command.Command.{Command}
-use Rattle.dex_words.specs.declared.command.Command.TheVariants.{Replay, Dump, Audit, Make, Bulk, Migrate}
+use Rattle.dex_words.specs.declared.command.Command.TheVariants.{Replay, Run, Dump, Audit, Make, Bulk, Migrate}
 use Rattle.dex_statement.specs.declared.faults.FaultKind.{FaultKind}
 use Rattle.dex_statement.specs.Faults.{code_of, kind_number}
 use Rattle.dex_dump.specs.declared.faults.DumpFault.{DumpFault}
@@ -21,6 +21,8 @@ use Rattle.dex_report.specs.Made.{made_text}
 use Rattle.dex_report.specs.Outcomes.{PlainOutcome}
 use Rattle.dex_report.specs.Report.{report_text}
 use Rattle.dex_replay.specs.Replays.{IsReplayOf}
+use Rattle.dex_histories.specs.Runs.{IsRunOf}
+use Rattle.dex_order.specs.OneOrder.{IsOneOrder}
 use Rattle.dex_lines.specs.Lines as lines
 use Rattle.dex_answers.specs.declared.status.Status.{Status}
 use Rattle.dex_answers.specs.declared.status.Status.TheVariants as status
@@ -30,6 +32,13 @@ abbrev pub Replayed : List ℕ → (PlainScript → PlainOutcome → List ℕ) �
 Replayed bytes told text =
     (script : PlainScript) × (outcome : PlainOutcome) × Reads bytes script × IsReplayOf script outcome
     × (text ≡ told script outcome)
+
+-- the bytes are a script, this is what is left when its lanes have run side by side, which is also what its rows leave one after
+-- the other in some order that keeps the order of each lane, and the text reports it
+abbrev pub Ran : List ℕ → List ℕ → Type 0
+Ran bytes text =
+    (script : PlainScript) × (outcome : PlainOutcome) × Reads bytes script × IsRunOf script outcome × IsOneOrder script outcome
+    × (text ≡ report_text outcome (length script.rows))
 
 -- the bytes are the dump of accounts without findings
 abbrev pub IsClean : List ℕ → PlainAccounts → Type 0
@@ -63,6 +72,8 @@ IsNotClean bytes _ text = ⊥
 abbrev pub Answers : Command → List ℕ → Status → List ℕ → Type 0
 Answers Replay bytes status.Ok text = Replayed bytes (λ script outcome. report_text outcome (length script.rows)) text
 Answers Replay bytes stood text = IsNoScript bytes stood text
+Answers Run bytes status.Ok text = Ran bytes text
+Answers Run bytes stood text = IsNoScript bytes stood text
 Answers Dump bytes status.Ok text = Replayed bytes (λ script outcome. dump_text outcome.accounts) text
 Answers Dump bytes stood text = IsNoScript bytes stood text
 Answers Audit bytes status.Ok text =

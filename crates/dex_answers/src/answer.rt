@@ -1,7 +1,7 @@
 //! The answer of a command.
 
 ghost use Rattle.std.specs.Prelude.{IfOk};
-ghost use Rattle.dex_words.specs.Spelling.{IsWithin};
+ghost use Rattle.dex_words.specs.Spelling.{IsPlain, IsWithin};
 ghost use Rattle.dex_answers.specs.Answers.{Answers};
 
 use crate::audit::audit_answer;
@@ -15,14 +15,16 @@ use dex_types::NoMemory;
 use dex_words::Command;
 use std::alloc::Global;
 
-/// What a command, whose numbers are within their limits, answers to the bytes that it read: the text, and the status
-/// under which it is written. `make` and `bulk` read none. It answers otherwise only for want of memory.
+/// What a command on one thread, whose numbers are within their limits, answers to the bytes that it read: the text, and
+/// the status under which it is written. `make` and `bulk` read none. It answers otherwise only for want of memory.
 pub fn answer_to(alloc: Global, command: Command, bytes: &[u8]) -> Result<StatusText, NoMemory>
-    requires { IsWithin command }
+    requires within { IsWithin command }
+    requires plain { IsPlain command }
     ensures { IfOk result (λ told. Answers command bytes.now told.status told.text.items) }
 {
     match command {
         Command::Replay => replay_answer(alloc, bytes),
+        Command::Run => unreachable!(),
         Command::Dump => dump_answer(alloc, bytes),
         Command::Audit => audit_answer(alloc, bytes),
         Command::Make { number, rows } => make_answer(alloc, number, rows),

@@ -12,11 +12,13 @@ mod make;
 mod migrate;
 mod played;
 mod replay;
+mod run;
 mod status;
 mod told;
 
 pub use answer::answer_to;
 pub use laws::what_suits_a_command_is_answered;
+pub use run::run_answer;
 pub use status::Status;
 pub use told::StatusText;
 

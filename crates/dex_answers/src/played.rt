@@ -38,7 +38,7 @@ pub(crate) fn play_script(alloc: Global, bytes: &[u8]) -> Result<Played, NoMemor
 }
 
 /// The text that tells why bytes are no script.
-fn no_script(alloc: Global, error: ScriptError) -> Result<StatusText, NoMemory>
+pub(crate) fn no_script(alloc: Global, error: ScriptError) -> Result<StatusText, NoMemory>
     ensures { (bytes : List ℕ) → TellsError error bytes
         → IfOk result (λ told. IsNoScript bytes told.status told.text.items) }
 {

@@ -2,12 +2,16 @@
 
 ghost use Rattle.std.specs.Prelude.{IfOk};
 ghost use Rattle.dex_words.specs.declared.command.Command.TheVariants.{Replay};
+ghost use Rattle.dex_report.specs.Outcomes.{outcome_of};
+ghost use Rattle.dex_report.specs.Report.{report_text};
 ghost use Rattle.dex_answers.specs.Answers.{Answers};
+ghost use Rattle.dex_answers.specs.Telling.{IsText};
+ghost use Rattle.dex_answers.specs.declared.status.Status.TheVariants as status;
 
 use crate::played::{Played, play_script};
 use crate::status::Status;
 use crate::told::StatusText;
-use dex_report::report_text;
+use dex_report::{Outcome, report_text};
 use dex_types::NoMemory;
 use std::alloc::Global;
 
@@ -16,13 +20,18 @@ pub(crate) fn replay_answer(alloc: Global, bytes: &[u8]) -> Result<StatusText, N
     ensures { IfOk result (λ told. Answers Replay bytes.now told.status told.text.items) }
 {
     match play_script(alloc, bytes)? {
-        Played::Left { rows, outcome } => {
-            let text = report_text(alloc, &outcome, rows)?;
-            Ok(StatusText {
-                status: Status::Ok,
-                text,
-            })
-        }
+        Played::Left { rows, outcome } => report_of(alloc, &outcome, rows),
         Played::Refused(told) => Ok(told),
     }
+}
+
+/// The report of an outcome of so many rows.
+pub(crate) fn report_of(alloc: Global, outcome: &Outcome, rows: u32) -> Result<StatusText, NoMemory>
+    ensures { IfOk result (λ told. IsText told status.Ok (report_text (outcome_of outcome.now) rows)) }
+{
+    let text = report_text(alloc, outcome, rows)?;
+    Ok(StatusText {
+        status: Status::Ok,
+        text,
+    })
 }

@@ -1,4 +1,4 @@
-mod OpenCells
+pub mod OpenCells
 mod OpenCounts
 mod OpenLists
 pub mod StepMarkets

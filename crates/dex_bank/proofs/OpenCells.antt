@@ -95,7 +95,7 @@ cells-apart rows (first ∷ others) once = (
   cells-apart rows others (λ address. omega (arith, once address, times-cons address first.address (map address_of others))),
 )
 
-wallets-apart : (rows : List PlainRow) (accounts : PlainAccounts) → AreAccepted accounts → AreApart (map (wallet_opened rows) accounts.wallets)
+pub wallets-apart : (rows : List PlainRow) (accounts : PlainAccounts) → AreAccepted accounts → AreApart (map (wallet_opened rows) accounts.wallets)
 wallets-apart rows accounts accepted =
     cells-apart rows accounts.wallets
     (λ address.

@@ -1,9 +1,10 @@
 //! All cells of an exchange.
 
-ghost use Rattle.std.specs.Prelude.{◌≡◌, IfErr, IfOk, Some};
+ghost use Rattle.std.specs.Prelude.{◌≡◌, ◌≤◌, IfErr, IfOk, Some, length, map};
 
-use crate::closing::closed;
+use crate::closing::{closed, left_by};
 use crate::opening::opened;
+use crate::room::Room;
 use crate::stepping::stepped;
 use dex_cell::MarketCell;
 use dex_report::Outcome;
@@ -40,6 +41,7 @@ impl Model for Cells {
 impl Cells {
     ghost use Rattle.dex_types.specs.declared.refusals.Refusal.{Refusal};
     ghost use Rattle.dex_types.specs.declared.replies.Reply.TheVariants.{Refused};
+    ghost use Rattle.dex_types.specs.Accounts.{named_of};
     ghost use Rattle.dex_types.specs.Market.{Market};
     ghost use Rattle.dex_types.specs.Rows.{row_of};
     ghost use Rattle.dex_history.specs.Journal.{row_step};
@@ -56,6 +58,60 @@ impl Cells {
         ensures cells { IfOk result (λ cells. cells ≡ first.opened script.now) }
     {
         opened(alloc, script)
+    }
+
+    /// The cells of these markets and wallets, beside mints and program.
+    pub fn of(
+        mints: Vec<Named>,
+        srm: Option<Address>,
+        msrm: Option<Address>,
+        markets: Vec<MarketCell>,
+        wallets: Vec<WalletCell>,
+        program: Program,
+    ) -> Cells
+        requires cells { AreCells (record {
+          mints = map named_of mints.items;
+          srm = srm;
+          msrm = msrm;
+          markets = markets.items;
+          wallets = wallets.items;
+          program = program;
+        }) }
+        ensures { result ≡ record {
+          mints = map named_of mints.items;
+          srm = srm;
+          msrm = msrm;
+          markets = markets.items;
+          wallets = wallets.items;
+          program = program;
+        } }
+    {
+        Cells {
+            mints,
+            srm,
+            msrm,
+            markets,
+            wallets,
+            program,
+        }
+    }
+
+    /// Takes all cells apart: the mints, the markets and the wallets.
+    pub fn into_parts(self) -> (Vec<Named>, Vec<MarketCell>, Vec<WalletCell>)
+        ensures mints { map named_of result.0.items ≡ self.mints }
+        ensures markets { result.1.items ≡ self.markets }
+        ensures wallets { result.2.items ≡ self.wallets }
+        ensures cells { AreCells self }
+    {
+        let Cells {
+            mints,
+            srm: _,
+            msrm: _,
+            markets,
+            wallets,
+            program: _,
+        } = self;
+        (mints, markets, wallets)
     }
 
     /// A row acts on its market and on the wallets that it names, and this is its market's reply. It takes no memory.
@@ -82,5 +138,14 @@ impl Cells {
         ensures cells { AreCells self }
     {
         closed(alloc, self)
+    }
+
+    /// The accounts and the journals of all cells, as they are, written into the room for it.
+    pub fn close_into(self, room: Room) -> Outcome
+        requires room { (length self.markets ≤ room.markets) × (length self.wallets ≤ room.wallets) }
+        ensures outcome { outcome_of result ≡ left.closed self }
+        ensures cells { AreCells self }
+    {
+        left_by(self, room)
     }
 }

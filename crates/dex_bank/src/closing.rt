@@ -1,6 +1,6 @@
 //! What cells leave where they are closed.
 
-ghost use Rattle.std.specs.Prelude.{◌≡◌, ◌<◌, ◌≤◌, ◌++◌, ◌∷◌, [], IfErr, IfOk, IfSome, length, map};
+ghost use Rattle.std.specs.Prelude.{◌≡◌, ◌<◌, ◌≤◌, ◌++◌, ◌∷◌, [], IfErr, IfOk, length, map};
 ghost use Rattle.std.specs.Prelude.{vec_len, vec_capacity};
 ghost use Rattle.dex_types.specs.Accounts.{market_accounts_of, named_of};
 ghost use Rattle.dex_cell.specs.CellState.{MarketCellState};
@@ -8,28 +8,12 @@ ghost use Rattle.dex_report.specs.Outcomes.{market_journal_of, outcome_of, walle
 ghost use Rattle.dex_bank.specs.Closed as left;
 
 use crate::cells::Cells;
+use crate::room::{Left, Room};
 use dex_cell::MarketCell;
 use dex_report::{MarketJournal, Outcome, WalletJournal};
-use dex_types::{Accounts, MarketAccounts, Named};
+use dex_types::{Accounts, MarketAccounts, Named, NoMemory};
 use dex_wallet::WalletCell;
 use std::alloc::Global;
-
-/// What cells leave, or room for it: the accounts of each, and its journal.
-#[derive(Drop)]
-struct Left<A, J> {
-    accounts: Vec<A>,
-    journals: Vec<J>,
-}
-
-/// Room for what so many cells leave, if there is memory for it.
-fn room_for<A: Drop, J: Drop>(alloc: Global, count: usize) -> Option<Left<A, J>>
-    ensures accounts { IfSome result (λ room. (room.accounts.items ≡ []) × (count ≤ vec_capacity room.accounts)) }
-    ensures journals { IfSome result (λ room. (room.journals.items ≡ []) × (count ≤ vec_capacity room.journals)) }
-{
-    let accounts = Vec::with_capacity(alloc, count).ok()?;
-    let journals = Vec::with_capacity(alloc, count).ok()?;
-    Some(Left { accounts, journals })
-}
 
 /// Writes an item behind the others, where room for it is reserved.
 fn append<T: Drop>(items: &mut Vec<T>, item: T)
@@ -106,17 +90,8 @@ fn wallets_left(
 }
 
 /// What all cells leave, written into the room for it.
-fn left_by(
-    cells: Cells,
-    of_markets: Left<MarketAccounts, MarketJournal>,
-    of_wallets: Left<Named, WalletJournal>,
-) -> Outcome
-    requires accounts { (of_markets.accounts.items ≡ []) × (length cells.markets ≤ vec_capacity of_markets.accounts) }
-    requires journals { (of_markets.journals.items ≡ []) × (length cells.markets ≤ vec_capacity of_markets.journals) }
-    requires wallet_accounts { (of_wallets.accounts.items ≡ [])
-        × (length cells.wallets ≤ vec_capacity of_wallets.accounts) }
-    requires wallet_journals { (of_wallets.journals.items ≡ [])
-        × (length cells.wallets ≤ vec_capacity of_wallets.journals) }
+pub(crate) fn left_by(cells: Cells, room: Room) -> Outcome
+    requires { (length cells.markets ≤ room.markets) × (length cells.wallets ≤ room.wallets) }
     ensures { outcome_of result ≡ left.closed cells }
 {
     let Cells {
@@ -127,6 +102,10 @@ fn left_by(
         wallets,
         program: _,
     } = cells;
+    let Room {
+        of_markets,
+        of_wallets,
+    } = room;
     let markets = markets_left(markets, of_markets);
     let wallets = wallets_left(wallets, of_wallets);
     Outcome {
@@ -147,11 +126,8 @@ pub(crate) fn closed(alloc: Global, cells: Cells) -> Result<Outcome, Cells>
     ensures outcome { IfOk result (λ outcome. outcome_of outcome ≡ left.closed cells) }
     ensures refused { IfErr result (λ same. same ≡ cells) }
 {
-    match room_for(alloc, cells.markets.len()) {
-        Some(of_markets) => match room_for(alloc, cells.wallets.len()) {
-            Some(of_wallets) => Ok(left_by(cells, of_markets, of_wallets)),
-            None => Err(cells),
-        },
-        None => Err(cells),
+    match Room::reserve(alloc, cells.markets.len(), cells.wallets.len()) {
+        Ok(room) => Ok(left_by(cells, room)),
+        Err(NoMemory) => Err(cells),
     }
 }

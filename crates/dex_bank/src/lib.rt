@@ -5,6 +5,8 @@ mod cells;
 mod closing;
 mod counting;
 mod opening;
+mod room;
 mod stepping;
 
 pub use cells::Cells;
+pub use room::Room;

@@ -12,19 +12,19 @@ use dex_decide::Plan;
 use dex_meet::{Leaving, pending_leaving};
 use dex_movements::Amounts;
 use dex_ring::RingRef;
+use dex_stamps::Kept;
 use dex_types::{Entry, MarketAccounts, NoMemory, Refusal, Reply, Row, Seen};
 use dex_wallet::Parcel;
 use http_server::Log;
 use std::alloc::Global;
 use std::marker::Model;
-use std::snapshot::Snapshot;
 
 /// A market: its accounts, the parcels that its two vaults are, and its journal.
 ///
 /// The accounts are always accepted, and those of the sound market that stands at the end of the journal, which is one legal
 /// history of the market that the cell was made with. Where a cell is dropped its parcels are given up.
 pub struct MarketCell {
-    start: Snapshot<MarketAccounts>,
+    start: Kept<MarketAccounts>,
     accounts: MarketAccounts,
     coin: Parcel,
     pc: Parcel,
@@ -99,7 +99,7 @@ impl MarketCell {
     {
         match Vec::with_capacity(alloc, room) {
             Ok(entries) => {
-                let start = Snapshot::of(&accounts);
+                let start = Kept::of(&accounts);
                 let leaving = leaving_in(&accounts.events);
                 Ok(MarketCell {
                     start,

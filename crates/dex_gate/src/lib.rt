@@ -24,4 +24,4 @@ pub use journaled::Journaled;
 pub use no_memory::NoMemory;
 pub use pass::Pass;
 pub use stage::Stage;
-pub use turn::Turn;
+pub use turn::{Away, Turn};

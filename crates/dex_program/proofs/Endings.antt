@@ -1,17 +1,23 @@
 -- How a run ends, from what its parts did.
-use Rattle.std.proofs.Common.{◌≡◌, ◌≤◌, ◌<◌, ◌↔◌, ◌⊎◌, [], ℕ, List, length, Option, Some, None, IfSome, Result, Err, IsErrOf, inl, inr, refl, subst, sym, arith}
+use Rattle.std.proofs.Common.{◌≡◌, ◌≤◌, ◌<◌, ◌↔◌, ◌⊎◌, ◌∙◌, [], ℕ, List, length, Option, Some, None, IfSome, Result, Err, IsErrOf, inl, inr, refl, ap, subst, sym, arith}
 use Rattle.std.specs.Io.KnownBytes.{IsAtEnd, append_known}
 use Rattle.dex_io.specs.declared.failure.ReadAll.{ReadAll}
 use Rattle.dex_io.specs.declared.failure.ReadAll.TheVariants as reading
 use Rattle.dex_io.specs.Faults.{Rose}
 use Rattle.dex_io.specs.Reading.{TookMore}
 use Rattle.dex_words.specs.declared.command.Command.{Command}
-use Rattle.dex_words.specs.declared.command.Command.TheVariants.{Replay, Dump, Audit, Make, Bulk, Migrate}
+use Rattle.dex_words.specs.declared.command.Command.TheVariants.{Replay, Run, Dump, Audit, Make, Bulk, Migrate}
 use Rattle.dex_answers.specs.declared.status.Status.{Status}
 use Rattle.dex_answers.specs.declared.status.Status.TheVariants as status
 use Rattle.dex_answers.specs.Suits.{Suits}
 use Rattle.dex_answers.proofs.AnswerLaws.{answered}
-use Rattle.dex_program.specs.Ending.{Answered, Completes, Ends, HasRead, Input, IsReading, IsSuited, Output, Stands, Took, input_limit}
+use Rattle.dex_histories.specs.Runs.{IsRunOf}
+use Rattle.dex_order.specs.OneOrder.{IsOneOrder}
+use Rattle.dex_report.specs.Outcomes.{PlainOutcome}
+use Rattle.dex_report.specs.Report.{report_text}
+use Rattle.dex_script.specs.Drafts.{PlainScript}
+use Rattle.dex_script.specs.Scripts.{Reads}
+use Rattle.dex_program.specs.Ending.{Answered, Completes, Ends, HasRead, Input, IsReading, IsSuited, OneLegalHistory, OneOrder, Output, Stands, Took, WhereRun, input_limit}
 use Rattle.dex_program.specs.Stops.{Writes, line_of, status_of, stop_of}
 
 -- ---- what was read
@@ -69,6 +75,7 @@ suited : (command : Command) (i : Input) (bytes all : List ℕ) → i.left ≡ S
 suited (Make number rows) i bytes all told took suits = tt
 suited (Bulk number rows) i bytes all told took suits = tt
 suited Replay i bytes all told took suits = subst (Suits Replay) (sym (rw told at took.told)) suits
+suited Run i bytes all told took suits = subst (Suits Run) (sym (rw told at took.told)) suits
 suited Dump i bytes all told took suits = subst (Suits Dump) (sym (rw told at took.told)) suits
 suited Audit i bytes all told took suits = subst (Suits Audit) (sym (rw told at took.told)) suits
 suited (Migrate nodes events) i bytes all told took suits = subst (Suits (Migrate nodes events)) (sym (rw told at took.told)) suits
@@ -104,3 +111,46 @@ completes command i o status.ScriptRefused end read write suits = inl (is-done s
 completes command i o status.DumpRefused end read write suits = inl (is-done status.DumpRefused command i end.text suits end.stands)
 completes command i o status.AuditFailed end read write suits = inl (is-done status.AuditFailed command i end.text suits end.stands)
 completes command i o status.MigrateRefused end read write suits = inl (is-done status.MigrateRefused command i end.text suits end.stands)
+
+pub all-complete : (asked : Option Command) (i : Input) (o : Output) (ended : Status) → Ends asked i o ended → Completes asked i o ended
+all-complete None i o ended end = tt
+all-complete (Some command) i o ended end = completes command i o ended end
+
+-- ---- a run of lanes
+
+-- what a run of lanes answered, where its source told these bytes
+record Told (bytes : List ℕ) (o : Output) : Type 0 where
+  script : PlainScript
+  outcome : PlainOutcome
+  reads : Reads bytes script
+  run : IsRunOf script outcome
+  order : IsOneOrder script outcome
+  taken : o.taken_after ≡ append_known o.taken (report_text outcome (length script.rows))
+
+told-end : (i : Input) (o : Output) → Ends (Some Run) i o status.Ok → (bytes : List ℕ) → i.left ≡ Some bytes → Told bytes o
+told-end i o end bytes told =
+    let a = end.stands in
+    let same : a.0 ≡ bytes = rw told at a.1.told in
+    record {
+      script = a.2.0;
+      outcome = a.2.1;
+      reads = subst (λ (b : List ℕ). Reads b a.2.0) same a.2.2;
+      run = a.2.3;
+      order = a.2.4;
+      taken = end.taken ∙ ap (append_known o.taken) a.2.5;
+    }
+
+told-run : (asked : Option Command) (i : Input) (o : Output) (ended : Status) → Ends asked i o ended → WhereRun Told asked i o ended
+told-run asked i o ended end run done =
+    let there : Ends asked i o status.Ok = subst (λ (s : Status). Ends asked i o s) done end in
+    told-end i o (subst (λ (x : Option Command). Ends x i o status.Ok) run there)
+
+pub legal : (asked : Option Command) (i : Input) (o : Output) (ended : Status) → Ends asked i o ended → WhereRun OneLegalHistory asked i o ended
+legal asked i o ended end run done bytes told =
+    let t = told-run asked i o ended end run done bytes told in
+    record { script = t.script; outcome = t.outcome; reads = t.reads; run = t.run; taken = t.taken }
+
+pub ordered : (asked : Option Command) (i : Input) (o : Output) (ended : Status) → Ends asked i o ended → WhereRun OneOrder asked i o ended
+ordered asked i o ended end run done bytes told =
+    let t = told-run asked i o ended end run done bytes told in
+    record { script = t.script; outcome = t.outcome; reads = t.reads; order = t.order; taken = t.taken }

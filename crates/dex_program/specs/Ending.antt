@@ -4,12 +4,18 @@ use Rattle.std.specs.Io.KnownBytes.{IsAtEnd, append_known}
 use Rattle.dex_io.specs.Faults.{Rose}
 use Rattle.dex_io.specs.Reading.{TookMore}
 use Rattle.dex_words.specs.declared.command.Command.{Command}
-use Rattle.dex_words.specs.declared.command.Command.TheVariants.{Replay, Dump, Audit, Make, Bulk, Migrate}
+use Rattle.dex_words.specs.declared.command.Command.TheVariants.{Replay, Run, Dump, Audit, Make, Bulk, Migrate}
 use Rattle.dex_lines.specs.Lines.{line}
 use Rattle.dex_answers.specs.declared.status.Status.{Status}
 use Rattle.dex_answers.specs.declared.status.Status.TheVariants as status
 use Rattle.dex_answers.specs.Answers.{Answers}
 use Rattle.dex_answers.specs.Suits.{Suits}
+use Rattle.dex_histories.specs.Runs.{IsRunOf}
+use Rattle.dex_order.specs.OneOrder.{IsOneOrder}
+use Rattle.dex_report.specs.Outcomes.{PlainOutcome}
+use Rattle.dex_report.specs.Report.{report_text}
+use Rattle.dex_script.specs.Drafts.{PlainScript}
+use Rattle.dex_script.specs.Scripts.{Reads}
 
 -- the most bytes that an input may have
 unfoldable pub input_limit : ℕ
@@ -17,7 +23,7 @@ input_limit = 67108864
 
 -- the line that tells how the program is used
 unfoldable pub usage_line : List ℕ
-usage_line = line (codes "usage: dex replay, audit, dump, make NUMBER ROWS, bulk NUMBER ROWS or migrate NODES EVENTS")
+usage_line = line (codes "usage: dex replay, run, audit, dump, make NUMBER ROWS, bulk NUMBER ROWS or migrate NODES EVENTS")
 
 -- what a run sees of its source: the bytes that are left before and after it, where the source tells them, and its
 -- count of faults before and after
@@ -122,3 +128,28 @@ Completes None i o ended = Unit {0}
 Completes (Some command) i o ended =
     ¬ (Rose i.faults i.faults_after) → ¬ (Rose o.faults o.faults_after) → IsSuited command i
     → (ended ≡ status.Ok) ⊎ (ended ≡ status.NoMemory)
+
+-- ---- lanes
+
+-- the bytes are those of a script, and the sink took the report of an outcome that is lawful whichever way the lanes acted, with
+-- sound markets and conserved mints
+pub record OneLegalHistory (bytes : List ℕ) (o : Output) : Type 0 where
+  pub script : PlainScript
+  pub outcome : PlainOutcome
+  pub reads : Reads bytes script
+  pub run : IsRunOf script outcome
+  pub taken : o.taken_after ≡ append_known o.taken (report_text outcome (length script.rows))
+
+-- the bytes are those of a script, and the sink took the report of an outcome that is also what all rows leave one after the
+-- other, in some order that keeps the order of each lane
+pub record OneOrder (bytes : List ℕ) (o : Output) : Type 0 where
+  pub script : PlainScript
+  pub outcome : PlainOutcome
+  pub reads : Reads bytes script
+  pub order : IsOneOrder script outcome
+  pub taken : o.taken_after ≡ append_known o.taken (report_text outcome (length script.rows))
+
+-- this holds of the bytes wherever lanes ran and the status is 0, if the source tells its bytes
+abbrev pub WhereRun : (List ℕ → Output → Type 0) → Option Command → Input → Output → Status → Type 0
+WhereRun Holds asked i o ended =
+    asked ≡ Some Run → ended ≡ status.Ok → (bytes : List ℕ) → i.left ≡ Some bytes → Holds bytes o

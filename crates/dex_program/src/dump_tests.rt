@@ -6,7 +6,10 @@ use dex_dump::{read_dump, write_dump};
 use dex_io::{NoPace, SureSink, SureSource};
 use dex_types::{Accounts, MarketAccounts};
 use std::alloc::Global;
+use std::marker::Sync;
+use std::sync::Wait;
 use std::test::Fail;
+use std::thread::Threads;
 
 // Two mints, and the wallets of Ann and Bob, up to how much coin Bob has.
 const WALLETS: &[u8] = b"mint,coin,6
@@ -55,26 +58,32 @@ fn joined(alloc: Global, pieces: &[&[u8]]) -> Result<Vec<u8>, Fail> {
 }
 
 // Runs these words on an input.
-fn run(alloc: Global, line: &str, input: &[u8]) -> Result<(Status, SureSink), Fail> {
+fn run<R: Threads + Wait + Sync>(
+    rt: &R,
+    alloc: Global,
+    line: &str,
+    input: &[u8],
+) -> Result<(Status, SureSink), Fail> {
     let mut words = Vec::new(alloc);
     for word in line.split(' ') {
         words.push(String::from_str(alloc, word)?)?;
     }
     let mut source = SureSource::new(input.to_vec(alloc)?);
     let mut sink = SureSink::with_room(alloc, 1_000_000)?;
-    let status = dex_main(alloc, &words, &mut source, &mut sink, &NoPace);
+    let status = dex_main(rt, alloc, &words, &mut source, &mut sink, &NoPace);
     Ok((status, sink))
 }
 
 // Sees that a run ends with this status and writes this text. Of a text whose last line has no end, it writes more.
-fn writes(
+fn writes<R: Threads + Wait + Sync>(
+    rt: &R,
     alloc: Global,
     line: &str,
     input: &[u8],
     status: Status,
     text: &[u8],
 ) -> Result<(), Fail> {
-    let (ended, sink) = run(alloc, line, input)?;
+    let (ended, sink) = run(rt, alloc, line, input)?;
     let told = sink.bytes();
     if ended == status
         && told.starts_with(text)
@@ -87,8 +96,13 @@ fn writes(
 }
 
 // What a run writes that ends well.
-fn written(alloc: Global, line: &str, input: &[u8]) -> Result<Vec<u8>, Fail> {
-    let (status, sink) = run(alloc, line, input)?;
+fn written<R: Threads + Wait + Sync>(
+    rt: &R,
+    alloc: Global,
+    line: &str,
+    input: &[u8],
+) -> Result<Vec<u8>, Fail> {
+    let (status, sink) = run(rt, alloc, line, input)?;
     if status != Status::Ok {
         return Err(Fail::new("no dump"));
     }
@@ -96,9 +110,14 @@ fn written(alloc: Global, line: &str, input: &[u8]) -> Result<Vec<u8>, Fail> {
 }
 
 // The dump of the market with these sizes behind these rows.
-fn dump_behind(alloc: Global, sizes: &[u8], rows: &[u8]) -> Result<Vec<u8>, Fail> {
+fn dump_behind<R: Threads + Wait + Sync>(
+    rt: &R,
+    alloc: Global,
+    sizes: &[u8],
+    rows: &[u8],
+) -> Result<Vec<u8>, Fail> {
     let script = joined(alloc, &[WALLETS, b"0", BOB_USD, sizes, ACCOUNTS, rows])?;
-    written(alloc, "dump", &script)
+    written(rt, alloc, "dump", &script)
 }
 
 /// An account of the dump.
@@ -338,12 +357,12 @@ const FAULTS: [(&[Change], &str, &str, &str); 26] = [
 #[test]
 fn each_kind_of_fault_is_told(rt: HostRuntime) -> Result<(), Fail> {
     let alloc = rt.alloc();
-    let dump = dump_behind(alloc, SMALL, b"")?;
-    writes(alloc, "audit", &dump, Status::Ok, b"audit ok 1 4\n")?;
+    let dump = dump_behind(&rt, alloc, SMALL, b"")?;
+    writes(&rt, alloc, "audit", &dump, Status::Ok, b"audit ok 1 4\n")?;
     for (changes, kind, account, values) in FAULTS {
         let faulty = changed(alloc, &dump, changes)?;
         let text = refusal(alloc, kind, account, values)?;
-        writes(alloc, "audit", &faulty, Status::DumpRefused, &text)?;
+        writes(&rt, alloc, "audit", &faulty, Status::DumpRefused, &text)?;
     }
     Ok(())
 }
@@ -363,7 +382,7 @@ const LENGTHS: [(Part, usize, &str, &str, &str); 8] = [
 #[test]
 fn each_length_is_looked_at(rt: HostRuntime) -> Result<(), Fail> {
     let alloc = rt.alloc();
-    let dump = dump_behind(alloc, SMALL, b"")?;
+    let dump = dump_behind(&rt, alloc, SMALL, b"")?;
     for (part, length, kind, account, values) in LENGTHS {
         let mut accounts = read_dump(alloc, &dump)?;
         if let Some(bytes) = bytes_of(&mut accounts, part) {
@@ -371,7 +390,7 @@ fn each_length_is_looked_at(rt: HostRuntime) -> Result<(), Fail> {
         }
         let faulty = write_dump(alloc, &accounts)?;
         let text = refusal(alloc, kind, account, values)?;
-        writes(alloc, "audit", &faulty, Status::DumpRefused, &text)?;
+        writes(&rt, alloc, "audit", &faulty, Status::DumpRefused, &text)?;
     }
     Ok(())
 }
@@ -449,13 +468,13 @@ audit failed 4
 #[test]
 fn each_rule_of_a_side_is_kept(rt: HostRuntime) -> Result<(), Fail> {
     let alloc = rt.alloc();
-    let dump = dump_behind(alloc, SMALL, b"")?;
+    let dump = dump_behind(&rt, alloc, SMALL, b"")?;
     let asks = changed(alloc, &dump, &TWO_ASKS)?;
-    writes(alloc, "audit", &asks, Status::AuditFailed, UNOWNED)?;
+    writes(&rt, alloc, "audit", &asks, Status::AuditFailed, UNOWNED)?;
     for (changes, values) in BROKEN {
         let faulty = changed(alloc, &asks, changes)?;
         let text = refusal(alloc, "8: 6 Slab", ASKS, values)?;
-        writes(alloc, "audit", &faulty, Status::DumpRefused, &text)?;
+        writes(&rt, alloc, "audit", &faulty, Status::DumpRefused, &text)?;
     }
     Ok(())
 }
@@ -474,12 +493,12 @@ const AFTER_ASK: [(&[Change], &str, &str, &str); 2] = [
 #[test]
 fn no_command_takes_a_faulty_dump(rt: HostRuntime) -> Result<(), Fail> {
     let alloc = rt.alloc();
-    let dump = dump_behind(alloc, USUAL, ASK)?;
+    let dump = dump_behind(&rt, alloc, USUAL, ASK)?;
     for (changes, kind, account, values) in AFTER_ASK {
         let faulty = changed(alloc, &dump, changes)?;
         let text = refusal(alloc, kind, account, values)?;
         for line in ["audit", "replay", "dump", "migrate 909 2978"] {
-            writes(alloc, line, &faulty, Status::DumpRefused, &text)?;
+            writes(&rt, alloc, line, &faulty, Status::DumpRefused, &text)?;
         }
     }
     Ok(())
@@ -507,11 +526,11 @@ audit failed 3
 #[test]
 fn findings_behind_a_trade_are_told(rt: HostRuntime) -> Result<(), Fail> {
     let alloc = rt.alloc();
-    let dump = dump_behind(alloc, USUAL, &joined(alloc, &[ASK, BID])?)?;
-    writes(alloc, "audit", &dump, Status::Ok, b"audit ok 1 4\n")?;
+    let dump = dump_behind(&rt, alloc, USUAL, &joined(alloc, &[ASK, BID])?)?;
+    writes(&rt, alloc, "audit", &dump, Status::Ok, b"audit ok 1 4\n")?;
     for (changes, text) in AFTER_BID {
         let wrong = changed(alloc, &dump, changes)?;
-        writes(alloc, "audit", &wrong, Status::AuditFailed, text)?;
+        writes(&rt, alloc, "audit", &wrong, Status::AuditFailed, text)?;
     }
     Ok(())
 }
@@ -519,7 +538,7 @@ fn findings_behind_a_trade_are_told(rt: HostRuntime) -> Result<(), Fail> {
 #[test]
 fn a_dump_that_is_cut_wants_a_row_more(rt: HostRuntime) -> Result<(), Fail> {
     let alloc = rt.alloc();
-    let dump = dump_behind(alloc, SMALL, ASK)?;
+    let dump = dump_behind(&rt, alloc, SMALL, ASK)?;
     let mut rows = 0;
     for place in 0..dump.len() {
         if dump[place] == b'\n' && rows < 10 {
@@ -538,6 +557,7 @@ fn a_dump_that_is_cut_wants_a_row_more(rt: HostRuntime) -> Result<(), Fail> {
             rows += 1;
             for line in ["audit", "replay", "migrate 9 8"] {
                 writes(
+                    &rt,
                     alloc,
                     line,
                     &dump[..place],
@@ -586,7 +606,7 @@ wallet ann_coin 0";
 #[test]
 fn a_dump_goes_on_as_a_script(rt: HostRuntime) -> Result<(), Fail> {
     let alloc = rt.alloc();
-    let dump = dump_behind(alloc, USUAL, b"")?;
+    let dump = dump_behind(&rt, alloc, USUAL, b"")?;
     let last = changed(
         alloc,
         &dump,
@@ -594,6 +614,7 @@ fn a_dump_goes_on_as_a_script(rt: HostRuntime) -> Result<(), Fail> {
     )?;
     let text = joined(alloc, &[EXHAUSTED, &last, b"end\n"])?;
     writes(
+        &rt,
         alloc,
         "replay",
         &joined(alloc, &[&last, ASK])?,
@@ -601,10 +622,11 @@ fn a_dump_goes_on_as_a_script(rt: HostRuntime) -> Result<(), Fail> {
         &text,
     )?;
 
-    let dump = dump_behind(alloc, USUAL, ASK)?;
-    let after = dump_behind(alloc, USUAL, &joined(alloc, &[ASK, BID])?)?;
+    let dump = dump_behind(&rt, alloc, USUAL, ASK)?;
+    let after = dump_behind(&rt, alloc, USUAL, &joined(alloc, &[ASK, BID])?)?;
     let text = joined(alloc, &[BOUGHT, &after, b"end\n"])?;
     writes(
+        &rt,
         alloc,
         "replay",
         &joined(alloc, &[&dump, BID])?,
@@ -613,16 +635,16 @@ fn a_dump_goes_on_as_a_script(rt: HostRuntime) -> Result<(), Fail> {
     )?;
 
     let script = joined(alloc, &[WALLETS, b"100", BOB_USD, USUAL, ACCOUNTS])?;
-    let dump = written(alloc, "dump", &script)?;
+    let dump = written(&rt, alloc, "dump", &script)?;
     let half = changed(
         alloc,
         &dump,
         &[(Part::Requests, 29, b"\xff\xff\xff\xff\xff\xff\xff\x7f")],
     )?;
     let script = joined(alloc, &[&half, ONE_ID])?;
-    writes(alloc, "replay", &script, Status::Ok, ORDERED)?;
-    let dump = written(alloc, "dump", &script)?;
-    writes(alloc, "audit", &dump, Status::Ok, b"audit ok 1 4\n")
+    writes(&rt, alloc, "replay", &script, Status::Ok, ORDERED)?;
+    let dump = written(&rt, alloc, "dump", &script)?;
+    writes(&rt, alloc, "audit", &dump, Status::Ok, b"audit ok 1 4\n")
 }
 
 // On a side of three nodes the third bid sends the second away.
@@ -634,16 +656,24 @@ do,1,m,bob,ben,-,bob_usd,-,-,new bid 30 1 1000 decrement limit 3 10
 #[test]
 fn a_market_is_migrated(rt: HostRuntime) -> Result<(), Fail> {
     let alloc = rt.alloc();
-    let dump = dump_behind(alloc, b"3,909,2978", THREE_BIDS)?;
+    let dump = dump_behind(&rt, alloc, b"3,909,2978", THREE_BIDS)?;
     writes(
+        &rt,
         alloc,
         "migrate 1 10",
         &dump,
         Status::MigrateRefused,
         b"migrate refused m bids 2 1\n",
     )?;
-    let migrated = written(alloc, "migrate 5 10", &dump)?;
-    writes(alloc, "audit", &migrated, Status::Ok, b"audit ok 1 4\n")?;
+    let migrated = written(&rt, alloc, "migrate 5 10", &dump)?;
+    writes(
+        &rt,
+        alloc,
+        "audit",
+        &migrated,
+        Status::Ok,
+        b"audit ok 1 4\n",
+    )?;
     let mut accounts = read_dump(alloc, &migrated)?;
     for (part, length) in [(Part::Bids, 412), (Part::Asks, 412), (Part::Events, 924)] {
         let found = match bytes_of(&mut accounts, part) {

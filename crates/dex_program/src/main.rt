@@ -1,8 +1,10 @@
-//! The program `dex`: it replays scripts, and writes reports, dumps, audits, made scripts and summaries.
+//! The program `dex`: it replays scripts or lets their lanes run side by side, and writes reports, dumps, audits, made scripts and summaries.
 #![tactic(auto)]
 
 #[cfg(test)]
 mod dump_tests;
+#[cfg(test)]
+mod lane_tests;
 mod program;
 #[cfg(test)]
 mod rows_tests;
@@ -23,6 +25,7 @@ use std::rt::Env;
 fn main(rt: HostRuntime) -> ExitCode {
     let status = match words(&rt) {
         Ok(words) => dex_main(
+            &rt,
             rt.alloc(),
             &words,
             &mut StdSource::new(&rt),

@@ -3,16 +3,21 @@
 ghost use Rattle.std.specs.Prelude.{◌≡◌, IfOk, IfErr, IsTrue, Some, false, map};
 ghost use Rattle.std.specs.String.{string_bytes};
 ghost use Rattle.dex_words.specs.Commands.{command_of};
-ghost use Rattle.dex_words.specs.Spelling.{IsWithin};
+ghost use Rattle.dex_words.specs.Spelling.{IsPlain, IsWithin};
+ghost use Rattle.dex_words.specs.declared.command.Command.TheVariants.{Run};
 ghost use Rattle.dex_program.specs.declared.program.Stop.TheVariants.{NoMemory as OutOfMemory};
-ghost use Rattle.dex_program.specs.Ending.{Completes, Ends, IsReading, Stands, Took, input, output};
+ghost use Rattle.dex_program.specs.Ending.{Completes, Ends, IsReading, OneLegalHistory, OneOrder, Stands, Took};
+ghost use Rattle.dex_program.specs.Ending.{WhereRun, input, output};
 ghost use Rattle.dex_program.specs.Stops.{Writes, line_of, status_of, stop_of};
 
-use dex_answers::{Status, StatusText, answer_to};
+use dex_answers::{Status, StatusText, answer_to, run_answer};
 use dex_io::{Pace, ReadAll, Sink, Source, read_all, write_all};
 use dex_types::NoMemory;
 use dex_words::{Command, WordsError, read_words};
 use std::alloc::Global;
+use std::marker::Sync;
+use std::sync::Wait;
+use std::thread::Threads;
 use thiserror::Error;
 
 /// The most bytes that an input may have.
@@ -39,7 +44,7 @@ impl Stop {
     {
         match self {
             Stop::Usage =>
-                b"usage: dex replay, audit, dump, make NUMBER ROWS, bulk NUMBER ROWS or migrate NODES EVENTS\n",
+                b"usage: dex replay, run, audit, dump, make NUMBER ROWS, bulk NUMBER ROWS or migrate NODES EVENTS\n",
             Stop::ReadFault => b"read failed\n",
             Stop::InputTooLong => b"input too long\n",
             Stop::NoMemory => b"no memory\n",
@@ -80,17 +85,26 @@ impl From<NoMemory> for Stop {
 }
 
 /// Runs the program on these words, those after its name: the command that they are, or the line that tells how the
-/// program is used. The whole text is built before the first byte is written. The pace is for lanes, and no command has
-/// lanes yet.
-pub fn dex_main<S: Source, K: Sink, P: Pace>(
+/// program is used. The whole text is built before the first byte is written. Only `run` has lanes, which wait for each
+/// other: what is promised of it holds where it returns. The pace is asked once for each row of a lane.
+pub fn dex_main<R: Threads + Wait + Sync, S: Source, K: Sink, P: Pace + Sync>(
+    rt: &R,
     alloc: Global,
     words: &[String],
     source: &mut S,
     sink: &mut K,
-    _pace: &P,
+    pace: &P,
 ) -> Status
     // What each status says of the words, the source and the sink.
     ensures ends { Ends (command_of (map (λ word. string_bytes word) words.now))
+        (input (S.left source.old) (S.left source.new) (S.faults source.old) (S.faults source.new))
+        (output (K.taken sink.old) (K.taken sink.new) (K.faults sink.old) (K.faults sink.new)) result }
+    // However the lanes' instructions interleave, each market's journal is one legal history.
+    ensures one_legal_history { WhereRun OneLegalHistory (command_of (map (λ word. string_bytes word) words.now))
+        (input (S.left source.old) (S.left source.new) (S.faults source.old) (S.faults source.new))
+        (output (K.taken sink.old) (K.taken sink.new) (K.faults sink.old) (K.faults sink.new)) result }
+    // And what they leave is what all rows leave in some order that keeps the order of each lane.
+    ensures one_order { WhereRun OneOrder (command_of (map (λ word. string_bytes word) words.now))
         (input (S.left source.old) (S.left source.new) (S.faults source.old) (S.faults source.new))
         (output (K.taken sink.old) (K.taken sink.new) (K.faults sink.old) (K.faults sink.new)) result }
     // An input that suits the command is answered, where no call fails and memory is there.
@@ -98,21 +112,18 @@ pub fn dex_main<S: Source, K: Sink, P: Pace>(
         (input (S.left source.old) (S.left source.new) (S.faults source.old) (S.faults source.new))
         (output (K.taken sink.old) (K.taken sink.new) (K.faults sink.old) (K.faults sink.new)) result }
 {
-    match read_words(alloc, words) {
-        Ok(command) => plain(alloc, &command, source, sink),
-        Err(WordsError::Usage) => written(sink, Stop::Usage.line(), Status::Usage),
-        Err(WordsError::NoMemory) => written(sink, Stop::NoMemory.line(), Status::NoMemory),
-    }
+    by_words(rt, alloc, words, source, sink, pace)
 }
 
-/// Runs one command, whose numbers are within their limits.
+/// Runs one command on one thread, which waits for nobody; its numbers are within their limits.
 pub fn plain<S: Source, K: Sink>(
     alloc: Global,
     command: &Command,
     source: &mut S,
     sink: &mut K,
 ) -> Status
-    requires { IsWithin command.now }
+    requires within { IsWithin command.now }
+    requires plain { IsPlain command.now }
     // What each status says of the source and the sink.
     ensures ends { Ends (Some command.now)
         (input (S.left source.old) (S.left source.new) (S.faults source.old) (S.faults source.new))
@@ -125,9 +136,10 @@ pub fn plain<S: Source, K: Sink>(
     run(alloc, *command, source, sink)
 }
 
-// Runs one command.
+// Runs one command on one thread.
 fn run<S: Source, K: Sink>(alloc: Global, command: Command, source: &mut S, sink: &mut K) -> Status
-    requires { IsWithin command }
+    requires within { IsWithin command }
+    requires plain { IsPlain command }
     ensures { Ends (Some command)
         (input (S.left source.old) (S.left source.new) (S.faults source.old) (S.faults source.new))
         (output (K.taken sink.old) (K.taken sink.new) (K.faults sink.old) (K.faults sink.new)) result }
@@ -140,7 +152,8 @@ fn run<S: Source, K: Sink>(alloc: Global, command: Command, source: &mut S, sink
 
 // Reads what the command reads, and answers the text that it asks for.
 fn answer<S: Source>(alloc: Global, command: Command, source: &mut S) -> Result<StatusText, Stop>
-    requires { IsWithin command }
+    requires within { IsWithin command }
+    requires plain { IsPlain command }
     ensures built { IfOk result (λ built. Stands built.status (Some command)
         (input (S.left source.old) (S.left source.new) (S.faults source.old) (S.faults source.new)) built.text.items) }
     ensures stopped { IfErr result (λ stop. Stands (status_of stop) (Some command)
@@ -148,6 +161,67 @@ fn answer<S: Source>(alloc: Global, command: Command, source: &mut S) -> Result<
 {
     let bytes = read_input(alloc, command, source)?;
     let built = answer_to(alloc, command, &bytes)?;
+    Ok(built)
+}
+
+// Runs the command that the words are, or writes how the program is used.
+fn by_words<R: Threads + Wait + Sync, S: Source, K: Sink, P: Pace + Sync>(
+    rt: &R,
+    alloc: Global,
+    words: &[String],
+    source: &mut S,
+    sink: &mut K,
+    pace: &P,
+) -> Status
+    ensures { Ends (command_of (map (λ word. string_bytes word) words.now))
+        (input (S.left source.old) (S.left source.new) (S.faults source.old) (S.faults source.new))
+        (output (K.taken sink.old) (K.taken sink.new) (K.faults sink.old) (K.faults sink.new)) result }
+{
+    match read_words(alloc, words) {
+        Ok(command) => {
+            if is_plain(command) {
+                plain(alloc, &command, source, sink)
+            } else {
+                run_lanes(rt, alloc, source, sink, pace)
+            }
+        }
+        Err(WordsError::Usage) => written(sink, Stop::Usage.line(), Status::Usage),
+        Err(WordsError::NoMemory) => written(sink, Stop::NoMemory.line(), Status::NoMemory),
+    }
+}
+
+// Lets the lanes of a script run.
+fn run_lanes<R: Threads + Wait + Sync, S: Source, K: Sink, P: Pace + Sync>(
+    rt: &R,
+    alloc: Global,
+    source: &mut S,
+    sink: &mut K,
+    pace: &P,
+) -> Status
+    ensures { Ends (Some Run)
+        (input (S.left source.old) (S.left source.new) (S.faults source.old) (S.faults source.new))
+        (output (K.taken sink.old) (K.taken sink.new) (K.faults sink.old) (K.faults sink.new)) result }
+{
+    match lanes_answer(rt, alloc, source, pace) {
+        Ok(report) => written(sink, &report.text, report.status),
+        Err(stop) => written(sink, stop.line(), stop.status()),
+    }
+}
+
+// Reads a script, and reports what its lanes leave.
+fn lanes_answer<R: Threads + Wait + Sync, S: Source, P: Pace + Sync>(
+    rt: &R,
+    alloc: Global,
+    source: &mut S,
+    pace: &P,
+) -> Result<StatusText, Stop>
+    ensures built { IfOk result (λ built. Stands built.status (Some Run)
+        (input (S.left source.old) (S.left source.new) (S.faults source.old) (S.faults source.new)) built.text.items) }
+    ensures stopped { IfErr result (λ stop. Stands (status_of stop) (Some Run)
+        (input (S.left source.old) (S.left source.new) (S.faults source.old) (S.faults source.new)) (line_of stop)) }
+{
+    let bytes = read_input(alloc, Command::Run, source)?;
+    let built = run_answer(rt, alloc, &bytes, pace)?;
     Ok(built)
 }
 
@@ -165,6 +239,14 @@ fn read_input<S: Source>(alloc: Global, command: Command, source: &mut S) -> Res
         Ok(bytes) => Ok(bytes),
         Err(why) => Err(Stop::from(why)),
     }
+}
+
+// Whether the command acts on one thread.
+fn is_plain(command: Command) -> bool
+    ensures plain { IsTrue result → IsPlain command }
+    ensures other { result ≡ false → command ≡ Run }
+{
+    !matches!(command, Command::Run)
 }
 
 // Whether the command reads its input.

@@ -9,8 +9,11 @@ use dex_answers::Status;
 use dex_io::{NoPace, SureSink, SureSource};
 use dex_rows::base64_words::base64_word;
 use std::alloc::{AllocError, Global};
+use std::marker::Sync;
 use std::str;
+use std::sync::Wait;
 use std::test::Fail;
+use std::thread::Threads;
 
 /// A market, four wallets, and two accounts that are opened. The rows of a run follow from row 12 on.
 const BASE: [&str; 11] = [
@@ -92,14 +95,19 @@ fn script(
 }
 
 // Runs a command on an input that is told.
-fn run(alloc: Global, words: &[&str], input: &str) -> Result<(Status, SureSink), Fail> {
+fn run<R: Threads + Wait + Sync>(
+    rt: &R,
+    alloc: Global,
+    words: &[&str],
+    input: &str,
+) -> Result<(Status, SureSink), Fail> {
     let mut owned = Vec::new(alloc);
     for word in words {
         owned.push(String::from_str(alloc, *word)?)?;
     }
     let mut source = SureSource::new(input.as_bytes().to_vec(alloc)?);
     let mut sink = SureSink::with_room(alloc, ROOM)?;
-    let status = dex_main(alloc, &owned, &mut source, &mut sink, &NoPace);
+    let status = dex_main(rt, alloc, &owned, &mut source, &mut sink, &NoPace);
     Ok((status, sink))
 }
 
@@ -141,9 +149,13 @@ fn number_in(alloc: Global, report: &str, place: Place) -> Result<Option<u64>, F
 }
 
 // Runs a case, and says what is not as the case tells it.
-fn verdict_of(alloc: Global, case: &Case) -> Result<Verdict, Fail> {
+fn verdict_of<R: Threads + Wait + Sync>(
+    rt: &R,
+    alloc: Global,
+    case: &Case,
+) -> Result<Verdict, Fail> {
     let script = script(alloc, case.changes, case.rows)?;
-    let (status, sink) = run(alloc, &["replay"], &script)?;
+    let (status, sink) = run(rt, alloc, &["replay"], &script)?;
     if status != Status::Ok {
         return Ok(Verdict::Ended(status));
     }
@@ -161,9 +173,13 @@ fn verdict_of(alloc: Global, case: &Case) -> Result<Verdict, Fail> {
 }
 
 // Runs each case, up to the first that is not as it is told.
-fn first_found(alloc: Global, cases: &[Case]) -> Result<(&'static str, Verdict), Fail> {
+fn first_found<R: Threads + Wait + Sync>(
+    rt: &R,
+    alloc: Global,
+    cases: &[Case],
+) -> Result<(&'static str, Verdict), Fail> {
     for case in cases {
-        let found = verdict_of(alloc, case)?;
+        let found = verdict_of(rt, alloc, case)?;
         if found != Verdict::AsTold {
             return Ok((case.title, found));
         }
@@ -174,11 +190,11 @@ fn first_found(alloc: Global, cases: &[Case]) -> Result<(&'static str, Verdict),
 #[test]
 fn orders_rest_and_meet(rt: HostRuntime) -> Result<(), Fail> {
     assert_eq!(rt;
-        first_found(rt.alloc(), &orders::FIRST_ORDERS)?,
+        first_found(&rt, rt.alloc(), &orders::FIRST_ORDERS)?,
         ("", Verdict::AsTold)
     );
     assert_eq!(rt;
-        first_found(rt.alloc(), &orders::RESTING)?,
+        first_found(&rt, rt.alloc(), &orders::RESTING)?,
         ("", Verdict::AsTold)
     );
     Ok(())
@@ -187,11 +203,11 @@ fn orders_rest_and_meet(rt: HostRuntime) -> Result<(), Fail> {
 #[test]
 fn own_orders_and_full_places(rt: HostRuntime) -> Result<(), Fail> {
     assert_eq!(rt;
-        first_found(rt.alloc(), &orders::OWN_ORDERS)?,
+        first_found(&rt, rt.alloc(), &orders::OWN_ORDERS)?,
         ("", Verdict::AsTold)
     );
     assert_eq!(rt;
-        first_found(rt.alloc(), &orders::FULL_PLACES)?,
+        first_found(&rt, rt.alloc(), &orders::FULL_PLACES)?,
         ("", Verdict::AsTold)
     );
     Ok(())
@@ -200,11 +216,11 @@ fn own_orders_and_full_places(rt: HostRuntime) -> Result<(), Fail> {
 #[test]
 fn cancels_and_refusals(rt: HostRuntime) -> Result<(), Fail> {
     assert_eq!(rt;
-        first_found(rt.alloc(), &accounts::CANCELS)?,
+        first_found(&rt, rt.alloc(), &accounts::CANCELS)?,
         ("", Verdict::AsTold)
     );
     assert_eq!(rt;
-        first_found(rt.alloc(), &accounts::REFUSED_ORDERS)?,
+        first_found(&rt, rt.alloc(), &accounts::REFUSED_ORDERS)?,
         ("", Verdict::AsTold)
     );
     Ok(())
@@ -213,11 +229,11 @@ fn cancels_and_refusals(rt: HostRuntime) -> Result<(), Fail> {
 #[test]
 fn fees_and_the_other_program(rt: HostRuntime) -> Result<(), Fail> {
     assert_eq!(rt;
-        first_found(rt.alloc(), &accounts::FEES)?,
+        first_found(&rt, rt.alloc(), &accounts::FEES)?,
         ("", Verdict::AsTold)
     );
     assert_eq!(rt;
-        first_found(rt.alloc(), &accounts::OPENBOOK)?,
+        first_found(&rt, rt.alloc(), &accounts::OPENBOOK)?,
         ("", Verdict::AsTold)
     );
     Ok(())
@@ -241,7 +257,7 @@ fn faulty_rows_are_refused(rt: HostRuntime) -> Result<(), Fail> {
     let alloc = rt.alloc();
     for (row, text) in REFUSED {
         let script = script(alloc, &[], &[row])?;
-        let (status, sink) = run(alloc, &["replay"], &script)?;
+        let (status, sink) = run(&rt, alloc, &["replay"], &script)?;
         assert_eq!(rt; status, Status::ScriptRefused, "{row}");
         assert_eq!(rt; sink.bytes(), text.as_bytes(), "{row}");
     }
@@ -272,7 +288,7 @@ fn slots_are_free_once_events_are_consumed(rt: HostRuntime) -> Result<(), Fail> 
     for row in [ONE_LOT, "do,0,m,ann,amy,-,-,-,-,consume 200", ONE_LOT] {
         add(&mut script, row)?;
     }
-    let (status, sink) = run(alloc, &["replay"], &script)?;
+    let (status, sink) = run(&rt, alloc, &["replay"], &script)?;
     assert_eq!(rt; status, Status::Ok);
     assert_eq!(rt; lacking(str::from_utf8(sink.bytes())?, &SLOTS), None);
     Ok(())
@@ -287,10 +303,15 @@ const LAST: &str = "c2VydW0JAAAAAAAAAAAAAAAAAAAAAAAAAAAAAAD//////////wAA";
 const HALF: &str = "c2VydW0JAAAAAAAAAAAAAAAAAAAAAAAAAAAAAAD/////////fwAA";
 
 // A dump of the base rows, with the account of requests changed, and rows behind it.
-fn dumped(alloc: Global, requests: &str, rows: &[&str]) -> Result<String, Fail> {
+fn dumped<R: Threads + Wait + Sync>(
+    rt: &R,
+    alloc: Global,
+    requests: &str,
+    rows: &[&str],
+) -> Result<String, Fail> {
     let given = [("wallet,bob_coin", "wallet,bob_coin,coin,bob,100")];
     let script = script(alloc, &given, &[])?;
-    let (_, sink) = run(alloc, &["dump"], &script)?;
+    let (_, sink) = run(rt, alloc, &["dump"], &script)?;
     let mut text = str::from_utf8(sink.bytes())?.replace(alloc, FIRST, requests)?;
     for row in rows {
         add(&mut text, *row)?;
@@ -312,8 +333,8 @@ const AT_HALF: [&str; 3] = [
 #[test]
 fn sequence_numbers_of_a_dump_go_on(rt: HostRuntime) -> Result<(), Fail> {
     let alloc = rt.alloc();
-    let script = dumped(alloc, LAST, &[ASK])?;
-    let (_, sink) = run(alloc, &["replay"], &script)?;
+    let script = dumped(&rt, alloc, LAST, &[ASK])?;
+    let (_, sink) = run(&rt, alloc, &["replay"], &script)?;
     assert_eq!(rt; lacking(str::from_utf8(sink.bytes())?, &AT_LAST), None);
 
     // Here a bid and an ask have one id.
@@ -321,11 +342,11 @@ fn sequence_numbers_of_a_dump_go_on(rt: HostRuntime) -> Result<(), Fail> {
         "do,1,m,bob,ben,-,bob_usd,-,-,new bid 50 1 1000 decrement ioc 1 10",
         "do,1,m,bob,ben,bob_coin,-,-,-,new ask 50 1 1 decrement limit 2 10",
     ];
-    let script = dumped(alloc, HALF, &rows)?;
-    let (_, sink) = run(alloc, &["replay"], &script)?;
+    let script = dumped(&rt, alloc, HALF, &rows)?;
+    let (_, sink) = run(&rt, alloc, &["replay"], &script)?;
     assert_eq!(rt; lacking(str::from_utf8(sink.bytes())?, &AT_HALF), None);
-    let (_, dump) = run(alloc, &["dump"], &script)?;
-    let (status, audit) = run(alloc, &["audit"], str::from_utf8(dump.bytes())?)?;
+    let (_, dump) = run(&rt, alloc, &["dump"], &script)?;
+    let (status, audit) = run(&rt, alloc, &["audit"], str::from_utf8(dump.bytes())?)?;
     assert_eq!(rt; status, Status::Ok);
     assert_eq!(rt; audit.bytes(), b"audit ok 1 4\n".as_slice());
     Ok(())
@@ -360,15 +381,15 @@ fn entries(report: &str) -> (u64, u64) {
 #[test]
 fn a_large_made_script_is_replayed(rt: HostRuntime) -> Result<(), Fail> {
     let alloc = rt.alloc();
-    let (status, made) = run(alloc, &["make", "1", "2000"], "")?;
+    let (status, made) = run(&rt, alloc, &["make", "1", "2000"], "")?;
     assert_eq!(rt; status, Status::Ok);
-    let (status, report) = run(alloc, &["replay"], str::from_utf8(made.bytes())?)?;
+    let (status, report) = run(&rt, alloc, &["replay"], str::from_utf8(made.bytes())?)?;
     assert_eq!(rt; status, Status::Ok);
     assert_eq!(rt; entries(str::from_utf8(report.bytes())?), (2016, 0));
 
-    let (status, once) = run(alloc, &["bulk", "1", "2000"], "")?;
+    let (status, once) = run(&rt, alloc, &["bulk", "1", "2000"], "")?;
     assert_eq!(rt; status, Status::Ok);
-    let (_, again) = run(alloc, &["bulk", "1", "2000"], "")?;
+    let (_, again) = run(&rt, alloc, &["bulk", "1", "2000"], "")?;
     assert_eq!(rt; once.bytes(), again.bytes());
     Ok(())
 }

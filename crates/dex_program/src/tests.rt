@@ -6,10 +6,13 @@ use crate::program::dex_main;
 use dex_answers::Status;
 use dex_io::{Failed, MemSink, MemSource, NoPace, Sink, Source, SureSink, SureSource};
 use std::alloc::{AllocError, Global};
+use std::marker::Sync;
+use std::sync::Wait;
 use std::test::Fail;
+use std::thread::Threads;
 
 const USAGE: &str =
-    "usage: dex replay, audit, dump, make NUMBER ROWS, bulk NUMBER ROWS or migrate NODES EVENTS\n";
+    "usage: dex replay, run, audit, dump, make NUMBER ROWS, bulk NUMBER ROWS or migrate NODES EVENTS\n";
 
 /// Two bids rest.
 const SCRIPT: &str = "mint,coin,6
@@ -40,11 +43,17 @@ fn words(alloc: Global, line: &str) -> Result<Vec<String>, AllocError> {
 }
 
 // Runs these words on an input that is told, with a sink that has room for the answer.
-fn run(alloc: Global, line: &str, input: &[u8], room: usize) -> Result<(Status, SureSink), Fail> {
+fn run<R: Threads + Wait + Sync>(
+    rt: &R,
+    alloc: Global,
+    line: &str,
+    input: &[u8],
+    room: usize,
+) -> Result<(Status, SureSink), Fail> {
     let words = words(alloc, line)?;
     let mut source = SureSource::new(input.to_vec(alloc)?);
     let mut sink = SureSink::with_room(alloc, room)?;
-    let status = dex_main(alloc, &words, &mut source, &mut sink, &NoPace);
+    let status = dex_main(rt, alloc, &words, &mut source, &mut sink, &NoPace);
     Ok((status, sink))
 }
 
@@ -61,7 +70,14 @@ fn answers_small_inputs(rt: HostRuntime) -> Result<(), Fail> {
             "dump\nenddump\n",
         ),
         ("", "", Status::Usage, USAGE),
-        ("run", "", Status::Usage, USAGE),
+        ("run", "", Status::Ok, "report 0\ndump\nenddump\nend\n"),
+        ("run 1", "", Status::Usage, USAGE),
+        (
+            "run",
+            "mint,coin\n",
+            Status::ScriptRefused,
+            "script refused row 1: 3 FieldCount\n",
+        ),
         ("replay replay", "", Status::Usage, USAGE),
         (
             "replay",
@@ -95,7 +111,7 @@ fn answers_small_inputs(rt: HostRuntime) -> Result<(), Fail> {
         ),
     ];
     for (line, input, status, text) in cases {
-        let (ended, sink) = run(rt.alloc(), line, input.as_bytes(), 200)?;
+        let (ended, sink) = run(&rt, rt.alloc(), line, input.as_bytes(), 200)?;
         assert_eq!(rt; ended, status, "{line}: {input}");
         assert_eq!(rt; sink.bytes(), text.as_bytes(), "{line}: {input}");
     }
@@ -105,8 +121,8 @@ fn answers_small_inputs(rt: HostRuntime) -> Result<(), Fail> {
 #[test]
 fn findings_are_told(rt: HostRuntime) -> Result<(), Fail> {
     let text = "finding 12 coin 36 1000 0\naudit failed 1\n";
-    for line in ["replay", "dump", "audit", "migrate 1 1"] {
-        let (ended, sink) = run(rt.alloc(), line, WANTING.as_bytes(), 200)?;
+    for line in ["replay", "run", "dump", "audit", "migrate 1 1"] {
+        let (ended, sink) = run(&rt, rt.alloc(), line, WANTING.as_bytes(), 200)?;
         assert_eq!(rt; ended, Status::AuditFailed, "{line}");
         assert_eq!(rt; sink.bytes(), text.as_bytes(), "{line}");
     }
@@ -116,19 +132,19 @@ fn findings_are_told(rt: HostRuntime) -> Result<(), Fail> {
 #[test]
 fn a_dump_is_audited_and_migrated(rt: HostRuntime) -> Result<(), Fail> {
     let alloc = rt.alloc();
-    let (status, dump) = run(alloc, "dump", SCRIPT.as_bytes(), 100_000)?;
+    let (status, dump) = run(&rt, alloc, "dump", SCRIPT.as_bytes(), 100_000)?;
     assert_eq!(rt; status, Status::Ok);
-    let (status, audit) = run(alloc, "audit", dump.bytes(), 100)?;
+    let (status, audit) = run(&rt, alloc, "audit", dump.bytes(), 100)?;
     assert_eq!(rt; status, Status::Ok);
     assert_eq!(rt; audit.bytes(), b"audit ok 1 1\n".as_slice());
 
     // Two bids take three nodes.
-    let (status, refused) = run(alloc, "migrate 2 1", dump.bytes(), 100)?;
+    let (status, refused) = run(&rt, alloc, "migrate 2 1", dump.bytes(), 100)?;
     assert_eq!(rt; status, Status::MigrateRefused);
     assert_eq!(rt; refused.bytes(), b"migrate refused m bids 2 1\n".as_slice());
-    let (status, small) = run(alloc, "migrate 3 1", dump.bytes(), 100_000)?;
+    let (status, small) = run(&rt, alloc, "migrate 3 1", dump.bytes(), 100_000)?;
     assert_eq!(rt; status, Status::Ok);
-    let (status, again) = run(alloc, "migrate 5 8", small.bytes(), 100_000)?;
+    let (status, again) = run(&rt, alloc, "migrate 5 8", small.bytes(), 100_000)?;
     assert_eq!(rt; status, Status::Ok);
     assert_eq!(rt; again.bytes().len(), dump.bytes().len());
     Ok(())
@@ -162,7 +178,7 @@ market m1 bids 8 asks 6 events 0 coin 10700 pc 174984 fees 665
 #[test]
 fn large_runs_are_summed_up(rt: HostRuntime) -> Result<(), Fail> {
     for (line, text) in BULK {
-        let (status, sink) = run(rt.alloc(), line, b"", text.len())?;
+        let (status, sink) = run(&rt, rt.alloc(), line, b"", text.len())?;
         assert_eq!(rt; status, Status::Ok, "{line}");
         assert_eq!(rt; sink.bytes(), text.as_bytes(), "{line}");
     }
@@ -173,11 +189,11 @@ fn large_runs_are_summed_up(rt: HostRuntime) -> Result<(), Fail> {
 fn a_made_script_is_one(rt: HostRuntime) -> Result<(), Fail> {
     let alloc = rt.alloc();
     for line in ["make 0 1", "make 7 10", "make 18446744073709551615 40"] {
-        let (status, made) = run(alloc, line, b"", 10_000)?;
+        let (status, made) = run(&rt, alloc, line, b"", 10_000)?;
         assert_eq!(rt; status, Status::Ok, "{line}");
-        let (status, dump) = run(alloc, "dump", made.bytes(), 4_000_000)?;
+        let (status, dump) = run(&rt, alloc, "dump", made.bytes(), 4_000_000)?;
         assert_eq!(rt; status, Status::Ok, "{line}");
-        let (status, audit) = run(alloc, "audit", dump.bytes(), 100)?;
+        let (status, audit) = run(&rt, alloc, "audit", dump.bytes(), 100)?;
         assert_eq!(rt; status, Status::Ok, "{line}");
         assert_eq!(rt; audit.bytes(), b"audit ok 2 16\n".as_slice(), "{line}");
     }
@@ -203,7 +219,7 @@ fn an_input_with_no_end_is_too_long(rt: HostRuntime) -> Result<(), Fail> {
     let alloc = rt.alloc();
     let words = words(alloc, "replay")?;
     let mut sink = SureSink::with_room(alloc, 100)?;
-    let status = dex_main(alloc, &words, &mut Endless, &mut sink, &NoPace);
+    let status = dex_main(&rt, alloc, &words, &mut Endless, &mut sink, &NoPace);
     assert_eq!(rt; status, Status::InputTooLong);
     assert_eq!(rt; sink.bytes(), b"input too long\n".as_slice());
     Ok(())
@@ -240,7 +256,8 @@ impl Sink for Narrow {
 }
 
 // Runs a command with a read and a write that fail, by their number among the calls.
-fn run_failing(
+fn run_failing<R: Threads + Wait + Sync>(
+    rt: &R,
     alloc: Global,
     line: &str,
     input: &str,
@@ -252,7 +269,7 @@ fn run_failing(
     let mut source = Drip(MemSource::new(bytes, vec![in alloc; failing_read]?));
     let sink = MemSink::with_room(alloc, 1000, vec![in alloc; failing_write]?)?;
     let mut sink = Narrow(sink);
-    let status = dex_main(alloc, &words, &mut source, &mut sink, &NoPace);
+    let status = dex_main(rt, alloc, &words, &mut source, &mut sink, &NoPace);
     Ok((status, sink))
 }
 
@@ -261,13 +278,16 @@ fn each_read_fails_in_turn(rt: HostRuntime) -> Result<(), Fail> {
     let alloc = rt.alloc();
     let cases = [
         ("replay", "", "report 0\ndump\nenddump\nend\n"),
+        ("run", "", "report 0\ndump\nenddump\nend\n"),
+        ("dump", "", "dump\nenddump\n"),
         ("audit", "dump\nenddump\n", "audit ok 0 0\n"),
+        ("migrate 1 1", "dump\nenddump\n", "dump\nenddump\n"),
     ];
     for (line, input, text) in cases {
         // The bytes, where there are some, and then the end.
         let calls = input.len().div_ceil(100) as u64 + 1;
         for call in 0..calls {
-            let (status, sink) = run_failing(alloc, line, input, call, NEVER)?;
+            let (status, sink) = run_failing(&rt, alloc, line, input, call, NEVER)?;
             assert_eq!(rt; status, Status::ReadFault, "{line}, read {call}");
             assert_eq!(rt;
                 sink.0.bytes(),
@@ -275,7 +295,7 @@ fn each_read_fails_in_turn(rt: HostRuntime) -> Result<(), Fail> {
                 "{line}, read {call}"
             );
         }
-        let (status, sink) = run_failing(alloc, line, input, calls, NEVER)?;
+        let (status, sink) = run_failing(&rt, alloc, line, input, calls, NEVER)?;
         assert_eq!(rt; status, Status::Ok, "{line}");
         assert_eq!(rt; sink.0.bytes(), text.as_bytes(), "{line}");
     }
@@ -290,17 +310,27 @@ fn each_write_fails_in_turn(rt: HostRuntime) -> Result<(), Fail> {
     let cases = [
         ("bulk 1 100", "", BULK[1].1, 2, Status::Ok),
         ("replay", "mint\n", refused, 1, Status::ScriptRefused),
-        ("run", "", USAGE, 1, Status::Usage),
+        ("run", "", "report 0\ndump\nenddump\nend\n", 1, Status::Ok),
+        ("dump", "", "dump\nenddump\n", 1, Status::Ok),
+        ("audit", "dump\nenddump\n", "audit ok 0 0\n", 1, Status::Ok),
+        (
+            "migrate 1 1",
+            "dump\nenddump\n",
+            "dump\nenddump\n",
+            1,
+            Status::Ok,
+        ),
+        ("run 1", "", USAGE, 1, Status::Usage),
     ];
     for (line, input, text, writes, whole) in cases {
         for call in 0..writes {
-            let (status, sink) = run_failing(alloc, line, input, NEVER, call)?;
+            let (status, sink) = run_failing(&rt, alloc, line, input, NEVER, call)?;
             assert_eq!(rt; status, Status::WriteFault, "{line}, write {call}");
             let sent = sink.0.bytes();
             assert_eq!(rt; sent.len() as u64, 100 * call, "{line}, write {call}");
             assert!(rt; text.as_bytes().starts_with(sent), "{line}, write {call}");
         }
-        let (status, sink) = run_failing(alloc, line, input, NEVER, writes)?;
+        let (status, sink) = run_failing(&rt, alloc, line, input, NEVER, writes)?;
         assert_eq!(rt; status, whole, "{line}");
         assert_eq!(rt; sink.0.bytes(), text.as_bytes(), "{line}");
     }

@@ -1,10 +1,10 @@
 mod Counting
-mod Ends
-mod LastAccounts
+pub mod Ends
+pub mod LastAccounts
 mod Lawfulness
-mod MappedLists
+pub mod MappedLists
 mod Numbers
-mod Room
+pub mod Room
 mod RunSteps
 mod Runs
-mod Starts
+pub mod Starts

@@ -2,11 +2,12 @@
 use Rattle.std.specs.Prelude.{⊤, ◌<◌, ◌≤◌, ◌^◌, ℕ, List, [], ◌∷◌, codes}
 use Rattle.std.specs.Fmt.{decimal}
 use Rattle.dex_words.specs.declared.command.Command.{Command}
-use Rattle.dex_words.specs.declared.command.Command.TheVariants.{Replay, Dump, Audit, Make, Bulk, Migrate}
+use Rattle.dex_words.specs.declared.command.Command.TheVariants.{Replay, Run, Dump, Audit, Make, Bulk, Migrate}
 
 -- the words that a command is
 abbrev pub spelling : Command → List (List ℕ)
 spelling Replay = codes "replay" ∷ []
+spelling Run = codes "run" ∷ []
 spelling Dump = codes "dump" ∷ []
 spelling Audit = codes "audit" ∷ []
 spelling (Make number rows) = codes "make" ∷ decimal number ∷ decimal rows ∷ []
@@ -23,3 +24,8 @@ IsWithin (Make number rows) = AreMade number rows
 IsWithin (Bulk number rows) = AreMade number rows
 IsWithin (Migrate nodes events) = (1 ≤ nodes) × (nodes ≤ 65536) × (1 ≤ events) × (events ≤ 65535)
 IsWithin _ = ⊤
+
+-- the command acts on one thread: it waits for nobody
+abbrev pub IsPlain : Command → Type 0
+IsPlain Run = ⊥
+IsPlain _ = ⊤

@@ -14,6 +14,8 @@ use thiserror::Error;
 pub enum Command {
     /// Reads a script, lets its rows act one after the other, and writes the report.
     Replay,
+    /// Reads a script, lets its lanes act side by side, each lane's rows in their order, and writes the report.
+    Run,
     /// Reads a script, lets its rows act one after the other, and writes the accounts as a dump.
     Dump,
     /// Reads a dump, and writes that it has no finding, or its findings.

@@ -70,6 +70,7 @@ fn plain_command(name: &str) -> Option<Command>
 {
     match name {
         "replay" => Some(Command::Replay),
+        "run" => Some(Command::Run),
         "dump" => Some(Command::Dump),
         "audit" => Some(Command::Audit),
         _ => None,

@@ -19,6 +19,7 @@ fn each_command_is_read(rt: HostRuntime) -> Result<(), Fail> {
     let number = 18_446_744_073_709_551_615;
     let cases = [
         ("replay", Command::Replay),
+        ("run", Command::Run),
         ("dump", Command::Dump),
         ("audit", Command::Audit),
         ("make 0 1", Command::Make { number: 0, rows: 1 }),
@@ -61,7 +62,7 @@ fn each_command_is_read(rt: HostRuntime) -> Result<(), Fail> {
 const NEAR_MISSES: [&str; 40] = [
     "",
     " ",
-    "run",
+    "run 1",
     "help",
     "Replay",
     "replay ",

@@ -1,0 +1,36 @@
+//! The command `run`.
+
+ghost use Rattle.std.specs.Prelude.{IfOk};
+ghost use Rattle.dex_words.specs.declared.command.Command.TheVariants.{Run};
+ghost use Rattle.dex_answers.specs.Answers.{Answers};
+
+use crate::played::no_script;
+use crate::replay::report_of;
+use crate::told::StatusText;
+use dex_io::Pace;
+use dex_run::run;
+use dex_script::read_script;
+use dex_types::NoMemory;
+use std::alloc::Global;
+use std::marker::Sync;
+use std::sync::Wait;
+use std::thread::Threads;
+
+/// The report of what is left when the lanes of a script have run side by side, or why the bytes are no script. Each row is let
+/// in by the pace.
+pub fn run_answer<R: Threads + Wait + Sync, P: Pace + Sync>(
+    rt: &R,
+    alloc: Global,
+    bytes: &[u8],
+    pace: &P,
+) -> Result<StatusText, NoMemory>
+    ensures { IfOk result (λ told. Answers Run bytes.now told.status told.text.items) }
+{
+    match read_script(alloc, bytes) {
+        Ok(script) => {
+            let outcome = run(rt, alloc, &script, pace)?;
+            report_of(alloc, &outcome, script.rows.len() as u32)
+        }
+        Err(error) => no_script(alloc, error),
+    }
+}

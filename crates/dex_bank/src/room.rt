@@ -1,0 +1,61 @@
+//! Room for what cells leave where they are closed.
+
+ghost use Rattle.std.specs.Prelude.{◌≡◌, ◌≤◌, [], IfOk, IfSome, vec_capacity};
+
+use dex_report::{MarketJournal, WalletJournal};
+use dex_types::{MarketAccounts, Named, NoMemory};
+use std::alloc::Global;
+use std::marker::Model;
+
+/// What cells leave, or room for it: the accounts of each, and its journal.
+#[derive(Drop)]
+pub(crate) struct Left<A, J> {
+    pub(crate) accounts: Vec<A>,
+    pub(crate) journals: Vec<J>,
+}
+
+/// Room for what so many cells leave, if there is memory for it.
+fn room_for<A: Drop, J: Drop>(alloc: Global, count: usize) -> Option<Left<A, J>>
+    ensures accounts { IfSome result (λ room. (room.accounts.items ≡ []) × (count ≤ vec_capacity room.accounts)) }
+    ensures journals { IfSome result (λ room. (room.journals.items ≡ []) × (count ≤ vec_capacity room.journals)) }
+{
+    let accounts = Vec::with_capacity(alloc, count).ok()?;
+    let journals = Vec::with_capacity(alloc, count).ok()?;
+    Some(Left { accounts, journals })
+}
+
+/// Room for what the cells of so many markets and wallets leave.
+#[derive(Drop)]
+pub struct Room {
+    pub(crate) of_markets: Left<MarketAccounts, MarketJournal>,
+    pub(crate) of_wallets: Left<Named, WalletJournal>,
+}
+
+impl Model for Room {
+    ghost use Rattle.dex_bank.specs.Room.{RoomState};
+    ghost use Rattle.dex_bank.specs.RoomInside.{IsEmptyRoom, room_inside};
+
+    ghost Value = { RoomState };
+
+    ghost view = { room_inside };
+
+    ghost invariant = { IsEmptyRoom };
+}
+
+impl Room {
+    /// Room for so many markets and wallets.
+    pub fn reserve(alloc: Global, markets: usize, wallets: usize) -> Result<Room, NoMemory>
+        ensures { IfOk result (λ room. (markets ≤ room.markets) × (wallets ≤ room.wallets)) }
+    {
+        let Some(of_markets) = room_for(alloc, markets) else {
+            return Err(NoMemory);
+        };
+        let Some(of_wallets) = room_for(alloc, wallets) else {
+            return Err(NoMemory);
+        };
+        Ok(Room {
+            of_markets,
+            of_wallets,
+        })
+    }
+}

@@ -1,0 +1,3 @@
+mod CallsTold
+mod Finding
+mod SightTold

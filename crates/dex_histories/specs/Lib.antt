@@ -1,0 +1,3 @@
+pub mod Lanes
+pub mod Merged
+pub mod Runs

@@ -1,0 +1,4 @@
+//! Laws of journals that lanes made side by side.
+#![tactic(auto)]
+
+pub mod laws;

@@ -1,0 +1,4 @@
+pub mod Counting
+pub mod StampedLists
+pub mod MarketLaws
+pub mod WalletLaws

@@ -1,0 +1,105 @@
+-- A market's journal with one call more.
+use Rattle.std.proofs.Common.{◌≡◌, ℕ, ◌≤◌, ◌<◌, List, [], ◌∷◌, ◌++◌, length, sym, ap, ◌∙◌, subst, arith}
+use Rattle.std.specs.List.{filter}
+use Rattle.std.proofs.lemmas.List.{length_push}
+use Rattle.std.proofs.lemmas.List.Sums.{length-filter}
+use Rattle.dex_types.specs.declared.rows.Row.{Row}
+use Rattle.dex_types.specs.declared.rows.Seen.{Seen}
+use Rattle.dex_types.specs.Accounts.{PlainMarketAccounts}
+use Rattle.dex_types.specs.Addresses.{is_same}
+use Rattle.dex_types.specs.Rows.{PlainRow}
+use Rattle.dex_history.specs.Journal.{Call}
+use Rattle.dex_cell.specs.CellState.{HasActed, HasSpare, IsMarketCell, MarketCellState, call_on}
+use Rattle.dex_script.specs.Drafts.{PlainScript}
+use Rattle.dex_bank.specs.Opened.{rows_on}
+use Rattle.dex_replay.specs.Lawful.{rows_of_market}
+use Rattle.dex_stamps.specs.Stamped.{AreRising, items_of, stamped}
+use Rattle.dex_journals.specs.Journals.{BankMarketState, IsBankMarket, calls_by, market_calls}
+use Rattle.dex_journals.proofs.Counting.{fewer}
+use Rattle.dex_journals.proofs.StampedLists.{below-more, items_of-stamped, lanes-more, length-stamped, rising-more, stamped-more}
+
+-- how many rows of a lane are on the market
+abbrev rows_left : BankMarketState → ℕ → ℕ
+rows_left market lane = length (rows_of_market lane market.cell.start.address market.script.rows)
+
+-- the market with one call more, under a stamp
+abbrev pub market_more : BankMarketState → MarketCellState → ℕ → BankMarketState
+market_more market cell stamp = record market { cell = cell; stamps = market.stamps ++ stamp ∷ []; last = stamp }
+
+-- where a lane has a row left, there is room for its call
+pub spare-market : (market : BankMarketState) → IsBankMarket market → (lane : ℕ)
+    → calls_by lane market.cell.calls < length (rows_of_market lane market.cell.start.address market.script.rows)
+    → HasSpare market.cell
+spare-market market kept lane few =
+    let on = λ (row : PlainRow). is_same row.market market.cell.start.address in
+    let shorter = fewer (λ (call : Call). call.asked.lane) (λ (row : PlainRow). row.lane)
+    market.cell.calls (filter on market.script.rows) kept.lanes lane few in
+    omega (arith, shorter, kept.room, length-filter on market.script.rows)
+
+-- the calls without their stamps are the cell's
+pub items_of-calls : (market : BankMarketState) → length market.stamps ≡ length market.cell.calls
+    → items_of (market_calls market) ≡ market.cell.calls
+items_of-calls market counted = items_of-stamped market.cell.calls market.stamps counted
+
+pub length-calls : (market : BankMarketState) → length market.stamps ≡ length market.cell.calls
+    → length (market_calls market) ≡ length market.cell.calls
+length-calls market counted = length-stamped market.cell.calls market.stamps counted
+
+-- one call more is one entry more
+pub calls-more : (market : BankMarketState) (cell : MarketCellState) (call : Call) (stamp : ℕ)
+    → length market.stamps ≡ length market.cell.calls → cell.calls ≡ market.cell.calls ++ call ∷ []
+    → market_calls (market_more market cell stamp) ≡ market_calls market ++ record { item = call; stamp = stamp } ∷ []
+calls-more market cell call stamp counted more =
+    ap (λ (calls : List Call). stamped calls (market.stamps ++ stamp ∷ [])) more
+    ∙ stamped-more market.cell.calls market.stamps call stamp counted
+
+-- and what holds of a market holds of it with a call more, of a lane that has a row left
+pub market-more : (market : BankMarketState) (cell : MarketCellState) (call : Call) (stamp : ℕ)
+    → IsBankMarket market → IsMarketCell cell
+    → cell.calls ≡ market.cell.calls ++ call ∷ [] → cell.start ≡ market.cell.start → cell.room ≡ market.cell.room
+    → calls_by call.asked.lane market.cell.calls
+    < length (rows_of_market call.asked.lane market.cell.start.address market.script.rows)
+    → market.last < stamp
+    → IsBankMarket (market_more market cell stamp)
+market-more market cell call stamp kept is_cell more start room few above = record {
+  cell = is_cell;
+  counted = omega (
+    arith,
+    length_push market.stamps stamp,
+    length_push market.cell.calls call,
+    ap length more,
+    kept.counted,
+  );
+  rising = subst (λ (calls : List Call). AreRising (stamped calls (market.stamps ++ stamp ∷ []))) (sym more)
+      (rising-more market.cell.calls market.stamps market.last call stamp kept.counted kept.rising kept.below above);
+  below = below-more market.stamps market.last stamp kept.below above;
+  room = room ∙ kept.room ∙ ap (λ (one : PlainMarketAccounts). rows_on one.address market.script.rows) (sym start);
+  lanes = λ lane. subst
+      (λ (calls : List Call). calls_by lane calls
+      ≤ length (rows_of_market lane cell.start.address market.script.rows)) (sym more)
+      (subst (λ (one : PlainMarketAccounts). calls_by lane (market.cell.calls ++ call ∷ [])
+      ≤ length (rows_of_market lane one.address market.script.rows)) (sym start)
+      (lanes-more (λ (one : Call). one.asked.lane) (rows_left market) market.cell.calls call kept.lanes few lane));
+}
+
+-- ---- a market that has acted
+
+-- a market of these parts
+abbrev pub market_of : MarketCellState → PlainScript → List ℕ → ℕ → BankMarketState
+market_of cell script stamps last = record { cell = cell; stamps = stamps; last = last; script = script }
+
+-- what an acting row needs of its market: its lane has a row left, and its stamp is above all others
+pub record MayAct (row : Row) (stamp : ℕ) (market : BankMarketState) : Type 0 where
+  pub lane : calls_by row.lane market.cell.calls
+      < length (rows_of_market row.lane market.cell.start.address market.script.rows)
+  pub above : market.last < stamp
+
+pub has-acted : (market : BankMarketState) (row : Row) (seen : Seen) (cell : MarketCellState) (stamp last : ℕ)
+    (stamps : List ℕ) → IsBankMarket market → MayAct row stamp market → IsMarketCell cell
+    → HasActed row seen market.cell cell → stamps ≡ market.stamps ++ stamp ∷ [] → last ≡ stamp
+    → IsBankMarket (market_of cell market.script stamps last)
+has-acted market row seen cell stamp last stamps kept may is_cell acted stamped_is last_is =
+    subst (λ (one : List ℕ). IsBankMarket (market_of cell market.script one last)) (sym stamped_is)
+    (subst (λ (one : ℕ). IsBankMarket (market_of cell market.script (market.stamps ++ stamp ∷ []) one)) (sym last_is)
+    (market-more market cell (call_on row seen market.cell) stamp kept is_cell acted.calls acted.start acted.room
+    may.lane may.above))

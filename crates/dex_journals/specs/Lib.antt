@@ -1,0 +1,4 @@
+pub mod Made
+pub mod Journals
+pub mod Items
+pub mod Inside

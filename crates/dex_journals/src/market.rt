@@ -1,0 +1,145 @@
+//! A market that threads share.
+
+ghost use Rattle.std.specs.Prelude.{◌≡◌, ◌<◌, ◌++◌, ◌∷◌, [], All, length, map, max};
+ghost use Rattle.dex_types.specs.declared.refusals.Refusal.{Refusal};
+ghost use Rattle.dex_types.specs.declared.replies.Reply.TheVariants.{Refused};
+ghost use Rattle.dex_types.specs.Rows.{row_of};
+ghost use Rattle.dex_history.specs.Journal.{Call};
+ghost use Rattle.dex_cell.specs.CellState.{HasActed, IsFor, refused_on, step_on};
+ghost use Rattle.dex_wallet.specs.CellState.{IsWalletCell};
+ghost use Rattle.dex_act.specs.Wallets.{AreApart, SeesCells, made_of, states_acted, wallet_state_of};
+ghost use Rattle.dex_bank.specs.Opened.{rows_on};
+ghost use Rattle.dex_replay.specs.Lawful.{rows_of_market};
+ghost use Rattle.dex_stamps.specs.Stamped.{Stamped};
+ghost use Rattle.dex_journals.specs.Journals.{IsBankMarket, calls_by, market_calls, market_origin};
+
+use crate::items::{MarketStart, StampedCall};
+use dex_act::act;
+use dex_cell::MarketCell;
+use dex_gate::Journaled;
+use dex_script::Script;
+use dex_stamps::{Kept, Stamp};
+use dex_types::{Reply, Row, Seen};
+use dex_wallet::WalletCell;
+use http_server::Log;
+use std::marker::Model;
+
+/// A market's cell with its journal's stamps, as the value of a gate. Each lane makes at most as many calls as it has rows on
+/// the market, and there is room for all rows on it.
+#[derive(Drop)]
+pub struct BankMarket {
+    cell: MarketCell,
+    stamps: Log<Stamp, ()>,
+    last: Stamp,
+    script: Kept<Script>,
+}
+
+impl Model for BankMarket {
+    ghost use Rattle.dex_journals.specs.Journals.{BankMarketState};
+    ghost use Rattle.dex_journals.specs.Inside.{IsMarketKept, market_inside};
+
+    ghost Value = { BankMarketState };
+
+    ghost view = { market_inside };
+
+    ghost invariant = { IsMarketKept };
+}
+
+impl Journaled for BankMarket {
+    ghost use Rattle.dex_journals.specs.Journals.{market_calls, market_origin};
+
+    type Entry = StampedCall;
+
+    type Origin = MarketStart;
+
+    ghost entries = { market_calls };
+
+    ghost lane = { λ call. call.item.asked.lane };
+
+    ghost origin = { market_origin };
+
+    fn count(&self) -> u64 {
+        self.cell.entries().len() as u64
+    }
+}
+
+impl BankMarket {
+    /// A market of a script, of whose rows none has acted.
+    pub fn open(cell: MarketCell, script: &Script) -> BankMarket
+        requires fresh { cell.calls ≡ [] }
+        requires room { cell.room ≡ rows_on cell.start.address script.now.rows }
+        ensures { result ≡ record { cell = cell; stamps = []; last = 0; script = script.now } }
+    {
+        BankMarket {
+            cell,
+            stamps: Log::new(),
+            last: Stamp::first(),
+            script: Kept::of(script),
+        }
+    }
+
+    /// Lends the cell for reading.
+    pub fn cell(&self) -> &MarketCell
+        ensures cell { result.now ≡ self.now.cell }
+        ensures kept { IsBankMarket self.now }
+    {
+        &self.cell
+    }
+
+    /// The later of a stamp and the last of the journal's.
+    pub fn later(&self, stamp: &Stamp) -> Stamp
+        ensures { result.number ≡ max self.now.last stamp.now.number }
+    {
+        self.last.later(stamp)
+    }
+
+    /// A row acts on the market and on the cells of the wallets that it names, as `dex_act::act` says, under a stamp that is above
+    /// all of the journal's; and the journal has one call more, of a lane that has a row left. It takes no memory.
+    pub fn act(
+        &mut self,
+        wallets: &mut [WalletCell],
+        row: &Row,
+        seen: &Seen,
+        stamp: &Stamp,
+    ) -> Reply
+        requires row { IsFor row.now seen.now self.old.cell }
+        requires wallets { SeesCells seen.now wallets.old }
+        requires lane { calls_by row.now.lane self.old.cell.calls
+            < length (rows_of_market row.now.lane self.old.cell.start.address self.old.script.rows) }
+        requires stamp { self.old.last < stamp.now.number }
+        ensures reply { result ≡ (step_on row.entry.now seen.now self.old.cell).reply }
+        ensures acted { HasActed row.entry.now seen.now self.old.cell self.new.cell }
+        ensures refused { (why : Refusal) → result ≡ Refused why
+            → self.new.cell ≡ refused_on row.entry.now seen.now self.old.cell }
+        ensures stamped { self.new ≡ record self.old {
+          cell = self.new.cell;
+          stamps = self.old.stamps ++ stamp.now.number ∷ [];
+          last = stamp.now.number;
+        } }
+        ensures states { map wallet_state_of wallets.new
+            ≡ states_acted row.entry.now seen.now self.old.cell (map wallet_state_of wallets.old) }
+        ensures wallets { All IsWalletCell wallets.new }
+        ensures apart { AreApart wallets.new }
+        ensures made { map made_of wallets.new ≡ map made_of wallets.old }
+        ensures kept { IsBankMarket self.new }
+    {
+        let reply = act(&mut self.cell, wallets, row, seen);
+        self.stamps = self.stamps.and(stamp, &());
+        self.last = stamp.later(stamp);
+        reply
+    }
+
+    /// The cell, at the end.
+    pub fn into_cell(self) -> MarketCell
+        ensures cell { result ≡ self.cell }
+        ensures kept { IsBankMarket self }
+    {
+        let BankMarket {
+            cell,
+            stamps: _,
+            last: _,
+            script: _,
+        } = self;
+        cell
+    }
+}

@@ -1,0 +1,168 @@
+//! A wallet that threads share.
+
+ghost use Rattle.std.specs.Prelude.{◌≡◌, ◌<◌, ◌++◌, ◌∷◌, [], max};
+ghost use Rattle.dex_bank.specs.Opened.{rows_naming};
+ghost use Rattle.dex_journals.specs.Journals.{IsBankWallet, MayComeBack, left_by};
+
+use crate::items::{StampedEntry, WalletStart};
+use dex_gate::Journaled;
+use dex_script::Script;
+use dex_stamps::{Kept, Stamp};
+use dex_wallet::WalletCell;
+use http_server::Log;
+use std::marker::Model;
+
+/// A wallet's cell with its journal's stamps, as the value of a gate. Each lane makes at most as many entries as it has rows that
+/// name the wallet, and there is room for all rows that name it.
+#[derive(Drop)]
+pub struct BankWallet {
+    cell: WalletCell,
+    stamps: Log<Stamp, ()>,
+    last: Stamp,
+    script: Kept<Script>,
+}
+
+impl Model for BankWallet {
+    ghost use Rattle.dex_journals.specs.Journals.{BankWalletState};
+    ghost use Rattle.dex_journals.specs.Inside.{IsWalletKept, wallet_inside};
+
+    ghost Value = { BankWalletState };
+
+    ghost view = { wallet_inside };
+
+    ghost invariant = { IsWalletKept };
+}
+
+impl Journaled for BankWallet {
+    ghost use Rattle.dex_journals.specs.Journals.{wallet_entries, wallet_origin};
+
+    type Entry = StampedEntry;
+
+    type Origin = WalletStart;
+
+    ghost entries = { wallet_entries };
+
+    ghost lane = { λ entry. entry.item.lane };
+
+    ghost origin = { wallet_origin };
+
+    fn count(&self) -> u64 {
+        self.cell.entries().len() as u64
+    }
+}
+
+/// What stays behind of a wallet while its cell is out for a row.
+#[derive(Drop)]
+pub struct WalletTrail {
+    before: Kept<WalletCell>,
+    stamps: Log<Stamp, ()>,
+    last: Stamp,
+    script: Kept<Script>,
+}
+
+impl Model for WalletTrail {
+    ghost use Rattle.dex_journals.specs.Journals.{TrailState};
+    ghost use Rattle.dex_journals.specs.Inside.{IsTrailKept, trail_inside};
+
+    ghost Value = { TrailState };
+
+    ghost view = { trail_inside };
+
+    ghost invariant = { IsTrailKept };
+}
+
+impl BankWallet {
+    /// A wallet of a script, of whose rows none has acted.
+    pub fn open(cell: WalletCell, script: &Script) -> BankWallet
+        requires fresh { cell.entries ≡ [] }
+        requires room { cell.room ≡ rows_naming cell.address script.now.rows }
+        ensures { result ≡ record { cell = cell; stamps = []; last = 0; script = script.now } }
+    {
+        BankWallet {
+            cell,
+            stamps: Log::new(),
+            last: Stamp::first(),
+            script: Kept::of(script),
+        }
+    }
+
+    /// Lends the cell for reading.
+    pub fn cell(&self) -> &WalletCell
+        ensures cell { result.now ≡ self.now.cell }
+        ensures kept { IsBankWallet self.now }
+    {
+        &self.cell
+    }
+
+    /// Takes the cell out for a row, and what stays behind.
+    pub fn into_parts(self) -> (WalletCell, WalletTrail)
+        ensures cell { result.0 ≡ self.cell }
+        ensures trail { left_by result.1 ≡ self }
+        ensures kept { IsBankWallet self }
+    {
+        let BankWallet {
+            cell,
+            stamps,
+            last,
+            script,
+        } = self;
+        let before = Kept::of(&cell);
+        let trail = WalletTrail {
+            before,
+            stamps,
+            last,
+            script,
+        };
+        (cell, trail)
+    }
+
+    /// The cell, at the end.
+    pub fn into_cell(self) -> WalletCell
+        ensures cell { result ≡ self.cell }
+        ensures kept { IsBankWallet self }
+    {
+        let BankWallet {
+            cell,
+            stamps: _,
+            last: _,
+            script: _,
+        } = self;
+        cell
+    }
+}
+
+impl WalletTrail {
+    /// The later of a stamp and the last of the journal's.
+    pub fn later(&self, stamp: &Stamp) -> Stamp
+        ensures { result.number ≡ max self.now.last stamp.now.number }
+    {
+        self.last.later(stamp)
+    }
+
+    /// The wallet with its cell again: it has one entry more, under a stamp that is above all of the journal's, of a lane that has
+    /// a row left.
+    pub fn with(self, cell: WalletCell, stamp: &Stamp) -> BankWallet
+        requires entry { MayComeBack self cell }
+        requires stamp { self.last < stamp.now.number }
+        ensures wallet { result ≡ record {
+          cell = cell;
+          stamps = self.stamps ++ stamp.now.number ∷ [];
+          last = stamp.now.number;
+          script = self.script;
+        } }
+        ensures kept { IsBankWallet result }
+    {
+        let WalletTrail {
+            before: _,
+            stamps,
+            last: _,
+            script,
+        } = self;
+        BankWallet {
+            cell,
+            stamps: stamps.and(stamp, &()),
+            last: stamp.later(stamp),
+            script,
+        }
+    }
+}

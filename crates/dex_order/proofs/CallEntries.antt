@@ -1,0 +1,134 @@
+-- The entries that the call of a row makes: one in the journal of each wallet that the row names.
+use Rattle.std.proofs.Common.{◌≡◌, ℕ, ◌≤◌, Bool, true, false, ◌||◌, cond, List, [], ◌∷◌, map, Option, Some, None, refl, sym, ap, ◌∙◌, subst, arith, ⊎_elim}
+use Rattle.std.specs.List.{filter, list_any}
+use Rattle.std.proofs.lemmas.Bool.{cases_Bool, cond-false, cond-true, cond_both}
+use Rattle.std.proofs.lemmas.List.Elements.{filter_agree}
+use Rattle.dex_types.specs.declared.addresses.Address.{Address}
+use Rattle.dex_types.specs.declared.movements.Entry.{Entry}
+use Rattle.dex_types.specs.declared.movements.Movement.{Movement}
+use Rattle.dex_types.specs.declared.movements.WalletEntry.{WalletEntry}
+use Rattle.dex_types.specs.declared.rows.Seen.{Seen}
+use Rattle.dex_types.specs.Addresses.{is_same}
+use Rattle.dex_types.specs.Market.{Market}
+use Rattle.dex_types.specs.Rows.{PlainRow}
+use Rattle.dex_types.specs.Transfers.{Transfers}
+use Rattle.dex_types.specs.Wallets.{balance_seen, brought_to, movement_of, movements, row_wallets, seen_wallets, taken_from, with_role}
+use Rattle.dex_laws.proofs.TraderLaws.{is_same-sym, is_same-true}
+use Rattle.dex_history.specs.Journal.{Asked, Call, Sees, Stands, asked_of, entry_on, front, row_step}
+use Rattle.dex_history.proofs.AddressOrder.{AreRising, times, with_address-rising, with_address-times}
+use Rattle.dex_history.proofs.WalletLaws.{places-movements, wallet-movement_by}
+use Rattle.dex_movements.specs.Entries.{wallet_entry_by}
+use Rattle.dex_movements.proofs.PlaceLaws.{seen-wallets}
+use Rattle.dex_fold.specs.Fold.{names}
+use Rattle.dex_cell.specs.CellState.{call_made}
+use Rattle.dex_stamps.specs.Stamped.{Stamped, items_of}
+use Rattle.dex_journals.specs.Made.{entries_in, entry_made}
+use Rattle.dex_replay.proofs.MappedLists.{filter-of, map-map}
+
+-- a call that stands on a market is the one that its row makes there
+pub is-made : (row : PlainRow) (call : Call) (m : Market) → call.asked ≡ asked_of row → Stands call m → call ≡ call_made row call.seen m
+is-made row call m asks stands =
+    ap (λ (entry : Entry). record call { entry = entry }) stands.entry
+    ∙ ap (λ (asked : Asked). record { asked = asked; seen = call.seen; entry = entry_on (record { asked = asked; seen = call.seen; entry = call.entry }) m }) asks
+
+-- ---- no row names a wallet twice
+
+role-rising : (role : Option Address) (addresses : List Address) → AreRising addresses → AreRising (with_role role addresses)
+role-rising None addresses rising = rising
+role-rising (Some address) addresses rising = with_address-rising address addresses rising
+
+role-once : (wallet : Address) (role : Option Address) (addresses : List Address) → AreRising addresses → times wallet addresses ≤ 1
+    → times wallet (with_role role addresses) ≤ 1
+role-once wallet None addresses rising once = once
+role-once wallet (Some address) addresses rising once =
+    subst (λ (n : ℕ). n ≤ 1) (sym (with_address-times wallet address addresses rising))
+    (cond_both (is_same wallet address) 1 (times wallet addresses) (λ (n : ℕ). n ≤ 1) (λ same. omega arith) (λ apart. once))
+
+named-once : (row : PlainRow) (wallet : Address) → times wallet (row_wallets row) ≤ 1
+named-once row wallet =
+    let referrer : AreRising (with_role row.referrer []) = role-rising row.referrer [] tt in
+    let discount : AreRising (with_role row.discount (with_role row.referrer [])) = role-rising row.discount (with_role row.referrer []) referrer in
+    let pc : AreRising (with_role row.pc (with_role row.discount (with_role row.referrer []))) =
+    role-rising row.pc (with_role row.discount (with_role row.referrer [])) discount in
+    role-once wallet row.coin (with_role row.pc (with_role row.discount (with_role row.referrer []))) pc
+    (role-once wallet row.pc (with_role row.discount (with_role row.referrer [])) discount
+    (role-once wallet row.discount (with_role row.referrer []) referrer
+    (role-once wallet row.referrer [] tt (omega arith))))
+
+-- so what is kept of one wallet is that wallet, where it stands there
+none-kept : (wallet : Address) (addresses : List Address) → times wallet addresses ≤ 0
+    → (filter (λ (address : Address). is_same address wallet) addresses ≡ []) × (list_any (is_same wallet) addresses ≡ false)
+none-kept wallet [] none = (refl, refl)
+none-kept wallet (address ∷ addresses) none =
+    ⊎_elim
+    (λ (same : is_same wallet address ≡ true).
+    let one : ◌≡◌ {A = ℕ} (cond (is_same wallet address) 1 0) 1 = ap (λ (b : Bool). cond b 1 0) same in
+    absurd (omega (arith, none, one)))
+    (λ (apart : is_same wallet address ≡ false).
+    let rest = none-kept wallet addresses (omega (arith, none)) in (
+      cond-false (is_same address wallet) (address ∷ filter (λ (one : Address). is_same one wallet) addresses) (filter (λ (one : Address). is_same one wallet) addresses)
+          (is_same-sym address wallet ∙ apart) ∙ rest.0,
+      ap (λ (b : Bool). b || list_any (is_same wallet) addresses) apart ∙ rest.1,
+    ))
+    (cases_Bool (is_same wallet address))
+
+one-kept : (wallet : Address) (addresses : List Address) → times wallet addresses ≤ 1
+    → filter (λ (address : Address). is_same address wallet) addresses ≡ cond (list_any (is_same wallet) addresses) (wallet ∷ []) []
+one-kept wallet [] once = refl
+one-kept wallet (address ∷ addresses) once =
+    ⊎_elim
+    (λ (same : is_same wallet address ≡ true).
+    let one : ◌≡◌ {A = ℕ} (cond (is_same wallet address) 1 0) 1 = ap (λ (b : Bool). cond b 1 0) same in
+    let rest = none-kept wallet addresses (omega (arith, once, one)) in
+    cond-true (is_same address wallet) (address ∷ filter (λ (one : Address). is_same one wallet) addresses) (filter (λ (one : Address). is_same one wallet) addresses)
+    (is_same-sym address wallet ∙ same)
+    ∙ ap (λ (others : List Address). address ∷ others) rest.0
+    ∙ ap (λ (first : Address). first ∷ []) (sym (is_same-true wallet address same))
+    ∙ sym (ap (λ (b : Bool). cond (b || list_any (is_same wallet) addresses) (wallet ∷ []) []) same))
+    (λ (apart : is_same wallet address ≡ false).
+    cond-false (is_same address wallet) (address ∷ filter (λ (one : Address). is_same one wallet) addresses) (filter (λ (one : Address). is_same one wallet) addresses)
+    (is_same-sym address wallet ∙ apart)
+    ∙ one-kept wallet addresses (omega (arith, once))
+    ∙ sym (ap (λ (b : Bool). cond (b || list_any (is_same wallet) addresses) (wallet ∷ []) []) apart))
+    (cases_Bool (is_same wallet address))
+
+-- ---- the entries of a row's call
+
+module _ (row : PlainRow) (seen : Seen) (m : Market) (stamp : ℕ) (sees : Sees (asked_of row) seen) (wallet : Address) where
+  abbrev moved : Address → Movement
+  moved address = movement_of seen (row_step row seen m).transfers address
+
+  abbrev of_wallet : Movement → Bool
+  of_wallet move = is_same move.wallet wallet
+
+  moved-wallet : (address : Address) → of_wallet (moved address) ≡ is_same address wallet
+  moved-wallet address =
+      let t : Transfers = (row_step row seen m).transfers in
+      ap (λ (a : Address). is_same a wallet) (wallet-movement_by address (balance_seen seen address) (taken_from seen t address) (brought_to seen t address))
+
+  moves-kept : filter of_wallet (movements seen (row_step row seen m).transfers) ≡ cond (names row wallet) (moved wallet ∷ []) []
+  moves-kept =
+      sym (filter-of moved of_wallet (seen_wallets seen))
+      ∙ ap (map moved) (filter_agree (λ (address : Address). of_wallet (moved address)) (λ (address : Address). is_same address wallet) moved-wallet (seen_wallets seen))
+      ∙ ap (λ (addresses : List Address). map moved (filter (λ (address : Address). is_same address wallet) addresses)) (seen-wallets row seen sees)
+      ∙ ap (map moved) (one-kept wallet (row_wallets row) (named-once row wallet))
+      ∙ either (names row wallet)
+    where
+      either : (b : Bool) → map moved (cond b (wallet ∷ []) []) ≡ cond b (moved wallet ∷ []) []
+      either true = refl
+      either false = refl
+
+  abbrev call_of_row : Stamped Call
+  call_of_row = record { item = call_made row seen m; stamp = stamp }
+
+  pub entries-made : items_of (entries_in wallet (record { item = call_made row seen m; stamp = stamp }))
+      ≡ cond (names row wallet) (wallet_entry_by row (movement_of seen (row_step row seen m).transfers wallet) ∷ []) []
+  entries-made =
+      map-map (entry_made call_of_row) (λ (made : Stamped WalletEntry). made.item) (filter of_wallet (front (call_made row seen m).entry.moves))
+      ∙ ap (λ (moves : List Movement). map (wallet_entry_by row) (filter of_wallet moves)) (places-movements seen (row_step row seen m).transfers)
+      ∙ ap (map (wallet_entry_by row)) moves-kept
+      ∙ either (names row wallet)
+    where
+      either : (b : Bool) → map (wallet_entry_by row) (cond b (moved wallet ∷ []) []) ≡ cond b (wallet_entry_by row (moved wallet) ∷ []) []
+      either true = refl
+      either false = refl

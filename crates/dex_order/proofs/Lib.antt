@@ -1,0 +1,11 @@
+mod CallEntries
+mod Ends
+mod Fronts
+mod Gathered
+mod Items
+mod Journals
+mod Once
+mod Orders
+mod Seeing
+mod Sorted
+mod Steps

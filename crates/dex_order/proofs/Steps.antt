@@ -1,0 +1,231 @@
+-- The next row leaves the world after its call; so all rows, one after the other, leave that after all calls.
+use Rattle.std.proofs.Common.{◌≡◌, ℕ, ◌≤◌, Bool, true, false, ◌||◌, cond, List, [], ◌∷◌, ◌++◌, map, Option, Some, refl, sym, ap, ◌∙◌, subst, arith, ⊎_elim}
+use Rattle.std.specs.List.{All}
+use Rattle.std.proofs.lemmas.Bool.{cases_Bool, cond-false, cond-true, false≢true}
+use Rattle.std.proofs.lemmas.List.{append-nil, append_assoc, map_push}
+use Rattle.std.proofs.lemmas.List.Elements.{All-head, All-tail}
+use Rattle.std.proofs.lemmas.List.Sums.{sum_by-cons}
+use Rattle.dex_types.specs.declared.addresses.Address.{Address}
+use Rattle.dex_types.specs.declared.movements.Entry.{Entry}
+use Rattle.dex_types.specs.declared.movements.WalletEntry.{WalletEntry}
+use Rattle.dex_types.specs.declared.rows.Seen.{Seen}
+use Rattle.dex_types.specs.Accounts.{PlainAccount, PlainMarketAccounts}
+use Rattle.dex_types.specs.Addresses.{is_same}
+use Rattle.dex_types.specs.Market.{Listing, Market}
+use Rattle.dex_types.specs.Rows.{PlainRow}
+use Rattle.dex_types.specs.Wallets.{movement_of}
+use Rattle.dex_accounts.specs.Decoded.{market_in}
+use Rattle.dex_history.specs.Journal.{Asked, Call, IsLegal, Sees, Stands, asked_of, market_after, row_step}
+use Rattle.dex_history.proofs.HistoryLaws.{IsLegal-append, balance_after-append, market_after-one}
+use Rattle.dex_movements.specs.Entries.{entry_by, wallet_entry_by}
+use Rattle.dex_fold.specs.Fold.{act, acted, fold, market_acted, markets_acted, names, wallet_acted, wallet_moved}
+use Rattle.dex_fold.specs.World.{MarketState, WalletState, World, market_at, seen_by}
+use Rattle.dex_cell.specs.CellState.{call_made}
+use Rattle.dex_dump.specs.Accepted.{address_of, times}
+use Rattle.dex_script.specs.Drafts.{PlainScript}
+use Rattle.dex_script.specs.Known.{has_market}
+use Rattle.dex_token.specs.TokenAccount.{wallet_words}
+use Rattle.dex_stamps.specs.Stamped.{Stamped, items_of}
+use Rattle.dex_replay.proofs.LastAccounts.{listing-in, market_after-listing}
+use Rattle.dex_replay.proofs.MappedLists.{map-agree, map-map}
+use Rattle.dex_order.proofs.CallEntries.{entries-made, is-made}
+use Rattle.dex_order.proofs.Fronts.{calls_at, calls_at-append, calls_at-elsewhere, calls_at-here, entries_at, entries_at-one, market_front, market_with, wallet_front, wallet_with, world_front}
+use Rattle.dex_order.proofs.Items.{Item, call_in, row_in}
+use Rattle.dex_order.proofs.Seeing.{IsWalletLegalAt, next-sees}
+
+abbrev market_address : PlainMarketAccounts → Address
+market_address accounts = accounts.address
+
+-- a market keeps its address
+front-address : (made : List (Stamped Call)) (accounts : PlainMarketAccounts) → (market_front made accounts).market.listing.address ≡ accounts.address
+front-address made accounts =
+    ap (λ (listing : Listing). listing.address) (market_after-listing (calls_at accounts.address made) (market_in accounts))
+    ∙ ap (λ (listing : Listing). listing.address) (listing-in accounts)
+
+-- ---- one row
+
+module _ (row : PlainRow) (seen : Seen) (m : Market) (stamp : ℕ) (sees : Sees (asked_of row) seen) (made : List (Stamped Call)) where
+  abbrev next : Stamped Call
+  next = record { item = call_made row seen m; stamp = stamp }
+
+  abbrev then : List (Stamped Call)
+  then = made ++ record { item = call_made row seen m; stamp = stamp } ∷ []
+
+  -- its market
+  market-acts : (accounts : PlainMarketAccounts) → is_same row.market accounts.address ≡ true → (market_front made accounts).market ≡ m
+      → market_acted row seen (market_front made accounts) ≡ market_front then accounts
+  market-acts accounts here own =
+      let calls : List Call = calls_at accounts.address made in
+      let before : Market = market_after (market_in accounts) calls in
+      let after : Market = (row_step row seen before).market in
+      let entry_at : Market → Entry = λ (market : Market). let s = row_step row seen market in entry_by row seen s.reply s.transfers in
+      let with : List Entry → MarketState = λ (entries : List Entry). record { market = after; entries = entries } in
+      let entries : List Entry = map (λ (call : Call). call.entry) calls in
+      ap (λ (market : Market). with (entries ++ entry_at market ∷ [])) own
+      ∙ ap with (sym (map_push (λ (call : Call). call.entry) calls (call_made row seen m)))
+      ∙ ap (λ (market : Market). record { market = market; entries = map (λ (call : Call). call.entry) (calls ++ call_made row seen m ∷ []) })
+      (sym (market_after-one calls (call_made row seen m) (market_in accounts)))
+      ∙ ap (market_with accounts) (sym (calls_at-here accounts.address made next here))
+
+  market-stays : (accounts : PlainMarketAccounts) → is_same row.market accounts.address ≡ false → market_front made accounts ≡ market_front then accounts
+  market-stays accounts elsewhere = ap (market_with accounts) (sym (calls_at-elsewhere accounts.address made next elsewhere))
+
+  markets-stay : (all : List PlainMarketAccounts) → times row.market (map market_address all) ≤ 0 → map (market_front made) all ≡ map (market_front then) all
+  markets-stay [] none = refl
+  markets-stay (accounts ∷ all) none =
+      let counted = sum_by-cons (λ (address : Address). cond (is_same row.market address) 1 0) accounts.address (map market_address all) in
+      ap (λ (state : MarketState). state ∷ map (market_front made) all) (market-stays accounts (no (is_same row.market accounts.address) (omega (arith, none, counted))))
+      ∙ ap (λ (states : List MarketState). market_front then accounts ∷ states) (markets-stay all (omega (arith, none, counted)))
+    where
+      no : (b : Bool) → cond b 1 0 ≤ 0 → b ≡ false
+      no true none = absurd (omega (arith, none))
+      no false none = refl
+
+  markets-act : (all : List PlainMarketAccounts) → market_at row.market (map (market_front made) all) ≡ Some m
+      → times row.market (map market_address all) ≤ 1 → markets_acted row seen (map (market_front made) all) ≡ map (market_front then) all
+  markets-act [] at once = refl
+  markets-act (accounts ∷ all) at once =
+      let state : MarketState = market_front made accounts in
+      let states : List MarketState = map (market_front made) all in
+      let test : Bool = is_same row.market state.market.listing.address in
+      let address : is_same row.market state.market.listing.address ≡ is_same row.market accounts.address =
+      ap (λ (a : Address). is_same row.market a) (front-address made accounts) in
+      let counted = sum_by-cons (λ (a : Address). cond (is_same row.market a) 1 0) accounts.address (map market_address all) in
+      ⊎_elim
+      (λ (here : is_same row.market state.market.listing.address ≡ true).
+      let first : Some state.market ≡ Some m = sym (cond-true test (Some state.market) (market_at row.market states) here) ∙ at in
+      let own : state.market ≡ m = cc in
+      let one : ◌≡◌ {A = ℕ} (cond (is_same row.market accounts.address) 1 0) 1 = ap (λ (b : Bool). cond b 1 0) (sym address ∙ here) in
+      cond-true test (market_acted row seen state ∷ states) (state ∷ markets_acted row seen states) here
+      ∙ ap (λ (some : MarketState). some ∷ states) (market-acts accounts (sym address ∙ here) own)
+      ∙ ap (λ (some : List MarketState). market_front then accounts ∷ some) (markets-stay all (omega (arith, once, counted, one))))
+      (λ (apart : is_same row.market state.market.listing.address ≡ false).
+      let rest : market_at row.market states ≡ Some m = sym (cond-false test (Some state.market) (market_at row.market states) apart) ∙ at in
+      cond-false test (market_acted row seen state ∷ states) (state ∷ markets_acted row seen states) apart
+      ∙ ap (λ (some : MarketState). some ∷ markets_acted row seen states) (market-stays accounts (sym address ∙ apart))
+      ∙ ap (λ (some : List MarketState). market_front then accounts ∷ some) (markets-act all rest (omega (arith, once, counted))))
+      (cases_Bool (is_same row.market state.market.listing.address))
+
+  -- a wallet
+  wallet-acts : (account : PlainAccount)
+      → wallet_acted row seen (row_step row seen m).transfers (wallet_front made account) ≡ wallet_front then account
+  wallet-acts account =
+      either (names row account.address)
+      ∙ ap (λ (entries : List WalletEntry). wallet_with account (entries_at account.address made ++ entries)) (sym (entries-made row seen m stamp sees account.address))
+      ∙ ap (wallet_with account) (sym (entries_at-one account.address made next))
+    where
+      either : (b : Bool) → cond b (wallet_moved row (movement_of seen (row_step row seen m).transfers account.address) (wallet_front made account)) (wallet_front made account)
+          ≡ wallet_with account (entries_at account.address made
+          ++ cond b (wallet_entry_by row (movement_of seen (row_step row seen m).transfers account.address) ∷ []) [])
+      either true =
+          let entry : WalletEntry = wallet_entry_by row (movement_of seen (row_step row seen m).transfers account.address) in
+          let entries : List WalletEntry = entries_at account.address made ++ entry ∷ [] in
+          ap (λ (n : ℕ). record { seen = record (wallet_front made account).seen { balance = n }; entries = entries })
+          (sym (balance_after-append (entries_at account.address made) (entry ∷ []) (wallet_words account.bytes).amount))
+      either false = ap (wallet_with account) (sym (append-nil (entries_at account.address made)))
+
+  -- the world
+  pub next-acts : (script : PlainScript) → market_at row.market (world_front script made).markets ≡ Some m → seen_by row (world_front script made) ≡ seen
+      → times row.market (map market_address script.start.markets) ≤ 1 → act row (world_front script made) ≡ world_front script then
+  next-acts script at is once =
+      let world : World = world_front script made in
+      ap (λ (found : Option Market). acted row found world) at
+      ∙ ap (λ (sight : Seen). record world {
+        markets = markets_acted row sight world.markets;
+        wallets = map (wallet_acted row sight (row_step row sight m).transfers) world.wallets;
+      }) is
+      ∙ ap (λ (markets : List MarketState). record world {
+        markets = markets;
+        wallets = map (wallet_acted row seen (row_step row seen m).transfers) world.wallets;
+      }) (markets-act script.start.markets at once)
+      ∙ ap (λ (wallets : List WalletState). record world { markets = map (market_front then) script.start.markets; wallets = wallets })
+      (map-map (wallet_front made) (wallet_acted row seen (row_step row seen m).transfers) script.start.wallets
+      ∙ map-agree (λ (account : PlainAccount). wallet_acted row seen (row_step row seen m).transfers (wallet_front made account)) (wallet_front then) script.start.wallets
+      (λ k d within. wallet-acts _))
+
+-- ---- the market of the next row
+
+abbrev pub IsMarketLegalAt : List (Stamped Call) → PlainMarketAccounts → Type 0
+IsMarketLegalAt made accounts = IsLegal (market_in accounts) (calls_at accounts.address made)
+
+module _ (made later : List (Stamped Call)) (call : Stamped Call) where
+  -- its call stands there
+  call-stands : (accounts : PlainMarketAccounts) → is_same call.item.asked.market accounts.address ≡ true
+      → IsMarketLegalAt (made ++ call ∷ later) accounts → Stands call.item (market_front made accounts).market
+  call-stands accounts here legal =
+      let address : Address = accounts.address in
+      let first : calls_at address (call ∷ later) ≡ call.item ∷ calls_at address later =
+      ap items_of (cond-true (is_same call.item.asked.market address) _ _ here) in
+      let split : calls_at address (made ++ call ∷ later) ≡ calls_at address made ++ call.item ∷ calls_at address later =
+      calls_at-append address made (call ∷ later) ∙ ap (λ (calls : List Call). calls_at address made ++ calls) first in
+      let whole : IsLegal (market_in accounts) (calls_at address made ++ call.item ∷ calls_at address later) =
+      subst (λ (calls : List Call). IsLegal (market_in accounts) calls) split legal in
+      ((IsLegal-append (calls_at address made) (call.item ∷ calls_at address later) (market_in accounts)).0 whole).1.0
+
+  abbrev Found : List PlainMarketAccounts → Type 0
+  Found all = (m : Market) × (market_at call.item.asked.market (map (market_front made) all) ≡ Some m) × Stands call.item m
+
+  market-found : (all : List PlainMarketAccounts) → has_market call.item.asked.market all ≡ true → All (IsMarketLegalAt (made ++ call ∷ later)) all → Found all
+  market-found [] known legal = absurd (false≢true known)
+  market-found (accounts ∷ all) known legal =
+      let market : Address = call.item.asked.market in
+      let state : MarketState = market_front made accounts in
+      let states : List MarketState = map (market_front made) all in
+      let address : is_same market state.market.listing.address ≡ is_same market accounts.address =
+      ap (λ (a : Address). is_same market a) (front-address made accounts) in
+      ⊎_elim
+      (λ (here : is_same market accounts.address ≡ true). (
+        state.market,
+        cond-true (is_same market state.market.listing.address) (Some state.market) (market_at market states) (address ∙ here),
+        call-stands accounts here (All-head (IsMarketLegalAt (made ++ call ∷ later)) accounts all legal),
+      ))
+      (λ (apart : is_same market accounts.address ≡ false).
+      let rest : Found all = market-found all (sym (ap (λ (b : Bool). b || has_market market all) apart) ∙ known)
+      (All-tail (IsMarketLegalAt (made ++ call ∷ later)) accounts all legal) in (
+        rest.0,
+        cond-false (is_same market state.market.listing.address) (Some state.market) (market_at market states) (address ∙ apart) ∙ rest.1,
+        rest.2,
+      ))
+      (cases_Bool (is_same market accounts.address))
+
+-- ---- all rows
+
+-- each address is that of one market and of one wallet at most
+pub record AreOnce (script : PlainScript) : Type 0 where
+  pub markets : (address : Address) → times address (map (λ (accounts : PlainMarketAccounts). accounts.address) script.start.markets) ≤ 1
+  pub wallets : (address : Address) → times address (map address_of script.start.wallets) ≤ 1
+
+-- the journals of these calls are legal
+pub record AreLegal (script : PlainScript) (made : List (Stamped Call)) : Type 0 where
+  pub markets : All (IsMarketLegalAt made) script.start.markets
+  pub wallets : All (IsWalletLegalAt made) script.start.wallets
+
+item-acts : (script : PlainScript) (made later : List (Stamped Call)) (item : Item script) → AreOnce script → AreLegal script (made ++ item.call ∷ later)
+    → act item.row (world_front script made) ≡ world_front script (made ++ item.call ∷ [])
+item-acts script made later item once legal =
+    let row : PlainRow = item.row in
+    let seen : Seen = item.call.item.seen in
+    let market : item.call.item.asked.market ≡ row.market = ap (λ (asked : Asked). asked.market) item.asks in
+    let found = market-found made later item.call script.start.markets
+    (subst (λ (a : Address). has_market a script.start.markets ≡ true) (sym market) item.fits.market) legal.markets in
+    let m : Market = found.0 in
+    let sees : Sees (asked_of row) seen = subst (λ (asked : Asked). Sees asked seen) item.asks found.2.sees in
+    let same : item.call ≡ record { item = call_made row seen m; stamp = item.call.stamp } =
+    ap (λ (call : Call). record { item = call; stamp = item.call.stamp }) (is-made row item.call.item m item.asks found.2) in
+    let wallets : All (IsWalletLegalAt (made ++ record { item = call_made row seen m; stamp = item.call.stamp } ∷ later)) script.start.wallets =
+    subst (λ (call : Stamped Call). All (IsWalletLegalAt (made ++ call ∷ later)) script.start.wallets) same legal.wallets in
+    let at : market_at row.market (world_front script made).markets ≡ Some m =
+    subst (λ (a : Address). market_at a (world_front script made).markets ≡ Some m) market found.1 in
+    next-acts row seen m item.call.stamp sees made script at
+    (next-sees row seen m item.call.stamp sees made later script wallets once.wallets item.sight) (once.markets row.market)
+    ∙ ap (λ (call : Stamped Call). world_front script (made ++ call ∷ [])) (sym same)
+
+pub items-replayed : (script : PlainScript) (made : List (Stamped Call)) (items : List (Item script)) → AreOnce script
+    → AreLegal script (made ++ map call_in items) → fold (map row_in items) (world_front script made) ≡ world_front script (made ++ map call_in items)
+items-replayed script made [] once legal = ap (world_front script) (sym (append-nil made))
+items-replayed script made (item ∷ items) once legal =
+    let later : List (Stamped Call) = map call_in items in
+    let again : (made ++ item.call ∷ []) ++ later ≡ made ++ item.call ∷ later = append_assoc made (item.call ∷ []) later in
+    ap (fold (map row_in items)) (item-acts script made later item once legal)
+    ∙ items-replayed script (made ++ item.call ∷ []) items once (subst (AreLegal script) (sym again) legal)
+    ∙ ap (world_front script) again

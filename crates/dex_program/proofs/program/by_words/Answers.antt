@@ -1,0 +1,25 @@
+use Rattle.std.proofs.Common.{Err, None, ap, refl}
+use Rattle.dex_words.proofs.CommandLaws.{one-spelling}
+use Rattle.dex_words.specs.declared.command.WordsError.{WordsError}
+use Rattle.dex_answers.specs.declared.status.Status.TheVariants as status
+use Rattle.dex_program.proofs.Endings.{ends}
+use Rattle.dex_program.proofs.program.by_words.Goals as goal
+
+pub plain-requires : goal.plain-requires
+plain-requires g c =
+    record { within = ((one-spelling _ _).0 c.in-Ok.ensures.command).1; plain = c.if-is_plain.ensures.plain refl }
+
+pub returns-in-Err-Usage : goal.returns-in-Err-Usage
+returns-in-Err-Usage g c =
+    let none = c.in-Err-Usage.ensures.usage (ap (λ (e : WordsError). Err e) c.in-Err-Usage.field-0-is) in
+    rw none (ends status.Usage None _ _ _ _ (refl, refl) (rw c.line.ensures at c.written.ensures))
+
+pub returns-in-Err-NoMemory : goal.returns-in-Err-NoMemory
+returns-in-Err-NoMemory g c =
+    ends status.NoMemory _ _ _ _ _ refl (rw c.line-in-Err-NoMemory.ensures at c.written-in-Err-NoMemory.ensures)
+
+pub returns-else-is_plain : goal.returns-else-is_plain
+returns-else-is_plain g c =
+    let is = c.in-Ok.ensures.command in
+    let run = c.if-is_plain.ensures.other refl in
+    rw (is, run) c.run_lanes.ensures

@@ -1,0 +1,184 @@
+-- What the gates give, when all seats are back, is what the lanes of the script made.
+use Rattle.std.proofs.Common.{◌≡◌, ℕ, zero, suc, ◌+◌, ◌<◌, ◌||◌, List, [], ◌∷◌, Option, Vec, drop, get_or, length, map, refl, sym, ap, ◌∙◌, subst, arith}
+use Rattle.std.specs.List.{All, AllZip, range_with_len}
+use Rattle.std.proofs.lemmas.List.{length-map}
+use Rattle.std.proofs.lemmas.List.Elements.{All-map, All-weaker}
+use Rattle.dex_types.specs.declared.addresses.Address.{Address}
+use Rattle.dex_types.specs.declared.movements.WalletEntry.{WalletEntry}
+use Rattle.dex_types.specs.declared.terms.Program.{Program}
+use Rattle.dex_types.specs.Accounts.{PlainAccount, PlainMarketAccounts}
+use Rattle.dex_types.specs.Addresses.{is_same}
+use Rattle.dex_cell.specs.CellState.{IsMarketCell, MarketCellState}
+use Rattle.dex_wallet.specs.CellState.{CellState, IsWalletCell}
+use Rattle.dex_act.specs.Wallets.{AreApart, is_among}
+use Rattle.dex_bank.specs.Cells.{AreCells}
+use Rattle.dex_bank.specs.Closed as cells
+use Rattle.dex_bank.specs.Opened.{wallet_opened}
+use Rattle.dex_bank.proofs.OpenCells.{wallets-apart}
+use Rattle.dex_gate.specs.GateView.{GateView}
+use Rattle.dex_gate.specs.History.{added}
+use Rattle.dex_gate.specs.PassView.{PassView}
+use Rattle.dex_history.specs.Journal.{Call}
+use Rattle.dex_report.specs.Outcomes.{PlainOutcome}
+use Rattle.dex_script.specs.Drafts.{PlainScript}
+use Rattle.dex_replay.proofs.MappedLists.{map-map}
+use Rattle.dex_stamps.specs.Stamped.{Stamped}
+use Rattle.dex_journals.specs.Journals.{BankMarketState, BankWalletState, IsBankMarket, IsBankWallet, MarketOrigin, WalletOrigin, market_calls, wallet_entries}
+use Rattle.dex_journals.specs.Made.{calls_of_lane, calls_on, entries_of_lane, entries_on, rows_of_lane}
+use Rattle.dex_histories.specs.Lanes.{IsLane, IsLaneDone, Lane}
+use Rattle.dex_histories.specs.Merged.{IsMarketMerged, IsWalletMerged}
+use Rattle.dex_run.specs.Bank.{BankState, IsBank, IsMarketGate, IsWalletGate}
+use Rattle.dex_run.specs.Closing.{AreMarketsClosed, AreWalletsClosed, ClosesAs, IsMarketClosed, IsMarketPassAt, IsWalletClosed, IsWalletPassAt, MarketColumns, WalletColumns}
+use Rattle.dex_run.specs.Seats.{IsDone, IsSeat, IsSeatOf, SeatState, lane_in}
+use Rattle.dex_run.proofs.ColumnLists.{All-across, AllThree-length, AllZip-last_of, map-across}
+
+length-range : (first count : ℕ) → length (range_with_len first count) ≡ count
+length-range first zero = refl
+length-range first (suc count) = ap suc (length-range (first + 1) count)
+
+-- ---- one gate
+
+module _ (script : PlainScript) (seats : List SeatState) (lanes : map (λ (seat : SeatState). seat.lane) seats ≡ range_with_len 0 script.lanes) where
+  so_many : length (map lane_in seats) ≡ script.lanes
+  so_many = length-map seats lane_in ∙ sym (length-map seats (λ (seat : SeatState). seat.lane)) ∙ ap length lanes ∙ length-range 0 script.lanes
+
+  market-merged : (start : PlainMarketAccounts) (gate : GateView (Stamped Call) MarketOrigin) (passes : List (PassView (Stamped Call) MarketOrigin)) (value : BankMarketState)
+      → IsMarketGate script start gate → AllZip (IsMarketPassAt start gate) seats passes
+      → IsMarketClosed gate passes value → IsBankMarket value
+      → IsMarketMerged script (map lane_in seats) start value
+  market-merged start gate passes value is all closed kept = record {
+    kept = kept;
+    origin = closed.start ∙ is.origin;
+    of_lanes = subst (λ count. All (λ (call : Stamped Call). call.item.asked.lane < count) (market_calls value)) (is.passes ∙ sym so_many)
+        (subst (λ opening. All (λ (call : Stamped Call). call.item.asked.lane < gate.passes) (added opening (market_calls value))) is.opening closed.of_lanes);
+    each = All-map (λ (lane : Lane). calls_of_lane lane.number (market_calls value) ≡ calls_on start.address lane.calls) lane_in seats
+        (All-across (IsMarketPassAt start gate) (λ pass. calls_of_lane pass.number (market_calls value) ≡ pass.mine)
+        (λ (seat : SeatState). calls_of_lane seat.lane (market_calls value) ≡ calls_on start.address seat.calls)
+        (λ seat pass at mine. ap (λ number. calls_of_lane number (market_calls value)) (sym at.made.number) ∙ mine ∙ at.made.mine) seats passes all
+        (subst (λ opening. All (λ (pass : PassView (Stamped Call) MarketOrigin). calls_of_lane pass.number (added opening (market_calls value)) ≡ pass.mine) passes) is.opening closed.each));
+  }
+
+  wallet-merged : (start : PlainAccount) (gate : GateView (Stamped WalletEntry) WalletOrigin) (passes : List (PassView (Stamped WalletEntry) WalletOrigin)) (value : BankWalletState)
+      → IsWalletGate script start gate → AllZip (IsWalletPassAt start gate) seats passes
+      → IsWalletClosed gate passes value → IsBankWallet value
+      → IsWalletMerged script (map lane_in seats) start value
+  wallet-merged start gate passes value is all closed kept = record {
+    kept = kept;
+    origin = closed.start ∙ is.origin;
+    of_lanes = subst (λ count. All (λ (entry : Stamped WalletEntry). entry.item.lane < count) (wallet_entries value)) (is.passes ∙ sym so_many)
+        (subst (λ opening. All (λ (entry : Stamped WalletEntry). entry.item.lane < gate.passes) (added opening (wallet_entries value))) is.opening closed.of_lanes);
+    each = All-map (λ (lane : Lane). entries_of_lane lane.number (wallet_entries value) ≡ entries_on start.address lane.calls) lane_in seats
+        (All-across (IsWalletPassAt start gate) (λ pass. entries_of_lane pass.number (wallet_entries value) ≡ pass.mine)
+        (λ (seat : SeatState). entries_of_lane seat.lane (wallet_entries value) ≡ entries_on start.address seat.calls)
+        (λ seat pass at mine. ap (λ number. entries_of_lane number (wallet_entries value)) (sym at.made.number) ∙ mine ∙ at.made.mine) seats passes all
+        (subst (λ opening. All (λ (pass : PassView (Stamped WalletEntry) WalletOrigin). entries_of_lane pass.number (added opening (wallet_entries value)) ≡ pass.mine) passes) is.opening closed.each));
+  }
+
+-- ---- no two wallets have one address
+
+among-across : (address : Address) (xs ys : List CellState) → map (λ (cell : CellState). cell.address) xs ≡ map (λ (cell : CellState). cell.address) ys
+    → is_among address xs ≡ is_among address ys
+among-across address [] [] same = refl
+among-across address [] (y ∷ ys) same = absurd (omega (arith, ap length same))
+among-across address (x ∷ xs) [] same = absurd (omega (arith, ap length same))
+among-across address (x ∷ xs) (y ∷ ys) same =
+    ap (λ other. is_same address other || is_among address xs) (ap (λ list. get_or list 0 address) same)
+    ∙ ap (λ rest. is_same address y.address || rest) (among-across address xs ys (ap (λ list. drop 1 list) same))
+
+apart-across : (xs ys : List CellState) → map (λ (cell : CellState). cell.address) xs ≡ map (λ (cell : CellState). cell.address) ys → AreApart xs → AreApart ys
+apart-across [] [] same apart = tt
+apart-across [] (y ∷ ys) same apart = absurd (omega (arith, ap length same))
+apart-across (x ∷ xs) [] same apart = absurd (omega (arith, ap length same))
+apart-across (x ∷ xs) (y ∷ ys) same apart =
+    let rest : map (λ (cell : CellState). cell.address) xs ≡ map (λ (cell : CellState). cell.address) ys = ap (λ list. drop 1 list) same in (
+      ap (λ address. is_among address ys) (sym (ap (λ list. get_or list 0 x.address) same)) ∙ sym (among-across x.address xs ys rest) ∙ apart.0,
+      apart-across xs ys rest apart.1,
+    )
+
+-- ---- all gates
+
+module _ (bank : BankState) (seats : List SeatState) (facts : IsBank bank) (lanes : map (λ (seat : SeatState). seat.lane) seats ≡ range_with_len 0 bank.script.lanes) where
+  markets-merged : {Z : Type 0} (columns : List (Vec (PassView (Stamped Call) MarketOrigin) Z)) (own : List MarketCellState) → MarketColumns bank seats columns
+      → (closed : AreMarketsClosed bank.markets columns own) → AllZip (IsMarketMerged bank.script (map lane_in seats)) bank.script.start.markets closed.values
+  markets-merged columns own all closed =
+      AllZip-last_of (IsMarketGate bank.script) (λ start gate column. AllZip (IsMarketPassAt start gate) seats column.items)
+      (λ gate column value. IsMarketClosed gate column.items value) IsBankMarket (IsMarketMerged bank.script (map lane_in seats))
+      (λ start gate column value is each given kept. market-merged bank.script seats lanes start gate column.items value is each given kept)
+      bank.script.start.markets bank.markets columns closed.values facts.markets all closed.given closed.kept
+
+  wallets-merged : {Z : Type 0} (columns : List (Vec (PassView (Stamped WalletEntry) WalletOrigin) Z)) (own : List CellState) → WalletColumns bank seats columns
+      → (closed : AreWalletsClosed bank.wallets columns own) → AllZip (IsWalletMerged bank.script (map lane_in seats)) bank.script.start.wallets closed.values
+  wallets-merged columns own all closed =
+      AllZip-last_of (IsWalletGate bank.script) (λ start gate column. AllZip (IsWalletPassAt start gate) seats column.items)
+      (λ gate column value. IsWalletClosed gate column.items value) IsBankWallet (IsWalletMerged bank.script (map lane_in seats))
+      (λ start gate column value is each given kept. wallet-merged bank.script seats lanes start gate column.items value is each given kept)
+      bank.script.start.wallets bank.wallets columns closed.values facts.wallets all closed.given closed.kept
+
+  wallets_apart : {Z : Type 0} (columns : List (Vec (PassView (Stamped WalletEntry) WalletOrigin) Z)) (own : List CellState) → WalletColumns bank seats columns
+      → AreWalletsClosed bank.wallets columns own → AreApart own
+  wallets_apart columns own all closed =
+      apart-across (map (wallet_opened bank.script.rows) bank.script.start.wallets) own
+      (map-map (wallet_opened bank.script.rows) (λ (cell : CellState). cell.address) bank.script.start.wallets
+      ∙ map-across (IsWalletMerged bank.script (map lane_in seats)) (λ (account : PlainAccount). account.address) (λ (value : BankWalletState). value.cell.address)
+      (λ account value merged. sym (ap (λ (origin : WalletOrigin). origin.start.address) merged.origin)) bank.script.start.wallets closed.values (wallets-merged columns own all closed)
+      ∙ sym (map-map (λ (value : BankWalletState). value.cell) (λ (cell : CellState). cell.address) closed.values)
+      ∙ ap (map (λ (cell : CellState). cell.address)) (sym closed.are))
+      (wallets-apart bank.script.rows bank.script.start facts.script.start.accepted)
+
+  pub are-cells : {Y Z : Type 0} (market_columns : List (Vec (PassView (Stamped Call) MarketOrigin) Y)) (wallet_columns : List (Vec (PassView (Stamped WalletEntry) WalletOrigin) Z))
+      (mints : List PlainAccount) (srm msrm : Option Address) (markets : List MarketCellState) (wallets : List CellState) (program : Program) → WalletColumns bank seats wallet_columns
+      → AreMarketsClosed bank.markets market_columns markets → AreWalletsClosed bank.wallets wallet_columns wallets
+      → AreCells (record { mints = mints; srm = srm; msrm = msrm; markets = markets; wallets = wallets; program = program })
+  are-cells market_columns wallet_columns mints srm msrm markets wallets program all of_markets of_wallets = record {
+    markets = subst (λ list. All IsMarketCell list) (sym of_markets.are) (All-map IsMarketCell (λ (value : BankMarketState). value.cell) of_markets.values
+        (All-weaker IsBankMarket (λ value. IsMarketCell value.cell) (λ value kept. kept.cell) of_markets.values of_markets.kept));
+    wallets = subst (λ list. All IsWalletCell list) (sym of_wallets.are) (All-map IsWalletCell (λ (value : BankWalletState). value.cell) of_wallets.values
+        (All-weaker IsBankWallet (λ value. IsWalletCell value.cell) (λ value kept. kept.cell) of_wallets.values of_wallets.kept));
+    apart = wallets_apart wallet_columns wallets all of_wallets;
+  }
+
+  lane-done : (seat : SeatState) → IsSeat seat → IsSeatOf bank seat → IsDone seat → IsLaneDone bank.script (lane_in seat)
+  lane-done seat kept of done = record {
+    calls = subst (λ script. IsLane script seat.lane seat.calls) of.script kept.calls;
+    done = done ∙ ap (λ (script : PlainScript). length (rows_of_lane seat.lane script.rows)) of.script;
+  }
+
+  pub closes : {Y Z : Type 0} (market_columns : List (Vec (PassView (Stamped Call) MarketOrigin) Y)) (wallet_columns : List (Vec (PassView (Stamped WalletEntry) WalletOrigin) Z))
+      (mints : List PlainAccount) (srm msrm : Option Address) (markets : List MarketCellState) (wallets : List CellState) (program : Program) (outcome : PlainOutcome)
+      → All IsSeat seats → All (IsSeatOf bank) seats → All IsDone seats
+      → MarketColumns bank seats market_columns → WalletColumns bank seats wallet_columns
+      → AreMarketsClosed bank.markets market_columns markets → AreWalletsClosed bank.wallets wallet_columns wallets
+      → mints ≡ bank.script.start.mints → srm ≡ bank.script.start.srm → msrm ≡ bank.script.start.msrm
+      → outcome ≡ cells.closed (record { mints = mints; srm = srm; msrm = msrm; markets = markets; wallets = wallets; program = program })
+      → ClosesAs bank.script seats outcome
+  closes market_columns wallet_columns mints srm msrm markets wallets program outcome kept of done all_markets all_wallets of_markets of_wallets same_mints same_srm same_msrm is = record {
+    all = record { markets = of_markets.values; wallets = of_wallets.values; lanes = map lane_in seats };
+    lanes = refl;
+    merged = record {
+      facts = facts.script;
+      numbers = map-map lane_in (λ (lane : Lane). lane.number) seats ∙ lanes;
+      lanes = All-map (IsLaneDone bank.script) lane_in seats (λ k d within. lane-done (get_or seats k d) (kept k d within) (of k d within) (done k d within));
+      markets = markets-merged market_columns markets all_markets of_markets;
+      wallets = wallets-merged wallet_columns wallets all_wallets of_wallets;
+    };
+    leaves = is
+        ∙ ap (λ list. cells.closed (record { mints = list; srm = srm; msrm = msrm; markets = markets; wallets = wallets; program = program })) same_mints
+        ∙ ap (λ mint. cells.closed (record { mints = bank.script.start.mints; srm = mint; msrm = msrm; markets = markets; wallets = wallets; program = program })) same_srm
+        ∙ ap (λ mint. cells.closed (record { mints = bank.script.start.mints; srm = bank.script.start.srm; msrm = mint; markets = markets; wallets = wallets; program = program })) same_msrm
+        ∙ ap (λ list. cells.closed (record { mints = bank.script.start.mints; srm = bank.script.start.srm; msrm = bank.script.start.msrm; markets = list; wallets = wallets; program = program })) of_markets.are
+        ∙ ap (λ list. cells.closed (record { mints = bank.script.start.mints; srm = bank.script.start.srm; msrm = bank.script.start.msrm; markets = map (λ (value : BankMarketState). value.cell) of_markets.values; wallets = list; program = program })) of_wallets.are;
+  }
+
+-- ---- there is a cell for each gate
+
+pub market-cells-length : {Z : Type 0} (gates : List (GateView (Stamped Call) MarketOrigin)) (columns : List (Vec (PassView (Stamped Call) MarketOrigin) Z)) (own : List MarketCellState)
+    → AreMarketsClosed gates columns own → length own ≡ length gates
+market-cells-length gates columns own closed =
+    ap length closed.are ∙ length-map closed.values (λ (value : BankMarketState). value.cell)
+    ∙ AllThree-length (λ gate column value. IsMarketClosed gate column.items value) gates columns closed.values closed.given
+
+pub wallet-cells-length : {Z : Type 0} (gates : List (GateView (Stamped WalletEntry) WalletOrigin)) (columns : List (Vec (PassView (Stamped WalletEntry) WalletOrigin) Z)) (own : List CellState)
+    → AreWalletsClosed gates columns own → length own ≡ length gates
+wallet-cells-length gates columns own closed =
+    ap length closed.are ∙ length-map closed.values (λ (value : BankWalletState). value.cell)
+    ∙ AllThree-length (λ gate column value. IsWalletClosed gate column.items value) gates columns closed.values closed.given

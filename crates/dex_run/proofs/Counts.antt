@@ -1,0 +1,154 @@
+-- How many calls a lane has made on a market and on a wallet, before one of its rows.
+use Rattle.std.proofs.Common.{◌≡◌, ℕ, suc, ◌+◌, ◌<◌, ◌==◌, Bool, true, false, ◌||◌, cond, List, [], ◌∷◌, ◌++◌, length, map, take, refl, sym, ap, ◌∙◌, subst, arith, ⊎_elim}
+use Rattle.std.specs.List.{All, filter, list_any}
+use Rattle.std.proofs.lemmas.Bool.{cases_Bool, cond-true, cond-false, false≢true}
+use Rattle.std.proofs.lemmas.List.{length-append, length-map}
+use Rattle.std.proofs.lemmas.List.Elements.{All-head, All-tail, filter-append}
+use Rattle.dex_types.specs.declared.addresses.Address.{Address}
+use Rattle.dex_types.specs.declared.movements.Movement.{Movement}
+use Rattle.dex_types.specs.Addresses.{is_same}
+use Rattle.dex_types.specs.Rows.{PlainRow}
+use Rattle.dex_laws.proofs.TraderLaws.{is_same-sym}
+use Rattle.dex_history.specs.Journal.{Asked, Call, asked_of, asked_wallets, front}
+use Rattle.dex_history.proofs.AddressOrder.{times}
+use Rattle.dex_fold.specs.Fold.{names}
+use Rattle.dex_replay.specs.Lawful.{rows_of_market, rows_of_wallet}
+use Rattle.dex_script.specs.Drafts.{PlainScript}
+use Rattle.dex_stamps.specs.Stamped.{Stamped, stamped}
+use Rattle.dex_journals.specs.Made.{calls_on, entries_in, entries_on, entry_made, rows_of_lane}
+use Rattle.dex_histories.specs.Lanes.{MovesEach}
+use Rattle.dex_run.specs.Turns.{IsDue}
+use Rattle.dex_run.proofs.Once.{asked-once, some-any}
+
+-- ---- filters
+
+module _ {A : Type 0} where
+  pub filter-comm : (p q : A → Bool) (xs : List A) → filter p (filter q xs) ≡ filter q (filter p xs)
+  filter-comm p q [] = refl
+  filter-comm p q (x ∷ xs) =
+      let rest : filter p (filter q xs) ≡ filter q (filter p xs) = filter-comm p q xs in
+      ⊎_elim
+      (λ (one : p x ≡ true).
+      ⊎_elim (λ (two : q x ≡ true). rw (two, one, two) (ap (λ (l : List A). x ∷ l) rest)) (λ (two : q x ≡ false). rw (two, one, two) rest) (cases_Bool (q x)))
+      (λ (one : p x ≡ false).
+      ⊎_elim (λ (two : q x ≡ true). rw (two, one) rest) (λ (two : q x ≡ false). rw (two, one) rest) (cases_Bool (q x)))
+      (cases_Bool (p x))
+
+  -- one element more that passes, in the midst
+  pub filter-fewer : (q : A → Bool) (front : List A) (x : A) (later : List A) → q x ≡ true → length (filter q front) < length (filter q (front ++ x ∷ later))
+  filter-fewer q front x later passes =
+      let here : filter q (x ∷ later) ≡ x ∷ filter q later = cond-true _ _ _ passes in
+      omega (arith, ap length (filter-append q front (x ∷ later)), length-append (filter q front) (filter q (x ∷ later)), ap length here)
+
+-- what passes among what elements are mapped to
+pub length-filter_map : {A B : Type 0} (q : B → Bool) (f : A → B) (xs : List A) → length (filter q (map f xs)) ≡ length (filter (λ (x : A). q (f x)) xs)
+length-filter_map q f [] = refl
+length-filter_map q f (x ∷ xs) =
+    let rest : length (filter q (map f xs)) ≡ length (filter (λ (y : _). q (f y)) xs) = length-filter_map q f xs in
+    ⊎_elim (λ (passes : q (f x) ≡ true). rw passes (ap suc rest)) (λ (not : q (f x) ≡ false). rw not rest) (cases_Bool (q (f x)))
+
+-- as many items with stamps pass as without
+pub length-stamped : {A : Type 0} (p : A → Bool) (items : List A) (stamps : List ℕ) → length stamps ≡ length items
+    → length (filter (λ (made : Stamped A). p made.item) (stamped items stamps)) ≡ length (filter p items)
+length-stamped p [] [] long = refl
+length-stamped p [] (n ∷ stamps) long = refl
+length-stamped p (x ∷ items) [] long = absurd (omega (arith, long))
+length-stamped {A} p (x ∷ items) (n ∷ stamps) long =
+    let rest : length (filter (λ (made : Stamped A). p made.item) (stamped items stamps)) ≡ length (filter p items) =
+    length-stamped p items stamps (omega (arith, long)) in
+    ⊎_elim (λ (passes : p x ≡ true). rw passes (ap suc rest)) (λ (not : p x ≡ false). rw not rest) (cases_Bool (p x))
+
+-- ---- the entries of one call
+
+moved-times : (address : Address) (moves : List Movement)
+    → length (filter (λ (move : Movement). is_same move.wallet address) moves) ≡ times address (map (λ (move : Movement). move.wallet) moves)
+moved-times address [] = refl
+moved-times address (move ∷ moves) =
+    ⊎_elim
+    (λ (same : is_same address move.wallet ≡ true).
+    rw (is_same-sym move.wallet address ∙ same, same) (omega (arith, moved-times address moves)))
+    (λ (apart : is_same address move.wallet ≡ false).
+    rw (is_same-sym move.wallet address ∙ apart, apart) (omega (arith, moved-times address moves)))
+    (cases_Bool (is_same address move.wallet))
+
+entries-times : (address : Address) (call : Stamped Call) → MovesEach call.item → length (entries_in address call) ≡ times address (asked_wallets call.item.asked)
+entries-times address call moves =
+    length-map (filter (λ (move : Movement). is_same move.wallet address) (front call.item.entry.moves)) (entry_made call)
+    ∙ moved-times address (front call.item.entry.moves)
+    ∙ ap (times address) moves
+
+abbrev asks : Address → Asked → Bool
+asks address asked = list_any (is_same address) (asked_wallets asked)
+
+pub entries-one : (address : Address) (call : Stamped Call) → MovesEach call.item
+    → length (entries_in address call) ≡ cond (asks address call.item.asked) 1 0
+entries-one address call moves =
+    let here : length (entries_in address call) ≡ times address (asked_wallets call.item.asked) = entries-times address call moves in
+    ⊎_elim
+    (λ (some : asks address call.item.asked ≡ true).
+    rw some (omega (arith, here, some-any address (asked_wallets call.item.asked) some, asked-once call.item.asked address)))
+    (λ (none : asks address call.item.asked ≡ false).
+    rw none (here ∙ no-times address (asked_wallets call.item.asked) none))
+    (cases_Bool (asks address call.item.asked))
+  where
+    no-times : (address : Address) (addresses : List Address) → list_any (is_same address) addresses ≡ false → times address addresses ≡ 0
+    no-times address [] none = refl
+    no-times address (first ∷ others) none =
+        ⊎_elim
+        (λ (same : is_same address first ≡ true).
+        absurd (false≢true (sym none ∙ ap (λ (b : Bool). b || list_any (is_same address) others) same)))
+        (λ (apart : is_same address first ≡ false).
+        rw apart (omega (arith, no-times address others (subst (λ (b : Bool). (b || list_any (is_same address) others) ≡ false) apart none))))
+        (cases_Bool (is_same address first))
+
+-- and of several
+length-entries : (address : Address) (calls : List (Stamped Call)) → All (λ (call : Stamped Call). MovesEach call.item) calls
+    → length (entries_on address calls) ≡ length (filter (λ (call : Stamped Call). asks address call.item.asked) calls)
+length-entries address [] moves = refl
+length-entries address (call ∷ calls) moves =
+    let Each : Stamped Call → Type 0 = λ c. MovesEach c.item in
+    let rest : length (entries_on address calls) ≡ length (filter (λ (c : Stamped Call). asks address c.item.asked) calls) =
+    length-entries address calls (All-tail Each call calls moves) in
+    let one : length (entries_in address call) ≡ cond (asks address call.item.asked) 1 0 = entries-one address call (All-head Each call calls moves) in
+    let both : length (entries_on address (call ∷ calls)) ≡ length (entries_in address call) + length (entries_on address calls) =
+    length-append (entries_in address call) (entries_on address calls) in
+    ⊎_elim
+    (λ (some : asks address call.item.asked ≡ true).
+    rw some (omega (arith, both, rest, one ∙ cond-true _ 1 0 some)))
+    (λ (none : asks address call.item.asked ≡ false).
+    rw none (omega (arith, both, rest, one ∙ cond-false _ 1 0 none)))
+    (cases_Bool (asks address call.item.asked))
+
+-- ---- before a row of the lane
+
+-- as many calls pass a test of what they ask as the rows before it
+calls-pass : (q : Asked → Bool) (calls : List (Stamped Call)) (rows : List PlainRow) → map (λ (call : Stamped Call). call.item.asked) calls ≡ map asked_of rows
+    → length (filter (λ (call : Stamped Call). q call.item.asked) calls) ≡ length (filter (λ (row : PlainRow). q (asked_of row)) rows)
+calls-pass q calls rows are =
+    sym (length-filter_map q (λ (call : Stamped Call). call.item.asked) calls)
+    ∙ ap (λ (asked : List Asked). length (filter q asked)) are
+    ∙ length-filter_map q asked_of rows
+
+-- the rows of a lane that pass a test are more than those that are done
+fewer : (lane : ℕ) (q : PlainRow → Bool) (rows done later : List PlainRow) (row : PlainRow) → rows_of_lane lane rows ≡ done ++ row ∷ later → q row ≡ true
+    → length (filter q done) < length (filter (λ (r : PlainRow). r.lane == lane) (filter q rows))
+fewer lane q rows done later row are passes =
+    subst (λ (l : List PlainRow). length (filter q done) < length l) (sym (filter-comm (λ (r : PlainRow). r.lane == lane) q rows))
+    (subst (λ (l : List PlainRow). length (filter q done) < length (filter q l)) (sym are) (filter-fewer q done row later passes))
+
+module _ (row : PlainRow) (calls : List (Stamped Call)) (address : Address) where
+  pub calls-left : (script : PlainScript) → IsDue script calls row → is_same row.market address ≡ true
+      → length (calls_on address calls) < length (rows_of_market row.lane address script.rows)
+  calls-left script due on =
+      let done : List PlainRow = take (length calls) (rows_of_lane row.lane script.rows) in
+      subst (λ (n : ℕ). n < length (rows_of_market row.lane address script.rows))
+      (sym (calls-pass (λ (asked : Asked). is_same asked.market address) calls done due.lane.asks))
+      (fewer row.lane (λ (r : PlainRow). is_same r.market address) script.rows done due.later row due.next on)
+
+  pub entries-left : (script : PlainScript) → IsDue script calls row → names row address ≡ true
+      → length (entries_on address calls) < length (rows_of_wallet row.lane address script.rows)
+  entries-left script due named =
+      let done : List PlainRow = take (length calls) (rows_of_lane row.lane script.rows) in
+      subst (λ (n : ℕ). n < length (rows_of_wallet row.lane address script.rows))
+      (sym (length-entries address calls due.lane.moves ∙ calls-pass (asks address) calls done due.lane.asks))
+      (fewer row.lane (λ (r : PlainRow). names r address) script.rows done due.later row due.next named)

@@ -1,0 +1,174 @@
+-- Passes in declared order, one of which takes a turn.
+use Rattle.std.proofs.Common.{◌≡◌, ℕ, zero, suc, ◌<◌, Bool, true, false, ◌||◌, List, [], ◌∷◌, length, set, get_or, Some, sym, ap, ◌∙◌, subst, arith}
+use Rattle.std.specs.List.{AllZip, list_any}
+use Rattle.std.proofs.lemmas.Bool.{false≢true, or_parts, or_right}
+use Rattle.dex_types.specs.declared.addresses.Address.{Address}
+use Rattle.dex_types.specs.declared.movements.WalletEntry.{WalletEntry}
+use Rattle.dex_types.specs.Accounts.{PlainAccount}
+use Rattle.dex_types.specs.Addresses.{is_same}
+use Rattle.dex_laws.proofs.TraderLaws.{is_same-refl, is_same-sym}
+use Rattle.dex_gate.specs.GateView.{GateView}
+use Rattle.dex_gate.specs.PassView.{PassView}
+use Rattle.dex_replay.specs.Lawful.{AllThree}
+use Rattle.dex_stamps.specs.Stamped.{Stamped}
+use Rattle.dex_journals.specs.Journals.{WalletOrigin}
+use Rattle.dex_run.specs.Submitted.{HasMoved, Where}
+use Rattle.dex_run.specs.Turns.{MayDraw, OneGrows}
+
+-- ---- by place
+
+module _ {A : Type 0} (key : A → Address) where
+  -- no two of these have one address
+  abbrev pub Differ : List A → Type 0
+  Differ [] = Unit {0}
+  Differ (x ∷ xs) = (list_any (λ y. is_same (key x) (key y)) xs ≡ false) × Differ xs
+
+  none-at : (address : Address) (xs : List A) (place : ℕ) (d : A) → place < length xs → list_any (λ y. is_same address (key y)) xs ≡ false
+      → is_same address (key (get_or xs place d)) ≡ false
+  none-at address [] place d within none = absurd (omega (arith, within))
+  none-at address (x ∷ xs) zero d within none = (or_parts (is_same address (key x)) (list_any (λ y. is_same address (key y)) xs) none).0
+  none-at address (x ∷ xs) (suc place) d within none =
+      none-at address xs place d (omega (arith, within)) (or_parts (is_same address (key x)) (list_any (λ y. is_same address (key y)) xs) none).1
+
+  module _ {P : Type 0} (R S : A → P → P → Type 0) (address : Address) (others : (x : A) → is_same (key x) address ≡ false → (p q : P) → R x p q → S x p q) where
+    rest-three : (xs : List A) (before after : List P) → list_any (λ y. is_same address (key y)) xs ≡ false → AllThree R xs before after → AllThree S xs before after
+    rest-three [] [] [] none all = tt
+    rest-three [] [] (q ∷ after) none all = absurd all
+    rest-three [] (p ∷ before) [] none all = absurd all
+    rest-three [] (p ∷ before) (q ∷ after) none all = absurd all
+    rest-three (x ∷ xs) [] [] none all = absurd all
+    rest-three (x ∷ xs) [] (q ∷ after) none all = absurd all
+    rest-three (x ∷ xs) (p ∷ before) [] none all = absurd all
+    rest-three (x ∷ xs) (p ∷ before) (q ∷ after) none all =
+        let parts = or_parts (is_same address (key x)) (list_any (λ y. is_same address (key y)) xs) none in
+        (others x (is_same-sym (key x) address ∙ parts.0) p q all.0, rest-three xs before after parts.1 all.1)
+
+    -- what holds where one place was set before and is set behind
+    pub set-three : (xs : List A) (before mid : List P) (place : ℕ) (out left : P) → Differ xs → place < length xs → ((d : A) → key (get_or xs place d) ≡ address)
+        → AllThree R xs (set before place out) mid → ((d : A) (e : P) → S (get_or xs place d) (get_or before place e) left)
+        → AllThree S xs before (set mid place left)
+    set-three [] before mid place out left differ within here all one = absurd (omega (arith, within))
+    set-three (x ∷ xs) [] [] place out left differ within here all one = absurd all
+    set-three (x ∷ xs) [] (m ∷ mid) place out left differ within here all one = absurd all
+    set-three (x ∷ xs) (b ∷ before) [] zero out left differ within here all one = absurd all
+    set-three (x ∷ xs) (b ∷ before) [] (suc place) out left differ within here all one = absurd all
+    set-three (x ∷ xs) (b ∷ before) (m ∷ mid) zero out left differ within here all one =
+        (one x b, rest-three xs before mid (subst (λ (a : Address). list_any (λ y. is_same a (key y)) xs ≡ false) (here x) differ.0) all.1)
+    set-three (x ∷ xs) (b ∷ before) (m ∷ mid) (suc place) out left differ within here all one =
+        let apart : is_same (key x) address ≡ false =
+        subst (λ (a : Address). is_same (key x) a ≡ false) (here x) (none-at (key x) xs place x (omega (arith, within)) differ.0) in
+        (others x apart b m all.0, set-three xs before mid place out left differ.1 (omega (arith, within)) here all.1 one)
+
+-- ---- the passes for wallets
+
+abbrev pub WalletPass : Type 0
+WalletPass = PassView (Stamped WalletEntry) WalletOrigin
+
+module _ (address : Address) (others : List Address) where
+  -- one pass holds its turn, the others may draw as before
+  drawn-weaker : (lane : ℕ) (calls : List _) (starts : List PlainAccount) (passes : List WalletPass) → AllZip (MayDraw lane calls (address ∷ others)) starts passes
+      → AllZip (MayDraw lane calls others) starts passes
+  drawn-weaker lane calls [] [] each = tt
+  drawn-weaker lane calls [] (pass ∷ passes) each = absurd each
+  drawn-weaker lane calls (start ∷ starts) [] each = absurd each
+  drawn-weaker lane calls (start ∷ starts) (pass ∷ passes) each = (
+    record {
+      number = each.0.number;
+      mine = each.0.mine;
+      idle = λ among. each.0.idle (or_right (is_same start.address address) (list_any (is_same start.address) others) among);
+    },
+    drawn-weaker lane calls starts passes each.1,
+  )
+
+  pub drawn-ready : (lane : ℕ) (calls : List _) (starts : List PlainAccount) (passes : List WalletPass) (place : ℕ) (out : WalletPass)
+      → AllZip (MayDraw lane calls (address ∷ others)) starts passes → list_any (is_same address) others ≡ false → place < length starts
+      → ((d : PlainAccount) → (get_or starts place d).address ≡ address) → ((d : WalletPass) → (out.number ≡ (get_or passes place d).number) × (out.mine ≡ (get_or passes place d).mine))
+      → AllZip (MayDraw lane calls others) starts (set passes place out)
+  drawn-ready lane calls [] passes place out each none within here same = absurd (omega (arith, within))
+  drawn-ready lane calls (start ∷ starts) [] place out each none within here same = absurd each
+  drawn-ready lane calls (start ∷ starts) (pass ∷ passes) zero out each none within here same = (
+    record {
+      number = (same pass).0 ∙ each.0.number;
+      mine = (same pass).1 ∙ each.0.mine;
+      idle = λ among. absurd (false≢true (sym none ∙ ap (λ (a : Address). list_any (is_same a) others) (sym (here start)) ∙ among));
+    },
+    drawn-weaker lane calls starts passes each.1,
+  )
+  drawn-ready lane calls (start ∷ starts) (pass ∷ passes) (suc place) out each none within here same = (
+    record {
+      number = each.0.number;
+      mine = each.0.mine;
+      idle = λ among. each.0.idle (or_right (is_same start.address address) (list_any (is_same start.address) others) among);
+    },
+    drawn-ready lane calls starts passes place out each.1 none (omega (arith, within)) here same,
+  )
+
+  -- another wallet's pass grows as it did
+  other-grows : (call : Stamped _) (start : PlainAccount) → is_same start.address address ≡ false → (p q : WalletPass) → OneGrows others call start p q
+      → OneGrows (address ∷ others) call start p q
+  other-grows call start apart p q grows =
+      subst (λ (b : Bool). Where (b || list_any (is_same start.address) others) (HasMoved call start p q) (q ≡ p)) (sym apart) grows
+
+  -- the pass of the wallet has grown with the others
+  pub one-grows : (call : Stamped _) (starts : List PlainAccount) (before mid : List WalletPass) (place : ℕ) (out left : WalletPass)
+      → Differ (λ (start : PlainAccount). start.address) starts → place < length starts → ((d : PlainAccount) → (get_or starts place d).address ≡ address)
+      → AllThree (OneGrows others call) starts (set before place out) mid
+      → ((d : PlainAccount) (e : WalletPass) → HasMoved call (get_or starts place d) (get_or before place e) left)
+      → AllThree (OneGrows (address ∷ others) call) starts before (set mid place left)
+  one-grows call starts before mid place out left differ within here grown moved =
+      set-three (λ (start : PlainAccount). start.address) (OneGrows others call) (OneGrows (address ∷ others) call) address (other-grows call) starts before mid place out left
+      differ within here grown
+      (λ d e.
+      let same : is_same (get_or starts place d).address address ≡ true =
+      ap (λ (a : Address). is_same a address) (here d) ∙ is_same-refl address in
+      subst (λ (b : Bool). Where (b || list_any (is_same (get_or starts place d).address) others) (HasMoved call (get_or starts place d) (get_or before place e) left) (left ≡ get_or before place e))
+      (sym same) (moved d e))
+
+-- the turn that is out is as it was taken
+pub still-out : (others : List Address) (call : Stamped _) (starts : List PlainAccount) (before mid : List WalletPass) (place : ℕ) (out : WalletPass) (address : Address)
+    → list_any (is_same address) others ≡ false → place < length starts → ((d : PlainAccount) → (get_or starts place d).address ≡ address)
+    → AllThree (OneGrows others call) starts (set before place out) mid → (e : WalletPass) → get_or mid place e ≡ out
+still-out others call [] before mid place out address none within here grown e = absurd (omega (arith, within))
+still-out others call (start ∷ starts) [] [] place out address none within here grown e = absurd grown
+still-out others call (start ∷ starts) [] (m ∷ mid) place out address none within here grown e = absurd grown
+still-out others call (start ∷ starts) (b ∷ before) [] zero out address none within here grown e = absurd grown
+still-out others call (start ∷ starts) (b ∷ before) [] (suc place) out address none within here grown e = absurd grown
+still-out others call (start ∷ starts) (b ∷ before) (m ∷ mid) zero out address none within here grown e =
+    let apart : list_any (is_same start.address) others ≡ false = ap (λ (a : Address). list_any (is_same a) others) (here start) ∙ none in
+    subst (λ (x : Bool). Where x (HasMoved call start out m) (m ≡ out)) apart grown.0
+still-out others call (start ∷ starts) (b ∷ before) (m ∷ mid) (suc place) out address none within here grown e =
+    still-out others call starts before mid place out address none (omega (arith, within)) here grown.1 e
+
+-- ---- what stays
+
+abbrev pub IsAtGate : GateView (Stamped WalletEntry) WalletOrigin → WalletPass → Type 0
+IsAtGate gate pass = pass.gate ≡ Some gate
+
+-- each pass is of its gate
+pub gates-grown : (others : List Address) (call : Stamped _) (starts : List PlainAccount) (gates : List _) (before after : List WalletPass)
+    → AllThree (OneGrows others call) starts before after → AllZip IsAtGate gates before → AllZip IsAtGate gates after
+gates-grown others call [] [] [] [] grown are = tt
+gates-grown others call [] [] [] (q ∷ after) grown are = absurd grown
+gates-grown others call [] [] (p ∷ before) after grown are = absurd are
+gates-grown others call [] (g ∷ gates) [] after grown are = absurd are
+gates-grown others call [] (g ∷ gates) (p ∷ before) [] grown are = absurd grown
+gates-grown others call [] (g ∷ gates) (p ∷ before) (q ∷ after) grown are = absurd grown
+gates-grown others call (start ∷ starts) gates [] [] grown are = absurd grown
+gates-grown others call (start ∷ starts) gates [] (q ∷ after) grown are = absurd grown
+gates-grown others call (start ∷ starts) gates (p ∷ before) [] grown are = absurd grown
+gates-grown others call (start ∷ starts) [] (p ∷ before) (q ∷ after) grown are = absurd are
+gates-grown others call (start ∷ starts) (g ∷ gates) (p ∷ before) (q ∷ after) grown are =
+    (one (list_any (is_same start.address) others) grown.0, gates-grown others call starts gates before after grown.1 are.1)
+  where
+    one : (b : Bool) → Where b (HasMoved call start p q) (q ≡ p) → q.gate ≡ Some g
+    one true moved = ap (λ (x : WalletPass). x.gate) moved.pass ∙ are.0
+    one false same = ap (λ (x : WalletPass). x.gate) same ∙ are.0
+
+-- a pass that holds a turn is of its gate
+pub gates-set : (gates : List _) (passes : List WalletPass) (place : ℕ) (out : WalletPass) → AllZip IsAtGate gates passes
+    → ((d : WalletPass) → out.gate ≡ (get_or passes place d).gate) → AllZip IsAtGate gates (set passes place out)
+gates-set [] [] place out are same = tt
+gates-set [] (p ∷ passes) place out are same = absurd are
+gates-set (g ∷ gates) [] place out are same = absurd are
+gates-set (g ∷ gates) (p ∷ passes) zero out are same = (same p ∙ are.0, are.1)
+gates-set (g ∷ gates) (p ∷ passes) (suc place) out are same = (are.0, gates-set gates passes place out are.1 same)

@@ -1,0 +1,79 @@
+-- The jobs of all lanes, and their seats.
+use Rattle.std.proofs.Common.{◌≡◌, ℕ, List, [], ◌∷◌, map, refl, sym, ap, ◌∙◌, subst}
+use Rattle.std.specs.List.{All, AllZip}
+use Rattle.std.proofs.lemmas.List.Elements.{All-cons, All-head, All-nil, All-tail}
+use Rattle.dex_types.specs.declared.rows.Row.{Row}
+use Rattle.dex_types.specs.Rows.{row_of}
+use Rattle.dex_script.specs.Drafts.{PlainScript}
+use Rattle.dex_run.specs.declared.lane.LaneJob.{LaneJob}
+use Rattle.dex_run.specs.Bank.{BankState}
+use Rattle.dex_run.specs.Running.{CanRun, HasRun, IsJobOf}
+use Rattle.dex_run.specs.Seats.{IsDone, IsSeatOf, SeatState}
+
+module _ {R P : Type 0} where
+  -- a job may run where its seat may
+  job-ready : (bank : BankState) (rows : List Row) (seat : SeatState) (job : LaneJob R P) → CanRun bank rows seat → IsJobOf bank rows seat job
+      → CanRun job.bank.now job.rows.now job.seat
+  job-ready bank rows seat job can is =
+      subst (λ (b : BankState). CanRun b job.rows.now job.seat) (sym is.of_bank)
+      (subst (λ (r : List Row). CanRun bank r job.seat) (sym is.rows_are) (subst (CanRun bank rows) (sym is.seat_is) can))
+
+  pub jobs-ready : (bank : BankState) (rows : List Row) (seats : List SeatState) (jobs : List (LaneJob R P)) → All (CanRun bank rows) seats
+      → AllZip (IsJobOf bank rows) seats jobs → All (λ (job : LaneJob R P). CanRun job.bank.now job.rows.now job.seat) jobs
+  jobs-ready bank rows [] [] can are = All-nil (λ (job : LaneJob R P). CanRun job.bank.now job.rows.now job.seat)
+  jobs-ready bank rows [] (job ∷ jobs) can are = absurd are
+  jobs-ready bank rows (seat ∷ seats) [] can are = absurd are
+  jobs-ready bank rows (seat ∷ seats) (job ∷ jobs) can are =
+      All-cons (λ (job : LaneJob R P). CanRun job.bank.now job.rows.now job.seat) job jobs
+      (job-ready bank rows seat job (All-head (CanRun bank rows) seat seats can) are.0)
+      (jobs-ready bank rows seats jobs (All-tail (CanRun bank rows) seat seats can) are.1)
+
+  -- the seats of jobs that have run
+  pub jobs-ran : (bank : BankState) (rows : List Row) (seats : List SeatState) (before after : List (LaneJob R P)) → AllZip (IsJobOf bank rows) seats before
+      → AllZip (λ (one other : LaneJob R P). HasRun one.bank.now one.seat other.seat) before after
+      → AllZip (HasRun bank) seats (map (λ (job : LaneJob R P). job.seat) after)
+  jobs-ran bank rows [] [] [] are ran = tt
+  jobs-ran bank rows [] [] (job ∷ after) are ran = absurd ran
+  jobs-ran bank rows [] (job ∷ before) after are ran = absurd are
+  jobs-ran bank rows (seat ∷ seats) [] after are ran = absurd are
+  jobs-ran bank rows (seat ∷ seats) (job ∷ before) [] are ran = absurd ran
+  jobs-ran bank rows (seat ∷ seats) (job ∷ before) (done ∷ after) are ran = (
+    subst (λ (b : BankState). HasRun b seat done.seat) are.0.of_bank (subst (λ (s : SeatState). HasRun job.bank.now s done.seat) are.0.seat_is ran.0),
+    jobs-ran bank rows seats before after are.1 ran.1,
+  )
+
+-- ---- all seats, before and after
+
+-- the seats that a bank is built with may run all rows of its script
+pub seats-can_run : (bank : BankState) (rows : List Row) (script : PlainScript) (seats : List SeatState) → bank.script ≡ script → map row_of rows ≡ script.rows
+    → All (IsSeatOf bank) seats → All (λ (seat : SeatState). seat.calls ≡ []) seats → All (CanRun bank rows) seats
+seats-can_run bank rows script [] same are of_bank fresh = All-nil (CanRun bank rows)
+seats-can_run bank rows script (seat ∷ seats) same are of_bank fresh =
+    let here = All-head (IsSeatOf bank) seat seats of_bank in
+    All-cons (CanRun bank rows) seat seats
+    (record {
+      of_bank = here;
+      fresh = All-head (λ (s : SeatState). s.calls ≡ []) seat seats fresh;
+      rows_are = are ∙ ap (λ (s : PlainScript). s.rows) (sym (here.script ∙ same));
+    })
+    (seats-can_run bank rows script seats same are (All-tail (IsSeatOf bank) seat seats of_bank) (All-tail (λ (s : SeatState). s.calls ≡ []) seat seats fresh))
+
+pub after-of_bank : (bank : BankState) (before after : List SeatState) → AllZip (HasRun bank) before after → All (IsSeatOf bank) after
+after-of_bank bank [] [] ran = All-nil (IsSeatOf bank)
+after-of_bank bank [] (seat ∷ after) ran = absurd ran
+after-of_bank bank (seat ∷ before) [] ran = absurd ran
+after-of_bank bank (seat ∷ before) (done ∷ after) ran = All-cons (IsSeatOf bank) done after ran.0.of_bank (after-of_bank bank before after ran.1)
+
+pub after-done : (bank : BankState) (before after : List SeatState) → AllZip (HasRun bank) before after → All IsDone after
+after-done bank [] [] ran = All-nil IsDone
+after-done bank [] (seat ∷ after) ran = absurd ran
+after-done bank (seat ∷ before) [] ran = absurd ran
+after-done bank (seat ∷ before) (done ∷ after) ran = All-cons IsDone done after ran.0.done (after-done bank before after ran.1)
+
+pub after-lanes : (bank : BankState) (before after : List SeatState) → AllZip (HasRun bank) before after
+    → map (λ (seat : SeatState). seat.lane) after ≡ map (λ (seat : SeatState). seat.lane) before
+after-lanes bank [] [] ran = refl
+after-lanes bank [] (seat ∷ after) ran = absurd ran
+after-lanes bank (seat ∷ before) [] ran = absurd ran
+after-lanes bank (seat ∷ before) (done ∷ after) ran =
+    ap (λ (n : ℕ). n ∷ map (λ (s : SeatState). s.lane) after) ran.0.lane ∙ ap (λ (l : List ℕ). seat.lane ∷ l) (after-lanes bank before after ran.1)

@@ -1,0 +1,18 @@
+pub mod ColumnLists
+pub mod ClosingPasses
+pub mod ClosingLaws
+pub mod Openings
+pub mod Seating
+pub mod Apart
+pub mod LaneRows
+pub mod Jobs
+mod Once
+mod Counts
+mod Growing
+mod Distinct
+mod Leaving
+mod InHand
+mod Acted
+mod Taking
+mod Entering
+mod SeatAfter

@@ -1,0 +1,379 @@
+-- A seat before and after a row.
+use Rattle.std.proofs.Common.{◌≡◌, ℕ, zero, suc, ◌+◌, ◌<◌, ◌≤◌, ◌==◌, Bool, true, false, ◌||◌, cond, List, [], ◌∷◌, ◌++◌, length, map, set, get_or, take, Some, refl, sym, ap, ◌∙◌, subst, arith}
+use Rattle.std.specs.List.{All, AllZip, list_any}
+use Rattle.std.proofs.lemmas.Bool.{eqb-true}
+use Rattle.std.proofs.lemmas.List.{append-nil, append_assoc, get_or-map, length-append, length-map, map-append}
+use Rattle.std.proofs.lemmas.List.Elements.{All-filter, All-push, All-weaker, filter-append, filter_passes}
+use Rattle.std.proofs.lemmas.List.Quantifiers.{all_pairs_push}
+use Rattle.std.proofs.Math.Seq.{take-append-add}
+use Rattle.dex_types.specs.declared.addresses.Address.{Address}
+use Rattle.dex_types.specs.declared.movements.WalletEntry.{WalletEntry}
+use Rattle.dex_types.specs.Accounts.{PlainAccount, PlainMarketAccounts}
+use Rattle.dex_types.specs.Addresses.{is_same}
+use Rattle.dex_types.specs.Rows.{PlainRow}
+use Rattle.dex_types.specs.Wallets.{row_wallets}
+use Rattle.dex_laws.proofs.TraderLaws.{is_same-refl, is_same-sym}
+use Rattle.dex_gate.specs.GateView.{GateView}
+use Rattle.dex_history.specs.Journal.{Asked, Call, asked_of, asked_wallets}
+use Rattle.dex_fold.specs.Fold.{names}
+use Rattle.dex_places.specs.Places.{IsPlace}
+use Rattle.dex_script.specs.Drafts.{PlainScript}
+use Rattle.dex_script.specs.Facts.{IsRowOf, IsScript}
+use Rattle.dex_script.specs.Known.{has_market}
+use Rattle.dex_replay.specs.Lawful.{AllThree, IsSight}
+use Rattle.dex_stamps.specs.Stamped.{Stamped}
+use Rattle.dex_journals.specs.Journals.{MarketOrigin}
+use Rattle.dex_journals.specs.Made.{calls_on, entries_in, entries_on, rows_of_lane}
+use Rattle.dex_histories.specs.Lanes.{IsLane, MovesEach}
+use Rattle.dex_run.specs.Bank.{BankState, IsBank, IsMarketGate, market_addresses}
+use Rattle.dex_run.specs.Seats.{IsMarketPass, IsSeat, IsSeatOf, IsWalletPass, SeatState}
+use Rattle.dex_run.specs.Submitted.{HasCalled, HasMoved, HasSubmitted, IsNext, MarketGrows, WalletGrows, Where}
+use Rattle.dex_run.specs.Turns.{AreReady, HaveGrown, IsDue, IsTold, MayDraw, MayEnter}
+use Rattle.dex_run.proofs.Counts.{entries-one}
+use Rattle.dex_run.proofs.Distinct.{markets-differ}
+use Rattle.dex_run.proofs.Entering.{MarketPass}
+use Rattle.dex_run.proofs.Growing.{Differ, WalletPass, gates-grown, set-three}
+use Rattle.dex_run.proofs.Taking.{all-midst, same-get, zip-at, zip-long}
+
+-- ---- before
+
+any-markets : (address : Address) (markets : List PlainMarketAccounts)
+    → list_any (is_same address) (map (λ (accounts : PlainMarketAccounts). accounts.address) markets) ≡ has_market address markets
+any-markets address [] = refl
+any-markets address (market ∷ markets) = ap (λ (b : Bool). is_same address market.address || b) (any-markets address markets)
+
+draws : (lane other : ℕ) (calls : List (Stamped Call)) (others : List Address) (starts : List PlainAccount) (passes : List WalletPass) → other ≡ lane
+    → AllZip (IsWalletPass lane calls) starts passes → AllZip (MayDraw other calls others) starts passes
+draws lane other calls others [] [] same all = tt
+draws lane other calls others [] (p ∷ passes) same all = absurd all
+draws lane other calls others (start ∷ starts) [] same all = absurd all
+draws lane other calls others (start ∷ starts) (p ∷ passes) same all = (
+  record { number = all.0.number ∙ sym same; mine = all.0.mine; idle = λ among. all.0.idle },
+  draws lane other calls others starts passes same all.1,
+)
+
+-- there is a gate for each market
+pub within-gates : (bank : BankState) → IsBank bank → (address : Address) (place : ℕ) → IsPlace address (market_addresses bank.script) place → place < length bank.markets
+within-gates bank kept address place at =
+    omega (
+      arith,
+      at.within,
+      length-map bank.script.start.markets (λ (accounts : PlainMarketAccounts). accounts.address),
+      zip-long (IsMarketGate bank.script) bank.script.start.markets bank.markets kept.markets,
+    )
+
+abbrev IsAtMarket : GateView (Stamped Call) MarketOrigin → MarketPass → Type 0
+IsAtMarket gate pass = pass.gate ≡ Some gate
+
+module _ (bank : BankState) (row : PlainRow) (before : SeatState) (next : IsNext row before) (bank_kept : IsBank bank) (of : IsSeatOf bank before) where
+  abbrev lane_rows : List PlainRow
+  lane_rows = rows_of_lane before.lane before.script.rows
+
+  script-kept : IsScript before.script
+  script-kept = subst IsScript (sym of.script) bank_kept.script
+
+  pub lane-is : row.lane ≡ before.lane
+  lane-is =
+      eqb-true row.lane before.lane
+      (all-midst (λ (r : PlainRow). (r.lane == before.lane) ≡ true) (take (length before.calls) lane_rows) row next.later
+      (subst (All (λ (r : PlainRow). (r.lane == before.lane) ≡ true)) next.is (filter_passes (λ (r : PlainRow). r.lane == before.lane) before.script.rows)))
+
+  row-fits : IsRowOf before.script.start row
+  row-fits =
+      all-midst (IsRowOf before.script.start) (take (length before.calls) lane_rows) row next.later
+      (subst (All (IsRowOf before.script.start)) next.is
+      (All-filter (λ (r : PlainRow). r.lane == before.lane) (IsRowOf before.script.start) before.script.rows script-kept.rows.each))
+
+  pub market-known : list_any (is_same row.market) (market_addresses bank.script) ≡ true
+  market-known =
+      any-markets row.market bank.script.start.markets
+      ∙ subst (λ (s : PlainScript). has_market row.market s.start.markets ≡ true) of.script row-fits.market
+
+  module _ (kept : IsSeat before) where
+    pub due : IsDue bank.script before.calls row
+    due =
+        subst (λ (s : PlainScript). IsDue s before.calls row) of.script
+        (record {
+          lane = subst (λ (n : ℕ). IsLane before.script n before.calls) (sym lane-is) kept.calls;
+          later = next.later;
+          next =
+              subst (λ (n : ℕ). rows_of_lane n before.script.rows ≡ take (length before.calls) (rows_of_lane n before.script.rows) ++ row ∷ next.later) (sym lane-is) next.is;
+          fits = row-fits;
+        })
+
+    pub ready : AreReady bank row.lane before.calls (row_wallets row) before.wallets
+    ready = record {
+      gates = of.wallets;
+      each =
+          subst (λ (s : PlainScript). AllZip (MayDraw row.lane before.calls (row_wallets row)) s.start.wallets before.wallets) of.script
+          (draws before.lane row.lane before.calls (row_wallets row) before.script.start.wallets before.wallets lane-is kept.wallets);
+    }
+
+    module _ (place : ℕ) (at : IsPlace row.market (market_addresses bank.script) place) where
+      abbrev market_starts : List PlainMarketAccounts
+      market_starts = bank.script.start.markets
+
+      pub within : place < length market_starts
+      within = subst (λ (n : ℕ). place < n) (length-map market_starts (λ (accounts : PlainMarketAccounts). accounts.address)) at.within
+
+      pub here : (d : PlainMarketAccounts) → (get_or market_starts place d).address ≡ row.market
+      here d = sym (get_or-map (λ (accounts : PlainMarketAccounts). accounts.address) market_starts place d row.market within) ∙ at.here row.market
+
+      pub passes-kept : AllZip (IsMarketPass before.lane before.calls) market_starts before.markets
+      passes-kept = subst (λ (s : PlainScript). AllZip (IsMarketPass before.lane before.calls) s.start.markets before.markets) of.script kept.markets
+
+      pub within-passes : place < length before.markets
+      within-passes = omega (arith, within, zip-long (IsMarketPass before.lane before.calls) market_starts before.markets passes-kept)
+
+      -- the pass of the row's market may draw
+      pub enters : (d : PlainMarketAccounts) (gate : GateView (Stamped Call) MarketOrigin) (pass : MarketPass) → gate ≡ get_or bank.markets place gate
+          → pass ≡ get_or before.markets place pass → MayEnter bank.script row before.calls gate pass
+      enters d gate pass gate_is pass_is =
+          let is_gate : IsMarketGate bank.script (get_or market_starts place d) gate =
+          subst (IsMarketGate bank.script (get_or market_starts place d)) (sym gate_is) (zip-at (IsMarketGate bank.script) market_starts bank.markets place d gate bank_kept.markets within) in
+          let is_pass : IsMarketPass before.lane before.calls (get_or market_starts place d) pass =
+          subst (IsMarketPass before.lane before.calls (get_or market_starts place d)) (sym pass_is)
+          (zip-at (IsMarketPass before.lane before.calls) market_starts before.markets place d pass passes-kept within) in
+          let origin_address : gate.origin.start.address ≡ (get_or market_starts place d).address = ap (λ (o : MarketOrigin). o.start.address) is_gate.origin in
+          record {
+            home = ap (λ (p : MarketPass). p.gate) pass_is ∙ zip-at IsAtMarket bank.markets before.markets place gate pass of.markets (within-gates bank bank_kept row.market place at) ∙ ap (λ (g : _). Some g) (sym gate_is);
+            number = is_pass.number ∙ sym lane-is;
+            mine = is_pass.mine ∙ ap (λ (a : Address). calls_on a before.calls) (sym origin_address);
+            idle = is_pass.idle;
+            on = sym (here d) ∙ sym origin_address;
+            rows = ap (λ (o : MarketOrigin). o.script) is_gate.origin;
+            opening = is_gate.opening;
+          }
+
+      pub gate-start : (d : PlainMarketAccounts) (gate : GateView (Stamped Call) MarketOrigin) → gate ≡ get_or bank.markets place gate → gate.origin.start ≡ get_or market_starts place d
+      gate-start d gate gate_is =
+          ap (λ (o : MarketOrigin). o.start)
+          (subst (IsMarketGate bank.script (get_or market_starts place d)) (sym gate_is) (zip-at (IsMarketGate bank.script) market_starts bank.markets place d gate bank_kept.markets within)).origin
+
+-- ---- what grows
+
+same-three : {A P : Type 0} (xs : List A) (ps : List P) (place : ℕ) (out : P) → length ps ≡ length xs → out ≡ get_or ps place out
+    → AllThree (λ (x : A) (p q : P). q ≡ p) xs (set ps place out) ps
+same-three [] [] place out long is = tt
+same-three [] (p ∷ ps) place out long is = absurd (omega (arith, long))
+same-three (x ∷ xs) [] place out long is = absurd (omega (arith, long))
+same-three (x ∷ xs) (p ∷ ps) zero out long is = (sym is, same-all xs ps (omega (arith, long)))
+  where
+    same-all : {A P : Type 0} (ys : List A) (qs : List P) → length qs ≡ length ys → AllThree (λ (y : A) (p q : P). q ≡ p) ys qs qs
+    same-all [] [] same = tt
+    same-all [] (q ∷ qs) same = absurd (omega (arith, same))
+    same-all (y ∷ ys) [] same = absurd (omega (arith, same))
+    same-all (y ∷ ys) (q ∷ qs) same = (refl, same-all ys qs (omega (arith, same)))
+same-three (x ∷ xs) (p ∷ ps) (suc place) out long is = (refl, same-three xs ps place out (omega (arith, long)) is)
+
+module _ (row : PlainRow) (call : Stamped Call) (asked : call.item.asked ≡ asked_of row) where
+  -- the pass of the row's market has the call, and the others are as they were
+  pub markets-grow : (starts : List PlainMarketAccounts) (passes : List MarketPass) (place : ℕ) (before left : MarketPass)
+      → Differ (λ (accounts : PlainMarketAccounts). accounts.address) starts → place < length starts → length passes ≡ length starts
+      → ((d : PlainMarketAccounts) → (get_or starts place d).address ≡ row.market) → before ≡ get_or passes place before
+      → ((d : PlainMarketAccounts) (e : MarketPass) → HasCalled call (get_or starts place d) (get_or passes place e) left)
+      → AllThree (MarketGrows row call) starts passes (set passes place left)
+  markets-grow starts passes place before left differ within long here before_is called =
+      set-three (λ (accounts : PlainMarketAccounts). accounts.address) (λ (x : PlainMarketAccounts) (p q : MarketPass). q ≡ p) (MarketGrows row call) row.market
+      (λ x apart p q same.
+      subst (λ (b : Bool). Where b (HasCalled call x p q) (q ≡ p)) (sym (is_same-sym row.market x.address ∙ apart)) same)
+      starts passes passes place before left differ within here (same-three starts passes place before long before_is)
+      (λ d e.
+      subst (λ (b : Bool). Where b (HasCalled call (get_or starts place d) (get_or passes place e) left) (left ≡ get_or passes place e))
+      (sym (ap (is_same row.market) (here d) ∙ is_same-refl row.market)) (called d e))
+
+  calls-more : (address : Address) (calls : List (Stamped Call)) (b : Bool) → is_same row.market address ≡ b
+      → calls_on address (calls ++ call ∷ []) ≡ calls_on address calls ++ cond b (call ∷ []) []
+  calls-more address calls b is =
+      filter-append (λ (c : Stamped Call). is_same c.item.asked.market address) calls (call ∷ [])
+      ∙ ap (λ (x : Bool). calls_on address calls ++ cond x (call ∷ []) []) (ap (λ (a : Asked). is_same a.market address) asked ∙ is)
+
+  pub market-passes : (lane : ℕ) (calls : List (Stamped Call)) (starts : List PlainMarketAccounts) (before after : List MarketPass) → AllZip (IsMarketPass lane calls) starts before
+      → AllThree (MarketGrows row call) starts before after → AllZip (IsMarketPass lane (calls ++ call ∷ [])) starts after
+  market-passes lane calls [] [] [] are grown = tt
+  market-passes lane calls [] [] (q ∷ after) are grown = absurd grown
+  market-passes lane calls [] (p ∷ before) after are grown = absurd are
+  market-passes lane calls (start ∷ starts) [] after are grown = absurd are
+  market-passes lane calls (start ∷ starts) (p ∷ before) [] are grown = absurd grown
+  market-passes lane calls (start ∷ starts) (p ∷ before) (q ∷ after) are grown =
+      (one (is_same row.market start.address) refl grown.0, market-passes lane calls starts before after are.1 grown.1)
+    where
+      one : (b : Bool) → is_same row.market start.address ≡ b → Where b (HasCalled call start p q) (q ≡ p) → IsMarketPass lane (calls ++ call ∷ []) start q
+      one true on has = record {
+        number = ap (λ (x : MarketPass). x.number) has.pass ∙ are.0.number;
+        none_left = subst (λ (x : MarketPass). x.until ≤ x.next) (sym has.pass) are.0.none_left;
+        idle = ap (λ (x : MarketPass). x.stage) has.pass ∙ are.0.idle;
+        mine =
+            ap (λ (x : MarketPass). x.mine) has.pass
+            ∙ ap (λ (l : List (Stamped Call)). l ++ call ∷ []) are.0.mine
+            ∙ sym (calls-more start.address calls true on);
+      }
+      one false off same =
+          subst (IsMarketPass lane (calls ++ call ∷ []) start) (sym same)
+          (record {
+            number = are.0.number;
+            none_left = are.0.none_left;
+            idle = are.0.idle;
+            mine = are.0.mine ∙ sym (calls-more start.address calls false off ∙ append-nil (calls_on start.address calls));
+          })
+
+  pub market-gates : (starts : List PlainMarketAccounts) (gates : List _) (before after : List MarketPass) → AllThree (MarketGrows row call) starts before after
+      → AllZip IsAtMarket gates before → AllZip IsAtMarket gates after
+  market-gates [] [] [] [] grown are = tt
+  market-gates [] gates [] (q ∷ after) grown are = absurd grown
+  market-gates [] gates (p ∷ before) [] grown are = absurd grown
+  market-gates [] gates (p ∷ before) (q ∷ after) grown are = absurd grown
+  market-gates [] (g ∷ gates) [] [] grown are = absurd are
+  market-gates (start ∷ starts) gates [] [] grown are = absurd grown
+  market-gates (start ∷ starts) gates [] (q ∷ after) grown are = absurd grown
+  market-gates (start ∷ starts) gates (p ∷ before) [] grown are = absurd grown
+  market-gates (start ∷ starts) [] (p ∷ before) (q ∷ after) grown are = absurd are
+  market-gates (start ∷ starts) (g ∷ gates) (p ∷ before) (q ∷ after) grown are =
+      (one (is_same row.market start.address) grown.0, market-gates starts gates before after grown.1 are.1)
+    where
+      one : (b : Bool) → Where b (HasCalled call start p q) (q ≡ p) → q.gate ≡ Some g
+      one true has = ap (λ (x : MarketPass). x.gate) has.pass ∙ are.0
+      one false same = ap (λ (x : MarketPass). x.gate) same ∙ are.0
+
+  entries-more : (address : Address) (calls : List (Stamped Call)) → entries_on address (calls ++ call ∷ []) ≡ entries_on address calls ++ entries_in address call
+  entries-more address [] = append-nil (entries_in address call)
+  entries-more address (first ∷ calls) =
+      ap (λ (l : List (Stamped WalletEntry)). entries_in address first ++ l) (entries-more address calls)
+      ∙ sym (append_assoc (entries_in address first) (entries_on address calls) (entries_in address call))
+
+  none-in : (address : Address) → MovesEach call.item → names row address ≡ false → entries_in address call ≡ []
+  none-in address moves not =
+      empty (entries_in address call)
+      (entries-one address call moves ∙ ap (λ (b : Bool). cond b 1 0) (ap (λ (a : Asked). list_any (is_same address) (asked_wallets a)) asked ∙ not))
+    where
+      empty : {A : Type 0} (l : List A) → length l ≡ 0 → l ≡ []
+      empty [] none = refl
+      empty (x ∷ l) none = absurd (omega (arith, none))
+
+  pub wallet-passes : (lane : ℕ) (calls : List (Stamped Call)) (starts : List PlainAccount) (before after : List WalletPass) → MovesEach call.item
+      → AllZip (IsWalletPass lane calls) starts before → AllThree (WalletGrows row call) starts before after → AllZip (IsWalletPass lane (calls ++ call ∷ [])) starts after
+  wallet-passes lane calls [] [] [] moves are grown = tt
+  wallet-passes lane calls [] [] (q ∷ after) moves are grown = absurd grown
+  wallet-passes lane calls [] (p ∷ before) after moves are grown = absurd are
+  wallet-passes lane calls (start ∷ starts) [] after moves are grown = absurd are
+  wallet-passes lane calls (start ∷ starts) (p ∷ before) [] moves are grown = absurd grown
+  wallet-passes lane calls (start ∷ starts) (p ∷ before) (q ∷ after) moves are grown =
+      (one (names row start.address) refl grown.0, wallet-passes lane calls starts before after moves are.1 grown.1)
+    where
+      one : (b : Bool) → names row start.address ≡ b → Where b (HasMoved call start p q) (q ≡ p) → IsWalletPass lane (calls ++ call ∷ []) start q
+      one true on has = record {
+        number = ap (λ (x : WalletPass). x.number) has.pass ∙ are.0.number;
+        none_left = subst (λ (x : WalletPass). x.until ≤ x.next) (sym has.pass) are.0.none_left;
+        idle = ap (λ (x : WalletPass). x.stage) has.pass ∙ are.0.idle;
+        mine =
+            ap (λ (x : WalletPass). x.mine) has.pass
+            ∙ ap (λ (l : List (Stamped WalletEntry)). l ++ entries_in start.address call) are.0.mine
+            ∙ sym (entries-more start.address calls);
+      }
+      one false off same =
+          subst (IsWalletPass lane (calls ++ call ∷ []) start) (sym same)
+          (record {
+            number = are.0.number;
+            none_left = are.0.none_left;
+            idle = are.0.idle;
+            mine =
+                are.0.mine
+                ∙ sym (entries-more start.address calls
+                ∙ ap (λ (l : List (Stamped WalletEntry)). entries_on start.address calls ++ l) (none-in start.address moves off)
+                ∙ append-nil (entries_on start.address calls));
+          })
+
+  -- the lane has one row more done
+  pub lane-more : (script : PlainScript) (lane last : ℕ) (calls : List (Stamped Call)) (later : List PlainRow) → IsLane script lane calls
+      → rows_of_lane lane script.rows ≡ take (length calls) (rows_of_lane lane script.rows) ++ row ∷ later → All (λ (c : Stamped Call). c.stamp ≤ last) calls
+      → IsTold script last call → IsLane script lane (calls ++ call ∷ [])
+  lane-more script lane last calls later is next below told =
+      let rows : List PlainRow = rows_of_lane lane script.rows in
+      let done : List PlainRow = take (length calls) rows in
+      let long : length done ≡ length calls =
+      sym (length-map done asked_of) ∙ sym (ap length is.asks) ∙ length-map calls (λ (c : Stamped Call). c.item.asked) in
+      let count : length (calls ++ call ∷ []) ≡ length done + 1 = omega (arith, length-append calls (call ∷ []), long) in
+      let all : take (length (calls ++ call ∷ [])) rows ≡ done ++ row ∷ [] =
+      ap (λ (n : ℕ). take n rows) count ∙ ap (take (length done + 1)) next ∙ take-append-add done (row ∷ later) 1 in
+      record {
+        asks =
+            map-append (λ (c : Stamped Call). c.item.asked) calls (call ∷ [])
+            ∙ ap (λ (l : List Asked). l ++ call.item.asked ∷ []) is.asks
+            ∙ ap (λ (a : Asked). map asked_of done ++ a ∷ []) asked
+            ∙ sym (map-append asked_of done (row ∷ []))
+            ∙ ap (map asked_of) (sym all);
+        sees = All-push (λ (c : Stamped Call). IsSight script c.item.seen) calls call is.sees told.sees;
+        moves = All-push (λ (c : Stamped Call). MovesEach c.item) calls call is.moves told.moves;
+        rising =
+            all_pairs_push (λ (one other : Stamped Call). one.stamp < other.stamp) calls call is.rising
+            (λ k d within_calls. omega (arith, below k d within_calls, told.later));
+      }
+
+  pub below-more : (script : PlainScript) (last : ℕ) (calls : List (Stamped Call)) → All (λ (c : Stamped Call). c.stamp ≤ last) calls → IsTold script last call
+      → All (λ (c : Stamped Call). c.stamp ≤ call.stamp) (calls ++ call ∷ [])
+  below-more script last calls below told =
+      All-push (λ (c : Stamped Call). c.stamp ≤ call.stamp) calls call
+      (All-weaker (λ (c : Stamped Call). c.stamp ≤ last) (λ (c : Stamped Call). c.stamp ≤ call.stamp) (λ c less. omega (arith, less, told.later)) calls below) (omega arith)
+
+-- ---- the seat behind it
+
+module _ (bank : BankState) (row : PlainRow) (before : SeatState) (next : IsNext row before) (bank_kept : IsBank bank) (of : IsSeatOf bank before) (kept : IsSeat before)
+    (place : ℕ) (at : IsPlace row.market (market_addresses bank.script) place) (call : Stamped Call) (asked : call.item.asked ≡ asked_of row)
+    (told : IsTold bank.script before.last call) (gate : GateView (Stamped Call) MarketOrigin) (pass left : MarketPass) (gate_is : gate ≡ get_or bank.markets place gate)
+    (pass_is : pass ≡ get_or before.markets place pass) (called : HasCalled call gate.origin.start pass left) (wallets : List WalletPass)
+    (grown : HaveGrown bank (row_wallets row) call before.wallets wallets) where
+  abbrev pub seat_after : SeatState
+  seat_after = record {
+    lane = before.lane;
+    script = before.script;
+    calls = before.calls ++ call ∷ [];
+    last = call.stamp;
+    markets = set before.markets place left;
+    wallets = wallets;
+  }
+
+  markets-grown : AllThree (MarketGrows row call) bank.script.start.markets before.markets (set before.markets place left)
+  markets-grown =
+      let inside_passes = within-passes bank row before next bank_kept of kept place at in
+      let inside = within bank row before next bank_kept of kept place at in
+      markets-grow row call asked bank.script.start.markets before.markets place pass left (markets-differ bank.script.start bank_kept.script.start.accepted) inside
+      (zip-long (IsMarketPass before.lane before.calls) bank.script.start.markets before.markets (passes-kept bank row before next bank_kept of kept place at))
+      (here bank row before next bank_kept of kept place at) pass_is
+      (λ d e.
+      subst (λ (p : MarketPass). HasCalled call (get_or bank.script.start.markets place d) p left) (pass_is ∙ same-get before.markets place pass e inside_passes)
+      (subst (λ (s : PlainMarketAccounts). HasCalled call s pass left) (gate-start bank row before next bank_kept of kept place at d gate gate_is) called))
+
+  pub seat-submitted : HasSubmitted row call.item.entry.reply before seat_after
+  seat-submitted = record {
+    call = call;
+    asked = asked;
+    answered = refl;
+    sees = subst (λ (s : PlainScript). IsSight s call.item.seen) (sym of.script) told.sees;
+    moves = told.moves;
+    lane = refl;
+    script = refl;
+    calls = refl;
+    markets = subst (λ (s : PlainScript). AllThree (MarketGrows row call) s.start.markets before.markets (set before.markets place left)) (sym of.script) markets-grown;
+    wallets = subst (λ (s : PlainScript). AllThree (WalletGrows row call) s.start.wallets before.wallets wallets) (sym of.script) grown;
+  }
+
+  pub seat-of : IsSeatOf bank seat_after
+  seat-of = record {
+    script = of.script;
+    markets = market-gates row call asked bank.script.start.markets bank.markets before.markets (set before.markets place left) markets-grown of.markets;
+    wallets = gates-grown (row_wallets row) call bank.script.start.wallets bank.wallets before.wallets wallets grown of.wallets;
+  }
+
+  pub seat-kept : IsSeat seat_after
+  unfolding seat-submitted
+  seat-kept =
+      let told_here : IsTold before.script before.last call = subst (λ (s : PlainScript). IsTold s before.last call) (sym of.script) told in
+      record {
+        calls = lane-more row call asked before.script before.lane before.last before.calls next.later kept.calls next.is kept.below told_here;
+        below = below-more row call asked before.script before.last before.calls kept.below told_here;
+        markets =
+            market-passes row call asked before.lane before.calls before.script.start.markets before.markets (set before.markets place left) kept.markets
+            seat-submitted.markets;
+        wallets =
+            wallet-passes row call asked before.lane before.calls before.script.start.wallets before.wallets wallets told.moves kept.wallets seat-submitted.wallets;
+      }

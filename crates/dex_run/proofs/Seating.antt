@@ -1,0 +1,154 @@
+-- The seats of a script's lanes, when no row has acted.
+use Rattle.std.proofs.Common.{◌≡◌, ℕ, zero, suc, ◌+◌, ◌-◌, ◌<◌, ◌≤◌, List, [], ◌∷◌, ◌++◌, map, refl, sym, ap, ◌∙◌, subst, arith}
+use Rattle.std.specs.List.{All, AllZip, range_with_len}
+use Rattle.std.proofs.lemmas.List.FromFn.{map-range_with_len_more}
+use Rattle.dex_types.specs.declared.movements.WalletEntry.{WalletEntry}
+use Rattle.dex_types.specs.Accounts.{PlainAccount, PlainMarketAccounts}
+use Rattle.dex_gate.specs.GateView.{GateView}
+use Rattle.dex_gate.specs.PassView.{PassView}
+use Rattle.dex_history.specs.Journal.{Call}
+use Rattle.dex_script.specs.Drafts.{PlainScript}
+use Rattle.dex_stamps.specs.Stamped.{Stamped}
+use Rattle.dex_cell.specs.CellState.{MarketCellState}
+use Rattle.dex_wallet.specs.CellState.{CellState}
+use Rattle.dex_bank.specs.Opened.{market_opened, wallet_opened}
+use Rattle.dex_journals.specs.Journals.{MarketOrigin, WalletOrigin}
+use Rattle.dex_run.specs.Bank.{BankState, IsMarketGate, IsWalletGate}
+use Rattle.dex_run.specs.Opened.{first_passes, fresh_pass, fresh_seat, passes_of, seat_in}
+use Rattle.dex_run.specs.Seats.{IsMarketPass, IsSeatOf, IsWalletPass, SeatState}
+use Rattle.dex_run.proofs.Openings.{all-mapped, firsts-last, firsts-some, passes-of_gates, zip-map, zip-unmap}
+
+-- ---- passes of a lane
+
+pub market-passes : (script : PlainScript) (lane : ℕ) (starts : List PlainMarketAccounts) (gates : List (GateView (Stamped Call) MarketOrigin))
+    → AllZip (IsMarketGate script) starts gates → AllZip (IsMarketPass lane []) starts (passes_of lane gates)
+market-passes script lane starts gates all =
+    zip-map (IsMarketGate script) (IsMarketPass lane []) (λ (gate : GateView (Stamped Call) MarketOrigin). fresh_pass lane gate.passes gate)
+    (λ start gate is. record { number = refl; none_left = omega arith; idle = refl; mine = refl }) starts gates all
+
+pub wallet-passes : (script : PlainScript) (lane : ℕ) (starts : List PlainAccount) (gates : List (GateView (Stamped WalletEntry) WalletOrigin))
+    → AllZip (IsWalletGate script) starts gates → AllZip (IsWalletPass lane []) starts (passes_of lane gates)
+wallet-passes script lane starts gates all =
+    zip-map (IsWalletGate script) (IsWalletPass lane []) (λ (gate : GateView (Stamped WalletEntry) WalletOrigin). fresh_pass lane gate.passes gate)
+    (λ start gate is. record { number = refl; none_left = omega arith; idle = refl; mine = refl }) starts gates all
+
+-- passes that are these
+pub market-passes-are : (script : PlainScript) (lane : ℕ) (gates : List (GateView (Stamped Call) MarketOrigin)) (passes : List (PassView (Stamped Call) MarketOrigin))
+    → AllZip (IsMarketGate script) script.start.markets gates → passes ≡ passes_of lane gates → AllZip (IsMarketPass lane []) script.start.markets passes
+market-passes-are script lane gates passes all are =
+    subst (AllZip (IsMarketPass lane []) script.start.markets) (sym are) (market-passes script lane script.start.markets gates all)
+
+pub wallet-passes-are : (script : PlainScript) (lane : ℕ) (gates : List (GateView (Stamped WalletEntry) WalletOrigin)) (passes : List (PassView (Stamped WalletEntry) WalletOrigin))
+    → AllZip (IsWalletGate script) script.start.wallets gates → passes ≡ passes_of lane gates → AllZip (IsWalletPass lane []) script.start.wallets passes
+wallet-passes-are script lane gates passes all are =
+    subst (AllZip (IsWalletPass lane []) script.start.wallets) (sym are) (wallet-passes script lane script.start.wallets gates all)
+
+-- while a number is left, the first passes may hand it out
+pub market-some : (script : PlainScript) (next : ℕ) (gates : List (GateView (Stamped Call) MarketOrigin)) (passes : List (PassView (Stamped Call) MarketOrigin))
+    → AllZip (IsMarketGate script) script.start.markets gates → passes ≡ first_passes next gates → next < script.lanes
+    → All (λ (pass : PassView (Stamped Call) MarketOrigin). pass.next < pass.until) passes
+market-some script next gates passes all is some =
+    subst (All (λ (pass : PassView (Stamped Call) MarketOrigin). pass.next < pass.until)) (sym is)
+    (firsts-some (IsMarketGate script) next script.lanes (λ start gate opened. opened.passes) script.start.markets gates all some)
+
+pub wallet-some : (script : PlainScript) (next : ℕ) (gates : List (GateView (Stamped WalletEntry) WalletOrigin)) (passes : List (PassView (Stamped WalletEntry) WalletOrigin))
+    → AllZip (IsWalletGate script) script.start.wallets gates → passes ≡ first_passes next gates → next < script.lanes
+    → All (λ (pass : PassView (Stamped WalletEntry) WalletOrigin). pass.next < pass.until) passes
+wallet-some script next gates passes all is some =
+    subst (All (λ (pass : PassView (Stamped WalletEntry) WalletOrigin). pass.next < pass.until)) (sym is)
+    (firsts-some (IsWalletGate script) next script.lanes (λ start gate opened. opened.passes) script.start.wallets gates all some)
+
+-- when all numbers are handed out, the first passes are those of lane 0
+pub market-firsts : (script : PlainScript) (next : ℕ) (gates : List (GateView (Stamped Call) MarketOrigin)) (passes : List (PassView (Stamped Call) MarketOrigin))
+    → AllZip (IsMarketGate script) script.start.markets gates → passes ≡ first_passes next gates → next ≡ script.lanes → passes ≡ passes_of 0 gates
+market-firsts script next gates passes all is done =
+    is ∙ firsts-last (IsMarketGate script) next (λ start gate opened. opened.passes ∙ sym done) script.start.markets gates all
+
+pub wallet-firsts : (script : PlainScript) (next : ℕ) (gates : List (GateView (Stamped WalletEntry) WalletOrigin)) (passes : List (PassView (Stamped WalletEntry) WalletOrigin))
+    → AllZip (IsWalletGate script) script.start.wallets gates → passes ≡ first_passes next gates → next ≡ script.lanes → passes ≡ passes_of 0 gates
+wallet-firsts script next gates passes all is done =
+    is ∙ firsts-last (IsWalletGate script) next (λ start gate opened. opened.passes ∙ sym done) script.start.wallets gates all
+
+-- ---- seats
+
+pub seat-is : (bank : BankState) (lane : ℕ) (seat : SeatState) (markets : List (PassView (Stamped Call) MarketOrigin)) (wallets : List (PassView (Stamped WalletEntry) WalletOrigin))
+    → seat ≡ fresh_seat lane bank.script markets wallets → markets ≡ passes_of lane bank.markets → wallets ≡ passes_of lane bank.wallets → seat ≡ seat_in bank lane
+seat-is bank lane seat markets wallets is markets_are wallets_are =
+    is
+    ∙ ap (λ (l : List (PassView (Stamped Call) MarketOrigin)). fresh_seat lane bank.script l wallets) markets_are
+    ∙ ap (λ (l : List (PassView (Stamped WalletEntry) WalletOrigin)). fresh_seat lane bank.script (passes_of lane bank.markets) l) wallets_are
+
+-- one seat more
+pub seats-more : (bank : BankState) (lane : ℕ) (old new : List SeatState) (seat : SeatState) → 1 ≤ lane → old ≡ map (seat_in bank) (range_with_len 1 (lane - 1))
+    → seat ≡ seat_in bank lane → new ≡ old ++ seat ∷ [] → new ≡ map (seat_in bank) (range_with_len 1 (lane + 1 - 1))
+seats-more bank lane old new seat some before is added =
+    added
+    ∙ ap (λ (l : List SeatState). l ++ seat ∷ []) before
+    ∙ ap (λ (s : SeatState). map (seat_in bank) (range_with_len 1 (lane - 1)) ++ s ∷ []) is
+    ∙ sym (map-range_with_len_more (seat_in bank) 1 (lane - 1) lane (omega (arith, some)))
+    ∙ ap (λ (n : ℕ). map (seat_in bank) (range_with_len 1 n)) (omega (arith, some))
+
+-- the seat of lane 0 comes first
+pub seats-all : (bank : BankState) (lane lanes : ℕ) (old : List SeatState) (seat : SeatState) → 1 ≤ lanes → lane ≡ lanes
+    → old ≡ map (seat_in bank) (range_with_len 1 (lane - 1)) → seat ≡ seat_in bank 0 → seat ∷ old ≡ map (seat_in bank) (range_with_len 0 lanes)
+seats-all bank lane zero old seat some done before is = absurd (omega (arith, some))
+seats-all bank lane (suc n) old seat some done before is =
+    ap (λ (s : SeatState). s ∷ old) is
+    ∙ ap (λ (l : List SeatState). seat_in bank 0 ∷ l) (before ∙ ap (λ (k : ℕ). map (seat_in bank) (range_with_len 1 k)) (omega (arith, done)))
+
+-- all of them are the bank's
+IsSeatOf-fresh : (bank : BankState) (lane : ℕ) → IsSeatOf bank (seat_in bank lane)
+IsSeatOf-fresh bank lane = record {
+  script = refl;
+  markets = passes-of_gates (λ (gate : GateView (Stamped Call) MarketOrigin). fresh_pass lane gate.passes gate) (λ gate. refl) bank.markets;
+  wallets = passes-of_gates (λ (gate : GateView (Stamped WalletEntry) WalletOrigin). fresh_pass lane gate.passes gate) (λ gate. refl) bank.wallets;
+}
+
+pub seats-of_bank : (bank : BankState) (numbers : List ℕ) (seats : List SeatState) → seats ≡ map (seat_in bank) numbers → All (IsSeatOf bank) seats
+seats-of_bank bank numbers seats are = all-mapped (IsSeatOf bank) (seat_in bank) (IsSeatOf-fresh bank) numbers seats are
+
+pub seats-fresh : (bank : BankState) (numbers : List ℕ) (seats : List SeatState) → seats ≡ map (seat_in bank) numbers
+    → All (λ (seat : SeatState). seat.calls ≡ []) seats
+seats-fresh bank numbers seats are = all-mapped (λ (seat : SeatState). seat.calls ≡ []) (seat_in bank) (λ lane. refl) numbers seats are
+
+pub seats-numbers : (bank : BankState) (numbers : List ℕ) (seats : List SeatState) → seats ≡ map (seat_in bank) numbers
+    → map (λ (seat : SeatState). seat.lane) seats ≡ numbers
+seats-numbers bank numbers seats are = ap (map (λ (seat : SeatState). seat.lane)) are ∙ each numbers
+  where
+    each : (l : List ℕ) → map (λ (seat : SeatState). seat.lane) (map (seat_in bank) l) ≡ l
+    each [] = refl
+    each (n ∷ l) = ap (λ k. n ∷ k) (each l)
+
+-- ---- the bank
+
+-- the gates of cells that were opened
+pub market-gates : (script : PlainScript) (cells : List MarketCellState) (gates now : List (GateView (Stamped Call) MarketOrigin))
+    → cells ≡ map (market_opened script.rows) script.start.markets
+    → AllZip (λ (cell : MarketCellState) (gate : GateView (Stamped Call) MarketOrigin). IsMarketGate script cell.start gate) cells gates → now ≡ gates
+    → AllZip (IsMarketGate script) script.start.markets now
+market-gates script cells gates now are all is =
+    let Q = λ (cell : MarketCellState) (gate : GateView (Stamped Call) MarketOrigin). IsMarketGate script cell.start gate in
+    subst (AllZip (IsMarketGate script) script.start.markets) (sym is)
+    (zip-unmap Q (IsMarketGate script) (market_opened script.rows) (λ start gate opened. opened) script.start.markets gates
+    (subst (λ (l : List MarketCellState). AllZip Q l gates) are all))
+
+pub wallet-gates : (script : PlainScript) (cells : List CellState) (gates now : List (GateView (Stamped WalletEntry) WalletOrigin))
+    → cells ≡ map (wallet_opened script.rows) script.start.wallets
+    → AllZip (λ (cell : CellState) (gate : GateView (Stamped WalletEntry) WalletOrigin). IsWalletGate script (record { address = cell.address; bytes = cell.start }) gate) cells gates
+    → now ≡ gates → AllZip (IsWalletGate script) script.start.wallets now
+wallet-gates script cells gates now are all is =
+    let Q = λ (cell : CellState) (gate : GateView (Stamped WalletEntry) WalletOrigin). IsWalletGate script (record { address = cell.address; bytes = cell.start }) gate in
+    subst (AllZip (IsWalletGate script) script.start.wallets) (sym is)
+    (zip-unmap Q (IsWalletGate script) (wallet_opened script.rows) (λ start gate opened. opened) script.start.wallets gates
+    (subst (λ (l : List CellState). AllZip Q l gates) are all))
+
+-- the seats at the gates are those at the bank
+pub seats-at_bank : (script : PlainScript) (markets markets' : List (GateView (Stamped Call) MarketOrigin)) (wallets wallets' : List (GateView (Stamped WalletEntry) WalletOrigin))
+    (bank : BankState) (numbers : List ℕ) (seats : List SeatState)
+    → seats ≡ map (seat_in (record { script = script; markets = markets; wallets = wallets })) numbers
+    → markets ≡ markets' → wallets ≡ wallets' → bank ≡ record { script = script; markets = markets'; wallets = wallets' } → seats ≡ map (seat_in bank) numbers
+seats-at_bank script markets markets' wallets wallets' bank numbers seats are same_markets same_wallets is =
+    are
+    ∙ ap (λ (l : List (GateView (Stamped Call) MarketOrigin)). map (seat_in (record { script = script; markets = l; wallets = wallets })) numbers) same_markets
+    ∙ ap (λ (l : List (GateView (Stamped WalletEntry) WalletOrigin)). map (seat_in (record { script = script; markets = markets'; wallets = l })) numbers) same_wallets
+    ∙ ap (λ (b : BankState). map (seat_in b) numbers) (sym is)

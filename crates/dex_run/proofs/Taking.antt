@@ -1,0 +1,390 @@
+-- The turn of a row's next wallet: what is known when it is taken, and when it is left.
+use Rattle.std.proofs.Common.{◌≡◌, ℕ, zero, suc, ◌+◌, ◌-◌, ◌<◌, ◌==◌, Bool, true, false, ◌||◌, cond, List, [], ◌∷◌, ◌++◌, drop, length, map, set, take, get_or, Option, Some, None, refl, sym, ap, ◌∙◌, subst, arith}
+use Rattle.std.specs.List.{All, AllZip, list_any}
+use Rattle.std.proofs.lemmas.Bool.{cond_both, or_left, or_right}
+use Rattle.std.proofs.lemmas.List.{get_or-map, length-map}
+use Rattle.std.proofs.lemmas.List.Elements.{All-nil, All-cons, All-head, All-tail, All-push}
+use Rattle.std.proofs.Math.Seq.{take-length}
+use Rattle.dex_types.specs.declared.addresses.Address.{Address}
+use Rattle.dex_types.specs.declared.movements.WalletEntry.{WalletEntry}
+use Rattle.dex_types.specs.Accounts.{PlainAccount}
+use Rattle.dex_types.specs.Addresses.{is_same}
+use Rattle.dex_types.specs.Rows.{PlainRow}
+use Rattle.dex_types.specs.Wallets.{is_lower, row_wallets, with_address, with_role}
+use Rattle.dex_laws.proofs.TraderLaws.{is_same-refl}
+use Rattle.dex_gate.specs.GateView.{GateView}
+use Rattle.dex_gate.specs.History.{added, of_lane}
+use Rattle.dex_gate.specs.declared.stage.Stage.TheVariants.{Idle, Out}
+use Rattle.dex_history.specs.Journal.{Call, asked_of}
+use Rattle.dex_locks.specs.Places.{front}
+use Rattle.dex_places.specs.Places.{IsPlace}
+use Rattle.dex_fold.specs.Fold.{names}
+use Rattle.dex_wallet.specs.CellState.{CellState}
+use Rattle.dex_script.specs.Drafts.{PlainScript}
+use Rattle.dex_script.specs.Facts.{IsRowOf}
+use Rattle.dex_script.specs.Known.{has_account, is_known_role}
+use Rattle.dex_replay.specs.Lawful.{AllThree, rows_of_wallet}
+use Rattle.dex_stamps.specs.Stamped.{Stamped}
+use Rattle.dex_journals.specs.Journals.{TrailState, WalletOrigin, entries_by, left_by, wallet_entries, wallet_origin}
+use Rattle.dex_journals.specs.Made.{entries_on}
+use Rattle.dex_journals.proofs.WalletLaws.{spare-wallet}
+use Rattle.dex_run.specs.Bank.{BankState, IsBank, IsWalletGate, wallet_addresses}
+use Rattle.dex_run.specs.Submitted.{HasMoved}
+use Rattle.dex_run.specs.Turns.{AreInHand, AreReady, HasEntry, HasLeft, HaveGrown, IsDue, IsOut, IsReady, MayDraw, MayLeave, OneGrows, first_in}
+use Rattle.dex_run.proofs.Counts.{entries-left, length-stamped}
+use Rattle.dex_run.proofs.Distinct.{wallets-differ}
+use Rattle.dex_run.proofs.Growing.{Differ, IsAtGate, WalletPass, drawn-ready, gates-set, one-grows, still-out}
+use Rattle.dex_run.proofs.Leaving.{has-moved}
+use Rattle.dex_run.proofs.Once.{AreOnce, asked-once, once-behind, once-head}
+
+-- ---- lists
+
+module _ {A B : Type 0} (R : A → B → Type 0) where
+  pub zip-at : (xs : List A) (ys : List B) (place : ℕ) (d : A) (e : B) → AllZip R xs ys → place < length xs → R (get_or xs place d) (get_or ys place e)
+  zip-at [] ys place d e all within = absurd (omega (arith, within))
+  zip-at (x ∷ xs) [] place d e all within = absurd all
+  zip-at (x ∷ xs) (y ∷ ys) zero d e all within = all.0
+  zip-at (x ∷ xs) (y ∷ ys) (suc place) d e all within = zip-at xs ys place d e all.1 (omega (arith, within))
+
+  pub zip-long : (xs : List A) (ys : List B) → AllZip R xs ys → length ys ≡ length xs
+  zip-long [] [] all = refl
+  zip-long [] (y ∷ ys) all = absurd all
+  zip-long (x ∷ xs) [] all = absurd all
+  zip-long (x ∷ xs) (y ∷ ys) all = ap suc (zip-long xs ys all.1)
+
+pub three-long : {A B C : Type 0} (R : A → B → C → Type 0) (xs : List A) (ys : List B) (zs : List C) → AllThree R xs ys zs → (length ys ≡ length xs) × (length zs ≡ length xs)
+three-long R [] [] [] all = (refl, refl)
+three-long R [] [] (z ∷ zs) all = absurd all
+three-long R [] (y ∷ ys) [] all = absurd all
+three-long R [] (y ∷ ys) (z ∷ zs) all = absurd all
+three-long R (x ∷ xs) [] [] all = absurd all
+three-long R (x ∷ xs) [] (z ∷ zs) all = absurd all
+three-long R (x ∷ xs) (y ∷ ys) [] all = absurd all
+three-long R (x ∷ xs) (y ∷ ys) (z ∷ zs) all =
+    let rest = three-long R xs ys zs all.1 in
+    (ap suc rest.0, ap suc rest.1)
+
+-- what stands at a place, between the others
+pub record Splits {A : Type 0} (xs : List A) (x : A) : Type 0 where
+  pub earlier : List A
+  pub later : List A
+  pub is : xs ≡ earlier ++ x ∷ later
+
+pub splits-at : {A : Type 0} (xs : List A) (place : ℕ) (d : A) → place < length xs → Splits xs (get_or xs place d)
+splits-at [] place d within = absurd (omega (arith, within))
+splits-at (x ∷ xs) zero d within = record { earlier = []; later = xs; is = refl }
+splits-at {A} (x ∷ xs) (suc place) d within =
+    let rest = splits-at xs place d (omega (arith, within)) in
+    record { earlier = x ∷ rest.earlier; later = rest.later; is = ap (λ (l : List A). x ∷ l) rest.is }
+
+-- whatever stands for what is not there
+pub same-get : {A : Type 0} (xs : List A) (place : ℕ) (d e : A) → place < length xs → get_or xs place d ≡ get_or xs place e
+same-get [] place d e within = absurd (omega (arith, within))
+same-get (x ∷ xs) zero d e within = refl
+same-get (x ∷ xs) (suc place) d e within = same-get xs place d e (omega (arith, within))
+
+-- what holds of all holds in the midst
+pub all-midst : {A : Type 0} (P : A → Type 0) (before : List A) (x : A) (behind : List A) → All P (before ++ x ∷ behind) → P x
+all-midst P [] x behind all = All-head P x behind all
+all-midst P (y ∷ before) x behind all = all-midst P before x behind (All-tail P y (before ++ x ∷ behind) all)
+
+-- ---- the wallets of a row
+
+with-all : (P : Address → Type 0) (address : Address) (addresses : List Address) → P address → All P addresses → All P (with_address address addresses)
+with-all P address [] here all = All-cons P address [] here (All-nil P)
+with-all P address (first ∷ others) here all =
+    cond_both (is_same address first) (first ∷ others) (cond (is_lower address first) (address ∷ first ∷ others) (first ∷ with_address address others)) (All P)
+    (λ same. all)
+    (λ apart.
+    cond_both (is_lower address first) (address ∷ first ∷ others) (first ∷ with_address address others) (All P)
+    (λ lower. All-cons P address (first ∷ others) here all)
+    (λ higher. All-cons P first (with_address address others) (All-head P first others all) (with-all P address others here (All-tail P first others all))))
+
+role-all : (wallets : List PlainAccount) (role : Option Address) (addresses : List Address) → is_known_role wallets role ≡ true
+    → All (λ (address : Address). has_account address wallets ≡ true) addresses → All (λ (address : Address). has_account address wallets ≡ true) (with_role role addresses)
+role-all wallets None addresses known all = all
+role-all wallets (Some address) addresses known all = with-all (λ (a : Address). has_account a wallets ≡ true) address addresses known all
+
+-- each is one of the start's
+row-known : (script : PlainScript) (row : PlainRow) → IsRowOf script.start row → All (λ (address : Address). has_account address script.start.wallets ≡ true) (row_wallets row)
+row-known script row fits =
+    role-all script.start.wallets row.coin _ fits.coin
+    (role-all script.start.wallets row.pc _ fits.pc
+    (role-all script.start.wallets row.discount _ fits.discount (role-all script.start.wallets row.referrer [] fits.referrer (All-nil _))))
+
+any-addresses : (address : Address) (accounts : List PlainAccount) → list_any (is_same address) (map (λ (account : PlainAccount). account.address) accounts) ≡ has_account address accounts
+any-addresses address [] = refl
+any-addresses address (account ∷ accounts) = ap (λ (b : Bool). is_same address account.address || b) (any-addresses address accounts)
+
+-- one in the midst is among them
+any-midst : (before : List Address) (address : Address) (behind : List Address) → list_any (is_same address) (before ++ address ∷ behind) ≡ true
+any-midst [] address behind = or_left (is_same address address) (list_any (is_same address) behind) (is_same-refl address)
+any-midst (first ∷ before) address behind =
+    or_right (is_same address first) (list_any (is_same address) (before ++ address ∷ behind)) (any-midst before address behind)
+
+abbrev address_in : CellState → Address
+address_in cell = cell.address
+
+-- ---- the next wallet of a row
+
+module _ (bank : BankState) (row : PlainRow) (calls : List (Stamped _)) (address : Address) (others : List Address) (hands : List CellState) (passes : List WalletPass)
+    (due : IsDue bank.script calls row) (hand : AreInHand bank.script row (address ∷ others) hands) (ready : AreReady bank row.lane calls (address ∷ others) passes) where
+  abbrev starts : List PlainAccount
+  starts = bank.script.start.wallets
+
+  -- it is one of the start's
+  pub known : list_any (is_same address) (wallet_addresses bank.script) ≡ true
+  known =
+      any-addresses address starts
+      ∙ all-midst (λ (a : Address). has_account a starts ≡ true) (map address_in hands) address others
+      (subst (All (λ (a : Address). has_account a starts ≡ true)) (sym hand.are) (row-known bank.script row due.fits))
+
+  -- and none of those behind it
+  pub none : list_any (is_same address) others ≡ false
+  none = once-head address others (once-behind (map address_in hands) (address ∷ others) (subst AreOnce (sym hand.are) (asked-once (asked_of row))))
+
+  named : names row address ≡ true
+  named = subst (λ (l : List Address). list_any (is_same address) l ≡ true) hand.are (any-midst (map address_in hands) address others)
+
+  module _ (kept : IsBank bank) (place : ℕ) (at : IsPlace address (wallet_addresses bank.script) place) where
+    pub within : place < length starts
+    within = subst (λ (n : ℕ). place < n) (length-map starts (λ (account : PlainAccount). account.address)) at.within
+
+    pub here : (d : PlainAccount) → (get_or starts place d).address ≡ address
+    here d = sym (get_or-map (λ (account : PlainAccount). account.address) starts place d address within) ∙ at.here address
+
+    pub within-gates : place < length bank.wallets
+    within-gates = omega (arith, within, zip-long (IsWalletGate bank.script) starts bank.wallets kept.wallets)
+
+    pub within-passes : place < length passes
+    within-passes = omega (arith, within, zip-long (MayDraw row.lane calls (address ∷ others)) starts passes ready.each)
+
+    pub gate-at : (g : GateView (Stamped WalletEntry) WalletOrigin) (p : WalletPass) → (get_or passes place p).gate ≡ Some (get_or bank.wallets place g)
+    gate-at g p = zip-at IsAtGate bank.wallets passes place g p ready.gates within-gates
+
+    pub idle-at : (d : PlainAccount) (p : WalletPass) → (get_or passes place p).stage ≡ Idle
+    idle-at d p =
+        (zip-at (MayDraw row.lane calls (address ∷ others)) starts passes place d p ready.each within).idle
+        (ap (λ (a : Address). list_any (is_same a) (address ∷ others)) (here d) ∙ or_left (is_same address address) (list_any (is_same address) others) (is_same-refl address))
+
+    -- its turn is out
+    module _ (d : PlainAccount) (gate : GateView (Stamped WalletEntry) WalletOrigin) (before out : WalletPass) (trail : TrailState)
+        (gate_is : gate ≡ get_or bank.wallets place gate) (before_is : before ≡ get_or passes place before) (is_out : IsOut gate before out trail) where
+      abbrev start : PlainAccount
+      start = get_or starts place d
+
+      is_gate : IsWalletGate bank.script start gate
+      is_gate =
+          subst (IsWalletGate bank.script start) (sym gate_is) (zip-at (IsWalletGate bank.script) starts bank.wallets place d gate kept.wallets within)
+
+      may_draw : MayDraw row.lane calls (address ∷ others) start before
+      may_draw =
+          subst (MayDraw row.lane calls (address ∷ others) start) (sym before_is)
+          (zip-at (MayDraw row.lane calls (address ∷ others)) starts passes place d before ready.each within)
+
+      origin : wallet_origin (left_by trail) ≡ record { start = start; script = bank.script }
+      origin = is_out.origin ∙ is_gate.origin
+
+      cell-address : trail.before.address ≡ start.address
+      cell-address = ap (λ (o : WalletOrigin). o.start.address) origin
+
+      pub cell-here : trail.before.address ≡ address
+      cell-here = cell-address ∙ here d
+
+      cell-start : trail.before.start ≡ start.bytes
+      cell-start = ap (λ (o : WalletOrigin). o.start.bytes) origin
+
+      cell-script : trail.script ≡ bank.script
+      cell-script = ap (λ (o : WalletOrigin). o.script) origin
+
+      -- the lane has an entry to make
+      mine : of_lane (λ (e : Stamped WalletEntry). e.item.lane) row.lane (wallet_entries (left_by trail)) ≡ entries_on start.address calls
+      mine =
+          ap (λ (n : ℕ). of_lane (λ (e : Stamped WalletEntry). e.item.lane) n (wallet_entries (left_by trail))) (sym may_draw.number)
+          ∙ ap (λ (l : List (Stamped WalletEntry)). of_lane (λ (e : Stamped WalletEntry). e.item.lane) before.number (added l (wallet_entries (left_by trail)))) (sym is_gate.opening)
+          ∙ is_out.mine
+          ∙ may_draw.mine
+
+      pub few : entries_by row.lane trail.before.entries < length (rows_of_wallet row.lane trail.before.address trail.script.rows)
+      few =
+          let count : entries_by row.lane trail.before.entries ≡ length (entries_on start.address calls) =
+          sym (length-stamped (λ (e : WalletEntry). e.lane == row.lane) trail.before.entries trail.stamps is_out.kept.counted) ∙ ap length mine in
+          let named_start : names row start.address ≡ true = ap (names row) (here d) ∙ named in
+          let rows : length (rows_of_wallet row.lane trail.before.address trail.script.rows) ≡ length (rows_of_wallet row.lane start.address bank.script.rows) =
+          ap (λ (a : Address). length (rows_of_wallet row.lane a trail.script.rows)) cell-address
+          ∙ ap (λ (s : PlainScript). length (rows_of_wallet row.lane start.address s.rows)) cell-script in
+          omega (arith, count, entries-left row calls start.address bank.script due named_start, rows)
+
+      -- its cell is ready, and in hand with the others
+      ready-cell : IsReady bank.script trail.before
+      ready-cell =
+          let split = splits-at starts place d within in
+          let same : record { address = trail.before.address; bytes = trail.before.start } ≡ start =
+          ap (λ (a : Address). record { address = a; bytes = trail.before.start }) cell-address ∙ ap (λ (b : List ℕ). record { address = start.address; bytes = b }) cell-start in
+          record {
+            kept = is_out.kept.cell;
+            spare = spare-wallet (left_by trail) is_out.kept row.lane few;
+            start = record {
+              earlier = split.earlier;
+              later = split.later;
+              is = split.is ∙ ap (λ (x : PlainAccount). split.earlier ++ x ∷ split.later) (sym same);
+            };
+          }
+
+      pub in-hand : AreInHand bank.script row others (hands ++ trail.before ∷ [])
+      in-hand = record {
+        ready = All-push (IsReady bank.script) hands trail.before hand.ready ready-cell;
+        are = shift hands ∙ ap (λ (a : Address). map address_in hands ++ a ∷ others) cell-here ∙ hand.are;
+      }
+        where
+          shift : (cells : List CellState) → map address_in (cells ++ trail.before ∷ []) ++ others ≡ map address_in cells ++ trail.before.address ∷ others
+          shift [] = refl
+          shift (cell ∷ cells) = ap (λ (l : List Address). cell.address ∷ l) (shift cells)
+
+      -- the other passes may draw
+      pub ready-others : AreReady bank row.lane calls others (set passes place out)
+      ready-others =
+          let Pass : Type 0 = WalletPass in
+          record {
+            gates =
+                gates-set bank.wallets passes place out ready.gates
+                (λ p. ap (λ (x : Pass). x.gate) is_out.pass ∙ ap (λ (x : Pass). x.gate) before_is ∙ ap (λ (x : Pass). x.gate) (same-get passes place before p within-passes));
+            each =
+                drawn-ready address others row.lane calls starts passes place out ready.each none within here
+                (λ p. (
+                  ap (λ (x : Pass). x.number) is_out.pass ∙ ap (λ (x : Pass). x.number) (before_is ∙ same-get passes place before p within-passes),
+                  ap (λ (x : Pass). x.mine) is_out.pass ∙ ap (λ (x : Pass). x.mine) (before_is ∙ same-get passes place before p within-passes),
+                ));
+          }
+
+      -- ---- and left
+
+      module _ (call : Stamped Call) (mid : List WalletPass) (asked : call.item.asked.lane ≡ row.lane) (grown : HaveGrown bank others call (set passes place out) mid) where
+        pub mid-is : (p : WalletPass) → get_or mid place p ≡ out
+        mid-is p = still-out others call starts passes mid place out address none within here grown p
+
+        pub within-mid : place < length mid
+        within-mid = omega (arith, within, (three-long (OneGrows others call) starts (set passes place out) mid grown).1)
+
+        pub may-leave : (now : WalletPass) (cell : CellState) → now ≡ get_or mid place now → HasEntry call trail.before cell → trail.last < call.stamp
+            → MayLeave call gate now trail cell
+        may-leave now cell now_is entry above =
+            let is : now ≡ record before { stage = Out (wallet_entries (left_by trail)) } = now_is ∙ mid-is now ∙ is_out.pass in
+            record {
+              home = ap (λ (p : WalletPass). p.gate) is ∙ ap (λ (p : WalletPass). p.gate) before_is ∙ gate-at gate before ∙ ap (λ (g : _). Some g) (sym gate_is);
+              out = ap (λ (p : WalletPass). p.stage) is;
+              origin = is_out.origin;
+              entry = entry;
+              number = asked ∙ sym may_draw.number ∙ sym (ap (λ (p : WalletPass). p.number) is);
+              lane = subst (λ (n : ℕ). entries_by n trail.before.entries < length (rows_of_wallet n trail.before.address trail.script.rows)) (sym asked) few;
+              stamp = above;
+            }
+
+        pub number-mid : (now : WalletPass) → now ≡ get_or mid place now → now.number ≡ before.number
+        number-mid now now_is = ap (λ (p : WalletPass). p.number) (now_is ∙ mid-is now ∙ is_out.pass)
+
+        pub have-grown : (now left : WalletPass) → Differ (λ (account : PlainAccount). account.address) starts → now ≡ get_or mid place now → HasLeft call trail now left
+            → HaveGrown bank (address ∷ others) call passes (set mid place left)
+        have-grown now left differ now_is has =
+            let moved : HasMoved call start before left =
+            has-moved call start trail before now left (Out (wallet_entries (left_by trail))) (ap (λ (p : WalletPass). p.stage) before_is ∙ idle-at d before)
+            (now_is ∙ mid-is now ∙ is_out.pass) has cell-address cell-start in
+            one-grows address others call starts passes mid place out left differ within here grown
+            (λ x p.
+            subst (λ (q : WalletPass). HasMoved call (get_or starts place x) q left) (before_is ∙ same-get passes place before p within-passes)
+            (subst (λ (s : PlainAccount). HasMoved call s before left) (same-get starts place d x within) moved))
+
+-- ---- all that is known of the turn of the next wallet
+
+-- what was known before it, and what was taken
+pub record Facts (bank : BankState) (row : PlainRow) (calls : List (Stamped Call)) (address : Address) (others : List Address) (hands : List CellState)
+    (passes : List WalletPass) (place : ℕ) (gate : GateView (Stamped WalletEntry) WalletOrigin) (before out : WalletPass) (trail : TrailState) : Type 0 where
+  pub due : IsDue bank.script calls row
+  pub hand : AreInHand bank.script row (address ∷ others) hands
+  pub ready : AreReady bank row.lane calls (address ∷ others) passes
+  pub kept : IsBank bank
+  pub at : IsPlace address (wallet_addresses bank.script) place
+  pub gate_is : gate ≡ get_or bank.wallets place gate
+  pub before_is : before ≡ get_or passes place before
+  pub is_out : IsOut gate before out trail
+
+module _ (bank : BankState) (row : PlainRow) (calls : List (Stamped Call)) (address : Address) (others : List Address) (hands : List CellState)
+    (passes : List WalletPass) (place : ℕ) (gate : GateView (Stamped WalletEntry) WalletOrigin) (before out : WalletPass) (trail : TrailState)
+    (f : Facts bank row calls address others hands passes place gate before out trail) where
+  abbrev any_start : PlainAccount
+  any_start = record { address = address; bytes = [] }
+
+  pub facts-hand : AreInHand bank.script row others (hands ++ trail.before ∷ [])
+  facts-hand =
+      in-hand bank row calls address others hands passes f.due f.hand f.ready f.kept place f.at any_start gate before out trail f.gate_is f.before_is f.is_out
+
+  pub facts-ready : AreReady bank row.lane calls others (set passes place out)
+  facts-ready =
+      ready-others bank row calls address others hands passes f.due f.hand f.ready f.kept place f.at any_start gate before out trail f.gate_is f.before_is f.is_out
+
+  module _ (call : Stamped Call) (mid : List WalletPass) (asked : call.item.asked.lane ≡ row.lane) (grown : HaveGrown bank others call (set passes place out) mid) where
+    pub facts-mid : place < length mid
+    facts-mid =
+        within-mid bank row calls address others hands passes f.due f.hand f.ready f.kept place f.at any_start gate before out trail f.gate_is f.before_is f.is_out call mid asked
+        grown
+
+    module _ (now : WalletPass) (now_is : now ≡ get_or mid place now) where
+      pub facts-number : now.number ≡ before.number
+      facts-number =
+          number-mid bank row calls address others hands passes f.due f.hand f.ready f.kept place f.at any_start gate before out trail f.gate_is f.before_is f.is_out call mid
+          asked grown now now_is
+
+      pub facts-leave : (cell : CellState) → HasEntry call trail.before cell → trail.last < call.stamp → MayLeave call gate now trail cell
+      facts-leave cell entry above =
+          may-leave bank row calls address others hands passes f.due f.hand f.ready f.kept place f.at any_start gate before out trail f.gate_is f.before_is f.is_out call mid
+          asked grown now cell now_is entry above
+
+      pub facts-grown : (left : WalletPass) → HasLeft call trail now left → HaveGrown bank (address ∷ others) call passes (set mid place left)
+      facts-grown left has =
+          have-grown bank row calls address others hands passes f.due f.hand f.ready f.kept place f.at any_start gate before out trail f.gate_is f.before_is f.is_out call mid
+          asked grown now left (wallets-differ bank.script.start f.kept.script.start.accepted) now_is has
+
+-- ---- the wallets still to come
+
+-- those behind the first
+abbrev pub rest_of : List (Option Address) → List (Option Address)
+rest_of others = take (length others - 1) (drop 1 others)
+
+pub front-some : (others : List (Option Address)) (address : Address) → first_in others ≡ Some address → front others ≡ address ∷ front (rest_of others)
+front-some [] address is = absurd (cc)
+front-some (None ∷ others) address is = absurd (cc)
+front-some (Some first ∷ others) address is =
+    let same : first ≡ address = (cc) in
+    let all : take (length (Some first ∷ others) - 1) others ≡ others =
+    ap (λ (n : ℕ). take n others) (omega arith) ∙ take-length others in
+    ap (λ (a : Address). a ∷ front others) same ∙ ap (λ (l : List (Option Address)). address ∷ front l) (sym all)
+
+pub rest-long : (others : List (Option Address)) (address : Address) → first_in others ≡ Some address → length others ≡ length (rest_of others) + 1
+rest-long [] address is = absurd (cc)
+rest-long (first ∷ others) address is =
+    let all : take (length (first ∷ others) - 1) others ≡ others =
+    ap (λ (n : ℕ). take n others) (omega arith) ∙ take-length others in
+    omega (arith, ap length all)
+
+pub front-none : (others : List (Option Address)) → first_in others ≡ None → front others ≡ []
+front-none [] is = refl
+front-none (None ∷ others) is = refl
+front-none (Some first ∷ others) is = absurd (cc)
+
+-- where none is still to come the passes are as they were
+pub grown-none : (call : Stamped Call) (starts : List PlainAccount) (passes : List WalletPass) → length passes ≡ length starts → AllThree (OneGrows [] call) starts passes passes
+grown-none call [] [] long = tt
+grown-none call [] (p ∷ passes) long = absurd (omega (arith, long))
+grown-none call (start ∷ starts) [] long = absurd (omega (arith, long))
+grown-none call (start ∷ starts) (p ∷ passes) long = (refl, grown-none call starts passes (omega (arith, long)))
+
+-- the last of cells that were in hand
+pub last-of : {A : Type 0} (R : A → A → Type 0) (xs : List A) (x : A) (ys : List A) (y : A) → AllZip R (xs ++ x ∷ []) (ys ++ y ∷ []) → AllZip R xs ys × R x y
+last-of R [] x [] y all = (tt, all.0)
+last-of R [] x (z ∷ []) y all = absurd all.1
+last-of R [] x (z ∷ w ∷ ys) y all = absurd all.1
+last-of R (z ∷ []) x [] y all = absurd all.1
+last-of R (z ∷ w ∷ xs) x [] y all = absurd all.1
+last-of R (z ∷ xs) x (w ∷ ys) y all =
+    let rest = last-of R xs x ys y all.1 in
+    ((all.0, rest.0), rest.1)

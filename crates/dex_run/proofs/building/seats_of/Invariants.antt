@@ -1,0 +1,13 @@
+use Rattle.std.proofs.Common.{◌≡◌, ◌≤◌, ◌-◌, map}
+use Rattle.std.specs.List.{range_with_len}
+use Rattle.dex_run.specs.Opened.{first_passes, seat_in}
+use Rattle.dex_run.proofs.building.seats_of.Given as goal
+
+abbrev pub invariant-loop-lane : goal.invariant-loop-lane
+invariant-loop-lane l = record {
+  some : 1 ≤ l.lane;
+  markets : l.market_passes.items ≡ first_passes l.lane l.fn.markets;
+  wallets : l.wallet_passes.items ≡ first_passes l.lane l.fn.wallets;
+  seats : l.seats.items
+      ≡ map (seat_in (record { script = l.fn.script; markets = l.fn.markets; wallets = l.fn.wallets })) (range_with_len 1 (l.lane - 1));
+}

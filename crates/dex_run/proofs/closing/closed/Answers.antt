@@ -1,0 +1,66 @@
+use Rattle.std.proofs.Common.{List, length, map, ap, sym, subst, ◌∙◌, arith}
+use Rattle.std.specs.List.{AllZip}
+use Rattle.dex_types.specs.declared.movements.WalletEntry.{WalletEntry}
+use Rattle.dex_types.specs.Accounts.{named_of}
+use Rattle.dex_bank.specs.Cells.{CellsState}
+use Rattle.dex_bank.specs.Closed as cells
+use Rattle.dex_gate.specs.GateView.{GateView}
+use Rattle.dex_history.specs.Journal.{Call}
+use Rattle.dex_report.specs.Outcomes.{outcome_of}
+use Rattle.dex_stamps.specs.Stamped.{Stamped}
+use Rattle.dex_journals.specs.Journals.{MarketOrigin, WalletOrigin}
+use Rattle.dex_run.specs.Bank.{BankState, IsBank}
+use Rattle.dex_run.specs.Closing.{AreMarketsClosed, AreWalletsClosed}
+use Rattle.dex_run.specs.Columns.{CanClose}
+use Rattle.dex_run.proofs.ClosingLaws.{are-cells, closes, market-cells-length, wallet-cells-length}
+use Rattle.dex_run.proofs.ClosingPasses.{markets-close, wallets-close}
+use Rattle.dex_run.proofs.closing.closed.Goals as goal
+
+pub market_cells-market_cells-requires-clause-passes : goal.market_cells-market_cells-requires-clause-passes
+market_cells-market_cells-requires-clause-passes c =
+    subst (λ (gates : List (GateView (Stamped Call) MarketOrigin)). AllZip (λ gate column. CanClose gate column.items) gates c.hand_out_all.new.markets.items)
+    (sym (ap (λ (bank : BankState). bank.markets) c.bank.view_is))
+    (markets-close c.args.bank c.args.seats.items (subst IsBank c.bank.view_is c.bank.invariant.bank) c.requires.lanes c.hand_out_all.new.markets.items c.hand_out_all.ensures.markets)
+
+pub wallet_cells-wallet_cells-requires-clause-passes : goal.wallet_cells-wallet_cells-requires-clause-passes
+wallet_cells-wallet_cells-requires-clause-passes c =
+    subst (λ (gates : List (GateView (Stamped WalletEntry) WalletOrigin)). AllZip (λ gate column. CanClose gate column.items) gates c.hand_out_all.new.wallets.items)
+    (sym (ap (λ (bank : BankState). bank.wallets) c.bank.view_is))
+    (wallets-close c.args.bank c.args.seats.items (subst IsBank c.bank.view_is c.bank.invariant.bank) c.requires.lanes c.hand_out_all.new.wallets.items c.hand_out_all.ensures.wallets)
+
+pub of-requires : goal.of-requires
+of-requires c = record {
+  cells = are-cells c.args.bank c.args.seats.items (subst IsBank c.bank.view_is c.bank.invariant.bank) c.requires.lanes
+      c.hand_out_all.new.markets.items c.hand_out_all.new.wallets.items (map named_of c.bank.inside.mints.items) c.bank.inside.srm c.bank.inside.msrm
+      c.market_cells-market_cells.result.items c.wallet_cells-wallet_cells.result.items c.bank.inside.program c.hand_out_all.ensures.wallets
+      (subst (λ (gates : List (GateView (Stamped Call) MarketOrigin)). AreMarketsClosed gates c.hand_out_all.new.markets.items c.market_cells-market_cells.result.items)
+      (ap (λ (bank : BankState). bank.markets) c.bank.view_is) c.market_cells-market_cells.ensures)
+      (subst (λ (gates : List (GateView (Stamped WalletEntry) WalletOrigin)). AreWalletsClosed gates c.hand_out_all.new.wallets.items c.wallet_cells-wallet_cells.result.items)
+      (ap (λ (bank : BankState). bank.wallets) c.bank.view_is) c.wallet_cells-wallet_cells.ensures);
+}
+
+pub close_into-requires : goal.close_into-requires
+close_into-requires c =
+    let markets = market-cells-length _ _ _ c.market_cells-market_cells.ensures in
+    let wallets = wallet-cells-length _ _ _ c.wallet_cells-wallet_cells.ensures in
+    record {
+      room = (
+        omega (arith, ap (λ (cells : CellsState). length cells.markets) c.of.ensures, markets, ap (λ (bank : BankState). length bank.markets) c.bank.view_is, c.requires.room.market_cells),
+        omega (arith, ap (λ (cells : CellsState). length cells.wallets) c.of.ensures, wallets, ap (λ (bank : BankState). length bank.wallets) c.bank.view_is, c.requires.room.wallet_cells),
+      );
+    }
+
+pub returns : goal.returns
+returns c done =
+    closes c.args.bank c.args.seats.items (subst IsBank c.bank.view_is c.bank.invariant.bank) c.requires.lanes
+    c.hand_out_all.new.markets.items c.hand_out_all.new.wallets.items (map named_of c.bank.inside.mints.items) c.bank.inside.srm c.bank.inside.msrm
+    c.market_cells-market_cells.result.items c.wallet_cells-wallet_cells.result.items c.bank.inside.program (outcome_of c.close_into.result)
+    c.hand_out_all.ensures.kept c.requires.seats done c.hand_out_all.ensures.markets c.hand_out_all.ensures.wallets
+    (subst (λ (gates : List (GateView (Stamped Call) MarketOrigin)). AreMarketsClosed gates c.hand_out_all.new.markets.items c.market_cells-market_cells.result.items)
+    (ap (λ (bank : BankState). bank.markets) c.bank.view_is) c.market_cells-market_cells.ensures)
+    (subst (λ (gates : List (GateView (Stamped WalletEntry) WalletOrigin)). AreWalletsClosed gates c.hand_out_all.new.wallets.items c.wallet_cells-wallet_cells.result.items)
+    (ap (λ (bank : BankState). bank.wallets) c.bank.view_is) c.wallet_cells-wallet_cells.ensures)
+    (c.bank.invariant.mints ∙ ap (λ (bank : BankState). bank.script.start.mints) c.bank.view_is)
+    (c.bank.invariant.srm ∙ ap (λ (bank : BankState). bank.script.start.srm) c.bank.view_is)
+    (c.bank.invariant.msrm ∙ ap (λ (bank : BankState). bank.script.start.msrm) c.bank.view_is)
+    (c.close_into.ensures.outcome ∙ ap cells.closed c.of.ensures)

@@ -1,0 +1,64 @@
+use Rattle.std.proofs.Common.{length, vec_len, sym, subst, rules, arith}
+use Rattle.std.proofs.lemmas.Iterator.Adapters.{YieldsList-from_vec}
+use Rattle.std.proofs.lemmas.Iterator.Consumers.{YieldsList-turn}
+use Rattle.std.proofs.lemmas.List.Elements.{All-push}
+use Rattle.dex_run.specs.Bank.{IsMarketGate, IsWalletGate}
+use Rattle.dex_run.specs.Closing.{IsMarketPassAt, IsWalletPassAt}
+use Rattle.dex_run.specs.Seats.{IsSeat, IsSeatOf, SeatState}
+use Rattle.dex_run.proofs.ColumnLists.{columns-free, columns-none, columns-room}
+use Rattle.dex_run.proofs.ClosingPasses.{market-count, market-more, wallet-count, wallet-more}
+use Rattle.dex_run.proofs.closing.hand_out_all.Goals as goal
+
+pub loop-seat-init : goal.loop-seat-init
+loop-seat-init c = record {
+  markets = columns-none IsMarketPassAt (IsMarketGate c.args.bank.now.script) c.args.bank.now.script.start.markets c.args.bank.now.markets c.args.markets.now.items
+      c.requires.bank.markets c.requires.markets.so_many c.requires.markets.empty;
+  market_room = c.requires.markets.enough;
+  wallets = columns-none IsWalletPassAt (IsWalletGate c.args.bank.now.script) c.args.bank.now.script.start.wallets c.args.bank.now.wallets c.args.wallets.now.items
+      c.requires.bank.wallets c.requires.wallets.so_many c.requires.wallets.empty;
+  wallet_room = c.requires.wallets.enough;
+  kept = search rules;
+}
+
+pub hand_out-requires-clause-count : goal.hand_out-requires-clause-count
+hand_out-requires-clause-count c =
+    let turn = YieldsList-turn (YieldsList-from_vec c.args.seats.items c.into_iter-seat-iterator.ensures.into_iter_gives.0 (search rules)) c.loop-seat.yielded c.loop-seat.seat-iterator c.loop-seat.yielded_by
+    c.next.result c.next.new.self c.in-Some.seat c.in-Some.is c.next.ensures.steps in
+    let of : IsSeatOf c.args.bank.now c.in-Some.seat = subst (λ (seat : SeatState). IsSeatOf c.args.bank.now seat) (sym turn.1) (c.requires.seats (length c.loop-seat.yielded) c.in-Some.seat turn.0) in
+    omega (arith, c.passes_of-own.result.0.ok.0, market-count c.args.bank.now c.in-Some.seat of c.loop-seat.yielded c.passes_of-own.result.0.items c.loop-seat.markets.items c.loop-seat.invariant.markets c.passes_of-own.ensures.markets)
+
+pub hand_out-requires-clause-room : goal.hand_out-requires-clause-room
+hand_out-requires-clause-room c =
+    let turn = YieldsList-turn (YieldsList-from_vec c.args.seats.items c.into_iter-seat-iterator.ensures.into_iter_gives.0 (search rules)) c.loop-seat.yielded c.loop-seat.seat-iterator c.loop-seat.yielded_by
+    c.next.result c.next.new.self c.in-Some.seat c.in-Some.is c.next.ensures.steps in
+    columns-free IsMarketPassAt (vec_len c.args.seats) c.args.bank.now.script.start.markets c.args.bank.now.markets c.loop-seat.yielded c.loop-seat.markets.items c.loop-seat.invariant.markets
+    c.loop-seat.invariant.market_room (omega (arith, turn.0, c.args.seats.ok.0))
+
+pub hand_out-requires-in-loop-seat-clause-count : goal.hand_out-requires-in-loop-seat-clause-count
+hand_out-requires-in-loop-seat-clause-count c =
+    let turn = YieldsList-turn (YieldsList-from_vec c.args.seats.items c.into_iter-seat-iterator.ensures.into_iter_gives.0 (search rules)) c.loop-seat.yielded c.loop-seat.seat-iterator c.loop-seat.yielded_by
+    c.next.result c.next.new.self c.in-Some.seat c.in-Some.is c.next.ensures.steps in
+    let of : IsSeatOf c.args.bank.now c.in-Some.seat = subst (λ (seat : SeatState). IsSeatOf c.args.bank.now seat) (sym turn.1) (c.requires.seats (length c.loop-seat.yielded) c.in-Some.seat turn.0) in
+    omega (arith, c.passes_of-own.result.1.ok.0, wallet-count c.args.bank.now c.in-Some.seat of c.loop-seat.yielded c.passes_of-own.result.1.items c.loop-seat.wallets.items c.loop-seat.invariant.wallets c.passes_of-own.ensures.wallets)
+
+pub hand_out-requires-in-loop-seat-clause-room : goal.hand_out-requires-in-loop-seat-clause-room
+hand_out-requires-in-loop-seat-clause-room c =
+    let turn = YieldsList-turn (YieldsList-from_vec c.args.seats.items c.into_iter-seat-iterator.ensures.into_iter_gives.0 (search rules)) c.loop-seat.yielded c.loop-seat.seat-iterator c.loop-seat.yielded_by
+    c.next.result c.next.new.self c.in-Some.seat c.in-Some.is c.next.ensures.steps in
+    columns-free IsWalletPassAt (vec_len c.args.seats) c.args.bank.now.script.start.wallets c.args.bank.now.wallets c.loop-seat.yielded c.loop-seat.wallets.items c.loop-seat.invariant.wallets
+    c.loop-seat.invariant.wallet_room (omega (arith, turn.0, c.args.seats.ok.0))
+
+pub loop-seat-preserved : goal.loop-seat-preserved
+loop-seat-preserved c =
+    let turn = YieldsList-turn (YieldsList-from_vec c.args.seats.items c.into_iter-seat-iterator.ensures.into_iter_gives.0 (search rules)) c.loop-seat.yielded c.loop-seat.seat-iterator c.loop-seat.yielded_by
+    c.next.result c.next.new.self c.in-Some.seat c.in-Some.is c.next.ensures.steps in
+    let of : IsSeatOf c.args.bank.now c.in-Some.seat = subst (λ (seat : SeatState). IsSeatOf c.args.bank.now seat) (sym turn.1) (c.requires.seats (length c.loop-seat.yielded) c.in-Some.seat turn.0) in
+    record {
+      markets = market-more c.args.bank.now c.in-Some.seat of c.loop-seat.yielded c.passes_of-own.result.0.items c.loop-seat.markets.items c.hand_out.new.columns.items c.loop-seat.invariant.markets
+          c.passes_of-own.ensures.kept c.passes_of-own.ensures.markets c.hand_out.ensures;
+      market_room = columns-room (vec_len c.args.seats) c.loop-seat.markets.items c.hand_out.new.columns.items c.passes_of-own.result.0.items c.hand_out.ensures c.loop-seat.invariant.market_room;
+      wallets = wallet-more c.args.bank.now c.in-Some.seat of c.loop-seat.yielded c.passes_of-own.result.1.items c.loop-seat.wallets.items c.hand_out-in-loop-seat.new.columns.items c.loop-seat.invariant.wallets
+          c.passes_of-own.ensures.kept c.passes_of-own.ensures.wallets c.hand_out-in-loop-seat.ensures;
+      wallet_room = columns-room (vec_len c.args.seats) c.loop-seat.wallets.items c.hand_out-in-loop-seat.new.columns.items c.passes_of-own.result.1.items c.hand_out-in-loop-seat.ensures c.loop-seat.invariant.wallet_room;
+      kept = All-push IsSeat c.loop-seat.yielded c.in-Some.seat c.loop-seat.invariant.kept c.passes_of-own.ensures.kept;
+    }

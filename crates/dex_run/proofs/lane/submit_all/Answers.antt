@@ -1,0 +1,12 @@
+use Rattle.std.proofs.Common.{ℕ, ◌∙◌, ap, sym, length, map, take, arith}
+use Rattle.dex_types.specs.Rows.{row_of}
+use Rattle.dex_script.specs.Drafts.{PlainScript}
+use Rattle.dex_journals.specs.Made.{rows_of_lane}
+use Rattle.dex_run.proofs.LaneRows.{next-own}
+use Rattle.dex_run.proofs.lane.submit_all.Goals as goal
+
+pub submit_own-requires-clause-row : goal.submit_own-requires-clause-row
+submit_own-requires-clause-row g c = λ own.
+    next-own c.args.rows.now c.loop-row.row-index c.row-item.result c.loop-row.seat (omega (arith, c.loop-row-test.true)) c.row-item.is
+    (c.requires.rows_are ∙ ap (λ (s : PlainScript). s.rows) (sym c.loop-row.invariant.script))
+    (c.loop-row.invariant.calls ∙ ap (λ (n : ℕ). length (rows_of_lane n (map row_of (take c.loop-row.row-index c.args.rows.now)))) (sym c.loop-row.invariant.lane)) own

@@ -1,0 +1,13 @@
+use Rattle.std.proofs.Common.{◌≡◌, length, map, take}
+use Rattle.dex_types.specs.Rows.{row_of}
+use Rattle.dex_journals.specs.Made.{rows_of_lane}
+use Rattle.dex_run.specs.Seats.{IsSeatOf}
+use Rattle.dex_run.proofs.lane.submit_all.Given as goal
+
+abbrev pub invariant-loop-row : goal.invariant-loop-row
+invariant-loop-row g l = record {
+  of_bank : IsSeatOf l.fn.bank l.seat;
+  lane : l.seat.lane ≡ l.fn.seat.lane;
+  script : l.seat.script ≡ l.fn.seat.script;
+  calls : length l.seat.calls ≡ length (rows_of_lane l.fn.seat.lane (map row_of (take l.row-index l.fn.rows)));
+}

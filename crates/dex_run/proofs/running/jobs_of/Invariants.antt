@@ -1,0 +1,6 @@
+use Rattle.std.specs.List.{AllZip}
+use Rattle.dex_run.specs.Running.{IsJobOf}
+use Rattle.dex_run.proofs.running.jobs_of.Given as goal
+
+abbrev pub invariant-loop-seat : goal.invariant-loop-seat
+invariant-loop-seat g l = AllZip (IsJobOf l.fn.bank l.fn.rows) l.yielded l.jobs.items

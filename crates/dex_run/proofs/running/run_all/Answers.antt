@@ -1,0 +1,37 @@
+use Rattle.std.proofs.Common.{List, map, ap, ◌∙◌, sym, subst, arith}
+use Rattle.std.proofs.lemmas.List.{take_at}
+use Rattle.std.specs.List.{All, AllZip}
+use Rattle.dex_run.specs.declared.lane.LaneJob.{LaneJob}
+use Rattle.dex_run.specs.Running.{CanRun, HasRun, IsJobOf}
+use Rattle.dex_run.proofs.Jobs.{jobs-ran, jobs-ready}
+use Rattle.dex_run.proofs.Openings.{zip-length}
+use Rattle.dex_run.proofs.running.run_all.Goals as goal
+
+pub run_jobs-requires-clause-ready : goal.run_jobs-requires-clause-ready
+run_jobs-requires-clause-ready g c κs within =
+    subst (All (λ (job : LaneJob g.row.R.Denot g.row.P.Denot). CanRun job.bank.now job.rows.now job.seat)) (sym c.deref_mut.ensures.value)
+    (jobs-ready c.args.bank.now c.args.rows.now c.args.seats.items c.in_ok-jobs.jobs.items c.requires c.in_ok-jobs.ensures)
+
+pub seats_back-requires : goal.seats_back-requires
+seats_back-requires g c = (
+  c.in-Ok.ensures.items,
+  omega (
+    arith,
+    c.in-Ok.ensures.capacity,
+    c.len.ensures,
+    zip-length (IsJobOf c.args.bank.now c.args.rows.now) c.args.seats.items c.in_ok-jobs.jobs.items c.in_ok-jobs.ensures,
+    c.in_ok-jobs.jobs.ok.0,
+    c.args.seats.ok.0,
+  ),
+)
+
+pub returns : goal.returns
+returns g c =
+    subst (AllZip (HasRun c.args.bank.now) c.args.seats.items)
+    (sym
+    (c.seats_back.ensures
+    ∙ ap (map (λ (job : LaneJob g.row.R.Denot g.row.P.Denot). job.seat))
+    (take_at c.run_jobs.new.jobs _ c.in_ok-jobs.jobs.len (omega (arith, c.run_jobs.ensures.count, c.deref_mut.ensures.len)))))
+    (jobs-ran c.args.bank.now c.args.rows.now c.args.seats.items c.in_ok-jobs.jobs.items c.run_jobs.new.jobs c.in_ok-jobs.ensures
+    (subst (λ (l : List (LaneJob g.row.R.Denot g.row.P.Denot)). AllZip (λ (one other : LaneJob g.row.R.Denot g.row.P.Denot). HasRun one.bank.now one.seat other.seat) l c.run_jobs.new.jobs)
+    c.deref_mut.ensures.value c.run_jobs.ensures.ran))

@@ -1,0 +1,54 @@
+-- What the fields of a bank and of a seat stand for.
+use Rattle.std.specs.Prelude.{◌≡◌, ◌≤◌, [], map, vec_capacity}
+use Rattle.dex_types.specs.declared.rows.Row.{Row}
+use Rattle.dex_types.specs.Accounts.{PlainAccount, PlainMarketAccounts, named_of}
+use Rattle.dex_types.specs.Rows.{row_of}
+use Rattle.dex_history.specs.Journal.{Call, asked_of}
+use Rattle.dex_stamps.specs.Stamped.{Stamped}
+use Rattle.dex_run.specs.declared.bank.Bank.TheInside as bank
+use Rattle.dex_run.specs.declared.seat.LaneSeat.TheInside as seat
+use Rattle.dex_run.specs.declared.made.Made.{Made}
+use Rattle.dex_run.specs.Bank.{BankState, IsBank}
+use Rattle.dex_run.specs.Seats.{IsSeat, SeatState}
+
+abbrev pub bank_inside : bank.Inside → BankState
+bank_inside inside = record {
+  script = inside.script.value;
+  markets = inside.markets.items;
+  wallets = inside.wallets.items;
+}
+
+-- the fields are a bank of the script, and have what of its start no row changes
+pub record IsBankKept (inside : bank.Inside) : Type 0 where
+  pub bank : IsBank (bank_inside inside)
+  pub mints : map named_of inside.mints.items ≡ inside.script.value.start.mints
+  pub srm : inside.srm ≡ inside.script.value.start.srm
+  pub msrm : inside.msrm ≡ inside.script.value.start.msrm
+  pub program : inside.program ≡ inside.script.value.program
+  pub market_places : inside.market_places
+      ≡ map (λ (accounts : PlainMarketAccounts). accounts.address) inside.script.value.start.markets
+  pub wallet_places : inside.wallet_places
+      ≡ map (λ (account : PlainAccount). account.address) inside.script.value.start.wallets
+
+-- the call of a row, with what it saw, the entry that it made, and its stamp
+abbrev pub call_made : Row × Made → Stamped Call
+call_made made = record {
+  item = record { asked = asked_of (row_of made.0); seen = made.1.seen; entry = made.1.entry };
+  stamp = made.1.stamp.number;
+}
+
+abbrev pub seat_inside : seat.Inside → SeatState
+seat_inside inside = record {
+  lane = inside.lane;
+  script = inside.script.value;
+  calls = map call_made inside.calls.items;
+  last = inside.last.number;
+  markets = inside.markets.items;
+  wallets = inside.wallets.items;
+}
+
+-- the fields are a seat, with empty hands that have room for four cells
+pub record IsSeatKept (inside : seat.Inside) : Type 0 where
+  pub seat : IsSeat (seat_inside inside)
+  pub hands : inside.hands.items ≡ []
+  pub room : 4 ≤ vec_capacity inside.hands

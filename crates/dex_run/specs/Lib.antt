@@ -1,0 +1,9 @@
+pub mod Bank
+pub mod Seats
+pub mod Submitted
+pub mod Inside
+pub mod Columns
+pub mod Closing
+pub mod Opened
+pub mod Running
+pub mod Turns

@@ -1,0 +1,65 @@
+-- The seat of a lane: its passes, and what it made.
+use Rattle.std.specs.Prelude.{ℕ, ◌≡◌, ◌≤◌, List, Some, All, length}
+use Rattle.std.specs.List.{AllZip}
+use Rattle.dex_types.specs.declared.movements.WalletEntry.{WalletEntry}
+use Rattle.dex_types.specs.Accounts.{PlainAccount, PlainMarketAccounts}
+use Rattle.dex_gate.specs.GateView.{GateView}
+use Rattle.dex_gate.specs.PassView.{PassView}
+use Rattle.dex_gate.specs.declared.stage.Stage.TheVariants.{Idle}
+use Rattle.dex_history.specs.Journal.{Call}
+use Rattle.dex_script.specs.Drafts.{PlainScript}
+use Rattle.dex_stamps.specs.Stamped.{Stamped}
+use Rattle.dex_journals.specs.Journals.{MarketOrigin, WalletOrigin}
+use Rattle.dex_journals.specs.Made.{calls_on, entries_on, rows_of_lane}
+use Rattle.dex_histories.specs.Lanes.{IsLane, Lane}
+use Rattle.dex_run.specs.Bank.{BankState}
+
+-- a lane of a script, the calls that it made so far and the last stamp of them (0 where there is none), and its pass for each
+-- market and each wallet, in declared order
+pub record SeatState : Type 0 where
+  pub lane : ℕ
+  pub script : PlainScript
+  pub calls : List (Stamped Call)
+  pub last : ℕ
+  pub markets : List (PassView (Stamped Call) MarketOrigin)
+  pub wallets : List (PassView (Stamped WalletEntry) WalletOrigin)
+
+-- a pass of the lane for a market: it holds no ticket and has no number to hand out, and what it made are the lane's calls on
+-- the market
+pub record IsMarketPass (lane : ℕ) (calls : List (Stamped Call)) (start : PlainMarketAccounts)
+    (pass : PassView (Stamped Call) MarketOrigin) : Type 0 where
+  pub number : pass.number ≡ lane
+  pub none_left : pass.until ≤ pass.next
+  pub idle : pass.stage ≡ Idle
+  pub mine : pass.mine ≡ calls_on start.address calls
+
+-- a pass of the lane for a wallet: what it made are the entries of the lane's calls in the wallet's journal
+pub record IsWalletPass (lane : ℕ) (calls : List (Stamped Call)) (start : PlainAccount)
+    (pass : PassView (Stamped WalletEntry) WalletOrigin) : Type 0 where
+  pub number : pass.number ≡ lane
+  pub none_left : pass.until ≤ pass.next
+  pub idle : pass.stage ≡ Idle
+  pub mine : pass.mine ≡ entries_on start.address calls
+
+-- what always holds of a seat: its calls are its lane's first rows, each done once, and its passes made just these
+pub record IsSeat (seat : SeatState) : Type 0 where
+  pub calls : IsLane seat.script seat.lane seat.calls
+  pub below : All (λ (call : Stamped Call). call.stamp ≤ seat.last) seat.calls
+  pub markets : AllZip (IsMarketPass seat.lane seat.calls) seat.script.start.markets seat.markets
+  pub wallets : AllZip (IsWalletPass seat.lane seat.calls) seat.script.start.wallets seat.wallets
+
+-- the seat is one of this bank
+pub record IsSeatOf (bank : BankState) (seat : SeatState) : Type 0 where
+  pub script : seat.script ≡ bank.script
+  pub markets : AllZip (λ (gate : GateView (Stamped Call) MarketOrigin) (pass : PassView (Stamped Call) MarketOrigin).
+      pass.gate ≡ Some gate) bank.markets seat.markets
+  pub wallets : AllZip (λ (gate : GateView (Stamped WalletEntry) WalletOrigin)
+      (pass : PassView (Stamped WalletEntry) WalletOrigin). pass.gate ≡ Some gate) bank.wallets seat.wallets
+
+-- all rows of its lane are done
+abbrev pub IsDone : SeatState → Type 0
+IsDone seat = length seat.calls ≡ length (rows_of_lane seat.lane seat.script.rows)
+
+-- its lane with what it made
+abbrev pub lane_in : SeatState → Lane
+lane_in seat = record { number = seat.lane; calls = seat.calls }

@@ -1,0 +1,77 @@
+-- What a row leaves of a seat.
+use Rattle.std.specs.Prelude.{◌≡◌, ◌++◌, ◌∷◌, [], Bool, true, false, List, length, take}
+use Rattle.dex_types.specs.declared.movements.WalletEntry.{WalletEntry}
+use Rattle.dex_types.specs.declared.replies.Reply.{Reply}
+use Rattle.dex_types.specs.Accounts.{PlainAccount, PlainMarketAccounts}
+use Rattle.dex_types.specs.Addresses.{is_same}
+use Rattle.dex_types.specs.Rows.{PlainRow}
+use Rattle.dex_types.specs.WalletJournal.{IsWalletLegal}
+use Rattle.dex_accounts.specs.Decoded.{market_in}
+use Rattle.dex_fold.specs.Fold.{names}
+use Rattle.dex_gate.specs.History.{Extends}
+use Rattle.dex_gate.specs.PassView.{PassView}
+use Rattle.dex_history.specs.Journal.{Call, IsLegal, asked_of}
+use Rattle.dex_wallet.specs.CellState.{balance_of}
+use Rattle.dex_replay.specs.Lawful.{AllThree, IsSight}
+use Rattle.dex_stamps.specs.Stamped.{Stamped, items_of}
+use Rattle.dex_journals.specs.Journals.{MarketOrigin, WalletOrigin}
+use Rattle.dex_journals.specs.Made.{entries_in, rows_of_lane}
+use Rattle.dex_histories.specs.Lanes.{MovesEach}
+use Rattle.dex_run.specs.Seats.{SeatState}
+
+-- a pass with a longer history, and with these entries made
+abbrev pub grown : {E O : Type 0} → PassView E O → List E → List E → PassView E O
+grown pass seen made = record pass { seen = seen; mine = pass.mine ++ made }
+
+-- the row is one on this market: the pass has seen a longer history, which is legal from the market's start and ends with the
+-- call, and has made the call
+pub record HasCalled (call : Stamped Call) (start : PlainMarketAccounts)
+    (before after : PassView (Stamped Call) MarketOrigin) : Type 0 where
+  pub pass : after ≡ grown before after.seen (call ∷ [])
+  pub seen : Extends before.seen after.seen
+  pub earlier : List (Stamped Call)
+  pub last : after.seen ≡ earlier ++ call ∷ []
+  pub legal : IsLegal (market_in start) (items_of after.seen)
+
+-- the row names this wallet: the pass has seen a longer history of movements, which is legal from the wallet's first amount and
+-- ends with the movement that the call has for the wallet, and has made it
+pub record HasMoved (call : Stamped Call) (start : PlainAccount)
+    (before after : PassView (Stamped WalletEntry) WalletOrigin) : Type 0 where
+  pub pass : after ≡ grown before after.seen (entries_in start.address call)
+  pub seen : Extends before.seen after.seen
+  pub earlier : List (Stamped WalletEntry)
+  pub last : after.seen ≡ earlier ++ entries_in start.address call
+  pub legal : IsWalletLegal (balance_of start.bytes) (items_of after.seen)
+
+-- where a row acts on a market or wallet, this holds of its pass; and else the pass is as it was
+abbrev pub Where : Bool → Type 0 → Type 0 → Type 0
+Where true here elsewhere = here
+Where false here elsewhere = elsewhere
+
+abbrev pub MarketGrows : PlainRow → Stamped Call → PlainMarketAccounts → PassView (Stamped Call) MarketOrigin
+    → PassView (Stamped Call) MarketOrigin → Type 0
+MarketGrows row call start before after = Where (is_same row.market start.address) (HasCalled call start before after) (after ≡ before)
+
+abbrev pub WalletGrows : PlainRow → Stamped Call → PlainAccount → PassView (Stamped WalletEntry) WalletOrigin
+    → PassView (Stamped WalletEntry) WalletOrigin → Type 0
+WalletGrows row call start before after = Where (names row start.address) (HasMoved call start before after) (after ≡ before)
+
+-- the row is the next of the seat's lane, behind those of its calls
+pub record IsNext (row : PlainRow) (seat : SeatState) : Type 0 where
+  pub later : List PlainRow
+  pub is : rows_of_lane seat.lane seat.script.rows
+      ≡ take (length seat.calls) (rows_of_lane seat.lane seat.script.rows) ++ row ∷ later
+
+-- a row was submitted at a seat: its lane has one call more, which is this row's, has this reply, saw the script's wallets, and moves each
+-- wallet that the row names once; and the passes of its market and of these wallets have grown by it, and no others
+pub record HasSubmitted (row : PlainRow) (reply : Reply) (before after : SeatState) : Type 0 where
+  pub call : Stamped Call
+  pub asked : call.item.asked ≡ asked_of row
+  pub answered : call.item.entry.reply ≡ reply
+  pub sees : IsSight before.script call.item.seen
+  pub moves : MovesEach call.item
+  pub lane : after.lane ≡ before.lane
+  pub script : after.script ≡ before.script
+  pub calls : after.calls ≡ before.calls ++ call ∷ []
+  pub markets : AllThree (MarketGrows row call) before.script.start.markets before.markets after.markets
+  pub wallets : AllThree (WalletGrows row call) before.script.start.wallets before.wallets after.wallets

@@ -1,0 +1,314 @@
+//! The bank of a script, and a seat for each lane.
+
+ghost use Rattle.std.specs.Prelude.{◌≡◌, ◌≤◌, ◌<◌, ◌++◌, ◌∷◌, [], All, IfOk, IsOk, OnOk, Some, map};
+ghost use Rattle.std.specs.List.{AllZip, range_with_len};
+ghost use Rattle.dex_types.specs.declared.movements.WalletEntry.{WalletEntry};
+ghost use Rattle.dex_types.specs.Accounts.{PlainAccount, PlainMarketAccounts, market_accounts_of, named_of};
+ghost use Rattle.dex_history.specs.Journal.{Call};
+ghost use Rattle.dex_cell.specs.CellState.{MarketCellState};
+ghost use Rattle.dex_gate.specs.GateView.{GateView};
+ghost use Rattle.dex_gate.specs.PassView.{PassView, first_pass, next_pass};
+ghost use Rattle.dex_stamps.specs.Stamped.{Stamped};
+ghost use Rattle.dex_wallet.specs.CellState as wallet;
+ghost use Rattle.dex_bank.specs.Opened.{market_opened, rows_naming, rows_on, wallet_opened};
+ghost use Rattle.dex_journals.specs.Journals.{MarketOrigin, WalletOrigin};
+ghost use Rattle.dex_run.specs.Bank.{IsBank, IsMarketGate, IsWalletGate};
+ghost use Rattle.dex_run.specs.Opened.{first_passes, fresh_seat, seat_in, split_once};
+ghost use Rattle.dex_run.specs.Seats.{IsMarketPass, IsSeatOf, IsWalletPass, SeatState};
+
+use crate::bank::Bank;
+use crate::seat::LaneSeat;
+use dex_bank::Cells;
+use dex_cell::MarketCell;
+use dex_gate::{Gate, Journaled, Pass};
+use dex_journals::{BankMarket, BankWallet};
+use dex_places::Places;
+use dex_script::Script;
+use dex_stamps::{Kept, Stamp};
+use dex_types::{Address, MarketAccounts, Named, NoMemory};
+use dex_wallet::WalletCell;
+use http_server::Log;
+use std::alloc::Global;
+
+/// Adds an item behind the others.
+fn add<T: Drop>(items: &mut Vec<T>, item: T) -> Result<(), NoMemory>
+    ensures { OnOk result (items.new.items ≡ items.old.items ++ item ∷ []) }
+{
+    match items.push(item) {
+        Ok(()) => Ok(()),
+        Err(_) => Err(NoMemory),
+    }
+}
+
+// ---- gates
+
+/// How many lanes a script has.
+fn lanes_in(script: &Script) -> u32
+    ensures lanes { result ≡ script.now.lanes }
+    ensures some { 1 ≤ result }
+    ensures few { result ≤ 16 }
+{
+    script.lanes
+}
+
+/// The gate of a market, and its first pass.
+fn market_gate(
+    alloc: Global,
+    cell: MarketCell,
+    script: &Script,
+) -> Result<(Gate<BankMarket>, Pass<BankMarket>), NoMemory>
+    requires fresh { cell.calls ≡ [] }
+    requires room { cell.room ≡ rows_on cell.start.address script.now.rows }
+    ensures gate { IfOk result (λ made. IsMarketGate script.now cell.start made.0) }
+    ensures pass { IfOk result (λ made. made.1 ≡ first_pass made.0) }
+{
+    match Gate::open(alloc, BankMarket::open(cell, script), lanes_in(script)) {
+        Ok(made) => Ok(made),
+        Err(_) => Err(NoMemory),
+    }
+}
+
+/// The gates of all markets, and their first passes.
+fn market_gates(
+    alloc: Global,
+    cells: Vec<MarketCell>,
+    script: &Script,
+) -> Result<(Vec<Gate<BankMarket>>, Vec<Pass<BankMarket>>), NoMemory>
+    requires fresh { All (λ (cell : MarketCellState). cell.calls ≡ []) cells.items }
+    requires room { All (λ (cell : MarketCellState). cell.room ≡ rows_on cell.start.address script.now.rows)
+        cells.items }
+    ensures gates { IfOk result (λ made. AllZip
+        (λ (cell : MarketCellState) (gate : GateView (Stamped Call) MarketOrigin).
+        IsMarketGate script.now cell.start gate)
+        cells.items made.0.items) }
+    ensures passes { IfOk result (λ made. made.1.items ≡ first_passes 1 made.0.items) }
+{
+    let mut gates = Vec::new(alloc);
+    let mut passes = Vec::new(alloc);
+    for cell in cells {
+        let (gate, pass) = market_gate(alloc, cell, script)?;
+        add(&mut gates, gate)?;
+        add(&mut passes, pass)?;
+    }
+    Ok((gates, passes))
+}
+
+/// The gate of a wallet, and its first pass.
+fn wallet_gate(
+    alloc: Global,
+    cell: WalletCell,
+    script: &Script,
+) -> Result<(Gate<BankWallet>, Pass<BankWallet>), NoMemory>
+    requires fresh { cell.entries ≡ [] }
+    requires room { cell.room ≡ rows_naming cell.address script.now.rows }
+    ensures gate { IfOk result (λ made. IsWalletGate script.now
+        (record { address = cell.address; bytes = cell.start }) made.0) }
+    ensures pass { IfOk result (λ made. made.1 ≡ first_pass made.0) }
+{
+    match Gate::open(alloc, BankWallet::open(cell, script), lanes_in(script)) {
+        Ok(made) => Ok(made),
+        Err(_) => Err(NoMemory),
+    }
+}
+
+/// The gates of all wallets, and their first passes.
+fn wallet_gates(
+    alloc: Global,
+    cells: Vec<WalletCell>,
+    script: &Script,
+) -> Result<(Vec<Gate<BankWallet>>, Vec<Pass<BankWallet>>), NoMemory>
+    requires fresh { All (λ (cell : wallet.CellState). cell.entries ≡ []) cells.items }
+    requires room { All (λ (cell : wallet.CellState). cell.room ≡ rows_naming cell.address script.now.rows)
+        cells.items }
+    ensures gates { IfOk result (λ made. AllZip
+        (λ (cell : wallet.CellState) (gate : GateView (Stamped WalletEntry) WalletOrigin).
+        IsWalletGate script.now (record { address = cell.address; bytes = cell.start }) gate)
+        cells.items made.0.items) }
+    ensures passes { IfOk result (λ made. made.1.items ≡ first_passes 1 made.0.items) }
+{
+    let mut gates = Vec::new(alloc);
+    let mut passes = Vec::new(alloc);
+    for cell in cells {
+        let (gate, pass) = wallet_gate(alloc, cell, script)?;
+        add(&mut gates, gate)?;
+        add(&mut passes, pass)?;
+    }
+    Ok((gates, passes))
+}
+
+// ---- seats
+
+/// The next pass for each gate.
+fn split_all<V: Journaled>(
+    alloc: Global,
+    gates: &[Gate<V>],
+    firsts: &mut Vec<Pass<V>>,
+) -> Result<Vec<Pass<V>>, NoMemory>
+    requires gates { AllZip (λ (gate : GateView V.Entry V.Origin) (pass : PassView V.Entry V.Origin).
+        pass.gate ≡ Some gate) gates.now firsts.old.items }
+    requires some { All (λ (pass : PassView V.Entry V.Origin). pass.next < pass.until) firsts.old.items }
+    ensures given { IfOk result (λ given. given.items ≡ map next_pass firsts.old.items) }
+    ensures kept { OnOk result (firsts.new.items ≡ map split_once firsts.old.items) }
+{
+    let mut given = Vec::new(alloc);
+    for place in 0..gates.len() {
+        let pass = gates[place].split(&mut firsts[place]);
+        add(&mut given, pass)?;
+    }
+    Ok(given)
+}
+
+/// The seat of a lane, of whose rows none has acted.
+fn seat(
+    alloc: Global,
+    script: &Script,
+    lane: u32,
+    markets: Vec<Pass<BankMarket>>,
+    wallets: Vec<Pass<BankWallet>>,
+) -> Result<LaneSeat, NoMemory>
+    requires markets { AllZip (IsMarketPass lane []) script.now.start.markets markets.items }
+    requires wallets { AllZip (IsWalletPass lane []) script.now.start.wallets wallets.items }
+    ensures { IfOk result (λ seat. seat ≡ fresh_seat lane script.now markets.items wallets.items) }
+{
+    let Ok(hands) = Vec::with_capacity(alloc, 4) else {
+        return Err(NoMemory);
+    };
+    Ok(LaneSeat {
+        lane,
+        markets,
+        wallets,
+        hands,
+        calls: Log::new(),
+        last: Stamp::first(),
+        script: Kept::of(script),
+    })
+}
+
+/// The seats of all lanes.
+fn seats_of(
+    alloc: Global,
+    script: &Script,
+    markets: &[Gate<BankMarket>],
+    wallets: &[Gate<BankWallet>],
+    mut market_passes: Vec<Pass<BankMarket>>,
+    mut wallet_passes: Vec<Pass<BankWallet>>,
+) -> Result<Vec<LaneSeat>, NoMemory>
+    requires markets { AllZip (IsMarketGate script.now) script.now.start.markets markets.now }
+    requires wallets { AllZip (IsWalletGate script.now) script.now.start.wallets wallets.now }
+    requires market_passes { market_passes.items ≡ first_passes 1 markets.now }
+    requires wallet_passes { wallet_passes.items ≡ first_passes 1 wallets.now }
+    ensures { IfOk result (λ seats. seats.items
+        ≡ map (seat_in (record { script = script.now; markets = markets.now; wallets = wallets.now }))
+        (range_with_len 0 script.now.lanes)) }
+{
+    let mut seats = Vec::new(alloc);
+    for lane in 1..lanes_in(script) {
+        let of_markets = split_all(alloc, markets, &mut market_passes)?;
+        let of_wallets = split_all(alloc, wallets, &mut wallet_passes)?;
+        add(
+            &mut seats,
+            seat(alloc, script, lane, of_markets, of_wallets)?,
+        )?;
+    }
+    let first = seat(alloc, script, 0, market_passes, wallet_passes)?;
+    match seats.insert(0, first) {
+        Ok(()) => Ok(seats),
+        Err(_) => Err(NoMemory),
+    }
+}
+
+// ---- the bank
+
+/// The addresses of markets.
+fn market_addresses(alloc: Global, markets: &[MarketAccounts]) -> Result<Vec<Address>, NoMemory>
+    ensures { IfOk result (λ addresses. addresses.items
+        ≡ map (λ (accounts : PlainMarketAccounts). accounts.address) (map market_accounts_of markets.now)) }
+{
+    let mut addresses = Vec::new(alloc);
+    for accounts in markets {
+        add(&mut addresses, accounts.address)?;
+    }
+    Ok(addresses)
+}
+
+/// The addresses of wallets.
+fn wallet_addresses(alloc: Global, wallets: &[Named]) -> Result<Vec<Address>, NoMemory>
+    ensures { IfOk result (λ addresses. addresses.items
+        ≡ map (λ (account : PlainAccount). account.address) (map named_of wallets.now)) }
+{
+    let mut addresses = Vec::new(alloc);
+    for account in wallets {
+        add(&mut addresses, account.address)?;
+    }
+    Ok(addresses)
+}
+
+/// The places of a script's markets.
+fn market_places(alloc: Global, script: &Script) -> Result<Places, NoMemory>
+    ensures { IfOk result (λ places. places
+        ≡ map (λ (accounts : PlainMarketAccounts). accounts.address) script.now.start.markets) }
+{
+    Places::of(alloc, market_addresses(alloc, &script.start.markets)?)
+}
+
+/// The places of a script's wallets.
+fn wallet_places(alloc: Global, script: &Script) -> Result<Places, NoMemory>
+    ensures { IfOk result (λ places. places
+        ≡ map (λ (account : PlainAccount). account.address) script.now.start.wallets) }
+{
+    Places::of(alloc, wallet_addresses(alloc, &script.start.wallets)?)
+}
+
+/// The bank of these gates.
+fn bank_of(
+    alloc: Global,
+    script: &Script,
+    mints: Vec<Named>,
+    markets: Vec<Gate<BankMarket>>,
+    wallets: Vec<Gate<BankWallet>>,
+) -> Result<Bank, NoMemory>
+    requires markets { AllZip (IsMarketGate script.now) script.now.start.markets markets.items }
+    requires wallets { AllZip (IsWalletGate script.now) script.now.start.wallets wallets.items }
+    requires mints { map named_of mints.items ≡ script.now.start.mints }
+    ensures bank { IfOk result (λ bank. bank
+        ≡ record { script = script.now; markets = markets.items; wallets = wallets.items }) }
+    ensures kept { IfOk result IsBank }
+{
+    let market_places = market_places(alloc, script)?;
+    let wallet_places = wallet_places(alloc, script)?;
+    Ok(Bank {
+        mints,
+        srm: script.start.srm,
+        msrm: script.start.msrm,
+        program: script.program,
+        markets,
+        wallets,
+        market_places,
+        wallet_places,
+        script: Kept::of(script),
+    })
+}
+
+/// The bank of a script, and one seat for each lane, by their numbers. Asks memory.
+pub fn build(alloc: Global, script: &Script) -> Result<(Bank, Vec<LaneSeat>), NoMemory>
+    ensures bank { IfOk result (λ made. made.0.script ≡ script.now) }
+    ensures kept { IfOk result (λ made. IsBank made.0) }
+    ensures seats { IfOk result (λ made. All (IsSeatOf made.0) made.1.items) }
+    ensures lanes { IfOk result (λ made. map (λ (seat : SeatState). seat.lane) made.1.items
+        ≡ range_with_len 0 script.now.lanes) }
+    ensures fresh { IfOk result (λ made. All (λ (seat : SeatState). seat.calls ≡ []) made.1.items) }
+{
+    let (mints, markets, wallets) = Cells::open(alloc, script)?.into_parts();
+    let (markets, market_passes) = market_gates(alloc, markets, script)?;
+    let (wallets, wallet_passes) = wallet_gates(alloc, wallets, script)?;
+    let seats = seats_of(
+        alloc,
+        script,
+        &markets,
+        &wallets,
+        market_passes,
+        wallet_passes,
+    )?;
+    let bank = bank_of(alloc, script, mints, markets, wallets)?;
+    Ok((bank, seats))
+}

@@ -1,0 +1,258 @@
+//! All seats come back, and what the bank leaves.
+
+ghost use Rattle.std.specs.Prelude.{◌≡◌, List, All, IfErr, IfOk, IfSome, length, map, vec_len};
+ghost use Rattle.std.specs.List.{AllZip, range_with_len};
+ghost use Rattle.dex_report.specs.Outcomes.{PlainOutcome, outcome_of};
+ghost use Rattle.dex_script.specs.Drafts.{PlainScript};
+ghost use Rattle.dex_histories.specs.Runs.{IsRunOf};
+ghost use Rattle.dex_order.specs.OneOrder.{IsOneOrder};
+ghost use Rattle.dex_journals.specs.Journals.{BankMarketState, BankWalletState, IsBankMarket, IsBankWallet};
+ghost use Rattle.dex_run.specs.Bank.{IsBank};
+ghost use Rattle.dex_run.specs.Closing.{AreMarketsClosed, AreWalletsClosed, ClosesAs, HasGateRoom, HasRoom};
+ghost use Rattle.dex_run.specs.Closing.{MarketColumns, WalletColumns};
+ghost use Rattle.dex_run.specs.Columns.{AreEmpty, CanClose, IsRoom};
+ghost use Rattle.dex_run.specs.Seats.{IsDone, IsSeat, IsSeatOf, SeatState};
+
+use crate::bank::Bank;
+use crate::columns::{append, closed_gates, columns_for, hand_out};
+use crate::seat::LaneSeat;
+use dex_bank::{Cells, Room};
+use dex_cell::MarketCell;
+use dex_gate::{Gate, Pass};
+use dex_histories::laws;
+use dex_journals::{BankMarket, BankWallet};
+use dex_order::laws::what_lanes_leave_is_a_replay;
+use dex_report::Outcome;
+use dex_wallet::WalletCell;
+use std::alloc::Global;
+
+// ---- room
+
+/// Room for closing the gates of one kind: a column for the passes of each, their values, and the cells of these.
+#[derive(Drop)]
+struct GateRoom<P, V, C> {
+    columns: Vec<Vec<P>>,
+    values: Vec<V>,
+    cells: Vec<C>,
+}
+
+/// Room for so many gates with so many passes each, if there is memory for it.
+fn gate_room<P: Drop, V: Drop, C: Drop>(
+    alloc: Global,
+    gates: usize,
+    lanes: usize,
+) -> Option<GateRoom<P, V, C>>
+    ensures { IfSome result (HasGateRoom gates lanes) }
+{
+    let columns = columns_for(alloc, gates, lanes)?;
+    let values = Vec::with_capacity(alloc, gates).ok()?;
+    let cells = Vec::with_capacity(alloc, gates).ok()?;
+    Some(GateRoom {
+        columns,
+        values,
+        cells,
+    })
+}
+
+/// Room for closing a bank.
+#[derive(Drop)]
+struct ClosingRoom {
+    markets: GateRoom<Pass<BankMarket>, BankMarket, MarketCell>,
+    wallets: GateRoom<Pass<BankWallet>, BankWallet, WalletCell>,
+    left: Room,
+}
+
+/// Room for closing a bank of so many markets and wallets with so many lanes, if there is memory for it.
+fn closing_room(alloc: Global, markets: usize, wallets: usize, lanes: usize) -> Option<ClosingRoom>
+    ensures { IfSome result (HasRoom markets wallets lanes) }
+{
+    let left = Room::reserve(alloc, markets, wallets).ok()?;
+    let markets = gate_room(alloc, markets, lanes)?;
+    let wallets = gate_room(alloc, wallets, lanes)?;
+    Some(ClosingRoom {
+        markets,
+        wallets,
+        left,
+    })
+}
+
+// ---- the passes of all seats
+
+/// The passes of a seat.
+fn passes_of(seat: LaneSeat) -> (Vec<Pass<BankMarket>>, Vec<Pass<BankWallet>>)
+    ensures markets { result.0.items ≡ seat.markets }
+    ensures wallets { result.1.items ≡ seat.wallets }
+    ensures kept { IsSeat seat }
+{
+    let LaneSeat {
+        lane: _,
+        markets,
+        wallets,
+        hands: _,
+        calls: _,
+        last: _,
+        script: _,
+    } = seat;
+    (markets, wallets)
+}
+
+/// Hands the passes of all seats out to the columns of their gates.
+fn hand_out_all(
+    bank: &Bank,
+    seats: Vec<LaneSeat>,
+    markets: &mut Vec<Vec<Pass<BankMarket>>>,
+    wallets: &mut Vec<Vec<Pass<BankWallet>>>,
+)
+    requires bank { IsBank bank.now }
+    requires seats { All (IsSeatOf bank.now) seats.items }
+    requires markets { AreEmpty (length bank.now.markets) (vec_len seats) markets.old.items }
+    requires wallets { AreEmpty (length bank.now.wallets) (vec_len seats) wallets.old.items }
+    ensures markets { MarketColumns bank.now seats.items markets.new.items }
+    ensures wallets { WalletColumns bank.now seats.items wallets.new.items }
+    ensures kept { All IsSeat seats.items }
+{
+    for seat in seats {
+        let (own, others) = passes_of(seat);
+        hand_out(own, markets);
+        hand_out(others, wallets);
+    }
+}
+
+// ---- the cells that the gates give
+
+/// The cells of markets, written into the room for them.
+fn market_cells_of(markets: Vec<BankMarket>, mut cells: Vec<MarketCell>) -> Vec<MarketCell>
+    requires { IsRoom (vec_len markets) cells }
+    ensures cells { result.items ≡ map (λ (market : BankMarketState). market.cell) markets.items }
+    ensures kept { All IsBankMarket markets.items }
+{
+    for market in markets {
+        append(&mut cells, market.into_cell());
+    }
+    cells
+}
+
+/// The cells of the markets that gates give.
+fn market_cells(
+    gates: Vec<Gate<BankMarket>>,
+    room: GateRoom<Pass<BankMarket>, BankMarket, MarketCell>,
+) -> Vec<MarketCell>
+    requires passes { AllZip (λ gate column. CanClose gate column.items) gates.items room.columns.items }
+    requires values { IsRoom (vec_len gates) room.values }
+    requires cells { IsRoom (vec_len gates) room.cells }
+    ensures { AreMarketsClosed gates.items room.columns.items result.items }
+{
+    let GateRoom {
+        columns,
+        values,
+        cells,
+    } = room;
+    let markets = closed_gates(gates, columns, values);
+    market_cells_of(markets, cells)
+}
+
+/// The cells of wallets, written into the room for them.
+fn wallet_cells_of(wallets: Vec<BankWallet>, mut cells: Vec<WalletCell>) -> Vec<WalletCell>
+    requires { IsRoom (vec_len wallets) cells }
+    ensures cells { result.items ≡ map (λ (wallet : BankWalletState). wallet.cell) wallets.items }
+    ensures kept { All IsBankWallet wallets.items }
+{
+    for wallet in wallets {
+        append(&mut cells, wallet.into_cell());
+    }
+    cells
+}
+
+/// The cells of the wallets that gates give.
+fn wallet_cells(
+    gates: Vec<Gate<BankWallet>>,
+    room: GateRoom<Pass<BankWallet>, BankWallet, WalletCell>,
+) -> Vec<WalletCell>
+    requires passes { AllZip (λ gate column. CanClose gate column.items) gates.items room.columns.items }
+    requires values { IsRoom (vec_len gates) room.values }
+    requires cells { IsRoom (vec_len gates) room.cells }
+    ensures { AreWalletsClosed gates.items room.columns.items result.items }
+{
+    let GateRoom {
+        columns,
+        values,
+        cells,
+    } = room;
+    let wallets = closed_gates(gates, columns, values);
+    wallet_cells_of(wallets, cells)
+}
+
+// ---- all of it
+
+/// What a bank leaves when these seats are back.
+fn closed(bank: Bank, seats: Vec<LaneSeat>, room: ClosingRoom) -> Outcome
+    requires seats { All (IsSeatOf bank) seats.items }
+    requires lanes { map (λ seat. seat.lane) seats.items ≡ range_with_len 0 bank.script.lanes }
+    requires room { HasRoom (length bank.markets) (length bank.wallets) (vec_len seats) room }
+    ensures { All IsDone seats.items → ClosesAs bank.script seats.items (outcome_of result) }
+{
+    let ClosingRoom {
+        mut markets,
+        mut wallets,
+        left,
+    } = room;
+    hand_out_all(&bank, seats, &mut markets.columns, &mut wallets.columns);
+    let Bank {
+        mints,
+        srm,
+        msrm,
+        program,
+        markets: market_gates,
+        wallets: wallet_gates,
+        market_places: _,
+        wallet_places: _,
+        script: _,
+    } = bank;
+    let market_cells = market_cells(market_gates, markets);
+    let wallet_cells = wallet_cells(wallet_gates, wallets);
+    Cells::of(mints, srm, msrm, market_cells, wallet_cells, program).close_into(left)
+}
+
+/// What lanes leave when their rows are done is a run of their script.
+fn what_closes_is_a_run()
+    ensures { (script : PlainScript) (seats : List SeatState) (outcome : PlainOutcome)
+        → ClosesAs script seats outcome → IsRunOf script outcome }
+{
+    laws::what_lanes_leave_is_lawful();
+    laws::what_lanes_leave_is_sound();
+    laws::what_lanes_leave_is_conserved();
+}
+
+/// It is also what all rows leave one after the other, in some order that keeps the order of each lane.
+fn what_closes_is_in_one_order()
+    ensures { (script : PlainScript) (seats : List SeatState) (outcome : PlainOutcome)
+        → ClosesAs script seats outcome → IsOneOrder script outcome }
+{
+    what_lanes_leave_is_a_replay();
+}
+
+impl Bank {
+    /// Takes all seats back, by the numbers of their lanes, and gives what is left: where all their rows are done, the journals
+    /// hold just the calls of these seats. Where there is no memory for it, all come back untouched.
+    pub fn close(
+        self,
+        alloc: Global,
+        seats: Vec<LaneSeat>,
+    ) -> Result<Outcome, (Bank, Vec<LaneSeat>)>
+        requires seats { All (IsSeatOf self) seats.items }
+        requires lanes { map (λ seat. seat.lane) seats.items ≡ range_with_len 0 self.script.lanes }
+        ensures outcome { IfOk result (λ outcome. All IsDone seats.items
+            → ClosesAs self.script seats.items (outcome_of outcome)) }
+        ensures run { IfOk result (λ outcome. All IsDone seats.items → IsRunOf self.script (outcome_of outcome)) }
+        ensures one_order { IfOk result (λ outcome. All IsDone seats.items
+            → IsOneOrder self.script (outcome_of outcome)) }
+        ensures refused { IfErr result (λ back. (back.0 ≡ self) × (back.1.items ≡ seats.items)) }
+    {
+        what_closes_is_a_run();
+        what_closes_is_in_one_order();
+        match closing_room(alloc, self.markets.len(), self.wallets.len(), seats.len()) {
+            Some(room) => Ok(closed(self, seats, room)),
+            None => Err((self, seats)),
+        }
+    }
+}

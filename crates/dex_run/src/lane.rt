@@ -1,0 +1,60 @@
+//! The rows of one lane.
+
+ghost use Rattle.std.specs.Prelude.{◌≡◌, ◌+◌, ◌∷◌, [], length};
+ghost use Rattle.dex_types.specs.Rows.{row_of};
+ghost use Rattle.dex_journals.specs.Made.{rows_of_lane};
+ghost use Rattle.dex_run.specs.Running.{CanRun, HasRun};
+ghost use Rattle.dex_run.specs.Seats.{IsSeatOf};
+ghost use Rattle.dex_run.specs.Submitted.{IsNext};
+
+use crate::bank::Bank;
+use crate::seat::LaneSeat;
+use dex_io::Pace;
+use dex_lanes::Job;
+use dex_types::Row;
+use std::sync::Wait;
+
+/// A row acts where it is one of the seat's lane.
+fn submit_own<R: Wait, P: Pace>(rt: &R, bank: &Bank, seat: &mut LaneSeat, row: &Row, pace: &P)
+    requires seat { IsSeatOf bank.now seat.old }
+    requires row { row.now.lane ≡ seat.old.lane → IsNext (row_of row.now) seat.old }
+    ensures bank { IsSeatOf bank.now seat.new }
+    ensures lane { seat.new.lane ≡ seat.old.lane }
+    ensures script { seat.new.script ≡ seat.old.script }
+    ensures calls { length seat.new.calls
+        ≡ length seat.old.calls + length (rows_of_lane seat.old.lane (row_of row.entry.now ∷ [])) }
+{
+    if row.lane == seat.lane {
+        bank.submit(rt, seat, row, pace);
+    }
+}
+
+/// The rows of the seat's lane act, in their order.
+fn submit_all<R: Wait, P: Pace>(rt: &R, bank: &Bank, seat: &mut LaneSeat, rows: &[Row], pace: &P)
+    requires { CanRun bank.now rows.now seat.old }
+    ensures { HasRun bank.now seat.old seat.new }
+{
+    for row in rows {
+        submit_own(rt, bank, seat, row, pace);
+    }
+}
+
+/// A lane's rows, as a job on a thread of its own.
+#[derive(Drop)]
+pub(crate) struct LaneJob<'a, R, P> {
+    pub(crate) rt: &'a R,
+    pub(crate) bank: &'a Bank,
+    pub(crate) seat: LaneSeat,
+    pub(crate) rows: &'a [Row],
+    pub(crate) pace: &'a P,
+}
+
+impl<'a, R: Wait, P: Pace> Job for LaneJob<'a, R, P> {
+    ghost ready = { λ job. CanRun job.bank.now job.rows.now job.seat };
+
+    ghost ran = { λ before after. HasRun before.bank.now before.seat after.seat };
+
+    fn run(&mut self) {
+        submit_all(self.rt, self.bank, &mut self.seat, self.rows, self.pace);
+    }
+}

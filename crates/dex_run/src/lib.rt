@@ -1,0 +1,19 @@
+//! A script's lanes side by side: each market and each wallet has a gate, and a row acts when it has the turns of all that it names.
+#![tactic(auto)]
+
+mod bank;
+mod building;
+mod closing;
+mod columns;
+mod lane;
+mod made;
+mod running;
+mod seat;
+mod seeing;
+mod submitting;
+mod turns;
+
+pub use bank::Bank;
+pub use building::build;
+pub use running::run;
+pub use seat::LaneSeat;

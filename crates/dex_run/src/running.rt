@@ -1,0 +1,109 @@
+//! All lanes of a script at once.
+
+ghost use Rattle.std.specs.Prelude.{◌≡◌, ◌<◌, ◌≤◌, ◌++◌, ◌∷◌, [], All, IfOk, OnOk, length, map, vec_capacity, vec_len};
+ghost use Rattle.std.specs.List.{AllZip};
+ghost use Rattle.dex_report.specs.Outcomes.{outcome_of};
+ghost use Rattle.dex_histories.specs.Runs.{IsRunOf};
+ghost use Rattle.dex_order.specs.OneOrder.{IsOneOrder};
+ghost use Rattle.dex_run.specs.Running.{CanRun, HasRun, IsJobOf};
+
+use crate::bank::Bank;
+use crate::building::build;
+use crate::lane::LaneJob;
+use crate::seat::LaneSeat;
+use dex_io::Pace;
+use dex_lanes::run_jobs;
+use dex_report::Outcome;
+use dex_script::Script;
+use dex_types::{NoMemory, Row};
+use std::alloc::Global;
+use std::marker::Sync;
+use std::sync::Wait;
+use std::thread::Threads;
+
+/// A job for each seat.
+fn jobs_of<'a, R: Wait, P: Pace>(
+    rt: &'a R,
+    alloc: Global,
+    bank: &'a Bank,
+    seats: Vec<LaneSeat>,
+    rows: &'a [Row],
+    pace: &'a P,
+) -> Result<Vec<LaneJob<'a, R, P>>, NoMemory>
+    ensures { IfOk result (λ jobs. AllZip (IsJobOf bank.now rows.now) seats.items jobs.items) }
+{
+    let mut jobs = Vec::new(alloc);
+    for seat in seats {
+        let job = LaneJob {
+            rt,
+            bank,
+            seat,
+            rows,
+            pace,
+        };
+        match jobs.push(job) {
+            Ok(()) => {}
+            Err(_) => return Err(NoMemory),
+        }
+    }
+    Ok(jobs)
+}
+
+/// The seats of jobs, written into the room for them.
+fn seats_back<'a, R: Wait, P: Pace>(
+    jobs: Vec<LaneJob<'a, R, P>>,
+    mut seats: Vec<LaneSeat>,
+) -> Vec<LaneSeat>
+    requires { (seats.items ≡ []) × (vec_len jobs ≤ vec_capacity seats) }
+    ensures { result.items ≡ map (λ job. job.seat) jobs.entry.items }
+{
+    for job in jobs {
+        let LaneJob {
+            rt: _,
+            bank: _,
+            seat,
+            rows: _,
+            pace: _,
+        } = job;
+        seats.push_reserved(seat);
+    }
+    seats
+}
+
+/// All lanes act side by side, and these are their seats.
+fn run_all<R: Threads + Wait + Sync, P: Pace + Sync>(
+    rt: &R,
+    alloc: Global,
+    bank: &Bank,
+    seats: Vec<LaneSeat>,
+    rows: &[Row],
+    pace: &P,
+) -> Result<Vec<LaneSeat>, NoMemory>
+    requires { All (CanRun bank.now rows.now) seats.items }
+    ensures { IfOk result (λ after. AllZip (HasRun bank.now) seats.items after.items) }
+{
+    let Ok(room) = Vec::with_capacity(alloc, seats.len()) else {
+        return Err(NoMemory);
+    };
+    let mut jobs = jobs_of(rt, alloc, bank, seats, rows, pace)?;
+    run_jobs(rt, &mut jobs);
+    Ok(seats_back(jobs, room))
+}
+
+/// Lets the lanes of a script act side by side, each on a thread of its own where one can be made, and gives what is left.
+pub fn run<R: Threads + Wait + Sync, P: Pace + Sync>(
+    rt: &R,
+    alloc: Global,
+    script: &Script,
+    pace: &P,
+) -> Result<Outcome, NoMemory>
+    ensures run { IfOk result (λ outcome. IsRunOf script.now (outcome_of outcome)) }
+    ensures one_order { IfOk result (λ outcome. IsOneOrder script.now (outcome_of outcome)) }
+{
+    let (bank, seats) = build(alloc, script)?;
+    let seats = run_all(rt, alloc, &bank, seats, &script.rows, pace)?;
+    match bank.close(alloc, seats) {
+        Ok(outcome) => Ok(outcome),
+        Err(_) => Err(NoMemory),
+    }
+}

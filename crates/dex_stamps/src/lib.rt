@@ -1,0 +1,11 @@
+//! Stamps: numbers that order what is done on several journals. Only clauses read them, and they cost nothing when the program
+//! runs.
+#![tactic(auto)]
+
+mod kept;
+mod stamp;
+#[cfg(test)]
+mod tests;
+
+pub use kept::Kept;
+pub use stamp::Stamp;
