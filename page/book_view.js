@@ -1,0 +1,117 @@
+// A market's book: its sizes, the depth, and the orders that rest on both sides.
+
+import { amountNode, counted, numberNode } from './amounts.js';
+import { depthChart } from './chart.js';
+import { element } from './elements.js';
+import { addressNode, linkOfOrder } from './links.js';
+import { chooseRow, facts, section, tableWithDetails } from './parts.js';
+import { levelsOf, lockedBy } from './sums.js';
+import { Table } from './table.js';
+
+// What never changes in a market, and what counts on.
+function marketFacts(shown, market) {
+  const mint = (address) => {
+    const known = shown.exchange.mints.get(address);
+    return [addressNode(shown, address), known === undefined ? '' : ` (${counted(known.decimals, 'decimal')})`];
+  };
+  const room = ({ capacity }, what) => counted(capacity, what);
+  return facts([
+    ['Coin', mint(market.coinMint)],
+    ['Pc', mint(market.pcMint)],
+    ['Coin lot', numberNode(market.coinLot)],
+    ['Pc lot', numberNode(market.pcLot)],
+    ['Authority', addressNode(shown, market.authority)],
+    ['State', market.isDisabled ? 'disabled' : 'trading'],
+    ['Next order’s number', numberNode(market.nextAge)],
+    ['Room', [room(market.bids, 'bid'), room(market.asks, 'ask'), room(market.events, 'event')].join(', ')],
+    ['Pending', counted(market.events.list.length, 'event')],
+  ]);
+}
+
+// The depth as a table.
+function levelTable(levels) {
+  return new Table({
+    label: 'Depth by price',
+    columns: [
+      { title: 'Side', size: '3.2rem' },
+      { title: 'Price', isNumber: true },
+      { title: 'Lots', isNumber: true },
+      { title: 'Orders', isNumber: true, size: '3.4rem' },
+      { title: 'Cumulated', isNumber: true, size: 'minmax(5rem, 1fr)' },
+    ],
+    count: levels.length,
+    least: 300,
+    empty: 'Nothing rests.',
+    rowAt: (at) => {
+      const { isBid, price, lots, orders, total } = levels[at];
+      const side = isBid ? 'bid' : 'ask';
+      return {
+        name: `${side} ${price} ${lots} ${total}`,
+        mark: side,
+        cells: [side, numberNode(price), numberNode(lots), orders, numberNode(total)],
+      };
+    },
+  });
+}
+
+// An order's place in the journal.
+function madeBy(shown, market, order) {
+  const href = linkOfOrder(shown, market, order.id);
+  const isThere = href !== null && href.startsWith('#journal');
+  return isThere ? element('a', { href }, 'the row that made it') : 'rested before the first row';
+}
+
+// A side's orders, best first.
+function sideTable(shown, market, orders, name) {
+  return tableWithDetails({
+    label: `${name}, best first`,
+    columns: [
+      { title: 'Price', isNumber: true, size: '5rem' },
+      { title: 'Lots', isNumber: true, size: '5rem' },
+      { title: 'Owner' },
+      { title: 'Age', isNumber: true, size: '4.5rem' },
+      { title: 'Locked', isNumber: true, isWide: true, size: 'minmax(10rem, 1.4fr)' },
+    ],
+    count: orders.length,
+    empty: `No ${name.toLowerCase()} rest.`,
+    rowAt: (at) => {
+      const order = orders[at];
+      return {
+        name: `order ${order.id}`,
+        cells: [
+          numberNode(order.price),
+          numberNode(order.lots),
+          addressNode(shown, order.owner),
+          numberNode(order.age),
+          amountNode(lockedBy(order, market), order.isBid ? 'pc' : 'coin', market),
+        ],
+        details: [
+          ['Order id', order.id],
+          ['Slot', order.slot],
+          ['Tier', order.tier],
+          ['Client id', order.client],
+          ['Made by', madeBy(shown, market, order)],
+        ],
+      };
+    },
+  });
+}
+
+/** The view of a market's book; `words.order` is the id of an order to choose. */
+export function bookView(shown, market, words) {
+  const [bids, asks] = [levelsOf(market.bids), levelsOf(market.asks)];
+  const sides = [[market.bids.orders, 'Bids'], [market.asks.orders, 'Asks']].map(([orders, name]) => {
+    const table = sideTable(shown, market, orders, name);
+    chooseRow(table, orders.findIndex((order) => String(order.id) === words.order));
+    return section(`${name} (${orders.length})`, table.node);
+  });
+  return [
+    marketFacts(shown, market),
+    element('div', { class: 'beside wide-left' },
+      section('Depth', depthChart(bids, asks)),
+      section('Depth by price', levelTable([...bids, ...asks]).node)),
+    element('p', { class: 'hint' },
+      'Age is the sequence number of an order: of two at one price, the lower number is the older and stands first.'),
+    element('div', { class: 'beside' }, sides),
+  ];
+}

@@ -1,0 +1,56 @@
+// The views of the page as fragments of its address, and links to them.
+
+import { element } from './elements.js';
+
+/** The fragment of a view: its name, what it shows, and further words such as filters. */
+export function linkTo(view, subject = '', words = {}) {
+  const query = new URLSearchParams(Object.entries(words).filter(([, value]) => value !== null && value !== '')).toString();
+  return `#${view}${subject === '' ? '' : `/${subject}`}${query === '' ? '' : `?${query}`}`;
+}
+
+/** What a fragment asks for. */
+export function readLink(fragment) {
+  const [path, query = ''] = fragment.replace(/^#/, '').split('?');
+  const [view = '', subject = ''] = path.split('/');
+  return { view, subject, words: Object.fromEntries(new URLSearchParams(query)) };
+}
+
+/** An address as it is printed, shortened where it has no label. */
+export function shortAddress(address) {
+  return address.startsWith('0x') && address.length === 66 ? `${address.slice(0, 8)}…${address.slice(-4)}` : address;
+}
+
+/** The fragment of the view that shows an address best; null where no account has it. */
+export function linkOfAddress(shown, address) {
+  if (shown.exchange.wallets.has(address)) return linkTo('wallets', address);
+  if (shown.exchange.markets.has(address)) return linkTo('book', address);
+  return shown.exchange.accounts.has(address) ? linkTo('bytes', address) : null;
+}
+
+/** An address as a link to what it is the address of, or as text where it is a person. */
+export function addressNode(shown, address) {
+  const href = linkOfAddress(shown, address);
+  const title = address === shortAddress(address) ? null : address;
+  return element(href === null ? 'span' : 'a', { class: 'address', href, title }, shortAddress(address));
+}
+
+/** The fragment of an order: its row in the journal, else its place in the book; null where the text tells neither. */
+export function linkOfOrder(shown, market, id) {
+  const journal = shown.report.markets.get(market.address);
+  const at = journal === undefined ? undefined : journal.ofOrder.get(id);
+  if (at !== undefined) return linkTo('journal', market.address, { row: journal.rows[at] });
+  const rests = [market.bids, market.asks].some((side) => side.orders.some((order) => order.id === id));
+  return rests ? linkTo('book', market.address, { order: id }) : null;
+}
+
+/** An order by its side, price and age, as a link to where it was made or rests. */
+export function orderNode(shown, market, order) {
+  const href = linkOfOrder(shown, market, order.id);
+  const text = `${order.isBid ? 'bid' : 'ask'} at ${order.price}, number ${order.age}`;
+  return element(href === null ? 'span' : 'a', { href, title: `order id ${order.id}` }, text);
+}
+
+/** The row of a journal as a link. */
+export function rowNode(market, row) {
+  return element('a', { href: linkTo('journal', market, { row }) }, `row ${row}`);
+}

@@ -1,0 +1,170 @@
+// A report: the journals of markets and wallets, then a dump. Entries stay lines of the text, and are read again when they are shown.
+
+import { readDump } from './dump.js';
+import { readEntry, readMove } from './replies.js';
+import { frontOf, isAddress, isNumber, LineFault, Lines, pause } from './text.js';
+
+const SLICE = 5000;
+
+/** The journal of a market: where its entries stand, and what filters go by. `named` has the first line that names each wallet. */
+class MarketJournal {
+  constructor(lines, named, first, count) {
+    this.lines = lines;
+    this.named = named;
+    this.first = first;
+    this.count = count;
+    this.rows = new Uint32Array(count);
+    this.lanes = new Uint8Array(count);
+    this.kinds = new Uint8Array(count);
+    this.refusals = new Uint8Array(count);
+    this.ofOrder = new Map();
+  }
+
+  /** Notes what the entry of a number, from 0, says. */
+  note(at, entry) {
+    this.rows[at] = entry.row;
+    this.lanes[at] = entry.lane;
+    this.kinds[at] = entry.kind;
+    this.refusals[at] = entry.refusal;
+    if (entry.values.id !== undefined) this.ofOrder.set(entry.values.id, at);
+    for (const { wallet } of entry.moves) if (!this.named.has(wallet)) this.named.set(wallet, this.first + at);
+  }
+
+  /** The entry of a number, from 0. */
+  at(number) { return readEntry(this.lines.at(this.first + number)); }
+}
+
+/** The journal of a wallet: where its movements stand, and their rows. */
+class WalletJournal {
+  constructor(lines, first, count) {
+    this.lines = lines;
+    this.first = first;
+    this.count = count;
+    this.rows = new Uint32Array(count);
+  }
+
+  /** Notes what the movement of a number, from 0, says. */
+  note(at, move) { this.rows[at] = move.row; }
+
+  /** The movement of a number, from 0. */
+  at(number) { return readMove(this.lines.at(this.first + number)); }
+}
+
+// How texts begin that tell why there is no report or dump.
+const ANSWERS = /^(script refused|dump refused|migrate refused|finding|audit|read failed|input too long|no memory|usage)\b/;
+
+// The forms of lines, as messages tell them.
+const FORMS = {
+  entry: 'entry LANE ROW REPLY MOVES, as docs/FORMATS.md has it',
+  move: 'move MARKET LANE ROW KIND AMOUNT BEFORE, as docs/FORMATS.md has it',
+};
+
+// Reads a journal's lines behind its head, in slices.
+async function readJournal(journal, told, word, read, tell) {
+  const { lines, first, count } = journal;
+  for (let at = 0; at < count; at += 1) {
+    const text = lines.at(first + at);
+    const entry = read(text);
+    if (entry === null) {
+      const above = `Of the ${told} lines ${word} that line ${first - 1} tells, ${at} stand above`;
+      throw new LineFault(first + at, `A line is wanted that reads ${FORMS[word]}; here stands ${frontOf(text)}. ${above}.`);
+    }
+    journal.note(at, entry);
+    if (at % SLICE === SLICE - 1) {
+      tell(first + at);
+      await pause();
+    }
+  }
+}
+
+// The words of a line that begins a journal: its kind, address and count.
+function headOf(text) {
+  const words = text.split(' ');
+  const isHead = words.length === 3 && isAddress(words[1]) && isNumber(words[2]) && words[2].length < 8;
+  return isHead ? { kind: words[0], address: words[1], count: Number(words[2]) } : { kind: '' };
+}
+
+// Reads all journals of one kind from a line on; answers the line behind them.
+async function readJournals(lines, next, { kind, word, read, make, into }, tell) {
+  for (;;) {
+    const head = headOf(lines.at(next));
+    if (head.kind !== kind) return next;
+    if (into.has(head.address)) throw new LineFault(next, `The journal of ${kind} ${head.address} stands above already.`);
+    // A text cut short is told before room is made for lines that are not there.
+    const journal = make(next + 1, Math.min(head.count, lines.count + 1 - next));
+    await readJournal(journal, head.count, word, read, tell);
+    into.set(head.address, journal);
+    next += 1 + head.count;
+  }
+}
+
+// The rows of instructions that the journals have must be as many as the first line tells.
+function checkRows(rows, markets) {
+  let entries = 0;
+  for (const journal of markets.values()) entries += journal.count;
+  if (entries !== rows) throw new LineFault(1, `The report tells of ${rows} rows, and its markets’ journals have ${entries} entries.`);
+}
+
+// Each journal's market or wallet stands in the dump, and each wallet that an entry names has a journal.
+function checkAccounts(report, line) {
+  for (const kind of ['markets', 'wallets']) {
+    for (const address of report[kind].keys()) {
+      if (!report.exchange[kind].has(address)) throw new LineFault(line, `The dump has no row for ${address}, whose journal stands above.`);
+    }
+  }
+  for (const [address, number] of report.named) {
+    if (!report.wallets.has(address)) throw new LineFault(number, `No journal below is that of the wallet ${address}, which this line names.`);
+  }
+}
+
+// Reads a report behind its first line.
+async function readReportLines(lines, rows, tell) {
+  const report = { kind: 'report', lines, rows, markets: new Map(), wallets: new Map(), named: new Map() };
+  const ofMarket = (...place) => new MarketJournal(lines, report.named, ...place);
+  const ofWallet = (...place) => new WalletJournal(lines, ...place);
+  let next = 2;
+  next = await readJournals(lines, next, { kind: 'market', word: 'entry', read: readEntry, into: report.markets, make: ofMarket }, tell);
+  next = await readJournals(lines, next, { kind: 'wallet', word: 'move', read: readMove, into: report.wallets, make: ofWallet }, tell);
+  if (lines.at(next) !== 'dump') {
+    throw new LineFault(next, `The head of a journal or dump is wanted; here stands ${frontOf(lines.at(next))}.`);
+  }
+  checkRows(rows, report.markets);
+  const dump = await readDump(lines, next, tell);
+  report.exchange = dump.exchange;
+  checkAccounts(report, next);
+  if (lines.at(dump.next) !== 'end') throw new LineFault(dump.next, `The line end is wanted; here stands ${frontOf(lines.at(dump.next))}.`);
+  return { report, next: dump.next + 1 };
+}
+
+// Reads the lines of a report or of a dump alone.
+async function readLines(lines, tell) {
+  const head = lines.at(1).split(' ');
+  let read;
+  if (lines.at(1) === 'dump') {
+    const { exchange, next } = await readDump(lines, 1, tell);
+    read = { report: { kind: 'dump', lines, rows: 0, markets: new Map(), wallets: new Map(), exchange }, next };
+  } else if (head.length === 2 && head[0] === 'report' && isNumber(head[1])) {
+    read = await readReportLines(lines, Number(head[1]), tell);
+  } else {
+    let what = 'A report begins with report and a number of rows, a dump with dump';
+    if (ANSWERS.test(lines.at(1))) what = 'This is what a command answered where it wrote no report';
+    throw new LineFault(1, `${what}; here stands ${frontOf(lines.at(1))}.`);
+  }
+  if (read.next <= lines.count) {
+    throw new LineFault(read.next, `Nothing is wanted behind the end; here stands ${frontOf(lines.at(read.next))}.`);
+  }
+  if (!lines.isEnded) throw new LineFault(lines.count, 'The last line is not ended.');
+  return read.report;
+}
+
+/** Reads a text as a report or as a dump alone; throws what is wrong with it, at its line. */
+export async function readText(text, tell = () => {}) {
+  const lines = new Lines(text.startsWith('\ufeff') ? text.slice(1) : text);
+  try {
+    return await readLines(lines, tell);
+  } catch (fault) {
+    const isCut = fault instanceof LineFault && fault.line >= lines.count && !lines.isEnded;
+    if (isCut) fault.message += ' The text does not end with a line feed, so it may be cut short.';
+    throw fault;
+  }
+}

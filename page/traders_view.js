@@ -1,0 +1,61 @@
+// What each open-orders account of a market has: free, resting, and owed by pending events.
+
+import { amountNode, counted } from './amounts.js';
+import { element } from './elements.js';
+import { addressNode, linkTo } from './links.js';
+import { section, tableWithDetails } from './parts.js';
+import { tradersOf } from './sums.js';
+
+// Whether the words of totals in an account are what is free, resting and kept by events.
+function totalsText(trader) {
+  const off = ['coin', 'pc']
+    .map((token) => [token, trader.total[token] - trader.free[token] - trader.resting[token] - trader.kept[token]])
+    .filter(([, difference]) => difference !== 0n);
+  return off.length === 0 ? 'add up' : off.map(([token, difference]) => `${token} off by ${difference}`).join(', ');
+}
+
+// One account's cells and details.
+function traderRow(shown, market, trader) {
+  const account = [addressNode(shown, trader.address), ' '];
+  if (trader.state === 'blank') return { name: `trader ${trader.address}`, cells: [account, 'blank', '', '', '', '', '', '', '', ''] };
+  const amounts = ['coin', 'pc'].flatMap((token) => ['free', 'resting', 'owed']
+    .map((what) => amountNode(trader[what][token], token, market, `${trader.address} ${what} ${token}`)));
+  const owner = [element('span', { class: 'quiet' }, 'of '), addressNode(shown, trader.owner)];
+  return {
+    name: `trader ${trader.address}`,
+    cells: [[account, owner], trader.state, ...amounts, amountNode(trader.referrer, 'pc', market), totalsText(trader)],
+    details: [
+      ['Slots taken', `${trader.taken} of 128`],
+      ['Orders', `${counted(trader.bids, 'bid')}, ${counted(trader.asks, 'ask')}`],
+      ['Coin total', amountNode(trader.total.coin, 'coin', market)],
+      ['Pc total', amountNode(trader.total.pc, 'pc', market)],
+      ['Journal', element('a', { href: linkTo('journal', market.address, { account: trader.address }) }, 'its rows')],
+      ['Bytes', element('a', { href: linkTo('bytes', trader.address) }, 'its account by field')],
+    ],
+  };
+}
+
+/** The view of a market's traders. */
+export function tradersView(shown, market) {
+  const traders = tradersOf(market);
+  const titles = ['Coin free', 'Coin resting', 'Coin owed', 'Pc free', 'Pc resting', 'Pc owed'];
+  const { node } = tableWithDetails({
+    label: 'Open-orders accounts',
+    columns: [
+      { title: 'Account', size: 'minmax(8rem, 1.1fr)' },
+      { title: 'State', size: '4rem' },
+      ...titles.map((title) => ({ title, isNumber: true, isWide: true })),
+      { title: 'Referrer part', isNumber: true },
+      { title: 'Totals', size: '6rem' },
+    ].map((column) => ({ ...column, lines: 2, narrowLines: 1 })),
+    count: traders.length,
+    empty: 'The market has no accounts.',
+    rowAt: (at) => traderRow(shown, market, traders[at]),
+  });
+  return [
+    section(`Traders (${traders.length})`,
+      element('p', { class: 'hint' }, counted(traders.filter((trader) => trader.state === 'open').length, 'account is', 'accounts are'),
+        ' open. Free can be settled at once; resting is locked by orders on the book; owed waits in the event queue.'),
+      node),
+  ];
+}

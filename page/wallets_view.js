@@ -1,0 +1,110 @@
+// All wallets with their balances, and one wallet's movements, each with the balance before and after.
+
+import { amountNode, mintAmountNode, numberNode, tokenOf } from './amounts.js';
+import { element } from './elements.js';
+import { addressNode, linkTo, rowNode } from './links.js';
+import { chooseRow, facts, section, tableWithDetails } from './parts.js';
+import { Table } from './table.js';
+
+// The table of all wallets.
+function walletTable(shown, wallets) {
+  return new Table({
+    label: 'Wallets',
+    columns: [
+      { title: 'Wallet', size: '1.2fr' },
+      { title: 'Owner' },
+      { title: 'Mint' },
+      { title: 'Balance', isNumber: true, isWide: true, size: '1.6fr' },
+      { title: 'Moves', isNumber: true, size: '4rem' },
+    ],
+    count: wallets.length,
+    empty: 'There are no wallets.',
+    rowAt: (at) => {
+      const wallet = wallets[at];
+      const journal = shown.report.wallets.get(wallet.address);
+      return {
+        name: `wallet ${wallet.address}`,
+        cells: [
+          element('a', { href: linkTo('wallets', wallet.address) }, wallet.address),
+          addressNode(shown, wallet.owner),
+          addressNode(shown, wallet.mint),
+          mintAmountNode(shown, wallet.amount, wallet.mint),
+          journal === undefined ? 0 : journal.count,
+        ],
+      };
+    },
+    select: (at) => { window.location.hash = linkTo('wallets', wallets[at].address); },
+  });
+}
+
+// One movement's cells.
+function moveRow(shown, wallet, move) {
+  const market = shown.exchange.markets.get(move.market);
+  const token = market === undefined ? null : tokenOf(wallet.mint, market);
+  const amount = (value, name) => amountNode(value, token, market, name);
+  return {
+    name: `move ${move.row}`,
+    mark: move.kind,
+    cells: [
+      rowNode(move.market, move.row),
+      addressNode(shown, move.market),
+      move.lane,
+      move.kind,
+      amount(move.amount),
+      amount(move.before),
+      amount(move.after),
+    ],
+  };
+}
+
+// The movements of a wallet, and whether the last leads to its balance.
+function movements(shown, wallet, words) {
+  const journal = shown.report.wallets.get(wallet.address);
+  if (journal === undefined) return element('p', { class: 'empty' }, 'A dump tells no movements.');
+  const table = tableWithDetails({
+    label: `Movements of ${wallet.address}`,
+    columns: [
+      { title: 'Row', size: '6rem' },
+      { title: 'Market', size: '5rem' },
+      { title: 'Lane', isNumber: true, size: '3rem' },
+      { title: 'What', size: '5rem' },
+      { title: 'Amount', isNumber: true, isWide: true },
+      { title: 'Before', isNumber: true, isWide: true },
+      { title: 'After', isNumber: true, isWide: true },
+    ],
+    count: journal.count,
+    empty: 'No row named this wallet.',
+    rowAt: (at) => moveRow(shown, wallet, journal.at(at)),
+  });
+  if (words.row !== undefined) chooseRow(table, journal.rows.indexOf(Number(words.row)));
+  return table.node;
+}
+
+// Whether the last movement's balance is that of the account.
+function agreement(shown, wallet) {
+  const journal = shown.report.wallets.get(wallet.address);
+  if (journal === undefined || journal.count === 0) return 'no movement';
+  const { after } = journal.at(journal.count - 1);
+  return after === wallet.amount ? 'agrees with the balance' : ['is another balance, ', numberNode(after)];
+}
+
+/** The view of wallets; the subject is the wallet whose movements are told, `words.row` the row to choose. */
+export function walletsView(shown, subject, words) {
+  const wallets = [...shown.exchange.wallets.values()];
+  const wallet = shown.exchange.wallets.get(subject) || wallets[0];
+  const all = walletTable(shown, wallets);
+  if (wallet === undefined) return [section('Wallets', all.node)];
+  all.chosen = wallets.indexOf(wallet);
+  return [
+    section(`Wallet ${wallet.address}`,
+      facts([
+        ['Balance', mintAmountNode(shown, wallet.amount, wallet.mint, `balance of ${wallet.address}`)],
+        ['Mint', addressNode(shown, wallet.mint)],
+        ['Owner', addressNode(shown, wallet.owner)],
+        ['After the last movement', agreement(shown, wallet)],
+        ['Bytes', element('a', { href: linkTo('bytes', wallet.address) }, 'its account by field')],
+      ]),
+      movements(shown, wallet, words)),
+    section(`All wallets (${wallets.length})`, all.node),
+  ];
+}
