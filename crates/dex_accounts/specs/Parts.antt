@@ -40,10 +40,11 @@ parts_of accounts = record {
   accounts = accounts.orders;
 }
 
--- a side's orders, and how many it can hold
+-- a side's orders
 abbrev pub side_orders : Side → MarketParts → List Order
 side_orders side parts = by_side side parts.bids parts.asks
 
+-- how many orders a side can hold
 abbrev pub side_room : Side → MarketParts → ℕ
 side_room side parts = by_side side parts.bid_room parts.ask_room
 

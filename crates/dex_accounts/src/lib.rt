@@ -10,4 +10,4 @@ pub use laws::{
     an_open_account_is_its_traders, parts_of_accounts_are_of_their_market, parts_tell_their_market,
     what_is_put_into_parts_is_put_into_their_market,
 };
-pub use owners::{find_bytes, find_place, place_of};
+pub use owners::{find_bytes, place_of};

@@ -7,7 +7,7 @@ ghost use Rattle.dex_accounts.specs.Owners.{IsFirst, bytes_at};
 use dex_types::{Address, OrdersAccount, is_same};
 
 /// The place of the first account of the address, if it is among these.
-pub fn find_place(accounts: &[OrdersAccount], address: Address) -> Option<usize>
+fn find_place(accounts: &[OrdersAccount], address: Address) -> Option<usize>
     ensures { MatchOption result (bytes_at address (map orders_account_of accounts.now) ≡ None)
         (IsFirst address (map orders_account_of accounts.now)) }
 {

@@ -208,7 +208,7 @@ probes move cell = is_probe move.kind && is_same move.wallet cell.address
 abbrev pub move_probed : PlainRow → Movement → CellState → CellState
 move_probed row move cell = if probes move cell then cell_moved row Probe 0 cell else cell
 
--- and after several
+-- a cell after several probes of a row
 abbrev pub moves_probed : PlainRow → List Movement → CellState → CellState
 moves_probed row [] cell = cell
 moves_probed row (move ∷ moves) cell = moves_probed row moves (move_probed row move cell)
@@ -230,7 +230,7 @@ abbrev pub cell_paid : PlainRow → Seen → Transfers → CellState → CellSta
 cell_paid row seen t cell =
     cell_credited row seen t.coin_out t.pc_out t.referrer_out (cell_debited row seen t.coin_in t.pc_in cell)
 
--- and after its probes
+-- a cell after a row: what it takes and brings, and then its probes of the cell
 abbrev pub cell_acted : PlainRow → Seen → Transfers → CellState → CellState
 cell_acted row seen t cell = moves_probed row (front (places (movements seen t))) (cell_paid row seen t cell)
 
@@ -238,11 +238,11 @@ cell_acted row seen t cell = moves_probed row (front (places (movements seen t))
 abbrev pub cells_paid : Row → Seen → MarketCellState → List CellState → List CellState
 cells_paid row seen market cells = map (cell_paid (row_of row) seen (step_on row seen market).transfers) cells
 
--- and after all of it
+-- the cells of wallets after a row, where its market's cell is this
 abbrev pub cells_acted : Row → Seen → MarketCellState → List CellState → List CellState
 cells_acted row seen market cells = map (cell_acted (row_of row) seen (step_on row seen market).transfers) cells
 
--- the same of the wallets alone, with their journals
+-- the wallets with their journals, without their cells, after a row
 abbrev pub states_acted : Row → Seen → MarketCellState → List WalletState → List WalletState
 states_acted row seen market states = map (wallet_acted (row_of row) seen (step_on row seen market).transfers) states
 
@@ -253,7 +253,7 @@ abbrev pub hits : Address → Option WalletSeen → Bool
 hits address None = false
 hits address (Some wallet) = is_same address wallet.address
 
--- one of these roles' is
+-- one of these roles' wallets is at the address
 abbrev pub any_hit : Address → List (Option WalletSeen) → Bool
 any_hit address [] = false
 any_hit address (role ∷ roles) = hits address role || any_hit address roles

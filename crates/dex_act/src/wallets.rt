@@ -27,9 +27,8 @@ pub fn wallet_at(cells: &[WalletCell], address: Address) -> Option<WalletSeen>
     ensures fits { Fits result }
 {
     for place in 0..cells.len() {
-        let seen = cells[place].seen();
-        if is_same(address, seen.address) {
-            return Some(seen);
+        if is_same(address, cells[place].address()) {
+            return Some(cells[place].seen());
         }
     }
     None
@@ -41,7 +40,7 @@ fn place_of(cells: &[WalletCell], address: Address) -> usize
     ensures { IsAt address cells.now result }
 {
     for place in 0..cells.len() {
-        if is_same(address, cells[place].seen().address) {
+        if is_same(address, cells[place].address()) {
             return place;
         }
     }

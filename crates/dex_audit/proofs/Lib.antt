@@ -8,3 +8,7 @@ mod NoneLaw
 mod SupplyLaws
 mod OnceLaws
 mod SmallLaws
+mod AllLaws
+mod FoundLaws
+mod FoundFunds
+mod ExactLaw

@@ -1,37 +1,21 @@
 -- the amounts that a market's accounts state are below 2^64
-use Rattle.std.proofs.Common.{◌≡◌, ℕ, ◌-◌, ◌^◌, ◌<◌, inl, inr, true, cond, eqb, List, [], length, Option, Some, None, refl, sym, subst, arith}
-use Rattle.std.specs.List.{All}
+use Rattle.std.proofs.Common.{◌≡◌, ℕ, ◌^◌, ◌<◌, inl, inr, List, length, Some, refl, subst, arith}
 use Rattle.dex_fields.specs.declared.market.TheConstants.{COIN_DEPOSITS_TOTAL, PC_DEPOSITS_TOTAL, REFERRER_REBATES_ACCRUED}
 use Rattle.dex_fields.specs.declared.token_account.TheConstants.{AMOUNT}
 use Rattle.dex_fields.specs.declared.open_orders.TheConstants.{NATIVE_COIN_TOTAL, NATIVE_PC_TOTAL}
 use Rattle.dex_fields.specs.Bytes.{AreBytes}
 use Rattle.dex_types.specs.declared.addresses.Address.{Address}
-use Rattle.dex_types.specs.declared.orders.Order.{Order}
-use Rattle.dex_types.specs.declared.terms.Side.{Side}
-use Rattle.dex_types.specs.declared.terms.Side.TheVariants.{Bid, Ask}
 use Rattle.dex_types.specs.Accounts.{PlainMarketAccounts}
-use Rattle.dex_types.specs.Market.{Market, orders}
-use Rattle.dex_types.specs.Owed.{order_lock}
-use Rattle.dex_types.specs.Side.{Token, Coin, Pc, by_token}
-use Rattle.dex_types.specs.Solvency.{earned, vault}
-use Rattle.dex_types.specs.Soundness.{IsSound, SlotsAgree, held_at, order_holding}
-use Rattle.dex_types.specs.Trader.{Account, Holding, Open, balance, trader_at}
-use Rattle.dex_market.specs.MarketAccount.{AreMarketFlags, MarketWords, market_words}
-use Rattle.dex_market.specs.StandsFor.{words_of}
+use Rattle.dex_types.specs.Side.{Token, Coin, Pc}
+use Rattle.dex_types.specs.Solvency.{vault}
+use Rattle.dex_types.specs.Trader.{Account, Open, balance, trader_at}
+use Rattle.dex_market.specs.MarketAccount.{market_words}
 use Rattle.dex_orders.specs.OrdersAccount.{IsOrders, account_of}
-use Rattle.dex_token.specs.TokenAccount.{WalletWords, wallet_words}
-use Rattle.dex_token.specs.StandsFor.{vault_words}
-use Rattle.dex_accounts.specs.Decoded.{AreSound, market_in}
-use Rattle.dex_accounts.specs.StandsFor.{StandsFor}
+use Rattle.dex_accounts.specs.Decoded.{market_in}
 use Rattle.dex_dump.specs.Accepted.{IsHeldMarket}
-use Rattle.dex_audit_rules.specs.Funds.{beyond_in, deposited, deposits_in, deposits_off, deposits_word, rebates_in, too_large, too_large_in, totals_in, vaults_in}
-use Rattle.dex_audit_rules.specs.Lists.{numbered}
-use Rattle.dex_audit_rules.specs.Slots.{astray_in, homeless, homeless_in, is_opened, misheld, misheld_in, or_else, repeated_in, ungiven_in, unheld, unpaired_in}
-use Rattle.dex_audit.proofs.EventLaws.{events-held}
-use Rattle.dex_audit.proofs.FundLaws.{IsSmall, differs-none, funds-agree, locks-fit, vault-is}
-use Rattle.dex_audit_rules.proofs.ListLaws.{append-none, numbered-each, unless-none}
-use Rattle.dex_audit.proofs.MarketForm.{IsAuditable, book-side, slots, well-formed, word-lt}
-use Rattle.dex_audit.proofs.SlotLaws.{or_else-none, rests-held, taken-ends, taken-given, taken-once, unheld_finding-none}
+use Rattle.dex_audit_rules.specs.Funds.{deposits_word}
+use Rattle.dex_audit.proofs.FundLaws.{IsSmall}
+use Rattle.dex_audit.proofs.MarketForm.{IsAuditable, word-lt}
 use Rattle.dex_audit.proofs.TraderFrom.{open-from}
 
 module _ (accounts : PlainMarketAccounts) (can : IsAuditable accounts) (words : IsHeldMarket accounts) where

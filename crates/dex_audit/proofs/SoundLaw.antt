@@ -1,10 +1,6 @@
 -- accounts of a market in which an audit finds nothing are those of a sound market
-use Rattle.std.proofs.Common.{◌≡◌, ℕ, ◌-◌, ◌^◌, ◌<◌, inl, inr, true, cond, eqb, List, [], length, Option, Some, None, refl, sym, subst, arith}
+use Rattle.std.proofs.Common.{◌≡◌, ℕ, ◌-◌, ◌^◌, ◌<◌, inl, inr, true, cond, eqb, [], Option, Some, None, refl, sym, arith}
 use Rattle.std.specs.List.{All}
-use Rattle.dex_fields.specs.declared.market.TheConstants.{COIN_DEPOSITS_TOTAL, PC_DEPOSITS_TOTAL, REFERRER_REBATES_ACCRUED}
-use Rattle.dex_fields.specs.declared.token_account.TheConstants.{AMOUNT}
-use Rattle.dex_fields.specs.declared.open_orders.TheConstants.{NATIVE_COIN_TOTAL, NATIVE_PC_TOTAL}
-use Rattle.dex_fields.specs.Bytes.{AreBytes}
 use Rattle.dex_types.specs.declared.addresses.Address.{Address}
 use Rattle.dex_types.specs.declared.orders.Order.{Order}
 use Rattle.dex_types.specs.declared.terms.Side.{Side}
@@ -15,10 +11,9 @@ use Rattle.dex_types.specs.Owed.{order_lock}
 use Rattle.dex_types.specs.Side.{Token, Coin, Pc, by_token}
 use Rattle.dex_types.specs.Solvency.{earned, vault}
 use Rattle.dex_types.specs.Soundness.{IsSound, SlotsAgree, held_at, order_holding}
-use Rattle.dex_types.specs.Trader.{Account, Holding, Open, balance, trader_at}
+use Rattle.dex_types.specs.Trader.{Holding, trader_at}
 use Rattle.dex_market.specs.MarketAccount.{AreMarketFlags, MarketWords, market_words}
 use Rattle.dex_market.specs.StandsFor.{words_of}
-use Rattle.dex_orders.specs.OrdersAccount.{IsOrders, account_of}
 use Rattle.dex_token.specs.TokenAccount.{WalletWords, wallet_words}
 use Rattle.dex_token.specs.StandsFor.{vault_words}
 use Rattle.dex_accounts.specs.Decoded.{AreSound, market_in}
@@ -26,11 +21,12 @@ use Rattle.dex_accounts.specs.StandsFor.{StandsFor}
 use Rattle.dex_dump.specs.Accepted.{IsHeldMarket}
 use Rattle.dex_audit_rules.specs.Funds.{beyond_in, deposited, deposits_in, deposits_off, deposits_word, rebates_in, too_large, too_large_in, totals_in, vaults_in}
 use Rattle.dex_audit_rules.specs.Lists.{numbered}
-use Rattle.dex_audit_rules.specs.Slots.{astray_in, homeless, homeless_in, is_opened, misheld, misheld_in, or_else, repeated_in, ungiven_in, unheld, unpaired_in}
+use Rattle.dex_tallies.specs.Reading.{is_opened}
+use Rattle.dex_audit_rules.specs.Slots.{astray_in, homeless, homeless_in, misheld, misheld_in, or_else, repeated_in, ungiven_in, unheld, unpaired_in}
 use Rattle.dex_audit.proofs.EventLaws.{events-held}
-use Rattle.dex_audit.proofs.FundLaws.{IsSmall, differs-none, funds-agree, locks-fit, vault-is}
+use Rattle.dex_audit.proofs.FundLaws.{differs-none, funds-agree, locks-fit, vault-is}
 use Rattle.dex_audit_rules.proofs.ListLaws.{append-none, numbered-each, unless-none}
-use Rattle.dex_audit.proofs.MarketForm.{IsAuditable, book-side, slots, well-formed, word-lt}
+use Rattle.dex_audit.proofs.MarketForm.{IsAuditable, book-side, slots, well-formed}
 use Rattle.dex_audit.proofs.SlotLaws.{or_else-none, rests-held, taken-ends, taken-given, taken-once, unheld_finding-none}
 use Rattle.dex_audit.proofs.SmallLaws.{deposits-small, small}
 

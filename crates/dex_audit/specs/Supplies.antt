@@ -26,6 +26,7 @@ in_vaults mint markets = total (λ (market : PlainMarketAccounts). amount_of min
 abbrev pub held_of : Address → PlainAccounts → ℕ
 held_of mint accounts = in_wallets mint accounts.wallets + in_vaults mint accounts.markets
 
+-- rule 12 for one mint: its supply is not what the accounts hold of it
 abbrev pub supply_off : PlainAccounts → PlainAccount → List Finding
 supply_off accounts mint = differs 12 mint.address 36 (mint_words mint.bytes).supply (held_of mint.address accounts)
 

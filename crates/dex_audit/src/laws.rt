@@ -1,6 +1,6 @@
 //! What accounts are of which an audit finds nothing. A law is a function without a body, and its clause is the law.
 
-ghost use Rattle.std.specs.Prelude.{◌≡◌, []};
+ghost use Rattle.std.specs.Prelude.{◌≡◌, ◌↔◌, []};
 ghost use Rattle.std.specs.List.{All};
 ghost use Rattle.dex_types.specs.Accounts.{PlainAccounts};
 ghost use Rattle.dex_accounts.specs.Decoded.{AreSound};
@@ -18,4 +18,11 @@ pub fn accounts_without_findings_are_of_sound_markets()
 pub fn mints_without_findings_are_conserved()
     ensures { (accounts : PlainAccounts) → AreAccepted accounts → HoldBytes accounts → findings accounts ≡ []
         → All (IsConserved accounts) accounts.mints }
+{}
+
+/// Of accepted accounts an audit finds nothing exactly where they are, market by market, those of a sound market, for
+/// which they stand, and each mint is conserved.
+pub fn an_audit_finds_nothing_exactly_where_markets_are_sound_and_mints_conserved()
+    ensures { (accounts : PlainAccounts) → AreAccepted accounts → HoldBytes accounts
+        → (findings accounts ≡ []) ↔ (All AreSound accounts.markets × All (IsConserved accounts) accounts.mints) }
 {}

@@ -8,7 +8,7 @@ ghost use Rattle.dex_token.specs.TokenAccount.{IsWallet};
 ghost use Rattle.dex_accounts.specs.Accepted.{IsAccepted};
 ghost use Rattle.dex_dump.specs.Accepted.{AreAccepted};
 ghost use Rattle.dex_audit.specs.Supplies as rules;
-ghost use Rattle.dex_audit_rules.specs.Lists.{capped};
+ghost use Rattle.dex_tallies.specs.Sums.{capped};
 
 use dex_audit_rules::{Finding, tell_differs};
 use dex_token::{MintRef, WalletRef};

@@ -1,5 +1,5 @@
 -- Findings of many items, joined in the items' order.
-use Rattle.std.specs.Prelude.{ℕ, ◌+◌, ◌-◌, ◌^◌, List, [], ◌∷◌, ◌++◌, Bool, min, if◌then◌else◌}
+use Rattle.std.specs.Prelude.{ℕ, ◌+◌, List, [], ◌∷◌, ◌++◌, Bool, if◌then◌else◌}
 use Rattle.dex_audit_rules.specs.declared.finding.Finding.{Finding}
 
 -- what each item of a list gives, by its number from a first one on, joined
@@ -10,7 +10,3 @@ numbered give number (x ∷ xs) = give number x ++ numbered give (number + 1) xs
 -- the finding, unless the rule holds
 abbrev pub unless : Bool → Finding → List Finding
 unless holds finding = if holds then [] else finding ∷ []
-
--- an amount as a finding tells it: from 2^128 on as 2^128 - 1
-abbrev pub capped : ℕ → ℕ
-capped amount = min amount (2 ^ 128 - 1)

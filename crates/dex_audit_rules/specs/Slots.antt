@@ -8,10 +8,12 @@ use Rattle.dex_types.specs.declared.terms.Side.TheVariants.{Bid, Ask}
 use Rattle.dex_types.specs.Market.{Market}
 use Rattle.dex_types.specs.QueuedEvent.{QueuedEvent}
 use Rattle.dex_types.specs.Side.{by_side, sequence_of}
-use Rattle.dex_types.specs.Soundness.{counts_order, event_holding, finals_of, held_at, is_one_order, order_holding}
+use Rattle.dex_types.specs.Soundness.{counts_order, event_holding, finals_of, held_at, order_holding}
 use Rattle.dex_types.specs.Totals.{total}
 use Rattle.dex_types.specs.Trader.{Account, Holding, Trader, Open, Traders, trader_at}
 use Rattle.dex_laws.specs.Places.{is_order_at}
+use Rattle.dex_tallies.specs.Held.{id_held, is_held}
+use Rattle.dex_tallies.specs.Reading.{is_opened}
 use Rattle.dex_audit_rules.specs.declared.finding.Finding.{Finding}
 use Rattle.dex_audit_rules.specs.declared.taken.Taken.{Taken}
 use Rattle.dex_audit_rules.specs.Lists.{numbered, unless}
@@ -27,11 +29,7 @@ each_slot give traders = flat_map (λ (entry : Address × Trader). of_open (λ a
 
 -- ---- 1: a resting order's owner is an open account of its market
 
--- the trader is an open account
-abbrev pub is_opened : Option Trader → Bool
-is_opened (Some (Open account)) = true
-is_opened _ = false
-
+-- rule 1 for one order, at its place on the side with this account: its owner is no open account
 abbrev pub homeless : Traders → Address → ℕ → Order → List Finding
 homeless traders side place order =
     unless (is_opened (trader_at order.owner traders)) (record { kind = 1; account = side; place = place; found = 0; wanted = order.id })
@@ -41,16 +39,6 @@ abbrev pub homeless_in : Market → List Finding
 homeless_in m = numbered (homeless m.traders m.listing.bids) 0 m.bids ++ numbered (homeless m.traders m.listing.asks) 0 m.asks
 
 -- ---- 2: the owner's slot holds a resting order's id, side and client id
-
--- the slot holds just this
-abbrev pub is_held : Option Holding → Holding → Bool
-is_held None wanted = false
-is_held (Some held) wanted = is_one_order held wanted && (held.client == wanted.client)
-
--- the id in a slot, or 0 where it is free
-abbrev pub id_held : Option Holding → ℕ
-id_held None = 0
-id_held (Some held) = held.id
 
 -- the id of the first order of a side for this place that its slot does not hold
 abbrev pub unheld : Address → ℕ → Option Holding → Side → List Order → Option ℕ
@@ -67,12 +55,13 @@ abbrev pub or_else : Option ℕ → Option ℕ → Option ℕ
 or_else None second = second
 or_else (Some first) second = Some first
 
--- of each slot an id was noted, or none: now where none was, it is that of the first of these orders of a side that the slot does
+-- after a side was walked, what is noted of each slot: what was noted before, or else the id of the side's first order for the slot that the slot does
 -- not hold
 abbrev pub AreNoted : Address → Account → Side → List Order → List (Option ℕ) → List (Option ℕ) → Type 0
 AreNoted owner account side orders before after =
     (slot : ℕ) → slot < 128 → slice_index_or after slot None ≡ or_else (slice_index_or before slot None) (unheld_in owner account side slot orders)
 
+-- the finding of rule 2 for a slot, if an order with this id was noted that it does not hold
 abbrev pub unheld_finding : Address → ℕ → Option Holding → Option ℕ → List Finding
 unheld_finding owner slot held None = []
 unheld_finding owner slot held (Some id) = record { kind = 2; account = owner; place = slot; found = id_held held; wanted = id } ∷ []
@@ -111,12 +100,14 @@ abbrev pub ends_of : List Order → List Order → List QueuedEvent → Taken �
 ends_of bids asks events taken =
     total (counts_order taken.side (holding taken)) (by_side taken.side bids asks) + finals_of (holding taken) events
 
+-- rule 3 for one taken slot: its order does not end exactly once
 abbrev pub unpaired : List Order → List Order → List QueuedEvent → Taken → List Finding
 unpaired bids asks events taken =
     unless
     (ends_of bids asks events taken == 1)
     (record { kind = 3; account = taken.owner; place = taken.slot; found = ends_of bids asks events taken; wanted = 1 })
 
+-- rule 3 for each taken slot of a market
 abbrev pub unpaired_in : Market → List Finding
 unpaired_in m = flat_map (unpaired m.bids m.asks m.events) (taken_in m.traders)
 
@@ -127,30 +118,35 @@ unpaired_in m = flat_map (unpaired m.bids m.asks m.events) (taken_in m.traders)
 abbrev pub is_placed : Traders → List QueuedEvent → QueuedEvent → Bool
 is_placed traders earlier event = is_held (held_at event.owner event.slot traders) (event_holding event) && (finals_of (event_holding event) earlier == 0)
 
+-- rule 4 for one event behind these earlier ones: its slot does not hold its order, or one of them is a final out of it
 abbrev pub astray_behind : Traders → List QueuedEvent → Address → ℕ → QueuedEvent → List Finding
 astray_behind traders earlier queue number event =
     unless
     (is_placed traders earlier event)
     (record { kind = 4; account = queue; place = number; found = id_held (held_at event.owner event.slot traders); wanted = event.id })
 
+-- rule 4 for the event of this number among the pending ones
 abbrev pub astray : Traders → List QueuedEvent → Address → ℕ → QueuedEvent → List Finding
 astray traders events queue number event = astray_behind traders (take number events) queue number event
 
+-- rule 4 for each pending event of a market
 abbrev pub astray_in : Market → List Finding
 astray_in m = numbered (astray m.traders m.events m.listing.event_queue) 0 m.events
 
 -- ---- 5: the sequence number of a taken slot's order is below the next one
 
+-- rule 5 for one taken slot: the sequence number of its order is not below the next one
 abbrev pub ungiven : ℕ → Taken → List Finding
 ungiven next taken =
     unless (nat_lt (number_of taken) next) (record { kind = 5; account = taken.owner; place = taken.slot; found = number_of taken; wanted = next })
 
+-- rule 5 for each taken slot of a market
 abbrev pub ungiven_in : Market → List Finding
 ungiven_in m = flat_map (ungiven m.next_sequence) (taken_in m.traders)
 
 -- ---- 6: no two taken slots of a market have one sequence number
 
--- one of these has the number
+-- one of these slots' orders has the sequence number
 abbrev pub is_number_of : ℕ → List Taken → Bool
 is_number_of number [] = false
 is_number_of number (taken ∷ others) = if number_of taken == number then true else is_number_of number others
@@ -160,5 +156,6 @@ abbrev pub repeated : List Taken → ℕ → Taken → List Finding
 repeated all at taken =
     unless (not (is_number_of (number_of taken) (take at all))) (record { kind = 6; account = taken.owner; place = taken.slot; found = 2; wanted = 1 })
 
+-- rule 6 for each taken slot of a market: it has the sequence number of an earlier one
 abbrev pub repeated_in : Market → List Finding
 repeated_in m = numbered (repeated (taken_in m.traders)) 0 (taken_in m.traders)

@@ -5,11 +5,12 @@ ghost use Rattle.dex_types.specs.Accounts.{market_accounts_of};
 ghost use Rattle.dex_types.specs.QueuedEvent.{decoded_event};
 ghost use Rattle.dex_accounts.specs.Accepted.{IsAccepted};
 ghost use Rattle.dex_ring.specs.Ring.{IsEventQueue, ring_of};
+ghost use Rattle.dex_slab.specs.Slab.{IsSlab, resting};
 ghost use Rattle.dex_audit_rules.specs.Books.{plain_gathered, gathered_in};
 
-use crate::locks::resting_orders;
 use dex_ring::RingRef;
-use dex_types::{Event, MarketAccounts, NoMemory, Order, Side};
+use dex_slab::SlabRef;
+use dex_types::{Event, MarketAccounts, NoMemory, Order, Side, SideRead};
 use std::alloc::Global;
 
 /// A market's resting orders, in book order, and its pending events, from the front.
@@ -18,6 +19,31 @@ pub struct Gathered {
     pub bids: Vec<Order>,
     pub asks: Vec<Order>,
     pub events: Vec<Event>,
+}
+
+/// Adds an order behind the others.
+fn add_order(orders: &mut Vec<Order>, order: Order) -> Result<(), NoMemory>
+    ensures { OnOk result (orders.new.items ≡ orders.old.items ++ order ∷ []) }
+{
+    match orders.push(order) {
+        Ok(()) => Ok(()),
+        Err(_) => Err(NoMemory),
+    }
+}
+
+/// The resting orders of a side's account, in book order.
+fn resting_orders(alloc: Global, bytes: &[u8], side: Side) -> Result<Vec<Order>, NoMemory>
+    requires { IsSlab bytes.now }
+    ensures { IfOk result (λ orders. orders.items ≡ resting side bytes.now) }
+{
+    let slab = SlabRef { bytes, side };
+    let mut orders = Vec::new(alloc);
+    let mut next = slab.best();
+    'orders: while let Some(order) = next {
+        add_order(&mut orders, order)?;
+        next = slab.after(order.id);
+    }
+    Ok(orders)
 }
 
 /// Adds an event behind the others.

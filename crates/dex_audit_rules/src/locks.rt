@@ -1,93 +1,16 @@
-//! The resting orders of a side, and what they lock.
+//! The rule of locks, and amounts that 64 bits do not hold.
 
-ghost use Rattle.std.specs.Prelude.{◌≡◌, ℕ, [], ◌∷◌, ◌++◌, ◌<◌, ◌^◌, length, OnOk, IfOk};
-ghost use Rattle.dex_types.specs.Owed as book;
-ghost use Rattle.dex_types.specs.Owed.{is_order_of};
-ghost use Rattle.dex_types.specs.Totals.{total, weighed_where};
-ghost use Rattle.dex_slab.specs.Slab.{IsSlab, resting};
+ghost use Rattle.std.specs.Prelude.{◌≡◌, ℕ, ◌++◌, ◌<◌, ◌^◌, length, OnOk};
+ghost use Rattle.dex_tallies.specs.Sums.{capped};
 ghost use Rattle.dex_audit_rules.specs.Funds as rules;
-ghost use Rattle.dex_audit_rules.specs.Lists.{capped, numbered};
+ghost use Rattle.dex_audit_rules.specs.Lists.{numbered};
 
 use crate::finding::{Finding, tell_unless};
-use dex_slab::SlabRef;
-use dex_types::{Address, Lots, NoMemory, Order, Side, SideRead, is_same};
-use std::alloc::Global;
+use dex_tallies::lock_of;
+use dex_types::{Address, Lots, NoMemory, Order, Side};
 
-const PER_PRICE: u128 = 1 << 64;
-
-/// Adds an order behind the others.
-fn add_order(orders: &mut Vec<Order>, order: Order) -> Result<(), NoMemory>
-    ensures { OnOk result (orders.new.items ≡ orders.old.items ++ order ∷ []) }
-{
-    match orders.push(order) {
-        Ok(()) => Ok(()),
-        Err(_) => Err(NoMemory),
-    }
-}
-
-/// The resting orders of a side's account, in book order.
-pub fn resting_orders(alloc: Global, bytes: &[u8], side: Side) -> Result<Vec<Order>, NoMemory>
-    requires { IsSlab bytes.now }
-    ensures { IfOk result (λ orders. orders.items ≡ resting side bytes.now) }
-{
-    let slab = SlabRef { bytes, side };
-    let mut orders = Vec::new(alloc);
-    let mut next = slab.best();
-    'orders: while let Some(order) = next {
-        add_order(&mut orders, order)?;
-        next = slab.after(order.id);
-    }
-    Ok(orders)
-}
-
-/// The native amount that a resting order locks.
-#[tactic(auto, unfolding(dex_types::specs::Side::price_of))]
-fn lock_of(side: Side, sizes: Lots, order: &Order) -> u128
-    ensures { result ≡ capped (book.order_lock side sizes order.now) }
-{
-    let lots = u128::from(order.lots);
-    match side {
-        Side::Bid => (order.id / PER_PRICE)
-            .saturating_mul(lots)
-            .saturating_mul(u128::from(sizes.pc)),
-        Side::Ask => lots * u128::from(sizes.coin),
-    }
-}
-
-/// What the orders of a side lock.
-pub fn sum_locked(orders: &[Order], side: Side, sizes: Lots) -> u128
-    ensures { result ≡ capped (total (book.order_lock side sizes) orders.now) }
-{
-    let mut sum: u128 = 0;
-    for place in 0..orders.len() {
-        let more = lock_of(side, sizes, &orders[place]);
-        sum = sum.saturating_add(more);
-    }
-    sum
-}
-
-/// What the order locks, where it is the owner's.
-fn lock_of_own(owner: Address, side: Side, sizes: Lots, order: &Order) -> u128
-    ensures { result ≡ capped (weighed_where (is_order_of owner) (book.order_lock side sizes) order.now) }
-{
-    if is_same(owner, order.owner) {
-        lock_of(side, sizes, order)
-    } else {
-        0
-    }
-}
-
-/// What the owner's orders of a side lock.
-pub fn sum_own_locked(orders: &[Order], owner: Address, side: Side, sizes: Lots) -> u128
-    ensures { result ≡ capped (total (weighed_where (is_order_of owner) (book.order_lock side sizes)) orders.now) }
-{
-    let mut sum: u128 = 0;
-    for place in 0..orders.len() {
-        let more = lock_of_own(owner, side, sizes, &orders[place]);
-        sum = sum.saturating_add(more);
-    }
-    sum
-}
+/// One more than the greatest amount that 64 bits hold.
+const BOUND: u128 = 1 << 64;
 
 /// Tells an amount of 2^64 or more.
 pub fn tell_exceeds(
@@ -107,7 +30,7 @@ pub fn tell_exceeds(
         found: amount,
         wanted: u128::from(u64::MAX),
     };
-    tell_unless(found, amount < PER_PRICE, finding)
+    tell_unless(found, amount < BOUND, finding)
 }
 
 /// Tells each order of a side that locks 2^64 or more.

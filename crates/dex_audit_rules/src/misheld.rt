@@ -5,13 +5,13 @@ ghost use Rattle.dex_types.specs.Soundness.{order_holding};
 ghost use Rattle.dex_laws.specs.Places.{is_order_at};
 ghost use Rattle.dex_orders.specs.OrdersAccount.{IsOpen, account_of};
 ghost use Rattle.dex_audit_rules.specs.Lists.{numbered};
-ghost use Rattle.dex_audit_rules.specs.Reading.{AreOrders, held_in, traders};
+ghost use Rattle.dex_tallies.specs.Held.{is_held};
+ghost use Rattle.dex_tallies.specs.Reading.{AreOrders, held_in, traders};
 ghost use Rattle.dex_audit_rules.specs.Slots as rules;
 
 use crate::finding::{Finding, tell};
-use crate::held::{id_held, is_held};
-use crate::traders::opened;
 use dex_orders::OrdersRef;
+use dex_tallies::{id_held, is_held, opened};
 use dex_types::{Address, NoMemory, Order, OrdersAccount, Side, is_same};
 
 /// Whether the order rests for the place, and what the place holds is another.
@@ -23,7 +23,7 @@ fn is_unheld(
     order: &Order,
 ) -> bool
     ensures { result ≡ (is_order_at owner slot order.now
-        && not (rules.is_held (held_in held) (order_holding side order.now))) }
+        && not (is_held (held_in held) (order_holding side order.now))) }
 {
     let here = is_same(owner, order.owner) && slot == order.slot;
     here && !is_held(held, order.id, side, order.client)

@@ -10,13 +10,12 @@ ghost use Rattle.dex_types.specs.Totals.{total};
 ghost use Rattle.dex_audit_rules.specs.Lists.{numbered};
 ghost use Rattle.dex_audit_rules.specs.Slots as rules;
 ghost use Rattle.dex_audit_rules.specs.Slots.{holding};
-ghost use Rattle.dex_audit_rules.specs.Tallies as tallies;
-ghost use Rattle.dex_audit_rules.specs.Tallies.{AreFinals, AreResting};
+ghost use Rattle.dex_tallies.specs.Tallies as tallies;
+ghost use Rattle.dex_tallies.specs.Tallies.{AreFinals, AreResting};
 
-use crate::counts::Counts;
 use crate::finding::{Finding, tell_unless};
 use crate::taken::{Taken, number_of};
-use crate::tally;
+use dex_tallies::{Counts, mark, times};
 use dex_types::NoMemory;
 use std::alloc::Global;
 use std::collections::BTreeMap;
@@ -81,7 +80,7 @@ pub fn tell_ungiven(found: &mut Vec<Finding>, next: u64, taken: &[Taken]) -> Res
 fn is_fresh(met: &BTreeMap<u128, u32>, number: u64) -> bool
     ensures { result ≡ (tallies.times met.now number == 0) }
 {
-    tally::times(met, u128::from(number)) == 0
+    times(met, u128::from(number)) == 0
 }
 
 /// Tells each taken slot whose order has the sequence number of an earlier one.
@@ -104,7 +103,7 @@ pub fn tell_repeated(
             wanted: 1,
         };
         tell_unless(found, is_fresh(&met, number), finding)?;
-        tally::mark(&mut met, u128::from(number))?;
+        mark(&mut met, u128::from(number))?;
     }
     Ok(())
 }

@@ -9,16 +9,14 @@ ghost use Rattle.dex_types.specs.Totals.{total};
 ghost use Rattle.dex_orders.specs.OrdersAccount.{IsOpen, account_of};
 ghost use Rattle.dex_audit_rules.specs.Books.{IsBook, IsOf};
 ghost use Rattle.dex_audit_rules.specs.Funds as rules;
-ghost use Rattle.dex_audit_rules.specs.Lists.{capped};
-ghost use Rattle.dex_audit_rules.specs.Weights.{weight_of};
+ghost use Rattle.dex_tallies.specs.Sums.{capped, weight_of};
 
-use crate::amounts::{Amount, sum_amounts};
 use crate::book::Book;
 use crate::finding::{Finding, tell_unless};
-use crate::locks::{sum_locked, sum_own_locked};
-use crate::traders::opened;
-use crate::weights::{Weight, sum_own, sum_pending};
 use dex_orders::OrdersRef;
+use dex_tallies::{
+    Amount, Weight, opened, sum_amounts, sum_locked, sum_own, sum_own_locked, sum_pending,
+};
 use dex_types::{Address, NoMemory, Side};
 
 /// Tells an amount that is not the sum that it must be.

@@ -15,6 +15,6 @@ cells_inside inside = record {
   program = inside.program;
 }
 
--- they are cells
+-- what always holds of cells holds of the fields
 abbrev pub IsKept : Inside → Type 0
 IsKept inside = AreCells (cells_inside inside)

@@ -6,12 +6,15 @@ use Rattle.dex_wallet.specs.CellState.{CellState}
 use Rattle.dex_report.specs.Outcomes.{PlainMarketJournal, PlainOutcome, PlainWalletJournal}
 use Rattle.dex_bank.specs.Cells.{CellsState}
 
+-- the account that a wallet's cell leaves
 abbrev pub account_in : CellState → PlainAccount
 account_in cell = record { address = cell.address; bytes = cell.bytes }
 
+-- the journal that a market's cell leaves
 abbrev pub market_journal_in : MarketCellState → PlainMarketJournal
 market_journal_in cell = record { address = cell.accounts.address; entries = entries_of cell }
 
+-- the journal that a wallet's cell leaves
 abbrev pub wallet_journal_in : CellState → PlainWalletJournal
 wallet_journal_in cell = record { address = cell.address; entries = cell.entries }
 

@@ -7,7 +7,7 @@ use Rattle.dex_types.specs.Cancel.{order_with}
 abbrev pub price_by : ℕ → ℕ
 price_by number = 1 + number * 2654435761 % 4093
 
--- its id
+-- the id of the ask with this number
 abbrev pub id_by : ℕ → ℕ
 id_by number = price_by number * 2 ^ 64 + number
 

@@ -3,9 +3,9 @@
 
 mod list_side;
 mod places;
-mod slab_side;
 #[cfg(test)]
 mod tests;
 
+/// A side of the book over the bytes of its account, changed in place: the view of `dex_slab`.
+pub use dex_slab::SlabView as SlabSide;
 pub use list_side::ListSide;
-pub use slab_side::SlabSide;

@@ -10,8 +10,9 @@ ghost use Rattle.dex_slab.specs.StandsFor.{IsSideAccount};
 ghost use Rattle.std.proofs.Common.{refl, ◌∙◌};
 
 use super::*;
+use dex_slab::SlabRef;
 use dex_slab::laws::what_keeps_its_frame_stays_an_account;
-use dex_slab::{SlabRef, is_slab_size, is_well_formed};
+use dex_slab_check::{is_slab_size, is_well_formed};
 use dex_types::{Address, Order, Side, SideBook, SideRead};
 use std::test::Fail;
 

@@ -1,4 +1,4 @@
--- What a cancel asks for, and what it is answered.
+-- What a cancel asks for, and its answer.
 use Rattle.std.specs.Prelude.{ℕ, List, Result, length, take}
 use Rattle.dex_types.specs.declared.addresses.Address.{Address}
 use Rattle.dex_types.specs.declared.orders.Order.{Order}

@@ -19,15 +19,16 @@ use Rattle.dex_ring.specs.Ring.{IsEventQueue, Ring, pushed, ring_of}
 abbrev pub without_one : Side → RestingOrder → List Order → List Order
 without_one side gone orders = if is_same_side side gone.side then without_order gone.order.id orders else orders
 
--- a side's orders without those of these that rest on it
+-- a side's orders without those of the listed orders that rest on this side
 abbrev pub without_all : Side → List RestingOrder → List Order → List Order
 without_all side [] orders = orders
 without_all side (gone ∷ others) orders = without_all side others (without_one side gone orders)
 
--- the out of an order that leaves, which releases all that it locks, and those of orders one after the other
+-- the out of an order that leaves, which releases all that it locks
 abbrev pub out_of : Lots → RestingOrder → QueuedEvent
 out_of sizes gone = releasing_out gone.side sizes gone.order gone.order.lots
 
+-- the outs of orders that leave, in the order in which they leave
 abbrev pub outs_of : Lots → List RestingOrder → List QueuedEvent
 outs_of sizes gone = map (out_of sizes) gone
 
@@ -36,16 +37,18 @@ pub record Queue : Type 0 where
   pub list : Ring
   pub bytes : List ℕ
 
+-- the event queue that these bytes are
 abbrev pub queue_of : List ℕ → Queue
 queue_of bytes = record { list = ring_of bytes; bytes = bytes }
 
--- the event queue with the out of an order, and with the outs of orders one after the other
+-- the event queue with the out of an order
 abbrev pub with_out : Lots → RestingOrder → Queue → Queue
 with_out sizes gone queue = record {
   list = appended (out_of sizes gone ∷ []) queue.list;
   bytes = pushed queue.bytes (encoded_event (out_of sizes gone));
 }
 
+-- the event queue with the outs of orders, one after the other
 abbrev pub with_outs : Lots → List RestingOrder → Queue → Queue
 with_outs sizes [] queue = queue
 with_outs sizes (gone ∷ others) queue = with_outs sizes others (with_out sizes gone queue)
@@ -88,20 +91,23 @@ pub record HaveLeft (gone : List RestingOrder) (before after : CancelGiven) : Ty
   pub queue : queue_of after.queue ≡ with_outs before.sizes gone (queue_of before.queue)
   pub accepted : IsEventQueue after.queue
 
--- the same of one side: what is handed, whether orders can leave, and what is left
+-- what is handed of one side alone
 pub record SideGiven : Type 0 where
   pub sizes : Lots
   pub side : Side
   pub orders : List Order
   pub queue : List ℕ
 
+-- what is handed of one side, by whole views of the side and of the queue
 abbrev pub side_handed : {B : Type 0} → Lots → Side → (B → List Order) → B → RingView → SideGiven
 side_handed sizes side orders_of book ring = record { sizes = sizes; side = side; orders = orders_of book; queue = ring.bytes.now }
 
+-- so many orders can leave the side: the queue is accepted, and has room for an out of each
 pub record CanLeaveSide (gone : List RestingOrder) (given : SideGiven) : Type 0 where
   pub accepted : IsEventQueue given.queue
   pub room : HasRoom (length gone) (ring_of given.queue)
 
+-- these orders left the side, and each gave an out
 pub record HaveLeftSide (gone : List RestingOrder) (before after : SideGiven) : Type 0 where
   pub orders : after.orders ≡ without_all before.side gone before.orders
   pub queue : queue_of after.queue ≡ with_outs before.sizes gone (queue_of before.queue)

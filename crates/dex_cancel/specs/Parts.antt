@@ -12,7 +12,7 @@ use Rattle.dex_cancel.specs.Leaving.{CancelGiven, outs_of, without_all}
 abbrev pub cancel_given : MarketParts → CancelGiven
 cancel_given parts = record { sizes = sizes_of (market_words parts.market); bids = parts.bids; asks = parts.asks; queue = parts.events }
 
--- the parts with what it leaves of these
+-- a market's parts with the sides and the queue that a cancel left
 abbrev pub with_cancelled : CancelGiven → MarketParts → MarketParts
 with_cancelled given parts = record parts { bids = given.bids; asks = given.asks; events = given.queue }
 

@@ -9,7 +9,7 @@ pub enum CancelWhat {
     ById { side: Side, id: u128 },
     /// Of the account's orders with this client id the one with the least sequence number.
     ByClient(u64),
-    /// The same for each of these client ids in order; zeros, and client ids without a resting order, are passed over.
+    /// For each client id in turn, its order with the least sequence number; zeros and ids without one are passed over.
     ByClients(ClientIds),
     /// The account's first so many orders: its bids in book order, and then its asks in book order.
     Prune(u16),

@@ -5,3 +5,4 @@ pub mod ToldLaws
 pub mod AnswerLaws
 pub mod NextLaws
 pub mod PruneLaws
+pub mod TakenLaws

@@ -20,9 +20,11 @@ pub record TwoSides : Type 0 where
   pub bids : List Order
   pub asks : List Order
 
+-- two sides with these bids and asks
 abbrev pub sides_by : List Order → List Order → TwoSides
 sides_by bids asks = record { bids = bids; asks = asks }
 
+-- the two sides of a market's parts
 abbrev pub sides_given : MarketParts → TwoSides
 sides_given parts = sides_by parts.bids parts.asks
 

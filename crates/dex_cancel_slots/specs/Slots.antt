@@ -1,5 +1,5 @@
 -- Which resting orders the slots of an account name.
-use Rattle.std.specs.Prelude.{◌≡◌, ℕ, Bool, true, List, [], ◌∷◌, ◌++◌, Option, Some, None, slice_index_or, ◌==◌, if◌then◌else◌}
+use Rattle.std.specs.Prelude.{◌≡◌, ◌<◌, ◌≤◌, ℕ, Bool, true, List, [], ◌∷◌, ◌++◌, Option, Some, None, IfSome, slice_index_or, ◌==◌, if◌then◌else◌}
 use Rattle.std.specs.List.{All}
 use Rattle.dex_types.specs.declared.addresses.Address.{Address}
 use Rattle.dex_types.specs.declared.orders.Order.{Order}
@@ -16,6 +16,14 @@ use Rattle.dex_types.specs.Trader.{Holding}
 abbrev pub held_in : List (Option Holding) → ℕ → Option Holding
 held_in slots slot = slice_index_or slots slot None
 
+-- the slots from one number up to another are free
+abbrev pub AreFree : List (Option Holding) → ℕ → ℕ → Type 0
+AreFree slots from to = (slot : ℕ) → from ≤ slot → slot < to → held_in slots slot ≡ None
+
+-- the client id of what a slot holds, where it is taken, is this one
+abbrev pub IsClientOf : Option Holding → ℕ → Type 0
+IsClientOf held client = IfSome held (λ (h : Holding). h.client ≡ client)
+
 -- the order that a slot names, where it is taken and its holding passes the test: the one of its id on its side, if one rests there
 abbrev pub named_by_slot : (Holding → Bool) → List Order → List Order → Option Holding → List RestingOrder
 named_by_slot test bids asks None = []
@@ -26,13 +34,15 @@ abbrev pub orders_in : (Holding → Bool) → List Order → List Order → List
 orders_in test bids asks [] = []
 orders_in test bids asks (slot ∷ others) = named_by_slot test bids asks slot ++ orders_in test bids asks others
 
--- any holding; one with the client id; one of the side
+-- any holding
 abbrev pub any_holding : Holding → Bool
 any_holding held = true
 
+-- the holding has this client id
 abbrev pub has_client : ℕ → Holding → Bool
 has_client client held = held.client == client
 
+-- the holding is of this side
 abbrev pub is_on : Side → Holding → Bool
 is_on side held = is_same_side held.side side
 
@@ -41,12 +51,13 @@ abbrev pub oldest_of : List RestingOrder → Option RestingOrder
 oldest_of [] = None
 oldest_of (first ∷ others) = Some (older first (oldest_of others))
 
--- these orders of a side in book order
+-- these orders of a side, which stand in book order, with one more in its place
 abbrev pub put_in_order : Side → RestingOrder → List RestingOrder → List RestingOrder
 put_in_order side one [] = one ∷ []
 put_in_order side one (first ∷ others) =
     if precedes side first.order.id one.order.id then first ∷ put_in_order side one others else one ∷ first ∷ others
 
+-- these orders of a side, sorted into book order
 abbrev pub in_book_order : Side → List RestingOrder → List RestingOrder
 in_book_order side [] = []
 in_book_order side (first ∷ others) = put_in_order side first (in_book_order side others)

@@ -10,6 +10,7 @@ ghost use Rattle.dex_cancel_slots.specs.Given.{slots_in};
 ghost use Rattle.dex_cancel_slots.specs.Slots.{DoSlotsName, any_holding, has_client, named_by_slot};
 
 use crate::finding::named_at;
+use crate::taken::next_taken;
 use dex_cancel::steps::{count_before, find_on};
 use dex_orders::OrdersRef;
 use dex_types::{Address, ClientIds, SideRead};
@@ -47,11 +48,13 @@ pub fn count_first<B: SideRead, A: SideRead>(
     ensures { result ≡ length (cancelled (cancel.First limit) account (B.orders bids.now) (A.orders asks.now)) }
 {
     let mut count = 0;
-    for slot in 0..128u8 {
+    let mut slot = next_taken(orders, 0);
+    'slots: while slot < 128 {
         if count == limit {
             return count;
         }
         count += count_at(orders, bids, asks, slot);
+        slot = next_taken(orders, slot + 1);
     }
     count
 }
@@ -67,6 +70,7 @@ fn count_client_at<B: SideRead, A: SideRead>(
     requires open { IsOpen orders.now.bytes.now }
     requires bids { B.holds bids.now }
     requires asks { A.holds asks.now }
+    requires slot { slot < 128 }
     ensures count { let held = slice_index_or (slots_in orders.now) slot None in
         result ≡ length (named_by_slot (has_client client) (B.orders bids.now) (A.orders asks.now) held) }
     ensures one { result ≤ 1 }
@@ -92,8 +96,10 @@ fn count_client<B: SideRead, A: SideRead>(
     ensures { result ≡ count_of_client client (all_orders_of account (B.orders bids.now) (A.orders asks.now)) }
 {
     let mut count = 0;
-    for slot in 0..128u8 {
+    let mut slot = next_taken(orders, 0);
+    'slots: while slot < 128 {
         count += count_client_at(orders, bids, asks, slot, client);
+        slot = next_taken(orders, slot + 1);
     }
     count
 }

@@ -8,7 +8,7 @@ ghost use Rattle.dex_cancel_slots.specs.Given.{IsGiven, sides_by, sides_given, s
 ghost use Rattle.dex_cancel_slots.specs.Slots.{DoSlotsName};
 
 use crate::counting::{count_first, count_listed};
-use crate::finding::find_oldest;
+use crate::finding::has_any;
 use dex_cancel::steps::with_room;
 use dex_cancel::{CancelWhat, decide_cancel};
 use dex_orders::OrdersRef;
@@ -32,9 +32,10 @@ fn decide_by_client<B: SideRead, A: SideRead>(
     if client == 0 {
         return Err(Refusal::ClientIdZero);
     }
-    match find_oldest(account, orders, bids, asks, client) {
-        Some(_) => with_room(1, room),
-        None => Err(Refusal::ClientIdNotFound),
+    if has_any(account, orders, bids, asks, client) {
+        with_room(1, room)
+    } else {
+        Err(Refusal::ClientIdNotFound)
     }
 }
 

@@ -1,12 +1,13 @@
 //! Orders that the slots of an account name by their client id.
 
-ghost use Rattle.std.specs.Prelude.{◌≡◌, None, slice_index_or};
+ghost use Rattle.std.specs.Prelude.{◌≡◌, ◌<◌, None, is_some, slice_index_or};
 ghost use Rattle.dex_types.specs.Cancel.{all_orders_of, at_most_one, oldest};
 ghost use Rattle.dex_orders.specs.OrdersAccount.{IsOpen};
 ghost use Rattle.dex_cancel.specs.Finding.{maybe_resting};
 ghost use Rattle.dex_cancel_slots.specs.Given.{slots_in};
 ghost use Rattle.dex_cancel_slots.specs.Slots.{DoSlotsName, has_client, named_by_slot};
 
+use crate::taken::{client_at, next_taken};
 use dex_cancel::steps::{Found, find_on, older_of};
 use dex_orders::OrdersRef;
 use dex_types::{Address, SideRead};
@@ -22,14 +23,15 @@ pub fn named_at<B: SideRead, A: SideRead>(
     requires open { IsOpen orders.now.bytes.now }
     requires bids { B.holds bids.now }
     requires asks { A.holds asks.now }
+    requires slot { slot < 128 }
     ensures { let held = slice_index_or (slots_in orders.now) slot None in
         at_most_one (maybe_resting result)
         ≡ named_by_slot (has_client client) (B.orders bids.now) (A.orders asks.now) held }
 {
-    let (id, side, held) = orders.slot(slot)?;
-    if held != client {
+    if client_at(orders, slot) != client {
         return None;
     }
+    let (id, side, _) = orders.slot(slot)?;
     let order = find_on(bids, asks, side, id)?;
     Some(Found { side, order })
 }
@@ -49,8 +51,35 @@ pub fn find_oldest<B: SideRead, A: SideRead>(
     ensures { maybe_resting result ≡ oldest client (all_orders_of account (B.orders bids.now) (A.orders asks.now)) }
 {
     let mut found = None;
-    for slot in 0..128u8 {
+    let mut slot = next_taken(orders, 0);
+    'slots: while slot < 128 {
         found = older_of(found, named_at(orders, bids, asks, slot, client));
+        slot = next_taken(orders, slot + 1);
     }
     found
+}
+
+/// Whether an order of the account has the client id. It looks up no more orders once it found one.
+pub fn has_any<B: SideRead, A: SideRead>(
+    account: Address,
+    orders: &OrdersRef<'_>,
+    bids: &B,
+    asks: &A,
+    client: u64,
+) -> bool
+    requires open { IsOpen orders.now.bytes.now }
+    requires bids { B.holds bids.now }
+    requires asks { A.holds asks.now }
+    requires names { DoSlotsName account (slots_in orders.now) (B.orders bids.now) (A.orders asks.now) }
+    ensures { let own = all_orders_of account (B.orders bids.now) (A.orders asks.now) in
+        result ≡ is_some (oldest client own) }
+{
+    let mut slot = next_taken(orders, 0);
+    'slots: while slot < 128 {
+        if named_at(orders, bids, asks, slot, client).is_some() {
+            return true;
+        }
+        slot = next_taken(orders, slot + 1);
+    }
+    false
 }

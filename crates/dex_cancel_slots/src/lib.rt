@@ -8,6 +8,7 @@ mod laws;
 mod leaving;
 mod next_slots;
 mod pruning;
+mod taken;
 
 pub use deciding::decide_cancel_by_slots;
 pub use laws::{an_accounts_slots_name_its_orders, the_slots_tell_an_owners_orders};

@@ -5,6 +5,7 @@ ghost use Rattle.dex_orders.specs.OrdersAccount.{IsOpen};
 ghost use Rattle.dex_cancel_slots.specs.Given.{slots_in};
 ghost use Rattle.dex_cancel_slots.specs.NextSlots as next;
 
+use crate::taken::next_taken;
 use dex_meet::prices::precedes;
 use dex_orders::OrdersRef;
 use dex_types::Side;
@@ -52,8 +53,10 @@ pub fn next_slot(orders: &OrdersRef<'_>, side: Side, last: Option<u128>) -> Opti
     ensures { result ≡ next.next_behind side last (slots_in orders.now) }
 {
     let mut next = None;
-    for slot in 0..128u8 {
+    let mut slot = next_taken(orders, 0);
+    'slots: while slot < 128 {
         next = first_of_two(side, next, id_behind(orders, side, last, slot));
+        slot = next_taken(orders, slot + 1);
     }
     next
 }

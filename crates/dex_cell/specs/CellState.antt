@@ -80,13 +80,15 @@ call_made row seen m =
 abbrev pub market_at : MarketCellState → Market
 market_at cell = market_in cell.accounts
 
--- what deciding it answers, its step, and the call that it makes
+-- what deciding a row on the cell's market answers
 abbrev pub answer_on : Row → Seen → MarketCellState → Result Plan Refusal
 answer_on row seen cell = decided (request_of (row_of row)) seen (market_at cell)
 
+-- the step of a row on the cell's market
 abbrev pub step_on : Row → Seen → MarketCellState → Step
 step_on row seen cell = row_step (row_of row) seen (market_at cell)
 
+-- the call that a row makes on the cell's market, with its entry
 abbrev pub call_on : Row → Seen → MarketCellState → Call
 call_on row seen cell = call_made (row_of row) seen (market_at cell)
 

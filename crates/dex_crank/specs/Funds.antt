@@ -10,7 +10,7 @@ use Rattle.dex_types.specs.Side.{Coin, Pc}
 use Rattle.dex_crank.specs.declared.kinds.Kind.{Kind}
 use Rattle.dex_crank.specs.declared.kinds.Kind.TheVariants as kinds
 
--- what a kind of the code stands for
+-- the kind of event of the definitions that a kind of the code stands for
 abbrev pub told_kind : Kind → EventKind
 told_kind (kinds.MakerFill side) = MakerFill side
 told_kind (kinds.TakerFill side) = TakerFill side

@@ -57,7 +57,7 @@ abbrev pub paid_bytes : ℕ → CrankBytes → CrankBytes
 paid_bytes zero bytes = bytes
 paid_bytes (suc count) bytes = paid_first (paid_bytes count bytes)
 
--- what calls leave that consume so many events each
+-- the bytes after several calls, the first of which consumes the first of these numbers of events, and so on
 abbrev pub after_calls : List ℕ → CrankBytes → CrankBytes
 after_calls [] bytes = bytes
 after_calls (count ∷ counts) bytes = after_calls counts (paid_bytes count bytes)

@@ -7,10 +7,11 @@ use Rattle.dex_orders.specs.OrdersAccount.{IsOpen, account_of}
 use Rattle.dex_orders.specs.StandsFor.{trader_of, traders_of}
 use Rattle.dex_accounts.specs.Owners.{bytes_at}
 
--- an account by its address and its bytes, and the party that it is where it is open
+-- an account by its address and its bytes
 abbrev pub account_by : Address → List ℕ → PlainAccount
 account_by address bytes = record { address = address; bytes = bytes }
 
+-- the party that an open account is, by its address and its bytes
 abbrev pub party_by : Address → List ℕ → Party
 party_by address bytes = record { address = address; account = account_of bytes }
 

@@ -80,6 +80,7 @@ by_party planned (Some party) = planned party
 abbrev pub answered_by : (Party → Option Refusal) → (Party → Plan) → Option Party → Result Plan Refusal
 answered_by why planned party = answered (of_party why party) (by_party planned party)
 
+-- the plan of settling an open account
 abbrev pub settle_plan : Seen → Party → Plan
 settle_plan seen party = plans.Settle (plan_of (settlement (is_some seen.referrer) party.account))
 
@@ -93,6 +94,7 @@ order_planned side n m account =
     let o = order_on side m account n in
     plans.Order (taker_of side n) (ordering.plan_by n o) (sums_with o.events m)
 
+-- the plan of a new order of an open account
 abbrev pub order_plan : Side → (Address → NewOrder) → Market → Party → Plan
 order_plan side order m party = order_planned side (order party.address) m party.account
 
@@ -112,6 +114,7 @@ take_planned side taker t m =
 abbrev pub take_answer : Taker → Take → Request → Seen → Market → Result Plan Refusal
 take_answer taker t request seen m = answered (why_take taker.id_side t request seen m) (take_planned taker.id_side taker t m)
 
+-- the plan of a take as a row asks for it
 abbrev pub take_plan : Side → Take → Request → Market → Plan
 take_plan side t request m = take_planned side (taker_of_take side request t) t m
 
@@ -134,6 +137,7 @@ plan_on InitOpenOrders request seen m = plans.Init
 plan_on (Prune limit) request seen m = plans.Cancel (cancels.Prune limit)
 plan_on (CancelOrdersByClientIds ids) request seen m = plans.Cancel (cancels.ByClients ids)
 
+-- the plan of what was decoded; nothing is done where nothing was
 abbrev pub plan_decoded : Result Ix BadData → Request → Seen → Market → Plan
 plan_decoded (Err rule) request seen m = plans.Nothing
 plan_decoded (Ok ix) request seen m = plan_on ix request seen m

@@ -24,7 +24,7 @@ abbrev pub addresses_of : PlainAccounts → List Address
 addresses_of accounts =
     map address_of accounts.mints ++ (map address_of accounts.wallets ++ flat_map all_of_market accounts.markets)
 
--- how often an address is one of these
+-- how often an address stands in a list
 abbrev pub times : Address → List Address → ℕ
 times address addresses = count_by (is_same address) addresses
 
@@ -66,12 +66,12 @@ pub record IsAddress (address : Address) : Type 0 where
   pub size : length address.0 ≡ 32
   pub bytes : IsBytes address.0
 
--- an account of bytes at such an address
+-- an account that holds bytes, at an address of 32 bytes
 pub record IsHeld (account : PlainAccount) : Type 0 where
   pub address : IsAddress account.address
   pub bytes : IsBytes account.bytes
 
--- the same of a market's accounts
+-- a market's accounts hold bytes; its address, its authority's and those of its open-orders accounts are of 32 bytes
 pub record IsHeldMarket (accounts : PlainMarketAccounts) : Type 0 where
   pub address : IsAddress accounts.address
   pub authority : IsAddress accounts.authority

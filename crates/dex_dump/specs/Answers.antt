@@ -16,6 +16,7 @@ pub record PlainDump : Type 0 where
   pub count : ℕ
   pub behind : List Fields
 
+-- what reading a dump's rows answers: what they say, or the first fault
 abbrev pub PlainAnswer : Type 0
 PlainAnswer = Result PlainDump DumpFault
 
@@ -36,6 +37,7 @@ abbrev pub if_allowed : PlainReading → Option PlainLine → Option PlainLine
 if_allowed reading None = None
 if_allowed reading (Some line) = if is_allowed reading line then Some line else None
 
+-- what this row states, if a dump may have it behind what was read
 abbrev pub stated : PlainReading → Fields → Option PlainLine
 stated reading row = if_allowed reading (line_of row)
 

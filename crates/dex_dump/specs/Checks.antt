@@ -20,9 +20,9 @@ use Rattle.dex_market.specs.MarketAccount.{MarketTerms, address_in, market_terms
 use Rattle.dex_token.specs.Faults.{mint_fault, token_fault, wallet_fault}
 use Rattle.dex_ring.specs.Faults.{queue_fault}
 use Rattle.dex_orders.specs.Faults.{are_zeros, orders_fault}
-use Rattle.dex_slab.specs.declared.slab_fault.SlabFault.{SlabFault}
+use Rattle.dex_slab_check.specs.declared.slab_fault.SlabFault.{SlabFault}
 use Rattle.dex_slab.specs.Blank.{side_flags}
-use Rattle.dex_slab.specs.Faults.{IsFault}
+use Rattle.dex_slab_check.specs.Faults.{IsFault}
 use Rattle.dex_slab.specs.Slab.{IsSlab}
 use Rattle.dex_dump_rows.specs.Lines.{PlainLine}
 use Rattle.dex_dump_rows.specs.Lines.PlainLine.{Mint, Wallet, Market, Orders}
@@ -46,13 +46,15 @@ with_others bytes size itself others = if length bytes == size then lower itself
 
 -- ---- the accounts
 
--- kind 5 or kind 10: the first byte at which an address differs from the one that is wanted
+-- kind 5: the first byte at which an address differs from the one that is wanted
 abbrev pub word_differs : Difference → AccountFault
 word_differs difference = word_fault difference.place difference.found difference.wanted
 
+-- kind 10: the same, of an address in a token account
 abbrev pub token_differs : Difference → AccountFault
 token_differs difference = token_fault difference.place difference.found difference.wanted
 
+-- the first byte at which a field of these bytes differs from the wanted address, if there is one
 abbrev pub address_rule : List ℕ → Field → Address → Option AccountFault
 address_rule bytes field wanted = option_map word_differs (difference_from field.at (bytes_in bytes field) wanted.0)
 
@@ -120,6 +122,7 @@ side_size_rule bytes =
 abbrev pub text_rule : List ℕ → Option AccountFault
 text_rule bytes = option_map (λ (d : Difference). text_fault d.place d.found d.wanted) (frame_difference bytes)
 
+-- the account flags of a slab are not those of its side
 abbrev pub side_flags_rule : Side → List ℕ → Option AccountFault
 side_flags_rule side bytes =
     if number_in bytes slab.ACCOUNT_FLAGS == side_flags side then None
@@ -141,9 +144,11 @@ pub record AccountCheck : Type 0 where
   pub account : Address
   pub check : Check
 
+-- the check of an account by its rules, with the fault that they find, if any
 abbrev pub by_rules : Address → Option AccountFault → AccountCheck
 by_rules account fault = record { account = account; check = Rules fault }
 
+-- the check that the bytes of an account are a well-formed slab
 abbrev pub by_slab : Address → List ℕ → AccountCheck
 by_slab account bytes = record { account = account; check = Slab bytes }
 
@@ -162,11 +167,12 @@ queue_checks terms market =
 abbrev pub side_checks : Address → Side → List ℕ → List AccountCheck
 side_checks account side bytes = by_rules account (side_rule side bytes) ∷ by_slab account bytes ∷ []
 
--- the vaults, the queues and the sides
+-- the checks of a market's vaults, queues and sides
 abbrev pub part_checks : MarketTerms → PlainMarketAccounts → List AccountCheck
 part_checks terms market =
     vault_checks terms market ++ (queue_checks terms market ++ (side_checks terms.bids Bid market.bids ++ side_checks terms.asks Ask market.asks))
 
+-- the checks of what a row declares, in their order, behind what was read
 unfoldable pub checks : PlainReading → PlainLine → List AccountCheck
 checks reading (Mint mint) = by_rules mint.address (mint_fault mint.bytes) ∷ []
 checks reading (Wallet wallet) = by_rules wallet.address (wallet_rule reading.accounts wallet.bytes) ∷ []
@@ -181,6 +187,7 @@ checks reading _ = []
 abbrev pub slab_told : SlabFault → AccountFault
 slab_told fault = record { kind = 6; place = fault.node; found = fault.found; wanted = fault.wanted }
 
+-- a check holds: its rules find no fault, or the bytes are a slab
 abbrev pub Holds : Check → Type 0
 Holds (Rules fault) = fault ≡ None
 Holds (Slab bytes) = IsSlab bytes

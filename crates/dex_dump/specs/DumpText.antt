@@ -44,10 +44,11 @@ orders_row market account =
 abbrev pub market_rows : PlainMarketAccounts → List Fields
 market_rows market = market_row market ∷ map (orders_row market.address) market.orders
 
--- the first row and the last
+-- the first row of a dump
 abbrev pub first_row : Fields
 first_row = codes "dump" ∷ []
 
+-- the last row of a dump
 abbrev pub last_row : Fields
 last_row = codes "enddump" ∷ []
 

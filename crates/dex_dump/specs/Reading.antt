@@ -39,7 +39,7 @@ market_addresses market = market.address ∷ parts_of (market_words market.marke
 abbrev pub is_new : PlainReading → Address → ℕ → ℕ → Bool
 is_new reading address count limit = not (is_among address reading.taken) && nat_lt count limit
 
--- a name of a mint that is not given yet, and not to the mint that has the other name
+-- a mint may get this name (SRM or MSRM): no mint has it yet, the mint is declared, and it has not the other name
 abbrev pub is_name : PlainAccounts → Address → Option Address → Option Address → Bool
 is_name accounts mint (Some named) other = false
 is_name accounts mint None None = is_mint accounts mint

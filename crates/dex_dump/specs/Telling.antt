@@ -41,17 +41,19 @@ TellsRow (Err dump.NoMemory) number old new row = Unit {0}
 abbrev pub plain_dump : DumpRead → List Fields → PlainDump
 plain_dump read left = record { accounts = accounts_of read.accounts; count = read.count; behind = left }
 
--- the answer to the rows behind the first, to the rows of a dump, and to a text. Want of memory tells nothing
+-- the answer to the rows behind the first is the definition's; want of memory tells nothing
 abbrev pub TellsAccounts : Result DumpRead DumpError → List Fields → List Fields → Type 0
 TellsAccounts (Ok read) rows left = Answers 2 start rows (Ok (plain_dump read left))
 TellsAccounts (Err (dump.Refused fault)) rows left = Answers 2 start rows (Err fault)
 TellsAccounts (Err dump.NoMemory) rows left = Unit {0}
 
+-- the answer to the rows of a dump is the definition's; want of memory tells nothing
 abbrev pub TellsDump : Result DumpRead DumpError → List Fields → List Fields → Type 0
 TellsDump (Ok read) rows left = AnswersDump rows (Ok (plain_dump read left))
 TellsDump (Err (dump.Refused fault)) rows left = AnswersDump rows (Err fault)
 TellsDump (Err dump.NoMemory) rows left = Unit {0}
 
+-- the answer to a text is the definition's; want of memory tells nothing
 abbrev pub TellsText : Result Accounts DumpError → List ℕ → Type 0
 TellsText (Ok accounts) text = AnswersText text (Ok (accounts_of accounts))
 TellsText (Err (dump.Refused fault)) text = AnswersText text (Err fault)

@@ -21,7 +21,7 @@ use dex_fields::{
 use dex_market::{check_market, check_requests};
 use dex_orders::check_orders;
 use dex_ring::check_events;
-use dex_slab::is_well_formed;
+use dex_slab_check::is_well_formed;
 use dex_token::check_wallet;
 use dex_types::{AccountFault, Accounts, Address, MarketAccounts, Side};
 

@@ -25,7 +25,7 @@ TellsLine (Ok line) meant = meant ≡ Some (plain_line line)
 TellsLine (Err Grammar) meant = meant ≡ None
 TellsLine (Err NoMemory) meant = Unit {0}
 
--- the same of an account
+-- the answer is what is meant: an account, or that the row has no such form; want of memory tells nothing
 abbrev pub TellsAccount : Result Named LineError → Option PlainAccount → Type 0
 TellsAccount (Ok account) meant = meant ≡ Some (named_of account)
 TellsAccount (Err Grammar) meant = meant ≡ None

@@ -56,10 +56,11 @@ eager_at m ledger = record {
   takings = takings_of m ledger;
 }
 
--- the orders of a side, and how many it can hold
+-- the orders of a side
 abbrev pub orders_on : Side → Eager → List Order
 orders_on side e = by_side side e.bids e.asks
 
+-- how many orders a side can hold
 abbrev pub room_on : Side → Eager → ℕ
 room_on side e = by_side side e.bid_capacity e.ask_capacity
 
@@ -132,6 +133,7 @@ after_new_order side n met e =
 abbrev pub does_nothing : Side → NewOrder → Meeting → Eager → Bool
 does_nothing side n met e = is_too_large side e.sizes n.lots met || (e.next_sequence == 2 ^ 64 - 1) || is_some met.aborts
 
+-- the step of a new order, by what it met
 abbrev pub order_by : Side → NewOrder → Meeting → Eager → EagerStep
 order_by side n met e =
     if does_nothing side n met e then unchanged e else record { market = after_new_order side n met e; fills = maker_fills met.events }
@@ -140,6 +142,7 @@ order_by side n met e =
 abbrev pub eager_order : Side → (Address → NewOrder) → Eager → Address → EagerStep
 eager_order side order e owner = order_by side (order owner) (order_meeting side (order owner) e) e
 
+-- the step of a take, by what it met
 abbrev pub take_by : Side → Take → Meeting → Eager → EagerStep
 take_by side t met e =
     if is_too_large side e.sizes t.lots met then unchanged e

@@ -91,6 +91,7 @@ pub record Trade : Type 0 where
   pub tier : Tier
   pub program : Program
 
+-- what a call's trade goes by
 abbrev pub trade_of : Call → Trade
 trade_of call = record { asked = call.asked; tier = tier_seen call.seen; program = call.seen.program }
 
@@ -98,7 +99,7 @@ trade_of call = record { asked = call.asked; tier = tier_seen call.seen; program
 abbrev pub trades : List Call → List Trade
 trades calls = map trade_of (counted calls)
 
--- a step of a row that names these accounts leaves what an eager step leaves, and appends its fills
+-- the step of a row (`named`: the accounts that it names) leaves the eager market that the eager step leaves, and appends the fills of that
 pub record IsPaidAs (m : Market) (ledger : Ledger) (named : List Address) (s : Step) (paid : EagerStep) : Type 0 where
   pub market : eager_at s.market (with_step named s ledger) ≡ paid.market
   pub fills : maker_fills (appended m s.market) ≡ paid.fills

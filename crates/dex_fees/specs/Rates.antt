@@ -1,3 +1,4 @@
+-- What the laws of fees say: the rates, least and greatest numbers, and what a lock pays.
 use Rattle.std.specs.Prelude.{ℕ, ◌+◌, ◌*◌, ◌≤◌}
 use Rattle.dex_types.specs.declared.terms.Program.{Program}
 use Rattle.dex_types.specs.declared.terms.Program.TheVariants.{Serum, OpenBook}

@@ -9,7 +9,7 @@ use crate::journaled::Journaled;
 use crate::no_memory::NoMemory;
 use crate::pass::Pass;
 use crate::plays::{Draw, HandOut, TakeIn};
-use crate::steps::{look, low_half, pass_on, take_out};
+use crate::steps::{linger, look, low_half, pass_on, take_out};
 use crate::turn::Turn;
 use atomic_table::Table;
 use std::alloc::Global;
@@ -108,6 +108,7 @@ impl<V: Journaled> Gate<V> {
             ≡ pass.old.mine }
     {
         for _ in rt.forever() {
+            linger(&self.table.shared, pass.ticket);
             match self.try_turn(pass) {
                 Ok(turn) => return turn,
                 Err(served) => self.table.shared.park(rt, SERVED, low_half(served)),

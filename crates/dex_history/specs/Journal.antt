@@ -85,10 +85,11 @@ pub record Sees (asked : Asked) (seen : Seen) : Type 0 where
 abbrev pub places : List Movement → List (Option Movement)
 places moves = take 4 (map (λ move. Some move) moves ++ replicate 4 None)
 
--- the step of what was asked on a market, and of a row
+-- the step of what was asked on a market
 abbrev pub asked_step : Asked → Seen → Market → Step
 asked_step asked seen m = step asked.request seen m
 
+-- the step of a row on a market
 abbrev pub row_step : PlainRow → Seen → Market → Step
 row_step row seen m = asked_step (asked_of row) seen m
 

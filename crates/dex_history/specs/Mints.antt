@@ -29,6 +29,7 @@ abbrev pub debited_as : MoveKind → ℕ → ℕ
 debited_as Debit amount = amount
 debited_as _ amount = 0
 
+-- the native amount that this movement takes from its wallet; 0 unless it is a debit
 abbrev pub debited : Movement → ℕ
 debited move = debited_as move.kind move.amount
 
@@ -37,6 +38,7 @@ abbrev pub credited_as : MoveKind → ℕ → ℕ
 credited_as Credit amount = amount
 credited_as _ amount = 0
 
+-- the native amount that this movement brings to its wallet; 0 unless it is a credit
 abbrev pub credited : Movement → ℕ
 credited move = credited_as move.kind move.amount
 

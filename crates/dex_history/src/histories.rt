@@ -25,7 +25,7 @@ pub fn a_history_grows_at_its_end()
         market_after m (calls ++ (call ∷ [])) ≡ (step_of call (market_after m calls)).market }
 {}
 
-/// The same of a wallet's movements, from a balance on.
+/// A wallet's journal is legal from a balance on exactly where its front is and the rest is from the balance after it.
 pub fn a_wallet_journal_grows_at_its_end()
     ensures parts { (entries later : List WalletEntry) (balance : ℕ) →
         IsWalletLegal balance (entries ++ later) ↔ (IsWalletLegal balance entries

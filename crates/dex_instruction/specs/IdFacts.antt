@@ -10,9 +10,11 @@ unfolding numbers_at
 length-numbers_at zero place bytes = refl
 length-numbers_at (suc count) place bytes = ap suc (length-numbers_at count (place + 8) bytes)
 
+-- the count of client ids is at least one
 pub is_some : (n : ℕ) → 1 ≤ max 1 (min 8 n)
 is_some n = omega arith
 
+-- the count of client ids is at most eight
 pub is_at_most_eight : (n : ℕ) → max 1 (min 8 n) ≤ 8
 is_at_most_eight n = omega arith
 

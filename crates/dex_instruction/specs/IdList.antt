@@ -12,6 +12,7 @@ id_count bytes = max 1 (min 8 ((length bytes - 5) / 8))
 abbrev pub padded_ids : List ℕ → List ℕ
 padded_ids bytes = numbers_at (id_count bytes) 5 bytes ++ replicate (8 - id_count bytes) 0
 
+-- the client ids that the data has
 unfoldable pub ids_in : List ℕ → ClientIds
 ids_in bytes = record {
   ids = padded_ids bytes;

@@ -17,15 +17,18 @@ call_inside inside = record {
   stamp = inside.stamp.number;
 }
 
+-- the wallet's entry with its stamp that the fields stand for
 abbrev pub entry_inside : entry.Inside → Stamped WalletEntry
 entry_inside inside = record { item = inside.entry; stamp = inside.stamp.number }
 
+-- the start of a market that the fields stand for
 abbrev pub market_start_inside : market.Inside → MarketOrigin
 market_start_inside inside = record {
   start = market_accounts_of inside.start.value;
   script = inside.script.value;
 }
 
+-- the start of a wallet that the fields stand for
 abbrev pub wallet_start_inside : wallet.Inside → WalletOrigin
 wallet_start_inside inside = record {
   start = record { address = inside.address; bytes = inside.bytes.value.items };

@@ -30,6 +30,7 @@ pub record BankMarketState : Type 0 where
 abbrev pub market_calls : BankMarketState → List (Stamped Call)
 market_calls market = stamped market.cell.calls market.stamps
 
+-- where the market's journal starts: its first accounts, and the script
 abbrev pub market_origin : BankMarketState → MarketOrigin
 market_origin market = record { start = market.cell.start; script = market.script }
 
@@ -66,6 +67,7 @@ pub record BankWalletState : Type 0 where
 abbrev pub wallet_entries : BankWalletState → List (Stamped WalletEntry)
 wallet_entries wallet = stamped wallet.cell.entries wallet.stamps
 
+-- where the wallet's journal starts: its first account, and the script
 abbrev pub wallet_origin : BankWalletState → WalletOrigin
 wallet_origin wallet =
     record { start = record { address = wallet.cell.address; bytes = wallet.cell.start }; script = wallet.script }

@@ -1,3 +1,4 @@
+-- Which events a meeting appends: best orders first, and of whom.
 use Rattle.std.specs.Prelude.{◌≡◌, ◌≢◌, List, [], ◌∷◌, Option, Some, None, All, false, ⊤}
 use Rattle.dex_types.specs.declared.addresses.Address.{Address}
 use Rattle.dex_types.specs.declared.terms.Side.{Side}

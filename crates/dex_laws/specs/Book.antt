@@ -1,3 +1,4 @@
+-- When both sides of a market are in order and no bid crosses an ask.
 use Rattle.std.specs.Prelude.{ℕ, ◌<◌, List, All}
 use Rattle.dex_types.specs.declared.orders.Order.{Order}
 use Rattle.dex_types.specs.declared.terms.Side.{Side}

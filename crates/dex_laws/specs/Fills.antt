@@ -1,3 +1,4 @@
+-- What fills and releases say: the maker's price, the limit price, and how a lock is split.
 use Rattle.std.specs.Prelude.{ℕ, ◌≡◌, ◌+◌, ◌*◌, ◌≤◌, List, Contains, ⊤}
 use Rattle.dex_types.specs.declared.orders.Order.{Order}
 use Rattle.dex_types.specs.declared.terms.Lots.{Lots}

@@ -1,3 +1,4 @@
+-- When the amounts of events fit a bound, and of which orders events are.
 use Rattle.std.specs.Prelude.{ℕ, ◌≡◌, ◌≤◌, List, Contains}
 use Rattle.dex_types.specs.declared.orders.Order.{Order}
 use Rattle.dex_types.specs.QueuedEvent.{QueuedEvent}

@@ -1,3 +1,4 @@
+-- What resting orders lock, and what events take off these locks.
 use Rattle.std.specs.Prelude.{ℕ, ◌+◌, List}
 use Rattle.dex_types.specs.declared.orders.Order.{Order}
 use Rattle.dex_types.specs.declared.terms.Lots.{Lots}
@@ -20,6 +21,7 @@ unlocked_as Ask (MakerFill Ask) event = event.paid
 unlocked_as Ask (ReleasingOut Ask) event = event.released
 unlocked_as side kind event = 0
 
+-- the native amount that this event took off the locks of the side
 abbrev pub unlocked : Side → QueuedEvent → ℕ
 unlocked side event = unlocked_as side event.kind event
 
@@ -29,6 +31,7 @@ taken_off_as Bid (MakerFill Bid) event = event.paid + event.fee_or_rebate
 taken_off_as Ask (MakerFill Ask) event = event.paid
 taken_off_as side kind event = 0
 
+-- what this event took off the locks of the side as a fill
 abbrev pub taken_off : Side → QueuedEvent → ℕ
 taken_off side event = taken_off_as side event.kind event
 
@@ -38,5 +41,6 @@ let_go_as Bid (ReleasingOut Bid) event = event.released
 let_go_as Ask (ReleasingOut Ask) event = event.released
 let_go_as side kind event = 0
 
+-- what this event released from the locks of the side as an out
 abbrev pub let_go : Side → QueuedEvent → ℕ
 let_go side event = let_go_as side event.kind event

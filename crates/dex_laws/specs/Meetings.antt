@@ -1,3 +1,4 @@
+-- A fact about every meeting with the opposite side.
 use Rattle.std.specs.Prelude.{List}
 use Rattle.dex_types.specs.declared.orders.Order.{Order}
 use Rattle.dex_types.specs.declared.terms.Side.{Side}

@@ -1,3 +1,4 @@
+-- What fills move, and how many orders were met.
 use Rattle.std.specs.Prelude.{ℕ, ◌+◌, ◌-◌, ◌*◌, Option, if◌then◌else◌}
 use Rattle.dex_types.specs.declared.addresses.Address.{Address}
 use Rattle.dex_types.specs.declared.orders.Order.{Order}
@@ -21,6 +22,7 @@ filled_coin_as (MakerFill Bid) event = event.released
 filled_coin_as (MakerFill Ask) event = event.paid
 filled_coin_as kind event = 0
 
+-- the native base of this event, 0 unless it is a maker's fill
 abbrev pub filled_coin : QueuedEvent → ℕ
 filled_coin event = filled_coin_as event.kind event
 
@@ -30,6 +32,7 @@ filled_pc_as (MakerFill Bid) event = event.paid + event.fee_or_rebate
 filled_pc_as (MakerFill Ask) event = event.released - event.fee_or_rebate
 filled_pc_as kind event = 0
 
+-- the native quote of this event, 0 unless it is a maker's fill
 abbrev pub filled_pc : QueuedEvent → ℕ
 filled_pc event = filled_pc_as event.kind event
 
@@ -38,6 +41,7 @@ abbrev pub filled_rebate_as : EventKind → QueuedEvent → ℕ
 filled_rebate_as (MakerFill side) event = event.fee_or_rebate
 filled_rebate_as kind event = 0
 
+-- the rebate of this event, 0 unless it is a maker's fill
 abbrev pub filled_rebate : QueuedEvent → ℕ
 filled_rebate event = filled_rebate_as event.kind event
 
@@ -47,6 +51,7 @@ meets_one_as (MakerFill side) = 1
 meets_one_as (ReleasingOut side) = 1
 meets_one_as kind = 0
 
+-- one where this event is the fill or the release of an order that was met
 abbrev pub meets_one : QueuedEvent → ℕ
 meets_one event = meets_one_as event.kind
 

@@ -1,3 +1,4 @@
+-- What is in a slot of a trader: the orders that rest for it, and the events that free it.
 use Rattle.std.specs.Prelude.{ℕ, ◌==◌, List, Bool, ◌&&◌, if◌then◌else◌}
 use Rattle.dex_types.specs.declared.addresses.Address.{Address}
 use Rattle.dex_types.specs.declared.orders.Order.{Order}

@@ -1,3 +1,4 @@
+-- Which orders are left of a side when orders leave or lose lots from the front.
 use Rattle.std.specs.Prelude.{ℕ, ◌≡◌, ◌<◌, ◌⊎◌, List, [], ◌∷◌}
 use Rattle.dex_types.specs.declared.orders.Order.{Order}
 use Rattle.dex_types.specs.Meeting.{less}

@@ -1,3 +1,4 @@
+-- Why a taker goes no further, and at which own order it has to abort.
 use Rattle.std.specs.Prelude.{ℕ, ◌≡◌, ◌<◌, true, false}
 use Rattle.dex_types.specs.declared.orders.Order.{Order}
 use Rattle.dex_types.specs.declared.terms.SelfTrade.TheVariants.{Abort}

@@ -63,6 +63,7 @@ audit_failed found = flat_map finding_line found ++ line (codes "audit failed" +
 abbrev pub audit_ok : ℕ → ℕ → List ℕ
 audit_ok markets wallets = line (codes "audit ok" ++ spaced (decimal markets) ++ spaced (decimal wallets))
 
+-- the word for what did not fit in a migration
 abbrev pub what_text : MigrateWhat → List ℕ
 what_text Bids = codes "bids"
 what_text Asks = codes "asks"

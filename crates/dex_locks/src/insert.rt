@@ -23,20 +23,21 @@ pub enum Carry {
 pub fn with_role(places: [Option<Address>; 4], role: Option<Address>) -> [Option<Address>; 4]
     ensures { result ≡ put (carry_of role) places }
 {
-    let (first, carry) = step(places[0], carry_of(role));
+    match role {
+        Some(address) => with_address(places, address),
+        None => places,
+    }
+}
+
+/// The same where a role names this address.
+fn with_address(places: [Option<Address>; 4], address: Address) -> [Option<Address>; 4]
+    ensures { result ≡ put (Carry.New address) places }
+{
+    let (first, carry) = put_new(places[0], address);
     let (second, carry) = step(places[1], carry);
     let (third, carry) = step(places[2], carry);
     let (fourth, _) = step(places[3], carry);
     [first, second, third, fourth]
-}
-
-fn carry_of(role: Option<Address>) -> Carry
-    ensures { result ≡ carry_of role }
-{
-    match role {
-        Some(address) => Carry::New(address),
-        None => Carry::Nothing,
-    }
 }
 
 /// What one place holds afterwards, and what is left to be done from the next one on.

@@ -1,4 +1,4 @@
--- What a market is made of, and what is said of it by that.
+-- What a market is made of, when it can be made and can trade, and what never changes of it.
 use Rattle.std.specs.Prelude.{◌≡◌, ◌≤◌, false, slice_index}
 use Rattle.dex_types.specs.declared.instructions.Ix.{Ix}
 use Rattle.dex_types.specs.declared.instructions.Ix.TheVariants.{InitializeMarket}

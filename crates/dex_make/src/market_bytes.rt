@@ -17,7 +17,8 @@ use dex_types::{Address, Ix};
 /// The flags of a market account: Initialized and Market.
 const MARKET_FLAGS: u64 = 3;
 
-/// What an InitializeMarket instruction says of the market that it makes.
+/// What an InitializeMarket instruction says of the market that it makes: lot sizes are native amounts, the fee rate is
+/// in hundredths of a percent, and the dust threshold is in native quote.
 #[derive(Clone, Copy, Debug, PartialEq, Eq)]
 pub struct InitialTerms {
     pub coin_lot: u64,

@@ -5,7 +5,7 @@ use super::*;
 use dex_market::{check_market, check_requests};
 use dex_orders::check_orders;
 use dex_ring::check_events;
-use dex_slab::{is_slab_size, is_well_formed};
+use dex_slab_check::{is_slab_size, is_well_formed};
 use dex_token::{check_mint, check_wallet};
 use dex_types::{Address, Ix, Side};
 use std::test::Fail;

@@ -3,6 +3,7 @@
 
 mod faults;
 mod funds;
+pub mod laws;
 mod market_check;
 mod market_ref;
 mod market_view;

@@ -38,7 +38,8 @@ use Rattle.dex_match.specs.OrderParts.{OrderGiven, order_given, parts_of}
 use Rattle.dex_match.specs.Ordering.{plan_by}
 use Rattle.dex_match.specs.OrderTerms.{order_of}
 use Rattle.dex_match.proofs.PartsLaws.{GivenOf, given-of, ordering-is}
-use Rattle.dex_match.proofs.RoomLaws.{CanApply, IsAllowed, allowed, given-apply}
+use Rattle.dex_match.specs.Planned.{CanApply}
+use Rattle.dex_match.proofs.RoomLaws.{IsAllowed, allowed, given-apply}
 
 -- an intake leaves the words of the market after the order
 words-after : (side : Side) (m : Market) (account : Account) (n : NewOrder) (o : Ordering) → m.pc_fees + m.referrer_rebates ≤ m.pc_vault → m.coin_fees ≤ m.coin_vault

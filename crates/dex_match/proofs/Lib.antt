@@ -6,6 +6,7 @@ pub mod FittingLaws
 pub mod ForeseenLaws
 pub mod PartLaws
 pub mod PartsLaws
+pub mod PlannedLaws
 pub mod RoomLaws
 pub mod TradeLaws
 pub mod TestLaws

@@ -9,7 +9,7 @@ use Rattle.dex_types.specs.declared.terms.Side.{Side}
 use Rattle.dex_types.specs.declared.terms.Side.TheVariants.{Bid, Ask}
 use Rattle.dex_types.specs.declared.terms.Tier.{Tier}
 use Rattle.dex_types.specs.declared.terms.Tier.TheVariants.{Base, Srm2, Srm3, Srm4, Srm5, Srm6, Msrm}
-use Rattle.dex_types.specs.Fees.{referrer_part, tier_number}
+use Rattle.dex_types.specs.Fees.{tier_number}
 use Rattle.dex_types.specs.Market.{Market, orders}
 use Rattle.dex_types.specs.NewOrder.{NewOrder, Ordering, account_after, after_order, fee_of, full_lock, order_on, spent}
 use Rattle.dex_types.specs.Owed.{order_lock}
@@ -31,24 +31,15 @@ use Rattle.dex_sound.proofs.FieldLaws.{fields-fit}
 use Rattle.dex_sound.proofs.OrderSoundReasons.{first_of-none, refused_where-none}
 use Rattle.dex_sound.proofs.PlaceLaws.{is_same_side-true}
 use Rattle.dex_match.specs.declared.order_plan.OrderPlan.{OrderPlan}
-use Rattle.dex_match.specs.Applying.{AreFunds, CanMove, CanPay, CanPost, CanTakeIn, CanTrade, events_by, funds_with, got_by, intake_by, met_with, moves_by, spent_by}
+use Rattle.dex_match.specs.Applying.{AreFunds, CanMove, CanPay, CanPost, CanTakeIn, CanTrade, events_by, funds_with, got_by, intake_by, moves_by, spent_by}
 use Rattle.dex_match.specs.OrderParts.{OrderGiven, OrderParts, parts_of}
 use Rattle.dex_match.proofs.PartsLaws.{GivenOf, SoundGiven}
 use Rattle.dex_market.specs.MarketAccount.{sizes_of}
 use Rattle.dex_match.specs.Ordering.{IsDecided, limits_in, order_reason, ordering_in, plan_by}
+use Rattle.dex_match.specs.Planned.{CanApply}
 use Rattle.dex_match.proofs.DecidedSound.{decided-sound}
 use Rattle.dex_match.proofs.FittingLaws.{locks-fit, meeting-fits}
 use Rattle.dex_match.proofs.PartsLaws.{parts_in, parts-are}
-
--- a plan can be done on what is read
-pub record CanApply (side : Side) (n : NewOrder) (plan : OrderPlan) (parts : OrderParts) : Type 0 where
-  pub left : parts.next_sequence < 2 ^ 64 - 1
-  pub trades : CanTrade side (sizes_of parts.words) n plan parts.own_room parts.own parts.opposing parts.ring
-  pub covers : referrer_part plan.fee + (met_with side (sizes_of parts.words) n parts.opposing).rebates ≤ plan.fee
-  pub takes_in : CanTakeIn (intake_by side plan.deposit plan.fee (met_with side (sizes_of parts.words) n parts.opposing).rebates) parts.words
-  pub free : slice_index_or parts.account.slots plan.slot None ≡ None
-  pub fresh : HasNoOrder plan.id side parts.account.slots
-  pub pays : CanPay side (moves_by side (sizes_of parts.words) n plan) (funds_of parts.account)
 
 -- what is known of an order that is not refused
 pub record IsAllowed (side : Side) (m : Market) (account : Account) (n : NewOrder) : Type 0 where

@@ -60,10 +60,11 @@ funds_by intake words = record {
   referrer_rebates = words.referrer_rebates_accrued + intake.referrer;
 }
 
--- the words of a market with an intake, and its bytes
+-- the words of a market with an intake
 abbrev pub words_with : Intake → MarketWords → MarketWords
 words_with intake words = words_with_funds (funds_by intake words) words
 
+-- the bytes of a market account with an intake
 abbrev pub bytes_with : Intake → List ℕ → List ℕ
 bytes_with intake bytes = with_funds (funds_by intake (market_words bytes)) bytes
 
@@ -81,11 +82,12 @@ requests_after bytes = with_number bytes NEXT_SEQ_NUM (next_sequence bytes + 1)
 
 -- ---- the trader's account
 
--- what fills take from the lock, and what they bring in, by a plan's numbers
+-- the native amount that the fills take from the lock, by a plan's numbers
 abbrev pub spent_by : Side → Lots → OrderPlan → ℕ
 spent_by Bid sizes plan = plan.pc + plan.fee
 spent_by Ask sizes plan = plan.lots * sizes.coin
 
+-- the native amount that the fills bring in, by a plan's numbers
 abbrev pub got_by : Side → Lots → OrderPlan → ℕ
 got_by Bid sizes plan = plan.lots * sizes.coin
 got_by Ask sizes plan = plan.pc - plan.fee
@@ -162,7 +164,7 @@ fill_events side order pc amounts =
     if pc == 0 then []
     else event_of (TakerFill side) order amounts.released amounts.paid amounts.fee_or_rebate ∷ []
 
--- the same of a plan
+-- the taker's fill event, where the plan has quote, with the amounts that the plan states
 abbrev pub fill_events_by : Side → Lots → OrderPlan → Order → List QueuedEvent
 fill_events_by side sizes plan order =
     fill_events side order plan.pc (record { released = got_by side sizes plan; paid = spent_by side sizes plan; fee_or_rebate = plan.fee })
@@ -191,10 +193,11 @@ pub record CanLeave (side : Side) (sizes : Lots) (order : Order) : Type 0 where
   pub tier : order.tier < 7
   pub lock : order_lock side sizes order < 2 ^ 64
 
--- what an order meets of the orders of the other side, and its posting by a plan among those of its own
+-- what an order meets of the orders of the other side
 abbrev pub met_with : Side → Lots → NewOrder → List Order → Meeting
 met_with side sizes n opposing = meet side (terms_of sizes n) (demand_of side sizes n) opposing
 
+-- the posting of an order, by a plan's numbers, among the orders of its own side
 abbrev pub posted_by : Side → NewOrder → OrderPlan → ℕ → List Order → Posting
 posted_by side n plan room own = post side room (order_by plan n) own
 

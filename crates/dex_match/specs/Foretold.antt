@@ -7,7 +7,7 @@ use Rattle.dex_types.specs.NewOrder.{NewOrder, fee_of, rested}
 use Rattle.dex_match.specs.declared.order_plan.OrderPlan.{OrderPlan}
 use Rattle.dex_match.specs.Applying.{met_with}
 
--- a plan tells what an order meets of these orders, and what rests of it
+-- the plan's lots, quote, fee and resting lots are those of the order's meeting with these orders
 pub record Foretells (side : Side) (sizes : Lots) (n : NewOrder) (opposing : List Order) (plan : OrderPlan) : Type 0 where
   pub lots : plan.lots ≡ (met_with side sizes n opposing).lots
   pub pc : plan.pc ≡ (met_with side sizes n opposing).pc

@@ -40,7 +40,7 @@ shown own_orders own_room opposing market requests ring account own opposite =
 abbrev pub decided_in : Taker → OrderGiven → ℕ → Result OrderPlan Refusal
 decided_in taker given balance = order_answer taker.id_side (order_of taker) (parts_of given) balance
 
--- the same, with the sums of what makers' fills are to take off totals after it
+-- the plan or the refusal, and beside a plan what pending makers' fills are still to take off totals after the order
 abbrev pub outcome_in : Taker → OrderGiven → ℕ → Result Decided Refusal
 outcome_in taker given balance = order_outcome taker.id_side (order_of taker) (parts_of given) balance
 
@@ -48,12 +48,12 @@ outcome_in taker given balance = order_outcome taker.id_side (order_of taker) (p
 abbrev pub events_in : Taker → OrderGiven → List QueuedEvent
 events_in taker given = (ordering_over taker.id_side (order_of taker) given).events
 
--- what it is answered
+-- the reply to the order
 abbrev pub reply_in : Taker → OrderGiven → Reply
 reply_in taker given = order_reply (order_of taker) (ordering_over taker.id_side (order_of taker) given)
 
--- what it makes of what it is handed: four words of the market and a sequence number are written, its events are appended, the
--- account holds the order and is paid, what the order met has left the one side, and what is left of it rests on the other
+-- accounts, sides and queue after the order: four words of the market and the sequence number are written, its events appended;
+-- its account holds it and is paid; what it met has left the opposite side, what is left of it rests on its own
 abbrev pub ordered : Taker → OrderGiven → OrderGiven
 ordered taker given =
     let side = taker.id_side in

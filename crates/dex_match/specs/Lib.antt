@@ -5,3 +5,4 @@ pub mod Handed
 pub mod OrderParts
 pub mod OrderTerms
 pub mod Ordering
+pub mod Planned

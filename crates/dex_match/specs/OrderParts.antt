@@ -44,6 +44,7 @@ pub record OrderParts : Type 0 where
   pub own_room : ℕ
   pub opposing : List Order
 
+-- what an order reads of what it is handed
 abbrev pub parts_of : OrderGiven → OrderParts
 parts_of given = record {
   words = market_words given.market;

@@ -23,7 +23,7 @@ order_of taker = record {
   latest = taker.max_ts;
 }
 
--- what it meets of these orders of the opposite side
+-- the taker's meeting with these orders of the opposite side
 abbrev pub meeting_with : Lots → Taker → List Order → Meeting
 meeting_with sizes taker opposing =
     meet taker.id_side (terms_of sizes (order_of taker)) (demand_of taker.id_side sizes (order_of taker)) opposing

@@ -1,4 +1,4 @@
--- Why a new order is refused, and what it does else, by what it is given alone.
+-- Why a new order is refused, or else what it does, read from the parts that it is handed.
 use Rattle.std.specs.Prelude.{◌≡◌, ℕ, ◌+◌, ◌++◌, Option, Some, None, Result, length}
 use Rattle.dex_types.specs.declared.refusals.Refusal.{Refusal}
 use Rattle.dex_types.specs.declared.terms.Side.{Side}
@@ -19,7 +19,7 @@ use Rattle.dex_match.specs.OrderParts.{OrderParts, standing_in}
 abbrev pub ordering_in : Side → NewOrder → OrderParts → Ordering
 ordering_in side n parts = ordering_of side (standing_in parts) parts.account n (meeting_of side (standing_in parts) n)
 
--- the plan that says so
+-- the plan with the numbers of what an order would do
 abbrev pub plan_by : NewOrder → Ordering → OrderPlan
 plan_by n o = record {
   deposit = o.deposit;
@@ -32,7 +32,7 @@ plan_by n o = record {
   id = o.order.id;
 }
 
--- the same after the deposit of an order: a bid's is quote, an ask's base
+-- what a vault holds after an order's deposit, in native units: a bid deposits quote, an ask base
 abbrev pub vault_after : Token → Side → OrderParts → Ordering → ℕ
 vault_after token side parts o = vault_of token parts.words + by_token token (by_side side 0 o.deposit) (by_side side o.deposit 0)
 
@@ -71,7 +71,7 @@ order_answer side n parts balance = answered (order_reason side n parts balance)
 abbrev pub sums_after : OrderParts → Ordering → Leaving
 sums_after parts o = leaving_of (parts.ring.events ++ o.events)
 
--- the same, with these sums
+-- what deciding answers, with the sums after the order beside the plan
 abbrev pub order_outcome : Side → NewOrder → OrderParts → ℕ → Result Decided Refusal
 order_outcome side n parts balance =
     let o = ordering_in side n parts in

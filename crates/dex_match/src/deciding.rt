@@ -216,8 +216,8 @@ pub fn decide_order<B: SideRead>(
     )
 }
 
-/// The same where it is known what pending makers' fills are still to take off totals: nothing passes over the queue. With the
-/// plan it answers these sums as they are once the order is done.
+/// What a new order does, or why it is refused, where the sums of pending makers' fills are handed in: no event is
+/// read. Beside the plan stand these sums after the order.
 pub fn decide_order_with_leaving<B: SideRead>(
     market: &MarketRef<'_>,
     requests: &RequestRef<'_>,

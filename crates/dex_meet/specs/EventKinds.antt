@@ -1,3 +1,4 @@
+-- The events of one order that is met, by their kinds.
 use Rattle.std.specs.Prelude.{ℕ, ◌==◌, List, [], ◌∷◌, if◌then◌else◌}
 use Rattle.dex_meet.specs.declared.event_kinds.Amounts.{Amounts}
 use Rattle.dex_types.specs.declared.orders.Order.{Order}

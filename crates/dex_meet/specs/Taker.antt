@@ -1,3 +1,4 @@
+-- What the code's taker is in the definitions: its terms, what it wants, and what it meets.
 use Rattle.dex_meet.specs.declared.wants.Terms.{Terms}
 use Rattle.dex_meet.specs.declared.wants.Want.{Want}
 use Rattle.std.specs.Prelude.{ℕ, ◌*◌, List}
@@ -6,7 +7,7 @@ use Rattle.dex_types.specs.declared.orders.Order.{Order}
 use Rattle.dex_types.specs.declared.terms.Side.{Side}
 use Rattle.dex_types.specs.Meeting.{TakerTerms, Demand, Meeting, meet, met_lots, met_pc, met_rebate}
 
--- what the taker keeps to
+-- the code's terms of a taker as the definitions have them
 abbrev pub taking : Terms → TakerTerms
 taking taker = record {
   program = taker.program;
@@ -21,7 +22,7 @@ taking taker = record {
 abbrev pub demand : Want → Demand
 demand want = record { lots = want.lots; budget = want.budget; matches = want.matches }
 
--- what an order that lost these lots moves
+-- the lots, base, quote and rebate that move where a met order loses so many lots
 abbrev pub fill_met : Terms → Order → ℕ → Fill
 fill_met taker order lots = record {
   lots = met_lots (taking taker) order lots;
@@ -30,6 +31,6 @@ fill_met taker order lots = record {
   rebate = met_rebate (taking taker) order lots;
 }
 
--- what it meets of these orders of the opposite side
+-- the taker's meeting with these orders of the opposite side
 abbrev pub met_by : Side → Terms → Want → List Order → Meeting
 met_by side taker want opposing = meet side (taking taker) (demand want) opposing

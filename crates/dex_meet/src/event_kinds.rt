@@ -15,7 +15,7 @@ pub enum Kind {
     ReleasingOut,
 }
 
-/// The amounts of an event: what it releases, what is paid or stays locked, and the fee or the rebate.
+/// The native amounts of an event: what it releases, what is paid or stays locked, and the fee or the rebate.
 #[derive(Clone, Copy)]
 pub struct Amounts {
     pub released: u64,

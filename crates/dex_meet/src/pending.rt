@@ -39,8 +39,8 @@ pub fn pending_leaving(ring: &RingRef<'_>) -> Leaving
     Leaving { coin, pc }
 }
 
-/// The same once the fills of a taker of the side, with these sums, are pending too: a bid's makers pay base, and an
-/// ask's makers pay quote less their rebates.
+/// What pending makers' fills are still to take off totals, with those of a taker's fills behind them: a bid's makers
+/// pay base, and an ask's makers pay quote less their rebates.
 pub fn with_fills(pending: Leaving, side: Side, sizes: Lots, sums: Sums) -> Leaving
     requires base { sums.lots * sizes.coin < 2 ^ 64 }
     requires rebates { sums.rebates ≤ sums.pc }

@@ -1,6 +1,6 @@
 use dex_types::{Address, Lots, OrderType, Program, SelfTrade};
 
-/// What a taker keeps to while it meets the opposite side.
+/// What a taker keeps to while it meets the opposite side; its limit price is in quote lots per base lot.
 #[derive(Clone, Copy)]
 pub struct Terms {
     pub program: Program,
@@ -19,7 +19,7 @@ pub struct Want {
     pub matches: u16,
 }
 
-/// The sums of a taker's fills: base lots, native quote, and the makers' rebates.
+/// The sums of a taker's fills: base lots, native quote, and the makers' rebates in native quote.
 #[derive(Clone, Copy)]
 pub struct Sums {
     pub lots: u64,

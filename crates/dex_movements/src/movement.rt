@@ -1,6 +1,7 @@
 //! The movement of one wallet.
 
-ghost use Rattle.std.specs.Prelude.{◌≡◌, ◌∷◌, ◌<◌, ◌^◌, List, Option};
+ghost use Rattle.std.specs.Prelude.{◌≡◌, ◌∷◌, ◌<◌, ◌^◌, List, Option, if◌then◌else◌};
+ghost use Rattle.dex_types.specs.Addresses.{is_same};
 ghost use Rattle.dex_types.specs.declared.rows.WalletSeen.{WalletSeen};
 ghost use Rattle.dex_types.specs.Wallets as wallets;
 ghost use Rattle.dex_types.specs.WalletJournal.{CanMove};
@@ -9,13 +10,24 @@ ghost use Rattle.dex_movements.specs.Amounts.{CanMoveEach, transfers_of};
 use crate::amounts::Amounts;
 use dex_types::{Address, MoveKind, Movement, Seen, WalletSeen, is_same};
 
-/// The amount of a role, where its wallet is this one, else 0.
-fn amount_at(wallet: Address, role: Option<WalletSeen>, amount: u64) -> u64
-    ensures { result ≡ wallets.amount_at wallet role amount }
+/// The amount of a role, where its wallet is this one, else 0. An amount of nothing is compared with no wallet.
+fn amount_at(wallet: Address, role: &Option<WalletSeen>, amount: u64) -> u64
+    ensures { result ≡ wallets.amount_at wallet role.now amount }
 {
     match role {
-        Some(other) if is_same(wallet, other.address) => amount,
-        _ => 0,
+        Some(other) => amount_of(wallet, other.address, amount),
+        None => 0,
+    }
+}
+
+/// The amount, where a role's wallet is this one, else 0.
+fn amount_of(wallet: Address, role: Address, amount: u64) -> u64
+    ensures { result ≡ (if is_same wallet role then amount else 0) }
+{
+    if amount != 0 && is_same(wallet, role) {
+        amount
+    } else {
+        0
     }
 }
 
@@ -23,8 +35,8 @@ fn amount_at(wallet: Address, role: Option<WalletSeen>, amount: u64) -> u64
 fn taken_from(seen: &Seen, amounts: &Amounts, wallet: Address) -> u128
     ensures { result ≡ wallets.taken_from seen.now (transfers_of amounts.now) wallet }
 {
-    let coin = amount_at(wallet, seen.coin, amounts.coin_in);
-    let pc = amount_at(wallet, seen.pc, amounts.pc_in);
+    let coin = amount_at(wallet, &seen.coin, amounts.coin_in);
+    let pc = amount_at(wallet, &seen.pc, amounts.pc_in);
     u128::from(coin) + u128::from(pc)
 }
 
@@ -32,16 +44,16 @@ fn taken_from(seen: &Seen, amounts: &Amounts, wallet: Address) -> u128
 fn brought_to(seen: &Seen, amounts: &Amounts, wallet: Address) -> u128
     ensures { result ≡ wallets.brought_to seen.now (transfers_of amounts.now) wallet }
 {
-    let coin = amount_at(wallet, seen.coin, amounts.coin_out);
-    let pc = amount_at(wallet, seen.pc, amounts.pc_out);
-    let referrer = amount_at(wallet, seen.referrer, amounts.referrer_out);
+    let coin = amount_at(wallet, &seen.coin, amounts.coin_out);
+    let pc = amount_at(wallet, &seen.pc, amounts.pc_out);
+    let referrer = amount_at(wallet, &seen.referrer, amounts.referrer_out);
     u128::from(coin) + u128::from(pc) + u128::from(referrer)
 }
 
 /// The balance of a wallet in the first of two roles that is it, else what stands in the others.
-fn balance_in(wallet: Address, role: Option<WalletSeen>, others: u64) -> u64
+fn balance_in(wallet: Address, role: &Option<WalletSeen>, others: u64) -> u64
     ensures { (roles : List (Option WalletSeen)) → others ≡ wallets.balance_in wallet roles
-        → result ≡ wallets.balance_in wallet (role ∷ roles) }
+        → result ≡ wallets.balance_in wallet (role.now ∷ roles) }
 {
     match role {
         Some(other) if is_same(wallet, other.address) => other.balance,
@@ -53,10 +65,10 @@ fn balance_in(wallet: Address, role: Option<WalletSeen>, others: u64) -> u64
 fn balance_seen(seen: &Seen, wallet: Address) -> u64
     ensures { result ≡ wallets.balance_seen seen.now wallet }
 {
-    let referrer = balance_in(wallet, seen.referrer, 0);
-    let discount = balance_in(wallet, seen.discount, referrer);
-    let pc = balance_in(wallet, seen.pc, discount);
-    balance_in(wallet, seen.coin, pc)
+    let referrer = balance_in(wallet, &seen.referrer, 0);
+    let discount = balance_in(wallet, &seen.discount, referrer);
+    let pc = balance_in(wallet, &seen.pc, discount);
+    balance_in(wallet, &seen.coin, pc)
 }
 
 /// A debit or a credit of something, or else a probe of nothing, that is possible at the balance before it.

@@ -22,10 +22,11 @@ use Rattle.dex_orders.specs.Bits.{is_set, with_bit, without_bit}
 abbrev pub address_in : List ℕ → Field → Address
 address_in bytes field = record { 0 = bytes_in bytes field }
 
--- the fields of a slot's id and client id
+-- the field of a slot's id
 abbrev pub id_field : ℕ → Field
 id_field slot = item_of ORDERS 16 slot
 
+-- the field of a slot's client id
 abbrev pub client_field : ℕ → Field
 client_field slot = item_of CLIENT_ORDER_IDS 8 slot
 

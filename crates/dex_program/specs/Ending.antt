@@ -33,6 +33,7 @@ pub record Input : Type 0 where
   pub faults : ℕ
   pub faults_after : ℕ
 
+-- the input of a run, by bytes and counts of faults
 abbrev pub input : Option (List ℕ) → Option (List ℕ) → ℕ → ℕ → Input
 input left rest faults faults_after = record { left = left; rest = rest; faults = faults; faults_after = faults_after }
 
@@ -44,6 +45,7 @@ pub record Output : Type 0 where
   pub faults : ℕ
   pub faults_after : ℕ
 
+-- the output of a run, by bytes and counts of faults
 abbrev pub output : Option (List ℕ) → Option (List ℕ) → ℕ → ℕ → Output
 output taken taken_after faults faults_after =
     record { taken = taken; taken_after = taken_after; faults = faults; faults_after = faults_after }

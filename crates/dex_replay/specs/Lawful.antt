@@ -45,9 +45,11 @@ pub record Origin : Type 0 where
   pub lane : ℕ
   pub row : ℕ
 
+-- where the entries of a row are from
 abbrev pub origin_of_row : PlainRow → Origin
 origin_of_row row = record { market = row.market; lane = row.lane; row = row.number }
 
+-- where a wallet's entry is from, as it tells
 abbrev pub origin_of_entry : WalletEntry → Origin
 origin_of_entry entry = record { market = entry.market; lane = entry.lane; row = entry.row }
 

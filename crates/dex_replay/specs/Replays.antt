@@ -16,7 +16,7 @@ use Rattle.dex_token.specs.TokenAccount.{wallet_words, with_amount}
 abbrev pub market_state : PlainMarketAccounts → MarketState
 market_state accounts = record { market = market_in accounts; entries = [] }
 
--- and a wallet
+-- a wallet with which a script starts
 abbrev pub wallet_state : PlainAccount → WalletState
 wallet_state account =
     let words = wallet_words account.bytes in

@@ -28,10 +28,11 @@ is_refusal (Settled coin pc referrer) = false
 is_refusal (Swept pc) = false
 is_refusal Done = false
 
--- how many rows of a journal were refused, and how many were not
+-- how many rows of a journal were refused
 abbrev pub refused_in : PlainMarketJournal → ℕ
 refused_in journal = count_by (λ (entry : Entry). is_refusal entry.reply) journal.entries
 
+-- how many rows of a journal were not refused
 abbrev pub accepted_in : PlainMarketJournal → ℕ
 accepted_in journal = count_by (λ (entry : Entry). not (is_refusal entry.reply)) journal.entries
 

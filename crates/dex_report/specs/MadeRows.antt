@@ -12,11 +12,12 @@ use Rattle.dex_report.specs.declared.made_rows.MadeMarket.{MadeMarket}
 use Rattle.dex_report.specs.declared.made_rows.MadeMarket.TheVariants.{First, Second}
 use Rattle.dex_report.specs.Lines.{line}
 
--- the words of sides and order types
+-- the word of a side
 abbrev pub side_text : Side → List ℕ
 side_text Bid = codes "bid"
 side_text Ask = codes "ask"
 
+-- the word of an order type
 abbrev pub type_text : OrderType → List ℕ
 type_text Limit = codes "limit"
 type_text Ioc = codes "ioc"
@@ -30,15 +31,17 @@ asked_text (New side price lots pc order_type client) =
 asked_text (Cancel client) = codes "cancelc" ++ spaced (decimal client)
 asked_text Settle = codes "settle"
 
--- the label of a market, the letter of its open-orders accounts, and all of these
+-- the label of a market
 abbrev pub market_text : MadeMarket → List ℕ
 market_text First = codes "m0"
 market_text Second = codes "m1"
 
+-- the letter of a market's open-orders accounts
 abbrev pub letter_text : MadeMarket → List ℕ
 letter_text First = codes "a"
 letter_text Second = codes "b"
 
+-- the labels of all of a market's open-orders accounts
 abbrev pub accounts_text : MadeMarket → List ℕ
 accounts_text First = codes "a0 a1 a2 a3 a4 a5 a6 a7"
 accounts_text Second = codes "b0 b1 b2 b3 b4 b5 b6 b7"

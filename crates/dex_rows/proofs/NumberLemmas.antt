@@ -1,6 +1,8 @@
 -- What `parse` answers for a numeral, as `number_of`.
-use Rattle.std.proofs.Common.{◌≡◌, ◌^◌, ◌<◌, ℕ, List, Some, None, Result, Ok, Err, Bor, OkIff, MatchOption, MatchResult, IsUtf8, true, false, length, arith, rules, refl, ap}
-use Rattle.std.specs.Char.{is_ascii_digit}
+use Rattle.std.proofs.Common.{◌≡◌, ◌∙◌, ◌^◌, ◌<◌, ◌≤◌, ◌+◌, ◌-◌, ◌*◌, ℕ, Bool, take, get_or, List, Some, None, Result, Ok, Err, Bor, OkIff, MatchOption, MatchResult, IsUtf8, true, false, length, arith, rules, refl, ap}
+use Rattle.std.specs.Char.{digit_value, is_ascii_digit}
+use Rattle.std.proofs.lemmas.Int.Digits.{digits_value_more}
+use Rattle.std.proofs.lemmas.List.Folds.{list_all_at}
 use Rattle.std.specs.List.{list_all}
 use Rattle.std.specs.Result.{result_ok}
 use Rattle.std.specs.Str.Parse.{ParsesUnsigned, digits_value}
@@ -8,7 +10,7 @@ use Rattle.std.proofs.lemmas.Bool.{le-ltb, lt-ltb}
 use Rattle.std.proofs.lemmas.Bool.Decides.{nat_tests}
 use Rattle.std.proofs.lemmas.Fmt.{IsAscii-from_digits}
 use Rattle.std.proofs.lemmas.Str.{IsUtf8-from_ascii}
-use Rattle.std.proofs.lemmas.Str.Parse.{IsNumeralModel, numerals_by_value, parse_digits}
+use Rattle.std.proofs.lemmas.Str.Parse.{IsNumeralModel, digits_value-take-le, digits_value_short, numerals_by_value, parse_digits}
 use Rattle.dex_rows.specs.Numbers.{is_numeral, number_of}
 
 -- texts of digits, and their values
@@ -52,3 +54,48 @@ pub numeral_text : {E : Type 0} (P : E → Type 0) (word : List ℕ) (r : Result
     → MatchOption (result_ok r) (is_numeral word ≡ false) (λ digits. (digits.now ≡ word) × (is_numeral word ≡ true))
 numeral_text P word (Ok s) is h = (h.0, is)
 numeral_text P word (Err e) is h = absurd (h.0 (IsUtf8-numeral word is))
+
+-- digits so far are no more than a number of at most 19 digits
+pub digits_fit : (digits : List ℕ) (place : ℕ) → length digits ≤ 19 → list_all is_ascii_digit digits ≡ true
+    → digits_value 10 (take place digits) < 10 ^ 19
+digits_fit digits place few are =
+    let so_far = digits_value-take-le 10 digits place (omega arith) in
+    let all : digits_value 10 digits < 10 ^ 19 = digits_value_short digits_model digits 19 are few in
+    omega arith
+
+-- a place of digits is one
+digit_test : (digits : List ℕ) (place : ℕ) → place < length digits → list_all is_ascii_digit digits ≡ true
+    → (is : Bool) → is_ascii_digit (get_or digits place 0) ≡ is → is_ascii_digit (get_or digits place 0) ≡ true
+digit_test digits place below are true e = e
+digit_test digits place below are false e = cc (are, list_all_at is_ascii_digit digits place 0 below e)
+
+digit_at : (digits : List ℕ) (place : ℕ) → place < length digits → list_all is_ascii_digit digits ≡ true → is_ascii_digit (get_or digits place 0) ≡ true
+digit_at digits place below are = digit_test digits place below are (is_ascii_digit (get_or digits place 0)) refl
+
+pub digit_bounds : (digits : List ℕ) (place : ℕ) → place < length digits → list_all is_ascii_digit digits ≡ true
+    → (48 ≤ get_or digits place 0) × (get_or digits place 0 ≤ 57)
+digit_bounds digits place below are =
+    let is = digit_at digits place below are in
+    (grind (arith, nat_tests), grind (arith, nat_tests))
+
+value_of_digit : (c : ℕ) → 48 ≤ c → c ≤ 57 → digit_value c ≡ c - 48
+value_of_digit c low high = rw (le-ltb c 48 low, lt-ltb c 58 (omega arith)) refl
+
+-- one more digit
+pub digits_more : (digits : List ℕ) (place : ℕ) → place < length digits → list_all is_ascii_digit digits ≡ true
+    → digits_value 10 (take (place + 1) digits) ≡ digits_value 10 (take place digits) * 10 + (get_or digits place 0 - 48)
+digits_more digits place below are =
+    let bounds = digit_bounds digits place below are in
+    digits_value_more 10 digits place below ∙ ap (λ digit. digits_value 10 (take place digits) * 10 + digit) (value_of_digit (get_or digits place 0) bounds.0 bounds.1)
+
+-- a short numeral is a number
+pub number_of-short : (word : List ℕ) → length word ≤ 19 → is_numeral word ≡ true → Some (digits_value 10 word) ≡ number_of (2 ^ 64) word
+unfolding number_of
+number_of-short word few is =
+    let below : digits_value 10 word < 2 ^ 64 =
+    (let all : digits_value 10 word < 10 ^ 19 = digits_value_short digits_model word 19 (numeral_parts word is).1 few in omega arith) in
+    rw (is, lt-ltb (digits_value 10 word) (2 ^ 64) below) refl
+
+-- a numeral is of digits
+pub numeral_digits : (word : List ℕ) → is_numeral word ≡ true → list_all is_ascii_digit word ≡ true
+numeral_digits word is = (numeral_parts word is).1

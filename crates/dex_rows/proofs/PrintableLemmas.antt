@@ -1,9 +1,11 @@
 -- What the tests of printable fields say.
-use Rattle.std.proofs.Common.{◌≡◌, ◌≤◌, ◌<◌, ◌+◌, ◌↔◌, ℕ, Bool, List, [], true, false, All, length, take, get_or, arith, refl, sym}
+use Rattle.std.proofs.Common.{◌≡◌, ◌≤◌, ◌<◌, ◌+◌, ◌-◌, ◌∷◌, ◌↔◌, ℕ, Bool, List, [], true, false, All, length, take, drop, get_or, arith, refl, sym}
 use Rattle.std.specs.Bool.{Decides}
 use Rattle.std.proofs.lemmas.Bool.Decides.{Decides-by_and, nat_tests}
 use Rattle.std.proofs.lemmas.List.{take_all}
 use Rattle.std.proofs.lemmas.List.Folds.{list_all_at, list_all_more}
+use Rattle.csv.specs.Records.{Row, cut_from, fields_of, text_of}
+use Rattle.std.proofs.lemmas.List.Elements.{All-cons, All-drop, All-nil, All-take}
 use Rattle.dex_rows.specs.Printable.{IsPrintable, IsPrintableByte, is_printable, is_printable_byte, row_is_printable}
 
 byte_decides : (byte : ℕ) → Decides (is_printable_byte byte) (IsPrintableByte byte)
@@ -40,3 +42,16 @@ row_fails row place field below same printable = sym (list_all_at is_printable r
 -- all fields
 pub row_all : (row : List (List ℕ)) (place : ℕ) → length row ≤ place → row_is_printable (take place row) ≡ true → true ≡ row_is_printable row
 row_all row place past all = sym (rw (take_all place row past) at all)
+
+-- each field that is cut of printable bytes is printable
+cut_printable : (start : ℕ) (ends bytes : List ℕ) → IsPrintable bytes → All IsPrintable (cut_from start ends bytes)
+unfolding cut_from
+cut_printable start [] bytes h = All-nil IsPrintable
+cut_printable start (end ∷ ends) bytes h =
+    All-cons IsPrintable (take (end - start) (drop start bytes)) (cut_from end ends bytes)
+    (All-take IsPrintableByte (end - start) (drop start bytes) (All-drop IsPrintableByte start bytes h)) (cut_printable end ends bytes h)
+
+-- a record whose bytes are printable, whether or not all of them stand in fields
+pub row_of_printable : (row : Row) → is_printable (text_of row) ≡ true → row_is_printable (fields_of row) ≡ true
+row_of_printable row h =
+    (row_is_printable-decides (fields_of row)).1 (cut_printable 0 row.ends row.bytes ((is_printable-decides (text_of row)).0 h))

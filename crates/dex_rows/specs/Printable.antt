@@ -11,10 +11,11 @@ IsPrintableByte byte = (32 ≤ byte) × (byte ≤ 126)
 abbrev pub IsPrintable : List ℕ → Type 0
 IsPrintable field = All IsPrintableByte field
 
--- the same, as tests
+-- a byte is printable, as a test
 abbrev pub is_printable_byte : ℕ → Bool
 is_printable_byte byte = is_in_range 32 126 byte
 
+-- a field has printable bytes alone, as a test
 unfoldable pub is_printable : List ℕ → Bool
 is_printable field = list_all is_printable_byte field
 

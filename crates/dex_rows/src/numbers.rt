@@ -1,6 +1,7 @@
-ghost use Rattle.std.specs.Prelude.{◌≡◌, ◌^◌, MatchOption, true, false};
+ghost use Rattle.std.specs.Prelude.{◌≡◌, ◌≤◌, ◌^◌, MatchOption, length, true, false};
 ghost use Rattle.std.specs.Char.{is_ascii_digit};
 ghost use Rattle.std.specs.List.{list_all};
+ghost use Rattle.std.specs.Str.Parse.{digits_value};
 ghost use Rattle.dex_rows.specs.Numbers.{is_numeral, number_of};
 
 use std::str;
@@ -28,6 +29,42 @@ pub fn u32_word(text: &[u8]) -> Option<u32>
 
 /// The number below 2^64 that a word writes in decimal, with no sign and no zeros in front.
 pub fn u64_word(text: &[u8]) -> Option<u64>
+    ensures { result ≡ number_of (2 ^ 64) text.now }
+{
+    if text.len() <= 19 {
+        short_word(text)
+    } else {
+        long_word(text)
+    }
+}
+
+// The number that at most 19 digits write, with no zeros in front: any such number is below 2^64.
+fn short_word(text: &[u8]) -> Option<u64>
+    requires { length text.now ≤ 19 }
+    ensures { result ≡ number_of (2 ^ 64) text.now }
+{
+    if is_numeral(text) {
+        Some(digits_value(text))
+    } else {
+        None
+    }
+}
+
+// The number that at most 19 digits write.
+fn digits_value(digits: &[u8]) -> u64
+    requires few { length digits.now ≤ 19 }
+    requires digits { list_all is_ascii_digit digits.now ≡ true }
+    ensures { result ≡ digits_value 10 digits.now }
+{
+    let mut value = 0;
+    'digits: for place in 0..digits.len() {
+        value = value * 10 + u64::from(digits[place] - b'0');
+    }
+    value
+}
+
+// The number below 2^64 that a word of any length writes.
+fn long_word(text: &[u8]) -> Option<u64>
     ensures { result ≡ number_of (2 ^ 64) text.now }
 {
     numeral(text)?.parse::<u64>().ok()

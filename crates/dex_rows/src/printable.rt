@@ -26,6 +26,13 @@ pub fn row_is_printable(row: &ByteRecord) -> bool
     ensures value { result ≡ row_is_printable (fields_of row.now) }
     ensures every { IsTrue result ↔ All IsPrintable (fields_of row.now) }
 {
+    is_printable(row.as_slice()) || fields_are_printable(row)
+}
+
+// The same, field by field: the record may have bytes that stand in no field.
+fn fields_are_printable(row: &ByteRecord) -> bool
+    ensures { result ≡ row_is_printable (fields_of row.now) }
+{
     'fields: for place in 0..field_count(row) {
         if !is_printable(field(row, place)) {
             return false;

@@ -52,16 +52,27 @@ impl<'a> Rows<'a> {
             (λ row. self.old ≡ fields_of row ∷ self.new)) }
         ensures stopped { OnErr result (self.new ≡ []) }
     {
+        let mut row = ByteRecord::new(self.alloc);
+        if self.read_row(&mut row)? {
+            Ok(Some(row))
+        } else {
+            Ok(None)
+        }
+    }
+
+    /// Reads the next row over `row`, and answers whether there was one. After a want of memory there are no more rows.
+    pub fn read_row(&mut self, row: &mut ByteRecord) -> Result<bool, NoMemory>
+        ensures next { IfOk result (λ found. IsTrue found → self.old ≡ fields_of row.new ∷ self.new) }
+        ensures end { IfOk result (λ found. found ≡ false → self.old ≡ []) }
+        ensures stopped { OnErr result (self.new ≡ []) }
+    {
         if self.is_over {
-            return Ok(None);
+            return Ok(false);
         }
         self.is_over = true;
-        let mut row = ByteRecord::new(self.alloc);
-        if !read_row(&mut self.reader, &mut row)? {
-            return Ok(None);
-        }
-        self.is_over = false;
-        Ok(Some(row))
+        let found = read_row(&mut self.reader, row)?;
+        self.is_over = !found;
+        Ok(found)
     }
 }
 

@@ -37,9 +37,10 @@ pub record IsBank (bank : BankState) : Type 0 where
   pub markets : AllZip (IsMarketGate bank.script) bank.script.start.markets bank.markets
   pub wallets : AllZip (IsWalletGate bank.script) bank.script.start.wallets bank.wallets
 
--- the addresses of a script's markets and of its wallets, in declared order
+-- the addresses of a script's markets, in declared order
 abbrev pub market_addresses : PlainScript → List Address
 market_addresses script = map (λ (accounts : PlainMarketAccounts). accounts.address) script.start.markets
 
+-- the addresses of a script's wallets, in declared order
 abbrev pub wallet_addresses : PlainScript → List Address
 wallet_addresses script = map (λ (account : PlainAccount). account.address) script.start.wallets

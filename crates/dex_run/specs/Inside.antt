@@ -11,6 +11,7 @@ use Rattle.dex_run.specs.declared.made.Made.{Made}
 use Rattle.dex_run.specs.Bank.{BankState, IsBank}
 use Rattle.dex_run.specs.Seats.{IsSeat, SeatState}
 
+-- the bank that its fields stand for
 abbrev pub bank_inside : bank.Inside → BankState
 bank_inside inside = record {
   script = inside.script.value;
@@ -37,6 +38,7 @@ call_made made = record {
   stamp = made.1.stamp.number;
 }
 
+-- the seat that its fields stand for
 abbrev pub seat_inside : seat.Inside → SeatState
 seat_inside inside = record {
   lane = inside.lane;

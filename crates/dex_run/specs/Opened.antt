@@ -41,6 +41,6 @@ abbrev pub fresh_seat : ℕ → PlainScript → List (PassView (Stamped Call) Ma
 fresh_seat lane script markets wallets =
     record { lane = lane; script = script; calls = []; last = 0; markets = markets; wallets = wallets }
 
--- and at this bank
+-- the seat of a lane with which a bank is built, at this bank
 abbrev pub seat_in : BankState → ℕ → SeatState
 seat_in bank lane = fresh_seat lane bank.script (passes_of lane bank.markets) (passes_of lane bank.wallets)

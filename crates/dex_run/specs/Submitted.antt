@@ -48,10 +48,12 @@ abbrev pub Where : Bool → Type 0 → Type 0 → Type 0
 Where true here elsewhere = here
 Where false here elsewhere = elsewhere
 
+-- the pass of a market has grown by the call where the row acts on it, and else is as it was
 abbrev pub MarketGrows : PlainRow → Stamped Call → PlainMarketAccounts → PassView (Stamped Call) MarketOrigin
     → PassView (Stamped Call) MarketOrigin → Type 0
 MarketGrows row call start before after = Where (is_same row.market start.address) (HasCalled call start before after) (after ≡ before)
 
+-- the pass of a wallet has grown by the call where the row names it, and else is as it was
 abbrev pub WalletGrows : PlainRow → Stamped Call → PlainAccount → PassView (Stamped WalletEntry) WalletOrigin
     → PassView (Stamped WalletEntry) WalletOrigin → Type 0
 WalletGrows row call start before after = Where (names row start.address) (HasMoved call start before after) (after ≡ before)

@@ -124,12 +124,13 @@ pub record AreReady (bank : BankState) (lane : ℕ) (calls : List (Stamped Call)
       (pass : PassView (Stamped WalletEntry) WalletOrigin). pass.gate ≡ Some gate) bank.wallets passes
   pub each : AllZip (MayDraw lane calls others) bank.script.start.wallets passes
 
--- the passes of the wallets that were still to come have grown by the call, and the others are as they were
+-- the pass of a wallet has grown by the call where it was still to come, and else is as it was
 abbrev pub OneGrows : List Address → Stamped Call → PlainAccount → PassView (Stamped WalletEntry) WalletOrigin
     → PassView (Stamped WalletEntry) WalletOrigin → Type 0
 OneGrows others call start before after =
     Where (list_any (is_same start.address) others) (HasMoved call start before after) (after ≡ before)
 
+-- the passes of the wallets that were still to come have grown by the call, and the others are as they were
 abbrev pub HaveGrown : BankState → List Address → Stamped Call → List (PassView (Stamped WalletEntry) WalletOrigin)
     → List (PassView (Stamped WalletEntry) WalletOrigin) → Type 0
 HaveGrown bank others call before after = AllThree (OneGrows others call) bank.script.start.wallets before after

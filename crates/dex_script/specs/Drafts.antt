@@ -27,6 +27,7 @@ pub record PlainDraft : Type 0 where
 abbrev pub without_rows : PlainAccounts → PlainScript
 without_rows start = record { start = start; rows = []; lanes = 1; program = Serum }
 
+-- no accounts, with which a script without a dump begins
 abbrev pub no_accounts : PlainAccounts
 no_accounts = record { mints = []; srm = None; msrm = None; wallets = []; markets = [] }
 

@@ -15,6 +15,6 @@ script_inside inside = record {
   program = inside.program;
 }
 
--- it is as every script is
+-- what holds of every script (`IsScript`) holds of the fields
 abbrev pub IsKept : Inside → Type 0
 IsKept inside = IsScript (script_inside inside)

@@ -1,25 +1,20 @@
 //! Instruction rows, behind the rows before them.
 
-ghost use Rattle.std.specs.Prelude.{◌≡◌, IfOk};
+ghost use Rattle.std.specs.Prelude.{◌≡◌};
 ghost use Rattle.dex_types.specs.Rows.{row_of};
-ghost use Rattle.dex_statement.specs.Telling.{TellsAs};
 ghost use Rattle.dex_script.specs.Rows as spec;
-ghost use Rattle.dex_script.specs.Telling.{draft_of, start_of};
+ghost use Rattle.dex_script.specs.Telling.{TellsIn, draft_of, start_of};
 
 use crate::draft::Draft;
 use dex_statement::{FaultKind, InstructionWords, RowError};
 use dex_types::Row;
 
 impl Draft {
-    /// Behind an instruction row of this number, whose market and wallets are declared.
+    /// Adds an instruction row of this number, whose market and wallets are declared.
     #[tactic(auto, unfolding(crate::specs::Rows::with_known))]
-    pub(crate) fn with_known(
-        mut self,
-        number: u32,
-        words: InstructionWords,
-    ) -> Result<Draft, RowError>
-        ensures row { TellsAs draft_of result (spec.with_known (draft_of self) number words) }
-        ensures start { IfOk result (λ next. start_of next.start ≡ start_of self.start) }
+    pub(crate) fn add_known(&mut self, number: u32, words: InstructionWords) -> Result<(), RowError>
+        ensures row { TellsIn result (draft_of self.new) (spec.with_known (draft_of self.old) number words) }
+        ensures start { start_of self.new.start ≡ start_of self.old.start }
     {
         if 100_000 <= self.rows.len() || exceeds_row(&words) || number == u32::MAX {
             return Err(RowError::Fault(FaultKind::OverLimit));
@@ -28,7 +23,7 @@ impl Draft {
         self.rows.push(instruction_row(number, self.clock, words))?;
         self.is_first = false;
         self.is_late = true;
-        Ok(self)
+        Ok(())
     }
 }
 

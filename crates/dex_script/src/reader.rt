@@ -1,19 +1,19 @@
 //! A script as far as it is read, one row after the other.
 
-ghost use Rattle.std.specs.Prelude.{◌≡◌, IfOk, IfSome};
+ghost use Rattle.std.specs.Prelude.{◌≡◌, IfOk, Result};
 ghost use Rattle.csv.specs.Records.{fields_of};
-ghost use Rattle.dex_statement.specs.Telling.{Tells};
-ghost use Rattle.dex_script.specs.Drafts.{no_rows};
+ghost use Rattle.dex_statement.specs.declared.faults.FaultKind.{FaultKind};
+ghost use Rattle.dex_statement.specs.Telling.{TellsAs};
+ghost use Rattle.dex_script.specs.Drafts.{PlainDraft, no_rows};
 ghost use Rattle.dex_script.specs.Facts.{IsScript};
-ghost use Rattle.dex_script.specs.Names.{AreNames};
 ghost use Rattle.dex_script.specs.Rows as spec;
-ghost use Rattle.dex_script.specs.Telling.{draft_of, start_of};
+ghost use Rattle.dex_script.specs.Telling.{TellsIn, draft_of};
 
-use crate::draft::{Draft, Start};
+use crate::draft::Draft;
 use crate::names::Names;
 use crate::script::Script;
 use csv::ByteRecord;
-use dex_statement::{FaultKind, InstructionWords, RowError, Statement, statement_of};
+use dex_statement::{FaultKind, InstructionWords, Parties, RowError, Statement, statement_of};
 use dex_types::NoMemory;
 use std::alloc::Global;
 use std::marker::Model;
@@ -62,83 +62,96 @@ impl Reader {
         self.draft.into_script()
     }
 
-    /// The script with what the row of this number states.
+    /// Adds what the row of this number states. Behind a fault, what is left does not matter.
     #[tactic(auto, unfolding(crate::specs::Rows::with_row))]
-    pub(crate) fn with_row(
-        self,
+    pub(crate) fn add_row(
+        &mut self,
         alloc: Global,
         number: u32,
         row: &ByteRecord,
-    ) -> Result<Reader, RowError>
-        ensures { Tells result (spec.with_row self number (fields_of row.now)) }
+    ) -> Result<(), RowError>
+        ensures added { TellsIn result self.new (spec.with_row self.old number (fields_of row.now)) }
     {
-        let draft = self.draft;
         match statement_of(alloc, row)? {
-            Statement::Program(program) => Ok(Reader::of(draft.with_program(program)?)),
-            Statement::Clock(now) => Ok(with_clock(draft, self.names, now)),
-            Statement::Mint { address, decimals } => {
-                Ok(Reader::of(draft.with_mint(alloc, address, decimals)?))
+            Statement::Instruction(words) => self.add_instruction(alloc, number, words),
+            Statement::Clock(now) => {
+                self.set_clock(now);
+                Ok(())
             }
-            Statement::Srm(mint) => Ok(Reader::of(draft.with_srm(mint)?)),
-            Statement::Msrm(mint) => Ok(Reader::of(draft.with_msrm(mint)?)),
+            Statement::Program(program) => put(take(self, alloc).with_program(program), self),
+            Statement::Mint { address, decimals } => {
+                put(take(self, alloc).with_mint(alloc, address, decimals), self)
+            }
+            Statement::Srm(mint) => put(take(self, alloc).with_srm(mint), self),
+            Statement::Msrm(mint) => put(take(self, alloc).with_msrm(mint), self),
             Statement::Wallet {
                 address,
                 mint,
                 owner,
                 amount,
-            } => Ok(Reader::of(draft.with_wallet(alloc, address, mint, owner, amount)?)),
-            Statement::Market(words) => Ok(Reader::of(draft.with_market(alloc, words)?)),
+            } => put(
+                take(self, alloc).with_wallet(alloc, address, mint, owner, amount),
+                self,
+            ),
+            Statement::Market(words) => put(take(self, alloc).with_market(alloc, words), self),
             Statement::Orders { market, address } => {
-                Ok(Reader::of(draft.with_orders(alloc, market, address)?))
-            }
-            Statement::Instruction(words) => {
-                with_instruction(alloc, draft, self.names, number, words)
+                put(take(self, alloc).with_orders(alloc, market, address), self)
             }
         }
     }
-}
 
-/// The names stay behind a `clock` row.
-fn with_clock(draft: Draft, names: Option<Names>, now: i64) -> Reader
-    requires { IfSome names (λ names. AreNames names (start_of draft.start)) }
-    ensures { result ≡ spec.with_clock (draft_of draft) now }
-{
-    Reader {
-        draft: draft.with_clock(now),
-        names,
+    /// Adds an instruction row of this number.
+    #[tactic(auto, unfolding(crate::specs::Rows::with_instruction))]
+    fn add_instruction(
+        &mut self,
+        alloc: Global,
+        number: u32,
+        words: InstructionWords,
+    ) -> Result<(), RowError>
+        ensures { TellsIn result self.new (spec.with_instruction self.old number words) }
+    {
+        if self.is_unknown(alloc, &words.parties)? {
+            return Err(RowError::Fault(FaultKind::UnknownLabel));
+        }
+        self.draft.add_known(number, words)
+    }
+
+    /// Whether an instruction row names a market or a wallet that is not declared. Makes the names where they are not
+    /// there yet.
+    fn is_unknown(&mut self, alloc: Global, parties: &Parties) -> Result<bool, NoMemory>
+        ensures answer { IfOk result (λ answer. answer ≡ spec.is_unknown self.old.script.start parties.now) }
+        ensures same { self.new ≡ self.old }
+    {
+        if let Some(names) = &self.names {
+            return Ok(names.is_unknown(parties));
+        }
+        let names = Names::of(alloc, &self.draft.start)?;
+        let answer = names.is_unknown(parties);
+        self.names = Some(names);
+        Ok(answer)
+    }
+
+    /// Behind a `clock` row. The names stay.
+    fn set_clock(&mut self, now: i64)
+        ensures { self.new ≡ spec.with_clock self.old now }
+    {
+        self.draft.clock = now;
+        self.draft.is_first = false;
     }
 }
 
-/// Behind an instruction row of this number.
-#[tactic(auto, unfolding(crate::specs::Rows::with_instruction))]
-fn with_instruction(
-    alloc: Global,
-    draft: Draft,
-    names: Option<Names>,
-    number: u32,
-    words: InstructionWords,
-) -> Result<Reader, RowError>
-    requires { IfSome names (λ names. AreNames names (start_of draft.start)) }
-    ensures { Tells result (spec.with_instruction (draft_of draft) number words) }
+/// Takes out what was read so far, for a row that may make an account.
+fn take(reader: &mut Reader, alloc: Global) -> Draft
+    ensures { draft_of result ≡ reader.old }
 {
-    let names = known_names(alloc, names, &draft.start)?;
-    if names.is_unknown(&words.parties) {
-        return Err(RowError::Fault(FaultKind::UnknownLabel));
-    }
-    let draft = draft.with_known(number, words)?;
-    Ok(Reader {
-        draft,
-        names: Some(names),
-    })
+    let before = std::mem::replace(reader, Reader::new(alloc));
+    before.draft
 }
 
-/// The names of these accounts, made where they are not there yet.
-fn known_names(alloc: Global, names: Option<Names>, start: &Start) -> Result<Names, NoMemory>
-    requires { IfSome names (λ names. AreNames names (start_of start.now)) }
-    ensures { IfOk result (λ names. AreNames names (start_of start.now)) }
+/// Puts in what a row left.
+fn put(next: Result<Draft, RowError>, reader: &mut Reader) -> Result<(), RowError>
+    ensures { (meant : Result PlainDraft FaultKind) → TellsAs draft_of next meant → TellsIn result reader.new meant }
 {
-    match names {
-        Some(names) => Ok(names),
-        None => Names::of(alloc, start),
-    }
+    *reader = Reader::of(next?);
+    Ok(())
 }

@@ -14,6 +14,7 @@ use crate::fault::ScriptError;
 use crate::laws::{a_script_starts_sound, rows_of_a_script_are_in_order};
 use crate::reader::Reader;
 use crate::script::Script;
+use csv::ByteRecord;
 use dex_audit::audit;
 use dex_dump::{DumpError, DumpRead, is_first_row};
 use dex_rows::records::Rows;
@@ -104,17 +105,18 @@ fn read_rows(
 ) -> Result<Reader, ScriptError>
     ensures { TellsDraft result (draft_after before first rows.old) }
 {
-    let mut draft = before;
+    let mut reader = before;
     let mut number = first;
-    'rows: while let Some(row) = rows.next_row()? {
-        match draft.with_row(alloc, number, &row) {
-            Ok(next) => draft = next,
+    let mut row = ByteRecord::new(alloc);
+    'rows: while rows.read_row(&mut row)? {
+        match reader.add_row(alloc, number, &row) {
+            Ok(()) => {}
             Err(RowError::Fault(kind)) => return Err(row_error(number, kind)),
             Err(RowError::NoMemory) => return Err(ScriptError::NoMemory),
         }
         number = next_number(number);
     }
-    Ok(draft)
+    Ok(reader)
 }
 
 fn row_error(row: u32, kind: FaultKind) -> ScriptError

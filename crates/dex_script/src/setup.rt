@@ -1,9 +1,9 @@
-//! Setup rows, and the rows that choose the program and set the clock, behind the rows before them.
+//! Setup rows, and the row that chooses the program, behind the rows before them.
 
 ghost use Rattle.std.specs.Prelude.{◌≡◌};
 ghost use Rattle.dex_statement.specs.Telling.{TellsAs};
 ghost use Rattle.dex_script.specs.Rows as spec;
-ghost use Rattle.dex_script.specs.Telling.{draft_of, start_of};
+ghost use Rattle.dex_script.specs.Telling.{draft_of};
 
 use crate::draft::Draft;
 use crate::known::{is_among, is_any_among, made_addresses};
@@ -25,16 +25,6 @@ impl Draft {
         self.program = program;
         self.is_first = false;
         Ok(self)
-    }
-
-    /// Behind a `clock` row.
-    pub(crate) fn with_clock(mut self, now: i64) -> Draft
-        ensures row { draft_of result ≡ spec.with_clock (draft_of self) now }
-        ensures start { start_of result.start ≡ start_of self.start }
-    {
-        self.clock = now;
-        self.is_first = false;
-        self
     }
 
     /// Behind a `mint` row.

@@ -13,10 +13,11 @@ use Rattle.dex_orders.specs.OrdersAccount.{account_of, funded}
 use Rattle.dex_settle.specs.declared.plan.SettlePlan.{SettlePlan}
 use Rattle.dex_settle.specs.SettleGiven.{SettleGiven}
 
--- a settlement as a plan, and a plan as a settlement
+-- the plan that a settlement is
 abbrev pub plan_of : Settlement → SettlePlan
 plan_of s = record { coin = s.coin; pc = s.pc; referrer = s.referrer; to_fees = s.to_fees }
 
+-- the settlement that a plan says
 abbrev pub settlement_by : SettlePlan → Settlement
 settlement_by plan = record { coin = plan.coin; pc = plan.pc; referrer = plan.referrer; to_fees = plan.to_fees }
 
@@ -46,10 +47,11 @@ market_after plan words = record {
   referrer_rebates = words.referrer_rebates_accrued - (plan.referrer + plan.to_fees);
 }
 
--- its words and its bytes with these funds
+-- its words with these funds
 abbrev pub words_after : SettlePlan → MarketWords → MarketWords
 words_after plan words = words_with_funds (market_after plan words) words
 
+-- its bytes with these funds
 abbrev pub bytes_after : SettlePlan → List ℕ → List ℕ
 bytes_after plan bytes = with_funds (market_after plan (market_words bytes)) bytes
 
@@ -67,9 +69,10 @@ funds_after account = record {
 abbrev pub settled : SettlePlan → SettleGiven → SettleGiven
 settled plan given = record { market = bytes_after plan given.market; account = funded given.account (funds_after (account_of given.account)) }
 
--- the market account without its pc fees, and that of a disabled market
+-- the market account without its pc fees
 abbrev pub swept : List ℕ → List ℕ
 swept bytes = with_number bytes PC_FEES_ACCRUED 0
 
+-- the market account of a disabled market
 abbrev pub with_disabled : List ℕ → List ℕ
 with_disabled bytes = with_number bytes ACCOUNT_FLAGS 131

@@ -1,4 +1,4 @@
--- What settling is handed of a market, of which parts of a market that is, and what it puts back; and wallets of one mint each.
+-- What settling is handed, which parts of a market these are, and how they are put back; and that one wallet under two roles has one mint.
 use Rattle.std.specs.Prelude.{◌≡◌, ℕ, List, Option, Some}
 use Rattle.dex_types.specs.declared.addresses.Address.{Address}
 use Rattle.dex_types.specs.declared.rows.Seen.{Seen}
@@ -14,6 +14,7 @@ pub record SettleGiven : Type 0 where
   pub market : List ℕ
   pub account : List ℕ
 
+-- what settling is handed, of these bytes
 abbrev pub given : List ℕ → List ℕ → SettleGiven
 given market account = record { market = market; account = account }
 
@@ -33,7 +34,7 @@ settle_given account parts = given parts.market account
 abbrev pub with_settled : Address → SettleGiven → MarketParts → MarketParts
 with_settled owner left parts = record (with_account owner left.account parts) { market = left.market }
 
--- what is given is of the parts of a sound market, one account of which it is
+-- what is given are the market account and one open account among the parts of a sound market
 pub record IsOfSound (given : SettleGiven) : Type 0 where
   pub owner : Address
   pub whole : MarketParts

@@ -56,7 +56,7 @@ pub fn a_settling_leaves_the_market_after_it()
         (after_settle owner (account_of bytes) (settlement_by plan) m) }
 {}
 
-/// The same of sweeping and of disabling.
+/// Sweeping and disabling, put back, leave the parts of the market after them.
 pub fn an_upkeep_leaves_the_market_after_it()
     ensures sweep { (parts : MarketParts) (m : Market) → AreOf parts m →
         AreOf (record parts { market = swept parts.market }) (after_sweep m) }

@@ -1,7 +1,5 @@
 pub mod Below
 pub mod Changes
-pub mod Checked
-pub mod Faults
 pub mod Held
 pub mod Nodes
 pub mod Path

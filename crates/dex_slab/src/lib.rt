@@ -2,18 +2,12 @@
 #![tactic(auto)]
 
 mod behind;
-mod check;
-mod check_free;
-mod check_nodes;
-#[cfg(test)]
-mod check_tests;
-mod check_tree;
 mod insert;
 pub mod laws;
 mod making;
-mod node_reads;
+pub mod node_reads;
 mod node_writes;
-mod nodes;
+pub mod nodes;
 mod pieces;
 mod pool;
 mod reading;
@@ -24,16 +18,13 @@ mod remove;
 mod rewriting;
 mod search;
 mod set_lots;
-mod slab_fault;
 mod slab_ref;
 mod slab_view;
 mod view_reads;
 mod view_writes;
 mod walks;
 
-pub use check::{is_slab_size, is_well_formed};
 pub use making::{blank, made_size};
-pub use slab_fault::SlabFault;
 pub use slab_ref::SlabRef;
 pub use slab_view::SlabView;
 

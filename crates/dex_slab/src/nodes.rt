@@ -32,7 +32,9 @@ pub struct Branch {
     pub prefix: u32,
     /// A key that begins with those bits.
     pub key: u128,
+    /// The number of the node below whose keys have 0 as their next bit.
     pub first: u32,
+    /// The number of the node below whose keys have 1 as their next bit.
     pub second: u32,
 }
 

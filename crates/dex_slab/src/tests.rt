@@ -1,7 +1,6 @@
-ghost use Rattle.std.specs.Prelude.{◌≡◌, ◌≤◌};
+ghost use Rattle.std.specs.Prelude.{◌≡◌, ◌≤◌, length};
 ghost use Rattle.dex_types.specs.BookSide.{CanRest};
-ghost use Rattle.dex_slab.specs.Slab.{IsSlab, IsSlabSize};
-ghost use Rattle.std.specs.Prelude.{length};
+ghost use Rattle.dex_slab.specs.Slab.{IsSlab};
 
 use super::*;
 use crate::rewriting::write_whole_tree;
@@ -34,7 +33,8 @@ fn ask(price: u64, sequence: u64, lots: u64) -> Order
 fn put(view: &mut SlabView<'_>, order: Order) -> bool
     requires holds { IsSlab view.old.bytes.now }
     requires can_rest { CanRest order }
-    ensures { IsSlab view.new.bytes.now }
+    ensures holds { IsSlab view.new.bytes.now }
+    ensures size { length view.new.bytes.now ≡ length view.old.bytes.now }
 {
     if view.count() >= view.capacity() {
         return false;
@@ -85,43 +85,12 @@ fn asks_come_and_go(bytes: &mut [u8]) -> [(u64, u64, u64); 3]
 
 #[test]
 fn new_nodes_come_from_the_free_list_first(rt: HostRuntime) -> Result<(), Fail> {
-    let mut bytes = vec![in rt.alloc(); 0; 65548]?;
-    is_well_formed(&bytes, Side::Ask)?;
+    let mut bytes = vec![in rt.alloc(); 0; made_size(909)]?;
+    blank(&mut bytes, Side::Ask);
     assert_eq!(rt;
         asks_come_and_go(&mut bytes),
         [(3, 0, 2), (3, 2, 1), (3, 0, 2)]
     );
-    is_well_formed(&bytes, Side::Ask)?;
-    Ok(())
-}
-
-/// How many orders a side has room for, and whether it takes one and a second one.
-fn room_and_takings(bytes: &mut [u8]) -> (u32, bool, bool)
-    requires { IsSlab bytes.old }
-{
-    let mut view = SlabView {
-        bytes,
-        side: Side::Bid,
-    };
-    let room = view.capacity();
-    let first = put(&mut view, ask(50, 0, 1));
-    let second = put(&mut view, ask(50, 1, 1));
-    (room, first, second)
-}
-
-#[test]
-fn half_of_the_nodes_are_room_for_orders(rt: HostRuntime) -> Result<(), Fail> {
-    for (size, expected) in [
-        (124, (1, true, false)),
-        (195, (1, true, false)),
-        (268, (2, true, true)),
-        (65548, (455, true, true)),
-    ] {
-        let mut bytes = vec![in rt.alloc(); 0; size]?;
-        is_well_formed(&bytes, Side::Bid)?;
-        assert_eq!(rt; room_and_takings(&mut bytes), expected);
-        is_well_formed(&bytes, Side::Bid)?;
-    }
     Ok(())
 }
 
@@ -147,7 +116,8 @@ fn listed(view: &SlabView<'_>) -> [(u64, u64); 4]
 /// Puts three orders on a side.
 fn put_three(view: &mut SlabView<'_>)
     requires { IsSlab view.old.bytes.now }
-    ensures { IsSlab view.new.bytes.now }
+    ensures holds { IsSlab view.new.bytes.now }
+    ensures size { length view.new.bytes.now ≡ length view.old.bytes.now }
 {
     put(view, ask(6, 0, 6));
     put(view, ask(1, 0, 1));
@@ -184,26 +154,25 @@ fn orders_stand_in_book_order(rt: HostRuntime) -> Result<(), Fail> {
     ];
     for (side, expected) in [(Side::Ask, rising), (Side::Bid, falling)] {
         let mut bytes = [0; 700];
-        is_well_formed(&bytes, side)?;
+        blank(&mut bytes, side);
         assert_eq!(rt; orders_change(&mut bytes, side), expected);
-        is_well_formed(&bytes, side)?;
     }
     Ok(())
 }
 
-/// Puts a fourth order on, behind which the tree may be written whole.
-fn put_fourth(bytes: &mut [u8], side: Side, writes_whole: bool)
-    requires { IsSlab bytes.old }
+/// A copy of the bytes of a side with nine nodes.
+fn copy_of(view: &SlabView<'_>) -> [u8; 700]
+    requires { length view.now.bytes.now ≡ 700 }
 {
-    let mut view = SlabView { bytes, side };
-    put(&mut view, ask(2, 0, 2));
-    if writes_whole {
-        write_whole_tree(view.bytes, side);
-    }
+    let mut bytes = [0; 700];
+    bytes.copy_from_slice(view.bytes);
+    bytes
 }
 
 /// How many of an account's nine nodes differ.
-fn changed_nodes(old: &[u8; 700], new: &[u8; 700]) -> usize {
+fn changed_nodes(old: &[u8; 700], new: &[u8]) -> usize
+    requires { 700 ≤ length new.now }
+{
     let before = old[45..].chunks(72);
     let after = new[45..].chunks(72);
     before
@@ -212,21 +181,28 @@ fn changed_nodes(old: &[u8; 700], new: &[u8; 700]) -> usize {
         .count()
 }
 
+/// How many nodes a fourth order changes, behind which the tree may be written whole.
+fn changed_by_fourth(side: Side, writes_whole: bool) -> usize {
+    let mut bytes = [0; 700];
+    blank(&mut bytes, side);
+    let mut view = SlabView {
+        bytes: &mut bytes,
+        side,
+    };
+    put_three(&mut view);
+    let before = copy_of(&view);
+    put(&mut view, ask(2, 0, 2));
+    if writes_whole {
+        write_whole_tree(view.bytes, side);
+    }
+    changed_nodes(&before, view.bytes)
+}
+
 #[test]
 fn a_whole_new_tree_changes_more_than_three_nodes(rt: HostRuntime) -> Result<(), Fail> {
     for (writes_whole, expected) in [(false, 3), (true, 7)] {
         for side in [Side::Bid, Side::Ask] {
-            let mut bytes = [0; 700];
-            is_well_formed(&bytes, side)?;
-            put_three(&mut SlabView {
-                bytes: &mut bytes,
-                side,
-            });
-            let before = bytes;
-            is_well_formed(&bytes, side)?;
-            put_fourth(&mut bytes, side, writes_whole);
-            is_well_formed(&bytes, side)?;
-            assert_eq!(rt; changed_nodes(&before, &bytes), expected);
+            assert_eq!(rt; changed_by_fourth(side, writes_whole), expected);
         }
     }
     Ok(())

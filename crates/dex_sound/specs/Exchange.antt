@@ -15,6 +15,7 @@ gained_as Coin (MakerFill Bid) event = event.released
 gained_as Pc (MakerFill Ask) event = event.released
 gained_as token kind event = 0
 
+-- the native amount of a token that this event brings its owner, if it is a maker's fill
 abbrev pub gained : Token → QueuedEvent → ℕ
 gained token event = gained_as token event.kind event
 

@@ -4,8 +4,8 @@ ghost use Rattle.std.specs.Borrow.{ftrue};
 
 use std::marker::{Model, PhantomData};
 
-/// A value as it was at some time. It has no bytes, and may go to another thread or be shared whatever the value is: std's
-/// `Snapshot` is the same, but a struct that has one among many fields is not found to be one for threads.
+/// A value as it was at some time. It has no bytes, and may go to another thread or be shared where the value may go to
+/// one: std's `Snapshot` is the same, but a struct that has one among many fields is not found to be one for threads.
 #[derive(Drop)]
 pub struct Kept<T> {
     of: PhantomData<T>,

@@ -1,1 +1,2 @@
 mod CancelLaws
+mod WordLaws

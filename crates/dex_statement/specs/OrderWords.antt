@@ -47,9 +47,11 @@ limit_of words = unless (not (length words == 2)) FieldCount (found_or (number_o
 abbrev pub is_strange_side : Fields → ℕ → Bool
 is_strange_side words place = nat_lt place (length words) && is_none (side_of (field_at words place))
 
+-- the same of a self-trade rule
 abbrev pub is_strange_self_trade : Fields → ℕ → Bool
 is_strange_self_trade words place = nat_lt place (length words) && is_none (self_trade_of (field_at words place))
 
+-- the same of an order type
 abbrev pub is_strange_order_type : Fields → ℕ → Bool
 is_strange_order_type words place = nat_lt place (length words) && is_none (order_type_of (field_at words place))
 

@@ -62,6 +62,7 @@ abbrev pub with_last_zero : Option Address → Option Address
 with_last_zero None = None
 with_last_zero (Some address) = if slice_index address.0 31 == 0 then Some address else None
 
+-- the address of a market that a word is: its last byte is 0
 unfoldable pub market_word : List ℕ → Option Address
 market_word word = with_last_zero (address_of word)
 

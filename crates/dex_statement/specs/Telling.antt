@@ -10,7 +10,7 @@ TellsAs view (Ok x) meant = meant ≡ Ok (view x)
 TellsAs view (Err (Fault kind)) meant = meant ≡ Err kind
 TellsAs view (Err NoMemory) meant = Unit {0}
 
--- the same of a value that is shown as it is
+-- the answer is what is meant, a value without buffers or a fault; want of memory tells nothing
 abbrev pub Tells : {A : Type 0} → Result A RowError → Result A FaultKind → Type 0
 Tells (Ok x) meant = meant ≡ Ok x
 Tells (Err (Fault kind)) meant = meant ≡ Err kind

@@ -47,6 +47,7 @@ order_type_of word =
 abbrev pub time_of : ℕ → Option ℤ
 time_of number = if nat_lt number (2 ^ 63) then Some (cast_signed w64 number) else None
 
+-- the time that a number is, if there is one and it is below 2^63
 abbrev pub time_of_number : Option ℕ → Option ℤ
 time_of_number (Some number) = time_of number
 time_of_number None = None

@@ -6,7 +6,7 @@ ghost use Rattle.dex_statement.specs.Parties as parties;
 ghost use Rattle.dex_statement.specs.Telling.{Tells, TellsAs};
 
 use crate::faults::{FaultKind, RowError};
-use crate::words::{field_at, words_of};
+use crate::words::{field_at, first_word};
 use csv::ByteRecord;
 use dex_rows::addresses::{address_word, role_word};
 use dex_types::Address;
@@ -73,10 +73,13 @@ fn named_of(alloc: Global, field: &[u8]) -> Result<Vec<Address>, RowError>
     if field == b"-".as_slice() {
         return Ok(named);
     }
-    let words = words_of(alloc, field)?;
-    'words: for word in words.iter() {
+    let mut rest = field;
+    'words: while let Some((word, behind)) = first_word(rest) {
         let address = address_word(word).ok_or(FaultKind::BadLabel)?;
         named.push(address)?;
+        rest = behind;
     }
+    let last = address_word(rest).ok_or(FaultKind::BadLabel)?;
+    named.push(last)?;
     Ok(named)
 }

@@ -1,7 +1,7 @@
 //! The fields of a row, and the words of a field.
 
-ghost use Rattle.std.specs.Prelude.{◌≡◌, ◌<◌, IfOk, length, map};
-ghost use Rattle.std.specs.List.{slice_split};
+ghost use Rattle.std.specs.Prelude.{◌≡◌, ◌<◌, ◌==◌, ◌∷◌, [], IfOk, IfSome, MatchOption, length};
+ghost use Rattle.std.specs.List.{position};
 ghost use Rattle.csv.specs.Records.{fields_of};
 ghost use Rattle.dex_statement.specs.Words as script;
 
@@ -22,11 +22,40 @@ pub(crate) fn field_at(row: &ByteRecord, place: usize) -> &[u8]
     }
 }
 
+/// How many words the longest form of a `do` row has.
+const MOST_WORDS: usize = 10;
+
 /// The words of a field: what stands before, between and behind its spaces.
 pub(crate) fn words_of(alloc: Global, field: &[u8]) -> Result<Vec<&[u8]>, AllocError>
     ensures { IfOk result (λ found. script.texts found.items ≡ script.words_of field.now) }
 {
-    field.split(|byte| *byte == b' ').collect(alloc)
+    let mut words = Vec::with_capacity(alloc, MOST_WORDS)?;
+    let mut rest = field;
+    'words: while let Some((word, behind)) = first_word(rest) {
+        words.push(word)?;
+        rest = behind;
+    }
+    words.push(rest)?;
+    Ok(words)
+}
+
+/// The first word of a field, and what stands behind the space that ends it; None where the field has no space.
+pub(crate) fn first_word(field: &[u8]) -> Option<(&[u8], &[u8])>
+    ensures words { MatchOption result (script.words_of field.now ≡ field.now ∷ [])
+        (λ parts. script.words_of field.now ≡ parts.0.now ∷ script.words_of parts.1.now) }
+    ensures shorter { IfSome result (λ parts. length parts.1.now < length field.now) }
+{
+    match first_space(field) {
+        None => None,
+        Some(place) => Some((&field[..place], &field[place + 1..])),
+    }
+}
+
+/// The place of the first space of a field.
+fn first_space(field: &[u8]) -> Option<usize>
+    ensures { result ≡ position (λ byte. byte == 32) field.now }
+{
+    field.iter().position(|&byte| byte == b' ')
 }
 
 /// The word at a place, counted from 0; no bytes behind the last.

@@ -68,10 +68,11 @@ pub record HasStepped (before after : PlainMarketAccounts) (reply : Reply) (leav
 abbrev pub vault_paid : Side → PlainMarketAccounts → List ℕ
 vault_paid side accounts = by_side side accounts.pc_vault accounts.coin_vault
 
--- the native amounts in the two vaults
+-- the native base in the base vault
 abbrev pub coin_held : PlainMarketAccounts → ℕ
 coin_held accounts = (wallet_words accounts.coin_vault).amount
 
+-- the native quote in the quote vault
 abbrev pub pc_held : PlainMarketAccounts → ℕ
 pc_held accounts = (wallet_words accounts.pc_vault).amount
 
@@ -81,7 +82,7 @@ pub record CanTakeIn (side : Side) (amount : ℕ) (accounts : PlainMarketAccount
   pub pc : IsWallet accounts.pc_vault
   pub fits : (wallet_words (vault_paid side accounts)).amount + amount < 2 ^ 64
 
--- the same, and what it gets is in the other vault
+-- one vault can take in what is paid, and what is got is in the other one
 pub record CanExchange (side : Side) (paid got : ℕ) (accounts : PlainMarketAccounts) : Type 0 where
   pub takes_in : CanTakeIn side paid accounts
   pub held : got ≤ (wallet_words (vault_paid (opposite side) accounts)).amount
@@ -91,7 +92,7 @@ abbrev pub HaveTakenIn : Side → ℕ → PlainMarketAccounts → PlainMarketAcc
 HaveTakenIn side amount before after =
     HaveVaults before after (coin_held before + by_side side 0 amount) (pc_held before + by_side side amount 0)
 
--- the same, and no longer what it got
+-- one vault has what was paid besides, and the other no longer what was got
 abbrev pub HaveExchanged : Side → ℕ → ℕ → PlainMarketAccounts → PlainMarketAccounts → Type 0
 HaveExchanged side paid got before after =
     HaveVaults before after (coin_held before + by_side side 0 paid - by_side side got 0) (pc_held before + by_side side paid 0 - by_side side 0 got)

@@ -26,6 +26,7 @@ pub record CancelBytes : Type 0 where
   pub asks : List ℕ
   pub events : List ℕ
 
+-- what a cancel reads and writes, of these
 abbrev pub cancel_bytes : Lots → List ℕ → List ℕ → List ℕ → CancelBytes
 cancel_bytes sizes bids asks events = record { sizes = sizes; bids = bids; asks = asks; events = events }
 

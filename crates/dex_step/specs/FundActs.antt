@@ -32,25 +32,28 @@ pub record IsSweepDecided (fees : ℕ) (m : Market) : Type 0 where
   pub fees_are : fees ≡ m.pc_fees
   pub sound : IsSound (sweep_step m).market
 
--- the step of disabling; and it was decided on the market
+-- the step of disabling
 abbrev pub disable_step : Market → Step
 disable_step m = done (after_disable m)
 
+-- disabling was decided on the market, which is sound after it
 pub record IsDisableDecided (m : Market) : Type 0 where
   pub sound : IsSound (disable_step m).market
 
--- the step of opening the account at an address for a signer; and it was decided on the market: the account is blank
+-- the step of opening the account at an address for a signer
 abbrev pub init_step : Address → Address → Market → Step
 init_step owner signer m = done (after_init owner signer m)
 
+-- opening was decided on the market: the account is blank, and the market is sound after it
 pub record IsInitDecided (owner signer : Address) (m : Market) : Type 0 where
   pub blank : trader_at owner m.traders ≡ Some Blank
   pub sound : IsSound (init_step owner signer m).market
 
--- the step of closing the account at an address for good; and it was decided on the market: the account is open and empty
+-- the step of closing the account at an address for good
 abbrev pub close_step : Address → Market → Step
 close_step owner m = done (after_close owner m)
 
+-- closing was decided on the market: the account is open and empty, and the market is sound after it
 pub record IsCloseDecided (owner : Address) (m : Market) : Type 0 where
   pub account : Account
   pub known : trader_at owner m.traders ≡ Some (Open account)

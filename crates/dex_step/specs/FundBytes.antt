@@ -10,13 +10,13 @@ use Rattle.dex_settle.specs.declared.plan.SettlePlan.{SettlePlan}
 use Rattle.dex_settle.specs.Leaving.{PaysOut, settled}
 use Rattle.dex_settle.specs.SettleGiven.{IsOfSound, given}
 
--- the account of an owner is one that can be changed so
+-- the owner's account is there, and meets the condition `Can`
 pub record CanChange (owner : Address) (Can : List ℕ → Type 0) (accounts : List PlainAccount) : Type 0 where
   pub account : List ℕ
   pub found : bytes_at owner accounts ≡ Some account
   pub can : Can account
 
--- it was changed so, and all other accounts are as they were
+-- `Has` holds of the owner's account as it was and as it is, and all other accounts are as they were
 pub record HasChanged (owner : Address) (Has : List ℕ → List ℕ → Type 0) (before after : List PlainAccount) : Type 0 where
   pub was : List ℕ
   pub now : List ℕ

@@ -28,6 +28,7 @@ pub record OrderBytes : Type 0 where
   pub own : List ℕ
   pub met : List ℕ
 
+-- what a new order reads and writes, of these bytes
 abbrev pub order_bytes : List ℕ → List ℕ → List ℕ → List ℕ → List ℕ → List ℕ → OrderBytes
 order_bytes market requests events account own met =
     record { market = market; requests = requests; events = events; account = account; own = own; met = met }
@@ -67,6 +68,7 @@ pub record OrderAccounts : Type 0 where
   pub met : List ℕ
   pub accounts : List PlainAccount
 
+-- the same with all open-orders accounts, of these bytes
 abbrev pub among : List ℕ → List ℕ → List ℕ → List ℕ → List ℕ → List PlainAccount → OrderAccounts
 among market requests events own met accounts =
     record { market = market; requests = requests; events = events; own = own; met = met; accounts = accounts }

@@ -16,7 +16,7 @@ use Rattle.dex_match.specs.Ordering.{plan_by}
 use Rattle.dex_ring.specs.declared.leaving.Leaving.{Leaving}
 use Rattle.dex_ring.specs.Leaving.{leaving_of}
 
--- the step of a new order, as its trader states it, of the open account at its owner
+-- the step of a new order as its trader states it, for the account at `taker.account`, if that is open
 abbrev pub order_step : Taker → Market → Step
 order_step taker m =
     by_party (λ party. ordered taker.id_side (order_of taker) m party (order_on taker.id_side m party.account (order_of taker))) m

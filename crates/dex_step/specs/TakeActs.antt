@@ -22,6 +22,7 @@ pub record TakeBytes : Type 0 where
   pub events : List ℕ
   pub met : List ℕ
 
+-- what a take reads and writes, of these bytes
 abbrev pub take_bytes : List ℕ → List ℕ → List ℕ → TakeBytes
 take_bytes market events met = record { market = market; events = events; met = met }
 

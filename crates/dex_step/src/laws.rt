@@ -25,7 +25,8 @@ pub fn what_is_left_is_the_steps()
     ensures { (before after : PlainMarketAccounts) (parts : MarketParts) (coin pc : ℕ) (reply : Reply)
         (leaving : Leaving) (s : Step) → AreSound before → IsSound s.market → Leaves before after parts coin pc
         → AreOf parts s.market → s.market.listing ≡ (market_in before).listing → s.market.coin_vault ≡ coin
-        → s.market.pc_vault ≡ pc → reply ≡ s.reply → leaving ≡ leaving_of s.market.events → HasStepped before after reply leaving s }
+        → s.market.pc_vault ≡ pc → reply ≡ s.reply → leaving ≡ leaving_of s.market.events
+        → HasStepped before after reply leaving s }
 {}
 
 /// A plan that was decided of a row on a sound market says what its kind needs there, and the row's step is that of its

@@ -33,9 +33,10 @@ funds_after moved kept words = record {
   referrer_rebates = words.referrer_rebates_accrued;
 }
 
--- the words and the bytes of the market with these funds
+-- the words of the market with these funds
 abbrev pub words_after : Transfers → ℕ → MarketWords → MarketWords
 words_after moved kept words = words_with_funds (funds_after moved kept words) words
 
+-- the bytes of the market with these funds
 abbrev pub bytes_after : Transfers → ℕ → List ℕ → List ℕ
 bytes_after moved kept bytes = with_funds (funds_after moved kept (market_words bytes)) bytes

@@ -17,6 +17,7 @@ pub record TakeGiven : Type 0 where
   pub events : List ℕ
   pub opposing : List Order
 
+-- what a take is handed, of these
 abbrev pub given : List ℕ → List ℕ → List Order → TakeGiven
 given market events opposing = record { market = market; events = events; opposing = opposing }
 
@@ -26,6 +27,7 @@ pub record TakeRead : Type 0 where
   pub ring : Ring
   pub opposing : List Order
 
+-- what a take reads of what it is handed
 abbrev pub read_of : TakeGiven → TakeRead
 read_of given = record { words = market_words given.market; ring = ring_of given.events; opposing = given.opposing }
 

@@ -23,6 +23,6 @@ take_of taker min_lots min_pc = record {
 abbrev pub bare_take : Taker → Take
 bare_take taker = take_of taker 0 0
 
--- what it meets of these orders of the opposite side
+-- the taker's meeting with these orders of the opposite side
 abbrev pub meeting_with : Lots → Taker → List Order → Meeting
 meeting_with sizes taker opposing = take_meeting taker.id_side sizes (bare_take taker) opposing

@@ -1,4 +1,4 @@
--- What a take does with what it is given.
+-- What a take leaves of the parts that it is handed, and its reply.
 use Rattle.std.specs.Prelude.{◌≡◌}
 use Rattle.dex_types.specs.declared.replies.Reply.{Reply}
 use Rattle.dex_types.specs.Meeting.{Meeting}
@@ -25,7 +25,7 @@ taken taker given = record {
   opposing = (met_in taker given).left;
 }
 
--- what it is answered
+-- the reply to the take
 abbrev pub reply_in : Taker → TakeGiven → Reply
 reply_in taker given = take_reply (bare_take taker) (met_in taker given)
 

@@ -1,4 +1,4 @@
--- Why a take is refused, by what it is given alone, and the plan that says what it does else.
+-- Why a take is refused, or else its plan, read from the parts that it is handed.
 use Rattle.std.specs.Prelude.{◌≡◌, ℕ, ◌+◌, ◌-◌, ◌^◌, ◌<◌, ◌≤◌, List, [], ◌∷◌, ◌++◌, Option, Some, None, Result, length, nat_lt, if◌then◌else◌}
 use Rattle.dex_types.specs.declared.refusals.Refusal.{Refusal}
 use Rattle.dex_types.specs.declared.rows.Seen.{Seen}
@@ -43,13 +43,15 @@ plan_by side sizes t met = record {
   fee = take_fee t met;
 }
 
+-- the plan of a take, by what it reads
 abbrev pub plan_in : Side → Take → TakeRead → TakePlan
 plan_in side t read = plan_by side (sizes_in read) t (meeting_in side t read)
 
--- what moves between wallets and vaults: by a plan, and by what is read
+-- what moves between wallets and vaults, by a plan
 abbrev pub transfers_by : Side → TakePlan → Transfers
 transfers_by side plan = exchange (locked_token side) plan.deposit plan.payout
 
+-- what moves between wallets and vaults, by what a take reads
 abbrev pub moved_in : Side → Take → TakeRead → Transfers
 moved_in side t read = take_transfers side (sizes_in read) t (meeting_in side t read)
 
@@ -90,10 +92,11 @@ take_reason side t read seen = why_taking side t seen (reading_in side t seen re
 abbrev pub take_answer : Side → Take → TakeRead → Seen → Result TakePlan Refusal
 take_answer side t read seen = answered (take_reason side t read seen) (plan_in side t read)
 
--- the same with what pending makers' fills are still to take off totals once those of the take are pending too
+-- what pending makers' fills are still to take off totals once those of the take are pending too
 abbrev pub left_in : Side → Take → TakeRead → Leaving
 left_in side t read = leaving_of (read.ring.events ++ (meeting_in side t read).events)
 
+-- what deciding answers, with the sums after the take beside the plan
 abbrev pub take_outcome : Side → Take → TakeRead → Seen → Result DecidedTake Refusal
 take_outcome side t read seen = answered (take_reason side t read seen) (record { plan = plan_in side t read; leaving = left_in side t read })
 
@@ -127,7 +130,7 @@ pub record IsForeseen (side : Side) (t : Take) (read : TakeRead) (outlook : Take
   pub pc : outlook.sums.pc ≡ (meeting_in side t read).pc
   pub rebates : outlook.sums.rebates ≡ (meeting_in side t read).rebates
 
--- the reasons that ask for a plan and the events of a take, and those that ask for the bound
+-- the reasons against a take that ask for its plan and its events
 abbrev pub before_bound : Side → TakePlan → ℕ → ℕ → ℕ → ℕ → Seen → List (Option Refusal)
 before_bound side plan min_lots min_pc events room seen =
     below_minimum (too_little_by side plan min_lots min_pc)
@@ -137,6 +140,7 @@ before_bound side plan min_lots min_pc events room seen =
     ∷ too_full seen (transfers_by side plan) seen.pc
     ∷ []
 
+-- the reasons against a take that ask for the bound, by the sums after it
 abbrev pub at_bound : Side → TakePlan → MarketWords → Leaving → List (Option Refusal)
 at_bound side plan words leaving =
     beyond (vault_after Coin (transfers_by side plan) words) leaving.coin

@@ -159,8 +159,8 @@ pub fn decide_take<B: SideRead>(
     decide(market, opposite, ring, *taker, least, seen)
 }
 
-/// The same where it is known what pending makers' fills are still to take off totals, in native base and in native quote:
-/// no pending event is read, and what they are to take once the take is done is answered beside the plan.
+/// What a take does, or why it is refused, where the sums of pending makers' fills are handed in, in native base and
+/// native quote: no event is read. Beside the plan stand these sums after the take.
 pub fn decide_take_with_leaving<B: SideRead>(
     market: &MarketRef<'_>,
     opposite: &B,

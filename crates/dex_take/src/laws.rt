@@ -29,7 +29,7 @@ pub fn what_is_decided_is_the_markets()
 {}
 
 /// With what a take left put back, the parts of a sound market are those of the market after it, whatever its least fill;
-/// and what it is answered is the market's.
+/// and its reply is the market's.
 pub fn a_take_leaves_the_market_after_it()
     ensures after { (plan : TakePlan) (taker : Taker) (min_lots min_pc : ℕ) (parts : MarketParts)
         (left : TakeGiven) (m : Market) →

@@ -1,3 +1,4 @@
+-- When two addresses are the same.
 use Rattle.std.specs.Prelude.{Bool}
 use Rattle.std.specs.Str.{bytes_eq}
 use Rattle.dex_types.specs.declared.addresses.Address.{Address}

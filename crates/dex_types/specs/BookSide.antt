@@ -12,12 +12,12 @@ abbrev pub best_of : List Order → Option Order
 best_of [] = None
 best_of (order ∷ others) = Some order
 
--- the order that follows the one of an id, if one does
+-- the order behind the first one with this id, if there is one
 abbrev pub order_after : ℕ → List Order → Option Order
 order_after id [] = None
 order_after id (order ∷ others) = if order.id == id then best_of others else order_after id others
 
--- the orders, with other lots of the one of an id
+-- the orders, the first with this id having these lots
 abbrev pub with_lots : ℕ → ℕ → List Order → List Order
 with_lots id lots [] = []
 with_lots id lots (order ∷ others) =

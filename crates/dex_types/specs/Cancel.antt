@@ -15,12 +15,12 @@ pub record RestingOrder : Type 0 where
   pub side : Side
   pub order : Order
 
--- the order of an id, if one of these has it
+-- the first order with this id, if one of these has it
 abbrev pub order_with : ℕ → List Order → Option Order
 order_with id [] = None
 order_with id (order ∷ others) = if order.id == id then Some order else order_with id others
 
--- the orders without the one of an id
+-- the orders without the first with this id
 abbrev pub without_order : ℕ → List Order → List Order
 without_order id [] = []
 without_order id (order ∷ others) = if order.id == id then others else order ∷ without_order id others
@@ -40,12 +40,12 @@ all_orders_of owner bids asks = orders_of owner Bid bids ++ orders_of owner Ask 
 abbrev pub age_of : RestingOrder → ℕ
 age_of resting = sequence_of resting.side resting.order.id
 
--- the older of an order and maybe another one
+-- the older of two orders, or the first where there is no other
 abbrev pub older : RestingOrder → Option RestingOrder → RestingOrder
 older first None = first
 older first (Some other) = if nat_le (age_of first) (age_of other) then first else other
 
--- of these orders the one of a client id with the least sequence number
+-- the order with this client id that has the least sequence number, if one of these has the client id
 abbrev pub oldest : ℕ → List RestingOrder → Option RestingOrder
 oldest client [] = None
 oldest client (first ∷ others) =
@@ -55,7 +55,7 @@ oldest client (first ∷ others) =
 abbrev pub is_same_order : RestingOrder → RestingOrder → Bool
 is_same_order first other = is_same_side first.side other.side && (first.order.id == other.order.id)
 
--- these orders, without the one that was taken
+-- the resting orders without the one just taken, if one was
 abbrev pub without_taken : Option RestingOrder → List RestingOrder → List RestingOrder
 without_taken None resting = resting
 without_taken (Some gone) [] = []

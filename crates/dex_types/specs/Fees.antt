@@ -1,3 +1,4 @@
+-- Fees, rebates and tiers: rates, and how each amount is rounded.
 use Rattle.std.specs.Prelude.{ℕ, ◌+◌, ◌*◌, ◌/◌, Bool, true, false, nat_le, ◌==◌, if◌then◌else◌}
 use Rattle.dex_types.specs.declared.terms.Program.{Program}
 use Rattle.dex_types.specs.declared.terms.Program.TheVariants.{Serum, OpenBook}

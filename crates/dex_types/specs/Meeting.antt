@@ -1,3 +1,4 @@
+-- How a new order or a take meets the opposite side: which orders fill, which of its own leave, and the events of that.
 use Rattle.std.specs.Prelude.{ℕ, ◌+◌, ◌-◌, ◌*◌, ◌/◌, List, [], ◌∷◌, ◌++◌, Option, Some, None, Bool, true, false, not, ◌&&◌, nat_lt, ◌==◌, min, if◌then◌else◌}
 use Rattle.dex_types.specs.declared.addresses.Address.{Address}
 use Rattle.dex_types.specs.declared.orders.Order.{Order}

@@ -1,3 +1,4 @@
+-- What a new order does: what it locks, may spend, meets and rests, its events, and the market after it.
 use Rattle.std.specs.Prelude.{ℕ, ℤ, ◌+◌, ◌-◌, ◌*◌, ◌/◌, List, [], ◌∷◌, ◌++◌, Option, Some, None, ◌==◌, min, length, slice_set, if◌then◌else◌}
 use Rattle.dex_types.specs.declared.addresses.Address.{Address}
 use Rattle.dex_types.specs.declared.orders.Order.{Order}
@@ -68,6 +69,7 @@ pub record Standing : Type 0 where
   pub own_capacity : ℕ
   pub opposing : List Order
 
+-- what a new order of the side looks at of this market
 abbrev pub standing_of : Side → Market → Standing
 standing_of side m = record {
   sizes = m.listing.sizes;

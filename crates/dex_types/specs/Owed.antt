@@ -24,6 +24,7 @@ owed_as Pc (MakerFill Bid) event = event.fee_or_rebate
 owed_as Pc (ReleasingOut Bid) event = event.released
 owed_as token kind event = 0
 
+-- the native amount of a token that this pending event owes its owner
 abbrev pub owed : Token → QueuedEvent → ℕ
 owed token event = owed_as token event.kind event
 
@@ -33,6 +34,7 @@ leaving_as Coin (MakerFill Ask) event = event.paid
 leaving_as Pc (MakerFill Bid) event = event.paid
 leaving_as token kind event = 0
 
+-- the native amount of a token that this pending event is still to take off its owner's total
 abbrev pub leaving : Token → QueuedEvent → ℕ
 leaving token event = leaving_as token event.kind event
 
@@ -45,6 +47,7 @@ kept_as Pc (MakerFill Bid) event = event.paid + event.fee_or_rebate
 kept_as Pc (ReleasingOut Bid) event = event.released
 kept_as token kind event = 0
 
+-- the native amount of a token that this pending event keeps in its owner's total, neither free nor locked
 abbrev pub kept : Token → QueuedEvent → ℕ
 kept token event = kept_as token event.kind event
 
@@ -53,6 +56,7 @@ abbrev pub referred_as : EventKind → QueuedEvent → ℕ
 referred_as (TakerFill side) event = referrer_part event.fee_or_rebate
 referred_as kind event = 0
 
+-- the referrer's part of the fee of this pending event, in native quote; 0 unless it is a taker's fill
 abbrev pub referred : QueuedEvent → ℕ
 referred event = referred_as event.kind event
 

@@ -48,7 +48,7 @@ abbrev pub pay : QueuedEvent → Trader → Trader
 pay event (Open account) = Open (paid_as event.kind event account)
 pay event trader = trader
 
--- the traders, with another state of the one at an address, where there was one
+-- the traders, with the owner's account, if there is one, paid for the event
 abbrev pub put_paid : Address → QueuedEvent → Option Trader → Traders → Traders
 put_paid owner event None traders = traders
 put_paid owner event (Some trader) traders = put_trader owner (pay event trader) traders

@@ -1,3 +1,4 @@
+-- The pending events of a market, and how the event queue holds them.
 use Rattle.std.specs.Prelude.{ℕ, ◌==◌, if◌then◌else◌}
 use Rattle.dex_types.specs.declared.addresses.Address.{Address}
 use Rattle.dex_types.specs.declared.orders.Event.{Event}

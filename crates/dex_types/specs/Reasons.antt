@@ -95,7 +95,7 @@ abbrev pub not_signed_by : Address → Option WalletSeen → Option Refusal
 not_signed_by signer None = None
 not_signed_by signer (Some wallet) = refused_where (not (is_same wallet.owner signer)) (refusal.WalletNotSigned wallet.owner)
 
--- the same of the signer of a row
+-- a wallet, where one is named, is another person's than the row's signer
 abbrev pub not_signed : Request → Option WalletSeen → Option Refusal
 not_signed request wallet = not_signed_by request.signer wallet
 

@@ -50,6 +50,7 @@ ordered side n m party ordering = record {
   transfers = deposit (locked_token side) ordering.deposit;
 }
 
+-- a new order of an open account: what it decides on the market, done
 abbrev pub act_order : Side → (Address → NewOrder) → Market → Party → Step
 act_order side order m party =
     ordered side (order party.address) m party (order_on side m party.account (order party.address))
@@ -62,6 +63,7 @@ took side t m met = record {
   transfers = take_transfers side m.listing.sizes t met;
 }
 
+-- a take: what it meets of the opposite side, done
 abbrev pub act_take : Side → Take → Market → Step
 act_take side t m = took side t m (take_meeting side m.listing.sizes t (orders (opposite side) m))
 
@@ -69,6 +71,7 @@ act_take side t m = took side t m (take_meeting side m.listing.sizes t (orders (
 abbrev pub cancelled_all : List RestingOrder → Market → Step
 cancelled_all gone m = record { market = after_cancels gone m; reply = Cancelled (length gone); transfers = no_transfers }
 
+-- a cancel of an open account: the orders that it names, cancelled
 abbrev pub act_cancel : CancelBy → Market → Party → Step
 act_cancel by m party = cancelled_all (cancelled by party.address m.bids m.asks) m
 
@@ -76,6 +79,7 @@ act_cancel by m party = cancelled_all (cancelled by party.address m.bids m.asks)
 abbrev pub consumed : ℕ → Market → Step
 consumed count m = record { market = after_crank count m; reply = Consumed count; transfers = no_transfers }
 
+-- a crank: as many events consumed as the limit and the named accounts allow
 abbrev pub act_consume : ℕ → List Address → Market → Step
 act_consume limit named m = consumed (consumable limit named m.events) m
 
@@ -87,6 +91,7 @@ settled m party s = record {
   transfers = settle_transfers s;
 }
 
+-- an open account settled, by whether a referrer's wallet is seen
 abbrev pub act_settle : Seen → Market → Party → Step
 act_settle seen m party = settled m party (settlement (is_some seen.referrer) party.account)
 

@@ -39,7 +39,7 @@ abbrev pub of_party : (Party → Option Refusal) → Option Party → Option Ref
 of_party why None = Some refusal.NoAccount
 of_party why (Some party) = why party
 
--- why opening an account of a market is refused; without one it is refused for that
+-- why opening an account of a market is refused; where the market has no account at the address, for that
 abbrev pub why_opening : Bool → Option Trader → Option Refusal
 why_opening is_disabled trader = first_of (when_disabled is_disabled ∷ not_blank trader ∷ [])
 
@@ -56,6 +56,7 @@ why_init request m = why_opening m.is_disabled (named_first request.named m.trad
 abbrev pub why_closing : Address → Account → Option Refusal
 why_closing signer account = first_of (not_person account.person signer ∷ not_empty account ∷ [])
 
+-- why closing the open account of a row is refused
 abbrev pub why_close : Request → Party → Option Refusal
 why_close request party = why_closing request.signer party.account
 
@@ -72,11 +73,11 @@ pub record Limits : Type 0 where
   pub coin : TokenSum
   pub pc : TokenSum
 
--- these sums of a market
+-- a market's vault of a token, in native units, and what pending makers' fills are still to take off its totals
 abbrev pub sum_of : Token → Market → TokenSum
 sum_of token m = record { vault = vault token m; leaving = all_leaving token m.events }
 
--- the limits on a market of what would leave the other market
+-- the limits for a row on the first market that would leave the second one
 abbrev pub limits_of : Side → Seen → Market → Market → Limits
 limits_of side seen m after = record { room = event_room m; balance = balance_of (payer side seen); coin = sum_of Coin after; pc = sum_of Pc after }
 
@@ -92,12 +93,12 @@ asking_reasons side seen signer mint person =
     ∷ not_signed_by signer seen.discount
     ∷ []
 
--- why a new order is refused, as far as wallets and who signs tell
+-- the first reason against a new order that looks at wallets, mints and signer alone
 abbrev pub why_order_early : Side → Request → Seen → Market → Party → Option Refusal
 why_order_early side request seen m party = first_of (asking_reasons side seen request.signer (payer_mint side m) party.account.person)
 
--- what the other reasons against a new order read: what they ask for before the order meets anything, what it would do, and
--- the limits of that
+-- what the other reasons against a new order read: lot sizes, next sequence number and account before it meets anything, what it
+-- would do, and the limits for that
 pub record OrderReading : Type 0 where
   pub sizes : Lots
   pub next_sequence : ℕ
@@ -144,6 +145,7 @@ order_reading side n seen m account =
       limits = limits_of side seen m (after_order side account n ordering m);
     }
 
+-- why this new order of an open account is refused: first by wallets, mints and signer, then by what it would do
 abbrev pub why_order_of : Side → NewOrder → Request → Seen → Market → Party → Option Refusal
 why_order_of side n request seen m party = first_of (
     why_order_early side request seen m party
@@ -168,7 +170,7 @@ take_asking_reasons side seen signer is_disabled coin_mint pc_mint =
     ∷ not_signed_by signer seen.discount
     ∷ []
 
--- why a take is refused, as far as wallets and who signs tell
+-- the first reason against a take that looks at the market's flag, wallets, mints and signer alone
 abbrev pub why_take_early : Side → Request → Seen → Market → Option Refusal
 why_take_early side request seen m =
     first_of (take_asking_reasons side seen request.signer m.is_disabled m.listing.coin_mint m.listing.pc_mint)
@@ -201,6 +203,7 @@ take_reading side t seen m =
     let met = take_meeting side m.listing.sizes t (orders (opposite side) m) in
     record { sizes = m.listing.sizes; met = met; limits = limits_of side seen m (after_take side t met m) }
 
+-- why a take is refused: first by the market's flag, wallets, mints and signer, then by what it would do
 abbrev pub why_take : Side → Take → Request → Seen → Market → Option Refusal
 why_take side t request seen m = first_of (why_take_early side request seen m ∷ why_taking side t seen (take_reading side t seen m) ∷ [])
 
@@ -221,6 +224,7 @@ why_cancelling by owner bids asks room =
     let gone = cancelled by owner bids asks in
     first_of (why_unnamed by owner bids asks gone ∷ no_room (length gone) room ∷ [])
 
+-- why a cancel is refused by a market, once its signer may ask for it
 abbrev pub why_cancelled : CancelBy → Address → Market → Option Refusal
 why_cancelled by owner m = why_cancelling by owner m.bids m.asks (event_room m)
 
@@ -269,6 +273,7 @@ why_sweep request seen m = first_of (sweeping_reasons seen request.signer m.list
 abbrev pub why_disabling : Bool → Address → Address → Option Refusal
 why_disabling is_disabled authority signer = first_of (when_disabled is_disabled ∷ not_this_authority authority signer ∷ [])
 
+-- why disabling a market is refused
 abbrev pub why_disable : Request → Market → Option Refusal
 why_disable request m = why_disabling m.is_disabled m.listing.authority request.signer
 

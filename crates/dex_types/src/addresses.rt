@@ -1,18 +1,56 @@
-ghost use Rattle.std.specs.Prelude.{◌≡◌, ◌≤◌, ◌==◌, length, Some, IfSome, ◌<◌};
-ghost use Rattle.std.specs.List.{list_all, position};
+ghost use Rattle.std.specs.Prelude.{◌≡◌, ◌≤◌, ◌==◌, not, drop, map, Some};
+ghost use Rattle.std.specs.List.{list_all};
+ghost use Rattle.std.specs.Simd.Lanes.{mask_l};
 ghost use Rattle.hex.specs.Hex.{encode_lower};
-ghost use Rattle.std.specs.Str.{IsAscii};
+ghost use Rattle.std.specs.Str.{IsAscii, bytes_eq};
 ghost use Rattle.dex_types.specs.Addresses as addresses;
-ghost use Rattle.dex_types.specs.Text.{address_text, is_label, is_label_character, is_labelled, first_zero, front_of, behind_front};
+ghost use Rattle.dex_types.specs.Text.{address_text, is_label, is_label_character, is_labelled, first_zero};
 
 use std::fmt;
+use std::hash::{Hash, Hasher};
+use std::simd::prelude::*;
 
 /// The address of an account: 32 bytes, ordered by its bytes.
 ///
 /// It prints as its label where its bytes are one, from 1 to 24 of `a` to `z`, `0` to `9` and `_` with zeros behind
 /// them, and else as `0x` and 64 hexadecimal digits in lower case.
-#[derive(Clone, Copy, Debug, PartialEq, Eq, PartialOrd, Ord, Hash)]
+#[derive(Clone, Copy, Debug, Eq, PartialOrd, Ord)]
 pub struct Address(pub [u8; 32]);
+
+/// All 32 bytes are compared at once, and not one by one.
+impl PartialEq for Address {
+    ghost use Rattle.std.proofs.Common.{rules};
+    ghost use Rattle.std.specs.Cmp.Rules.{comparing};
+
+    ghost eq = { addresses.is_same };
+
+    ghost laws = { Prim.search (comparing, rules) };
+
+    fn eq(&self, other: &Address) -> bool {
+        has_same_bytes(&self.0, &other.0)
+    }
+}
+
+/// Whether 32 bytes are the same as 32 others, by one compare of two vectors.
+fn has_same_bytes(a: &[u8; 32], b: &[u8; 32]) -> bool
+    ensures { result ≡ bytes_eq a.now b.now }
+{
+    !u8x32::from_array(*a).simd_ne(u8x32::from_array(*b)).any()
+}
+
+/// All 32 bytes are hashed at once, and not one by one.
+impl Hash for Address {
+    ghost use Rattle.std.specs.Prelude.{◌∷◌, []};
+    ghost use Rattle.std.proofs.Common.{rules};
+
+    ghost hash_input = { λ a. a.0 ∷ [] };
+
+    ghost respects_eq = { Prim.search rules };
+
+    fn hash<H: Hasher>(&self, state: &mut H) {
+        state.write(&self.0);
+    }
+}
 
 /// Whether two addresses have the same bytes.
 pub fn is_same(a: Address, b: Address) -> bool
@@ -26,8 +64,9 @@ impl fmt::Display for Address {
 
     #[tactic(auto, unfolding(crate::specs::Text::address_text))]
     fn fmt<W: fmt::Write>(&self, f: &mut fmt::Formatter<W>) -> fmt::Result {
-        let (label, behind) = split_label(&self.0);
-        if is_label(label) && is_zero(behind) {
+        let place = first_zero(&self.0);
+        let label = &self.0[..place];
+        if is_label(label) && is_zero_from(&self.0, place) {
             let label = ascii(label);
             write!(f, "{label}")
         } else {
@@ -38,30 +77,39 @@ impl fmt::Display for Address {
     }
 }
 
-/// The bytes in front of the first zero, and those from it on.
-fn split_label(bytes: &[u8]) -> (&[u8], &[u8])
-    ensures label { result.0.now ≡ front_of bytes.now }
-    ensures behind { result.1.now ≡ behind_front bytes.now }
-{
-    bytes.split_at(first_zero(bytes))
-}
-
 /// The place of the first zero, or the length where there is none.
-fn first_zero(bytes: &[u8]) -> usize
-    ensures within { result ≤ length bytes.now }
+fn first_zero(bytes: &[u8; 32]) -> usize
+    ensures within { result ≤ 32 }
     ensures place { result ≡ first_zero bytes.now }
 {
-    match zero_place(bytes) {
-        Some(place) => place,
-        None => bytes.len(),
+    let zeros = zeros(u8x32::from_array(*bytes));
+    if zeros == 0 {
+        32
+    } else {
+        zeros.trailing_zeros() as usize
     }
 }
 
-fn zero_place(bytes: &[u8]) -> Option<usize>
-    ensures within { IfSome result (λ place. place < length bytes.now) }
-    ensures place { result ≡ position (λ b. b == 0) bytes.now }
+/// A bit for each byte, set where it is zero.
+fn zeros(bytes: u8x32) -> u64
+    ensures { result ≡ mask_l (map (λ b. b == 0) bytes) }
 {
-    bytes.iter().position(|b| *b == 0)
+    bytes.simd_eq(u8x32::splat(0)).to_bitmask()
+}
+
+/// A bit for each byte, set where it is not zero.
+fn others(bytes: u8x32) -> u64
+    ensures { result ≡ mask_l (map (λ b. not (b == 0)) bytes) }
+{
+    bytes.simd_ne(u8x32::splat(0)).to_bitmask()
+}
+
+/// Whether all bytes from this place on are zero.
+fn is_zero_from(bytes: &[u8; 32], place: usize) -> bool
+    requires { place ≤ 32 }
+    ensures { result ≡ list_all (λ b. b == 0) (drop place bytes.now) }
+{
+    others(u8x32::from_array(*bytes)) >> place == 0
 }
 
 fn is_label_character(byte: u8) -> bool
@@ -80,12 +128,6 @@ fn has_label_characters(word: &[u8]) -> bool
     ensures { result ≡ list_all is_label_character word.now }
 {
     word.iter().all(|&b| is_label_character(b))
-}
-
-fn is_zero(bytes: &[u8]) -> bool
-    ensures { result ≡ list_all (λ b. b == 0) bytes.now }
-{
-    bytes.iter().all(|b| *b == 0)
 }
 
 /// The text of ASCII bytes.

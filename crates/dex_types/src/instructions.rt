@@ -9,6 +9,8 @@ use thiserror::Error;
 /// is in base lots, `max_native_pc_qty_including_fees` in native quote, and each `limit` counts orders or events.
 #[derive(Clone, Copy, Debug, PartialEq, Eq)]
 pub enum Ix {
+    /// `coin_lot` is the native base of a base lot and `pc_lot` the native quote of a quote lot, `fee_rate_bps` is in
+    /// hundredths of a percent, and `dust` in native quote.
     InitializeMarket {
         coin_lot: u64,
         pc_lot: u64,
@@ -44,6 +46,7 @@ pub enum Ix {
     CancelOrderByClientIdV2 {
         client_order_id: u64,
     },
+    /// `min_coin_qty` is in base lots, `min_native_pc_qty` in native quote.
     SendTake {
         side: Side,
         limit_price: u64,

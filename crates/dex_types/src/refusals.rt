@@ -3,6 +3,7 @@ ghost use Rattle.dex_types.specs.Text.{refusal_text};
 
 use crate::addresses::Address;
 use crate::instructions::BadData;
+use itoa::Buffer;
 use std::fmt;
 use thiserror::Error;
 
@@ -85,7 +86,11 @@ impl fmt::Display for Refusal {
             Refusal::OrderNotYours { owner } => write!(f, "refused 16 OrderNotYours {owner}"),
             Refusal::ClientIdZero => write!(f, "refused 17 ClientIdZero"),
             Refusal::ClientIdNotFound => write!(f, "refused 18 ClientIdNotFound"),
-            Refusal::WouldSelfTrade { order } => write!(f, "refused 19 WouldSelfTrade {order}"),
+            Refusal::WouldSelfTrade { order } => {
+                let mut buffer = Buffer::new();
+                let order = buffer.format(*order);
+                write!(f, "refused 19 WouldSelfTrade {order}")
+            }
             Refusal::BelowMinimum { got } => write!(f, "refused 20 BelowMinimum {got}"),
             Refusal::EventQueueFull { needed, room } => {
                 write!(f, "refused 21 EventQueueFull {needed} {room}")

@@ -2,6 +2,7 @@ ghost use Rattle.std.specs.Prelude.{Some};
 ghost use Rattle.dex_types.specs.Text.{reply_text};
 
 use crate::refusals::Refusal;
+use itoa::Buffer;
 use std::fmt;
 
 /// What an instruction is answered.
@@ -52,7 +53,11 @@ impl fmt::Display for Reply {
                 pc,
                 fee,
                 rested,
-            } => write!(f, "ok order {id} {slot} {lots} {pc} {fee} {rested}"),
+            } => {
+                let mut buffer = Buffer::new();
+                let id = buffer.format(*id);
+                write!(f, "ok order {id} {slot} {lots} {pc} {fee} {rested}")
+            }
             Reply::Took { lots, pc, fee } => write!(f, "ok take {lots} {pc} {fee}"),
             Reply::Cancelled(count) => write!(f, "ok cancelled {count}"),
             Reply::Consumed(count) => write!(f, "ok consumed {count}"),

@@ -22,7 +22,7 @@ cell_of address starting bytes share entries room = record {
 abbrev pub cell_inside : Inside → CellState
 cell_inside inside = cell_of inside.address inside.starting inside.bytes.items inside.share inside.entries.items inside.room
 
--- it is one, and the list of movements has its room reserved
+-- what always holds of a wallet's cell holds of the fields, and the list of movements has its room reserved
 pub record IsKept (inside : Inside) : Type 0 where
   pub cell : IsWalletCell (cell_inside inside)
   pub reserved : inside.room ≤ vec_capacity inside.entries

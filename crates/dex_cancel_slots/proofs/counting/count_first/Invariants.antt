@@ -1,12 +1,15 @@
-use Rattle.std.proofs.Common.{◌≡◌, ◌≤◌, ◌+◌, drop, length}
+use Rattle.std.proofs.Common.{◌≡◌, ◌≤◌, ◌+◌, ◌-◌, drop, length}
 use Rattle.dex_cancel_slots.specs.Given.{slots_in}
 use Rattle.dex_cancel_slots.specs.Slots.{any_holding, orders_in}
 use Rattle.dex_cancel_slots.proofs.counting.count_first.Given as goal
 
-abbrev pub invariant-loop-slot : goal.invariant-loop-slot
-invariant-loop-slot g l =
+abbrev pub invariant-slots : goal.invariant-slots
+invariant-slots g l =
     let named = orders_in any_holding (g.B.SideRead.orders l.bids) (g.A.SideRead.orders l.asks) in record {
       sum : l.count + length (named (drop l.slot (slots_in l.orders))) ≡ length (named (slots_in l.orders));
       small : l.count ≤ l.slot;
       most : l.count ≤ l.limit;
     }
+
+abbrev pub decreases-slots : goal.decreases-slots
+decreases-slots g l = 128 - l.slot

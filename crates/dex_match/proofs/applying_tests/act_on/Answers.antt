@@ -25,8 +25,8 @@ moves_by-moves-requires c =
     can-move_foretold side sizes n opposing c.in_ok-plan.plan c.in_ok-plan.ensures.foretells (omega arith) c.in_ok-plan.ensures.lock
     (fits-sums side sizes n opposing (omega arith) c.in_ok-plan.ensures.lock (rw c.sizes-sizes.ensures c.requires.locks)) c.in_ok-plan.ensures.deposit
 
-pub apply-requires-clause-can_trade : goal.apply-requires-clause-can_trade
-apply-requires-clause-can_trade c =
+pub apply-requires-clause-can : goal.apply-requires-clause-can
+apply-requires-clause-can c =
     let side = c.args.taker.id_side in
     let sizes : Lots = sizes_of (market_words c.args.market.now.bytes.now) in
     let n = order_of c.args.taker in
@@ -45,28 +45,16 @@ apply-requires-clause-can_trade c =
     } in
     let told_needed : plan.needed ≡ length (met_with side sizes n opposing).events =
     told.needed ∙ ap (λ (s : Lots). length (met_with side s n opposing).events) c.sizes-sizes.ensures in
-    can-trade_foretold side sizes n plan c.args.own.now.room own opposing (ring_of c.args.ring.now.bytes.now)
-    (subst (λ (s : Lots). Foretells side s n opposing plan) c.sizes-sizes.ensures told.foretells) (omega arith)
-    (subst (λ (s : Lots). full_lock side s n < 2 ^ 64) c.sizes-sizes.ensures told.lock)
-    (subst (λ (s : Lots). plan.deposit ≤ full_lock side s n) c.sizes-sizes.ensures told.deposit) c.requires.locks posts c.requires.counted (omega (arith, told_needed))
-
-pub apply-requires-clause-covers : goal.apply-requires-clause-covers
-apply-requires-clause-covers c =
-    let side = c.args.taker.id_side in
-    let n = order_of c.args.taker in
-    let opposing = c.args.opposite.now.orders in
-    covers-foretold side (sizes_of (market_words c.args.market.now.bytes.now)) n opposing c.in_ok-plan.plan
-    (subst (λ (s : Lots). Foretells side s n opposing c.in_ok-plan.plan) c.sizes-sizes.ensures c.in_ok-plan.ensures.foretells)
-
-pub apply-requires-clause-can_take_in : goal.apply-requires-clause-can_take_in
-apply-requires-clause-can_take_in c =
-    let side = c.args.taker.id_side in
-    let n = order_of c.args.taker in
-    let opposing = c.args.opposite.now.orders in
-    let sizes : Lots = sizes_of (market_words c.args.market.now.bytes.now) in
-    c.can_take_in.ensures (met_with side sizes n opposing).rebates
-    (covers-foretold side sizes n opposing c.in_ok-plan.plan (subst (λ (s : Lots). Foretells side s n opposing c.in_ok-plan.plan) c.sizes-sizes.ensures c.in_ok-plan.ensures.foretells))
-    c.if-not-can_take_in.false
-
-pub apply-requires-clause-fresh : goal.apply-requires-clause-fresh
-apply-requires-clause-fresh c = HasNoOrder-from_untaken c.in_ok-plan.plan.id c.args.taker.id_side (slots_of c.args.orders.now.bytes.now) (omega arith)
+    let foretold : Foretells side sizes n opposing plan = subst (λ (s : Lots). Foretells side s n opposing plan) c.sizes-sizes.ensures told.foretells in
+    let covers = covers-foretold side sizes n opposing plan foretold in
+    record {
+      left = search rules;
+      trades = can-trade_foretold side sizes n plan c.args.own.now.room own opposing (ring_of c.args.ring.now.bytes.now) foretold (omega arith)
+          (subst (λ (s : Lots). full_lock side s n < 2 ^ 64) c.sizes-sizes.ensures told.lock)
+          (subst (λ (s : Lots). plan.deposit ≤ full_lock side s n) c.sizes-sizes.ensures told.deposit) c.requires.locks posts c.requires.counted (omega (arith, told_needed));
+      covers = covers;
+      takes_in = c.can_take_in.ensures (met_with side sizes n opposing).rebates covers c.if-not-can_take_in.false;
+      free = search rules;
+      fresh = HasNoOrder-from_untaken plan.id side (slots_of c.args.orders.now.bytes.now) (omega arith);
+      pays = search rules;
+    }

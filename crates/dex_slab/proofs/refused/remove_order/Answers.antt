@@ -4,7 +4,7 @@ use Rattle.dex_slab.specs.Nodes.{count_of, free_head_of, free_len_of}
 use Rattle.dex_slab.specs.Slab.{free_of, nodes_in, orders_in, tree_of}
 use Rattle.dex_slab.specs.Tree.{Tree}
 use Rattle.dex_slab.proofs.FoundLaw.{given-some}
-use Rattle.dex_slab.proofs.FreeLaws.{length-free_from}
+use Rattle.dex_slab.proofs.FreeList.{length-free_from}
 use Rattle.dex_slab.proofs.HeaderLaw.{tree_of-kept}
 use Rattle.dex_slab.proofs.refused.remove_order.Goals as goal
 

@@ -1,0 +1,118 @@
+-- an audit finds nothing exactly where each market is sound and each mint is conserved
+use Rattle.std.proofs.Common.{◌≡◌, ◌↔◌, ◌<◌, ◌^◌, [], ◌++◌, length, get_or, refl, ap, arith}
+use Rattle.std.specs.List.{All}
+use Rattle.dex_fields.specs.declared.mint.TheConstants.{SUPPLY}
+use Rattle.dex_types.specs.declared.orders.Order.{Order}
+use Rattle.dex_types.specs.declared.terms.Side.{Side}
+use Rattle.dex_types.specs.declared.terms.Side.TheVariants.{Bid, Ask}
+use Rattle.dex_types.specs.Accounts.{PlainAccount, PlainAccounts, PlainMarketAccounts}
+use Rattle.dex_types.specs.Market.{Market, orders}
+use Rattle.dex_types.specs.Owed.{order_lock}
+use Rattle.dex_types.specs.Side.{Coin, Pc}
+use Rattle.dex_market.specs.MarketAccount.{market_words}
+use Rattle.dex_token.specs.MintAccount.{IsMint, mint_words}
+use Rattle.dex_accounts.specs.Decoded.{AreSound, market_in}
+use Rattle.dex_dump.specs.Accepted.{AreAccepted, HoldBytes, IsHeldMarket}
+use Rattle.dex_audit_rules.specs.declared.market.Rule.TheVariants as rule
+use Rattle.dex_audit_rules.specs.Funds.{deposits_off, deposits_word, too_large}
+use Rattle.dex_audit_rules.specs.Lists.{numbered}
+use Rattle.dex_audit_rules.specs.RulesOf.{told_by}
+use Rattle.dex_audit.specs.Audited.{IsConserved}
+use Rattle.dex_audit.specs.Findings.{findings, fund_findings, slot_findings, told}
+use Rattle.dex_audit.specs.Supplies.{held_of, supplies_off, supply_off}
+use Rattle.dex_audit.proofs.AllLaws.{flat_map-nothing, none-append}
+use Rattle.dex_audit.proofs.FoundFunds.{differs-nothing, no-beyond, no-deposits-off, no-rebates, no-too-large, no-totals, no-vaults}
+use Rattle.dex_audit.proofs.FoundLaws.{no-astray, no-homeless, no-misheld, no-repeated, no-ungiven, no-unpaired}
+use Rattle.dex_audit.proofs.MarketForm.{IsAuditable, word-lt}
+use Rattle.dex_audit.proofs.NoneLaw.{markets-sound, mints-conserved}
+use Rattle.dex_audit.proofs.OnceLaws.{accounts-distinct}
+use Rattle.dex_audit.proofs.SmallLaws.{deposits-small, small}
+use Rattle.dex_audit.proofs.SoundLaw.{IsClean}
+
+module _ (accounts : PlainMarketAccounts) (can : IsAuditable accounts) (words : IsHeldMarket accounts) (sound : AreSound accounts) where
+  abbrev m : Market
+  m = market_in accounts
+
+  fit : (side : Side) → All (λ (order : Order). order_lock side m.listing.sizes order < 2 ^ 64) (orders side m)
+  fit side k d lt = (sound.sound.form.proper side k d lt).lock
+
+  no-deposits : deposits_off Coin (market_words accounts.market) m ++ deposits_off Pc (market_words accounts.market) m ≡ []
+  no-deposits =
+      none-append (deposits_off Coin (market_words accounts.market) m) (deposits_off Pc (market_words accounts.market) m)
+      (no-deposits-off m (small accounts can words) sound.sound.funds Coin (market_words accounts.market) (deposits-small accounts can words Coin)
+      (ap (λ w. deposits_word Coin w) sound.stands.terms.words))
+      (no-deposits-off m (small accounts can words) sound.sound.funds Pc (market_words accounts.market) (deposits-small accounts can words Pc)
+      (ap (λ w. deposits_word Pc w) sound.stands.terms.words))
+
+  is-clean : IsClean accounts
+  is-clean =
+      let apart = sound.sound.form.distinct in
+      let agree = sound.sound.slots in
+      record {
+        homeless = no-homeless m agree;
+        misheld = no-misheld m apart agree;
+        unpaired = no-unpaired m apart agree;
+        astray = no-astray m agree;
+        ungiven = no-ungiven m apart agree;
+        repeated = no-repeated m apart agree;
+        totals = no-totals m (small accounts can words) sound.sound.funds apart agree.pending;
+        deposits = no-deposits;
+        vaults = no-vaults m (small accounts can words) sound.sound.funds;
+        rebates = no-rebates m (small accounts can words) sound.sound.funds;
+        beyond = no-beyond m (small accounts can words) sound.sound.funds;
+        too_large =
+            none-append (numbered (too_large Bid m.listing.sizes m.listing.bids) 0 m.bids) (numbered (too_large Ask m.listing.sizes m.listing.asks) 0 m.asks)
+            (no-too-large Bid m.listing.sizes m.listing.bids m.bids (fit Bid))
+            (no-too-large Ask m.listing.sizes m.listing.asks m.asks (fit Ask));
+      }
+
+module _ (accounts : PlainAccounts) (accepted : AreAccepted accounts) (bytes : HoldBytes accounts) (sound : All AreSound accounts.markets)
+    (conserved : All (IsConserved accounts) accounts.mints) where
+  clean : All IsClean accounts.markets
+  clean k d lt =
+      is-clean (get_or accounts.markets k d) (record { accepted = accepted.markets k d lt; distinct = accounts-distinct accounts accepted k d lt }) (bytes.markets k d lt)
+      (sound k d lt)
+
+  no-supplies : supplies_off accounts ≡ []
+  no-supplies =
+      flat_map-nothing (supply_off accounts) accounts.mints
+      (λ k d lt.
+      let mint : PlainAccount = get_or accounts.mints k d in
+      let is : IsMint mint.bytes = accepted.mints k d lt in
+      let size : length mint.bytes ≡ 82 = is.size in
+      differs-nothing 12 mint.address 36 (mint_words mint.bytes).supply (held_of mint.address accounts) (word-lt mint.bytes SUPPLY (bytes.mints k d lt).bytes (omega arith) refl)
+      (conserved k d lt))
+
+  no-slots : slot_findings accounts.markets ≡ []
+  no-slots =
+      none-append (told rule.Homeless accounts.markets) _ (flat_map-nothing (told_by rule.Homeless) accounts.markets (λ k d lt. (clean k d lt).homeless))
+      (none-append (told rule.Misheld accounts.markets) _ (flat_map-nothing (told_by rule.Misheld) accounts.markets (λ k d lt. (clean k d lt).misheld))
+      (none-append (told rule.Unpaired accounts.markets) _ (flat_map-nothing (told_by rule.Unpaired) accounts.markets (λ k d lt. (clean k d lt).unpaired))
+      (none-append (told rule.Astray accounts.markets) _ (flat_map-nothing (told_by rule.Astray) accounts.markets (λ k d lt. (clean k d lt).astray))
+      (none-append (told rule.Ungiven accounts.markets) (told rule.Repeated accounts.markets)
+      (flat_map-nothing (told_by rule.Ungiven) accounts.markets (λ k d lt. (clean k d lt).ungiven))
+      (flat_map-nothing (told_by rule.Repeated) accounts.markets (λ k d lt. (clean k d lt).repeated))))))
+
+  no-funds : fund_findings accounts.markets ≡ []
+  no-funds =
+      none-append (told rule.Totals accounts.markets) _ (flat_map-nothing (told_by rule.Totals) accounts.markets (λ k d lt. (clean k d lt).totals))
+      (none-append (told rule.Deposits accounts.markets) _ (flat_map-nothing (told_by rule.Deposits) accounts.markets (λ k d lt. (clean k d lt).deposits))
+      (none-append (told rule.Vaults accounts.markets) _ (flat_map-nothing (told_by rule.Vaults) accounts.markets (λ k d lt. (clean k d lt).vaults))
+      (none-append (told rule.Rebates accounts.markets) (told rule.Beyond accounts.markets)
+      (flat_map-nothing (told_by rule.Rebates) accounts.markets (λ k d lt. (clean k d lt).rebates))
+      (flat_map-nothing (told_by rule.Beyond) accounts.markets (λ k d lt. (clean k d lt).beyond)))))
+
+  no-findings : findings accounts ≡ []
+  unfolding findings
+  no-findings =
+      none-append (slot_findings accounts.markets) _ no-slots
+      (none-append (fund_findings accounts.markets) _ no-funds
+      (none-append (supplies_off accounts) (told rule.TooLarge accounts.markets) no-supplies
+      (flat_map-nothing (told_by rule.TooLarge) accounts.markets (λ k d lt. (clean k d lt).too_large))))
+
+pub exactly : (accounts : PlainAccounts) → AreAccepted accounts → HoldBytes accounts
+    → (findings accounts ≡ []) ↔ (All AreSound accounts.markets × All (IsConserved accounts) accounts.mints)
+exactly accounts accepted bytes = (
+  (λ none. (markets-sound accounts accepted bytes none, mints-conserved accounts accepted bytes none)),
+  (λ is. no-findings accounts accepted bytes is.0 is.1),
+)

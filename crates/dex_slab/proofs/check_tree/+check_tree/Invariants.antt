@@ -1,4 +1,0 @@
-use Rattle.dex_slab.proofs.check_tree.+check_tree.Given as goal
-
-abbrev pub decreases-check_tree : goal.decreases-check_tree
-decreases-check_tree l = l.steps

@@ -1,0 +1,4 @@
+pub mod Reading
+pub mod Held
+pub mod Tallies
+pub mod Sums
