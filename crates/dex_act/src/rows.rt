@@ -21,13 +21,13 @@ fn accept(
     wallets: &mut [WalletCell],
     row: &Row,
     seen: &Seen,
-    plan: Plan,
+    plan: &Plan,
 ) -> Reply
     requires row { IsFor row.now seen.now market.old }
     requires market { IsMarketCell market.old }
     requires spare { HasSpare market.old }
     requires wallets { SeesCells seen.now wallets.old }
-    requires decided { Ok plan ≡ answer_on row.now seen.now market.old }
+    requires decided { Ok plan.now ≡ answer_on row.now seen.now market.old }
     ensures reply { result ≡ (step_on row.entry.now seen.now market.old).reply }
     ensures done { IsDone result }
     ensures acted { HasActed row.entry.now seen.now market.old market.new }
@@ -36,7 +36,7 @@ fn accept(
 {
     let deposit = plan.deposit();
     let (coin, pc) = debits(wallets, row, seen, deposit.coin, deposit.pc);
-    let (reply, payouts) = market.apply(row, seen, plan, coin, pc);
+    let (reply, payouts) = market.apply(row, seen, *plan, coin, pc);
     credits(wallets, row, seen, payouts);
     reply
 }
@@ -54,22 +54,22 @@ fn answer(market: &mut MarketCell, wallets: &mut [WalletCell], row: &Row, seen: 
     ensures cell { IsMarketCell market.new }
     ensures wallets { wallets.new ≡ cells_paid row.entry.now seen.now market.old wallets.old }
 {
-    match market.decide(row, seen) {
+    match &market.decide(row, seen) {
         Ok(plan) => accept(market, wallets, row, seen, plan),
         Err(refusal) => {
-            market.refuse(row, seen, refusal);
-            Reply::Refused(refusal)
+            market.refuse(row, seen, *refusal);
+            Reply::Refused(*refusal)
         }
     }
 }
 
 /// The movements of the last row of a market's journal.
-fn last_moves(market: &MarketCell) -> [Option<Movement>; 4]
+fn last_moves(market: &MarketCell) -> &[Option<Movement>; 4]
     requires { 0 < length market.now.calls }
-    ensures { (calls : List Call) (call : Call) → market.now.calls ≡ calls ++ call ∷ [] → result ≡ call.entry.moves }
+    ensures { (past : List Call) (call : Call) → market.now.calls ≡ past ++ call ∷ [] → result.now ≡ call.entry.moves }
 {
     let entries = market.entries();
-    entries[entries.len() - 1].moves
+    &entries[entries.len() - 1].moves
 }
 
 /// A row acts on its market's cell and on the cells of the wallets that it names, and this is its market's reply: its
@@ -95,6 +95,6 @@ pub fn act(market: &mut MarketCell, wallets: &mut [WalletCell], row: &Row, seen:
 {
     let reply = answer(market, wallets, row, seen);
     let moves = last_moves(market);
-    probe_each(wallets, row, &moves);
+    probe_each(wallets, row, moves);
     reply
 }

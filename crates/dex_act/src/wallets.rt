@@ -91,15 +91,15 @@ fn probe_at(cells: &mut [WalletCell], place: usize, row: &Row)
 fn debit(
     cells: &mut [WalletCell],
     row: &Row,
-    role: Option<WalletSeen>,
+    role: &Option<WalletSeen>,
     amount: u64,
 ) -> Option<Parcel>
     requires apart { AreApart cells.old }
-    requires home { IsHome cells.old role }
-    requires named { NamesFor amount role }
-    requires can { All (λ cell. CanTake (amount_at cell.address role amount) cell) cells.old }
-    ensures parcel { (mint : AddressOf) → AreOf mint role amount cells.old → result ≡ parcel_of mint amount }
-    ensures moved { cells.new ≡ map (role_moved (row_of row.entry.now) Debit role amount) cells.old }
+    requires home { IsHome cells.old role.now }
+    requires named { NamesFor amount role.now }
+    requires can { All (λ cell. CanTake (amount_at cell.address role.now amount) cell) cells.old }
+    ensures parcel { (mint : AddressOf) → AreOf mint role.entry.now amount cells.old → result ≡ parcel_of mint amount }
+    ensures moved { cells.new ≡ map (role_moved (row_of row.entry.now) Debit role.entry.now amount) cells.old }
 {
     match role {
         Some(wallet) => {
@@ -115,11 +115,11 @@ fn debit(
 }
 
 /// A row puts a parcel into the cell that a role names.
-fn credit(cells: &mut [WalletCell], row: &Row, role: Option<WalletSeen>, parcel: Option<Parcel>)
+fn credit(cells: &mut [WalletCell], row: &Row, role: &Option<WalletSeen>, parcel: Option<Parcel>)
     requires apart { AreApart cells.old }
-    requires home { IsHome cells.old role }
-    requires can { CanCredit role parcel cells.old }
-    ensures { cells.new ≡ map (role_moved (row_of row.entry.now) Credit role (amount_in parcel)) cells.old }
+    requires home { IsHome cells.old role.now }
+    requires can { CanCredit role.now parcel cells.old }
+    ensures { cells.new ≡ map (role_moved (row_of row.entry.now) Credit role.entry.now (amount_in parcel)) cells.old }
 {
     match parcel {
         Some(parcel) => {
@@ -145,14 +145,14 @@ pub(crate) fn debits(
     ensures pc { (mint : AddressOf) → AreOf mint seen.now.pc pc cells.old → result.1 ≡ parcel_of mint pc }
     ensures moved { cells.new ≡ map (cell_debited (row_of row.entry.now) seen.now coin pc) cells.old }
 {
-    let coin_parcel = debit(cells, row, seen.coin, coin);
-    let pc_parcel = debit(cells, row, seen.pc, pc);
+    let coin_parcel = debit(cells, row, &seen.coin, coin);
+    let pc_parcel = debit(cells, row, &seen.pc, pc);
     (coin_parcel, pc_parcel)
 }
 
 /// Whether the wallets of two roles are one.
-fn is_one(first: Option<WalletSeen>, second: Option<WalletSeen>) -> bool
-    ensures { result ≡ wallets.is_one first second }
+fn is_one(first: &Option<WalletSeen>, second: &Option<WalletSeen>) -> bool
+    ensures { result ≡ wallets.is_one first.now second.now }
 {
     match (first, second) {
         (Some(wallet), Some(other)) => is_same(wallet.address, other.address),
@@ -186,12 +186,12 @@ fn credit_pc(
     ensures { cells.new
         ≡ map (pc_credited (row_of row.entry.now) seen.now (amount_in pc) (amount_in referrer)) cells.old }
 {
-    if is_one(seen.pc, seen.referrer) {
+    if is_one(&seen.pc, &seen.referrer) {
         let both = join(pc, referrer);
-        credit(cells, row, seen.pc, both);
+        credit(cells, row, &seen.pc, both);
     } else {
-        credit(cells, row, seen.pc, pc);
-        credit(cells, row, seen.referrer, referrer);
+        credit(cells, row, &seen.pc, pc);
+        credit(cells, row, &seen.referrer, referrer);
     }
 }
 
@@ -202,7 +202,7 @@ pub(crate) fn credits(cells: &mut [WalletCell], row: &Row, seen: &Seen, payouts:
         (amount_in payouts.coin) (amount_in payouts.pc) (amount_in payouts.referrer)) cells.old }
 {
     let Payouts { coin, pc, referrer } = payouts;
-    credit(cells, row, seen.coin, coin);
+    credit(cells, row, &seen.coin, coin);
     credit_pc(cells, row, seen, pc, referrer);
 }
 

@@ -29,8 +29,8 @@ pub(crate) fn play_script(alloc: Global, bytes: &[u8]) -> Result<Played, NoMemor
 {
     match read_script(alloc, bytes) {
         Ok(script) => {
-            let outcome = replay(alloc, &script)?;
             let rows = script.rows.len() as u32;
+            let outcome = replay(alloc, script)?;
             Ok(Played::Left { rows, outcome })
         }
         Err(error) => Ok(Played::Refused(no_script(alloc, error)?)),

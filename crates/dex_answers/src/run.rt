@@ -28,8 +28,9 @@ pub fn run_answer<R: Threads + Wait + Sync, P: Pace + Sync>(
 {
     match read_script(alloc, bytes) {
         Ok(script) => {
-            let outcome = run(rt, alloc, &script, pace)?;
-            report_of(alloc, &outcome, script.rows.len() as u32)
+            let rows = script.rows.len() as u32;
+            let outcome = run(rt, alloc, script, pace)?;
+            report_of(alloc, &outcome, rows)
         }
         Err(error) => no_script(alloc, error),
     }

@@ -19,7 +19,6 @@ use Rattle.dex_wallet.specs.CellState as wallet
 use Rattle.dex_wallet.specs.CellState.{IsWalletCell}
 use Rattle.dex_act.specs.Wallets.{AreApart, is_among}
 use Rattle.dex_dump.specs.Accepted.{AreAccepted, address_of, all_of_market, times}
-use Rattle.dex_script.specs.Drafts.{PlainScript}
 use Rattle.dex_script.specs.Facts.{IsStart}
 use Rattle.dex_bank.specs.Cells.{AreCells, CellsState}
 use Rattle.dex_bank.specs.Opened.{market_opened, wallet_opened}
@@ -108,10 +107,10 @@ wallets-apart rows accounts accepted =
 
 -- ---- all of them
 
-pub AreCells-opened : (script : PlainScript) (cells : CellsState) → IsStart script.start → cells.markets ≡ map (market_opened script.rows) script.start.markets
-    → cells.wallets ≡ map (wallet_opened script.rows) script.start.wallets → All IsWalletCell cells.wallets → AreCells cells
-AreCells-opened script cells start markets wallets kept = record {
-  markets = subst (All IsMarketCell) (sym markets) (market_cells script.rows script.start.markets start.sound start.accepted.markets);
+pub AreCells-opened : (start : PlainAccounts) (rows : List PlainRow) (cells : CellsState) → IsStart start → cells.markets ≡ map (market_opened rows) start.markets
+    → cells.wallets ≡ map (wallet_opened rows) start.wallets → All IsWalletCell cells.wallets → AreCells cells
+AreCells-opened start rows cells is markets wallets kept = record {
+  markets = subst (All IsMarketCell) (sym markets) (market_cells rows start.markets is.sound is.accepted.markets);
   wallets = kept;
-  apart = subst AreApart (sym wallets) (wallets-apart script.rows script.start start.accepted);
+  apart = subst AreApart (sym wallets) (wallets-apart rows start is.accepted);
 }

@@ -1,19 +1,18 @@
 -- Lists that are mapped.
-use Rattle.std.proofs.Common.{◌≡◌, ℕ, ◌+◌, ◌<◌, List, [], ◌∷◌, ◌++◌, length, get_or, map, take, sym, ap, ◌∙◌}
+use Rattle.std.proofs.Common.{◌≡◌, List, [], ◌∷◌, ◌++◌, map, sym, ap, ◌∙◌}
 use Rattle.std.specs.List.{All}
-use Rattle.std.proofs.lemmas.List.{map-append, take_more}
+use Rattle.std.proofs.lemmas.List.{map-append}
 use Rattle.std.proofs.lemmas.List.Elements.{All-nil, All-cons, All-head, All-tail}
 
 -- what is made of the items so far, and of one more
-pub mapped-more : {A B C : Type 0} (f : B → C) (g : A → B) (xs : List A) (i : ℕ) (x : A) (y : C) (old new : List C) → i < length xs → x ≡ get_or xs i x
-    → y ≡ f (g x) → old ≡ map f (map g (take i xs)) → new ≡ old ++ y ∷ [] → new ≡ map f (map g (take (i + 1) xs))
-mapped-more {A} {B} {C} f g xs i x y old new within at made before added =
+pub mapped-more : {A B C : Type 0} (f : B → C) (g : A → B) (xs : List A) (x : A) (y : C) (old new : List C) → y ≡ f (g x)
+    → old ≡ map f (map g xs) → new ≡ old ++ y ∷ [] → new ≡ map f (map g (xs ++ x ∷ []))
+mapped-more {A} {B} {C} f g xs x y old new made before added =
     added
     ∙ ap (λ (l : List C). l ++ y ∷ []) before
-    ∙ ap (λ (z : C). map f (map g (take i xs)) ++ z ∷ []) (made ∙ ap (λ (a : A). f (g a)) at)
-    ∙ sym (map-append f (map g (take i xs)) (g (get_or xs i x) ∷ []))
-    ∙ ap (map f) (sym (map-append g (take i xs) (get_or xs i x ∷ [])))
-    ∙ ap (λ (l : List A). map f (map g l)) (sym (take_more xs i x within))
+    ∙ ap (λ (z : C). map f (map g xs) ++ z ∷ []) made
+    ∙ sym (map-append f (map g xs) (g x ∷ []))
+    ∙ ap (map f) (sym (map-append g xs (x ∷ [])))
 
 -- what holds of what each item is mapped to
 pub unmapped : {A B : Type 0} (P : B → Type 0) (f : A → B) (xs : List A) → All P (map f xs) → All (λ x. P (f x)) xs

@@ -1,7 +1,8 @@
 -- The cells with which a script starts.
 use Rattle.std.specs.Prelude.{ℕ, List, map, count_by}
 use Rattle.dex_types.specs.declared.addresses.Address.{Address}
-use Rattle.dex_types.specs.Accounts.{PlainAccount, PlainMarketAccounts}
+use Rattle.dex_types.specs.declared.terms.Program.{Program}
+use Rattle.dex_types.specs.Accounts.{PlainAccount, PlainAccounts, PlainMarketAccounts}
 use Rattle.dex_types.specs.Addresses.{is_same}
 use Rattle.dex_types.specs.Rows.{PlainRow}
 use Rattle.dex_cell.specs.CellState as market
@@ -28,13 +29,17 @@ market_opened rows accounts = market.new_cell accounts (rows_on accounts.address
 abbrev pub wallet_opened : List PlainRow → PlainAccount → CellState
 wallet_opened rows account = wallet.new_cell account.address account.bytes (rows_naming account.address rows)
 
--- one cell for each market and each wallet
-abbrev pub opened : PlainScript → CellsState
-opened script = record {
-  mints = script.start.mints;
-  srm = script.start.srm;
-  msrm = script.start.msrm;
-  markets = map (market_opened script.rows) script.start.markets;
-  wallets = map (wallet_opened script.rows) script.start.wallets;
-  program = script.program;
+-- one cell for each market and each wallet of these accounts, with room for these rows
+abbrev pub opened_with : PlainAccounts → List PlainRow → Program → CellsState
+opened_with start rows program = record {
+  mints = start.mints;
+  srm = start.srm;
+  msrm = start.msrm;
+  markets = map (market_opened rows) start.markets;
+  wallets = map (wallet_opened rows) start.wallets;
+  program = program;
 }
+
+-- the cells with which a script starts
+abbrev pub opened : PlainScript → CellsState
+opened script = opened_with script.start script.rows script.program

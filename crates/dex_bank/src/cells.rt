@@ -3,6 +3,7 @@
 ghost use Rattle.std.specs.Prelude.{◌≡◌, ◌≤◌, IfErr, IfOk, Some, length, map};
 
 use crate::closing::{closed, left_by};
+use crate::copying::accounts_copy;
 use crate::opening::opened;
 use crate::room::Room;
 use crate::stepping::stepped;
@@ -48,16 +49,35 @@ impl Cells {
     ghost use Rattle.dex_fold.specs.Fold.{act};
     ghost use Rattle.dex_fold.specs.World.{market_at, seen_by};
     ghost use Rattle.dex_report.specs.Outcomes.{outcome_of};
+    ghost use Rattle.dex_script.specs.Facts.{IsScript};
     ghost use Rattle.dex_bank.specs.Cells as spec;
     ghost use Rattle.dex_bank.specs.Cells.{AreCells, CanAct};
     ghost use Rattle.dex_bank.specs.Closed as left;
     ghost use Rattle.dex_bank.specs.Opened as first;
 
     /// The cells with which a script starts: one for each market and each wallet, with room for an entry of each row that names it.
+    /// The script keeps its accounts: the cells have copies of them.
     pub fn open(alloc: Global, script: &Script) -> Result<Cells, NoMemory>
         ensures cells { IfOk result (λ cells. cells ≡ first.opened script.now) }
     {
-        opened(alloc, script)
+        let start = accounts_copy(alloc, &script.start)?;
+        opened(alloc, start, &script.rows, script.program)
+    }
+
+    /// The same cells, and the script's rows. The script's accounts themselves go into the cells: none is copied.
+    pub fn of_script(alloc: Global, script: Script) -> Result<(Cells, Vec<Row>), NoMemory>
+        ensures cells { IfOk result (λ made. made.0 ≡ first.opened script) }
+        ensures rows { IfOk result (λ made. map row_of made.1.items ≡ script.rows) }
+        ensures script { IsScript script }
+    {
+        let Script {
+            start,
+            rows,
+            lanes: _,
+            program,
+        } = script;
+        let cells = opened(alloc, start, &rows, program)?;
+        Ok((cells, rows))
     }
 
     /// The cells of these markets and wallets, beside mints and program.

@@ -3,6 +3,7 @@
 
 mod cells;
 mod closing;
+mod copying;
 mod counting;
 mod opening;
 mod room;

@@ -1,6 +1,6 @@
 //! One row on all cells.
 
-ghost use Rattle.std.specs.Prelude.{◌≡◌, Some, true, map, slice_index_or, slice_set};
+ghost use Rattle.std.specs.Prelude.{◌≡◌, None, Some, true, map, slice_index_or, slice_set};
 ghost use Rattle.std.specs.List.{All};
 ghost use Rattle.dex_types.specs.declared.refusals.Refusal.{Refusal};
 ghost use Rattle.dex_types.specs.declared.replies.Reply.TheVariants.{Refused};
@@ -20,14 +20,15 @@ use dex_cell::MarketCell;
 use dex_types::{Address, Reply, Row, Seen, WalletSeen, is_same};
 use dex_wallet::WalletCell;
 
-/// What a row sees of the wallet that a role names.
-fn role_at(wallets: &[WalletCell], role: Option<Address>) -> Option<WalletSeen>
-    ensures seen { result ≡ world.role_at role (map wallet_state_of wallets.now) }
-    ensures fits { Fits result }
+/// Writes down what a row sees of the wallet that a role names, where there was nothing.
+fn look(wallets: &[WalletCell], role: &Option<Address>, seen: &mut Option<WalletSeen>)
+    requires { seen.old ≡ None }
+    ensures seen { seen.new ≡ world.role_at role.entry.now (map wallet_state_of wallets.entry.now) }
+    ensures fits { Fits seen.new }
 {
     match role {
-        Some(address) => wallet_at(wallets, address),
-        None => None,
+        Some(address) => *seen = wallet_at(wallets, *address),
+        None => {}
     }
 }
 
@@ -36,15 +37,20 @@ fn seen_by(cells: &Cells, row: &Row) -> Seen
     ensures seen { result ≡ world.seen_by (row_of row.entry.now) (world_of cells.now) }
     ensures fits { All Fits (roles_of result) }
 {
-    Seen {
-        coin: role_at(&cells.wallets, row.coin),
-        pc: role_at(&cells.wallets, row.pc),
-        discount: role_at(&cells.wallets, row.discount),
-        referrer: role_at(&cells.wallets, row.referrer),
+    let mut seen = Seen {
+        coin: None,
+        pc: None,
+        discount: None,
+        referrer: None,
         srm: cells.srm,
         msrm: cells.msrm,
         program: cells.program,
-    }
+    };
+    look(&cells.wallets, &row.coin, &mut seen.coin);
+    look(&cells.wallets, &row.pc, &mut seen.pc);
+    look(&cells.wallets, &row.discount, &mut seen.discount);
+    look(&cells.wallets, &row.referrer, &mut seen.referrer);
+    seen
 }
 
 /// The place of the first market of an address.

@@ -3,6 +3,6 @@ pub mod SlotSteps
 pub mod MixedLaws
 pub mod ToldLaws
 pub mod AnswerLaws
-pub mod NextLaws
+pub mod FirstLaws
 pub mod PruneLaws
 pub mod TakenLaws

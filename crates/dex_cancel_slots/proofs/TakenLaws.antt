@@ -1,84 +1,162 @@
--- the taken slots of an account by its bits, and what is passed over from one to the next
-use Rattle.std.proofs.Common.{ℕ, zero, suc, ◌≡◌, ◌+◌, ◌-◌, ◌/◌, ◌%◌, ◌^◌, ◌<◌, ◌≤◌, List, ◌∷◌, Option, Some, None, length, drop, get_or, refl, sym, ap, ◌∙◌, subst, arith, inl, inr}
+-- which slots of an account are taken, by their bits: from one that is set to the next, and behind the last
+use Rattle.std.proofs.Common.{ℕ, zero, suc, ◌≡◌, ◌+◌, ◌-◌, ◌/◌, ◌%◌, ◌^◌, ◌<◌, ◌≤◌, Bool, true, false, eqb, min, List, ◌∷◌, Option, Some, None, [], length, drop, get_or, refl, sym, ap, ◌∙◌, subst, arith, inl, inr}
 use Rattle.std.proofs.lemmas.Bool.{cases_lt, cond_both}
-use Rattle.std.proofs.lemmas.List.{at_drop_more}
-use Rattle.std.proofs.lemmas.Nat.{shr-shr, shr_le}
-use Rattle.std.proofs.lemmas.Nat.Bits.{bit_at-lt, bit_at-trailing_zeros, bit_at-zero, bit_at_above, bit_at_not}
-use Rattle.std.specs.Int.{bit_at, bit_not, trailing_zeros, w128}
+use Rattle.std.proofs.lemmas.List.{at_drop_all, at_drop_more}
+use Rattle.std.proofs.lemmas.Nat.{leading_length, shr-shr, shr_le}
+use Rattle.std.proofs.lemmas.Nat.Bits.{bit_at-lt, bit_at-trailing_zeros, bit_at-zero, bit_at_above, bit_at_and, bit_at_not}
+use Rattle.std.specs.Int.{bit_at, bit_not, leading_zeros, trailing_zeros, w128}
+use Rattle.std.specs.Int.Bits.{bit_and}
+use Rattle.std.specs.Prelude.{IfSome}
 use Rattle.dex_fields.specs.declared.open_orders.TheConstants.{FREE_SLOT_BITS, IS_BID_BITS}
 use Rattle.dex_fields.specs.Bytes.{number_in}
+use Rattle.dex_types.specs.declared.terms.Side.{Side}
+use Rattle.dex_types.specs.declared.terms.Side.TheVariants.{Ask, Bid}
 use Rattle.dex_types.specs.Trader.{Holding}
 use Rattle.dex_orders.specs.Bits.{is_set}
-use Rattle.dex_orders.specs.OrdersAccount.{client_field, id_field, side_by_bit, slot_in, slots_of}
-use Rattle.dex_orders.proofs.SlotLaw.{free_bit, free_bit-slot_in, get_or-slots_of, length-slots_of}
-use Rattle.dex_cancel_slots.specs.Slots.{AreFree, IsClientOf}
+use Rattle.dex_orders.specs.OrdersAccount.{client_field, holding_of, id_field, side_by_bit, slot_in, slots_of}
+use Rattle.dex_orders.proofs.SlotLaw.{get_or-slots_of, length-slots_of, slot_in-from}
+use Rattle.dex_cancel_slots.specs.Slots.{AreBitsOf, AreClear, AreFree, IsClientOf, IsIdOf, any_holding, held_in, is_held, is_on}
 
--- ---- which slots the bits say are free
+-- ---- from one bit that is set to the next
 
 -- a bit of a number that is shifted down
 shifted : (n k i : ℕ) → bit_at (n / 2 ^ k) i ≡ bit_at n (k + i)
 shifted n k i = ap (λ x. x % 2) (shr-shr n k i)
 
-none-by-bit : (held : Option Holding) → free_bit held ≡ 1 → held ≡ None
-none-by-bit None is = refl
-none-by-bit (Some held) is = absurd (omega (arith, is))
+module _ (bits : ℕ) (low : bits < 2 ^ 128) (from : ℕ) where
+  clear-at : (place : ℕ) → from ≤ place → bit_at (bits / 2 ^ from) (place - from) ≡ 0 → is_set bits place ≡ false
+  clear-at place at clear =
+      let same : from + (place - from) ≡ place = omega (arith, at) in
+      let bit : bit_at bits place ≡ 0 = ap (bit_at bits) (sym same) ∙ sym (shifted bits from (place - from)) ∙ clear in
+      ap (λ b. eqb b 1) bit
 
-module _ (bytes : List ℕ) (bits : ℕ) (is : bits ≡ number_in bytes FREE_SLOT_BITS) (low : bits < 2 ^ 128) (from : ℕ) where
-  free-at : (place : ℕ) → from + place < 128 → bit_at (bit_not w128 bits / 2 ^ from) place ≡ 0 → get_or (slots_of bytes) (from + place) None ≡ None
-  free-at place within clear =
-      let slot = from + place in
-      let bit : bit_at bits slot ≡ 1 = omega (arith, clear, shifted (bit_not w128 bits) from place, bit_at_not w128 bits slot low within, bit_at-lt bits slot) in
-      get_or-slots_of bytes slot within
-      ∙ none-by-bit (slot_in bytes slot) (free_bit-slot_in bytes slot ∙ ap (λ n. bit_at n slot) (sym is) ∙ bit)
+  -- all are clear where no bit is left
+  pub all-clear : bits / 2 ^ from ≡ 0 → (to : ℕ) → AreClear bits from to
+  all-clear none to place at below = clear-at place at (ap (λ n. bit_at n (place - from)) none ∙ bit_at-zero (place - from))
 
-  -- all are free where no bit is left
-  pub all-free : bit_not w128 bits / 2 ^ from ≡ 0 → AreFree (slots_of bytes) from 128
-  all-free none slot at below =
-      let place = slot - from in
-      let same : from + place ≡ slot = omega (arith, at) in
-      subst (λ s. get_or (slots_of bytes) s None ≡ None) same
-      (free-at place (omega (arith, same, below)) (ap (λ n. bit_at n place) none ∙ bit_at-zero place))
+  module _ (some : 0 < bits / 2 ^ from) where
+    abbrev gap : ℕ
+    gap = trailing_zeros w128 (bits / 2 ^ from)
 
-  module _ (some : 0 < bit_not w128 bits / 2 ^ from) where
-    lowest : (trailing_zeros w128 (bit_not w128 bits / 2 ^ from) < 128)
-        × (bit_at (bit_not w128 bits / 2 ^ from) (trailing_zeros w128 (bit_not w128 bits / 2 ^ from)) ≡ 1)
-        × ((i : ℕ) → i < trailing_zeros w128 (bit_not w128 bits / 2 ^ from) → bit_at (bit_not w128 bits / 2 ^ from) i ≡ 0)
-    lowest = bit_at-trailing_zeros w128 (bit_not w128 bits / 2 ^ from) some (omega (arith, shr_le (bit_not w128 bits) from))
+    lowest : (gap < 128) × (bit_at (bits / 2 ^ from) gap ≡ 1) × ((i : ℕ) → i < gap → bit_at (bits / 2 ^ from) i ≡ 0)
+    lowest = bit_at-trailing_zeros w128 (bits / 2 ^ from) some (omega (arith, low, shr_le bits from))
 
-    pub next-within : from + trailing_zeros w128 (bit_not w128 bits / 2 ^ from) < 128
+    pub next-within : from + gap < 128
     next-within =
-        let count : ℕ = trailing_zeros w128 (bit_not w128 bits / 2 ^ from) in
-        elim (cases_lt (from + count) 128) [
+        elim (cases_lt (from + gap) 128) [
           | inl below ↦ below
-          | inr past ↦ absurd (omega (arith, lowest.1, shifted (bit_not w128 bits) from count, bit_at_above (bit_not w128 bits) 128 (from + count) (omega arith) past))
+          | inr past ↦ absurd (omega (arith, lowest.1, shifted bits from gap, bit_at_above bits 128 (from + gap) low past))
         ]
 
-    -- those before the lowest bit that is left are free
-    pub next-free : AreFree (slots_of bytes) from (from + trailing_zeros w128 (bit_not w128 bits / 2 ^ from))
-    next-free slot at below =
-        let place = slot - from in
-        let same : from + place ≡ slot = omega (arith, at) in
-        subst (λ s. get_or (slots_of bytes) s None ≡ None) same
-        (free-at place (omega (arith, same, below, next-within)) (lowest.2 place (omega (arith, same, below))))
+    -- the lowest bit that is left is set, and those before it are clear
+    pub next-set : is_set bits (from + gap) ≡ true
+    next-set = ap (λ b. eqb b 1) (sym (shifted bits from gap) ∙ lowest.1)
 
--- ---- the client id of a slot
+    pub next-clear : AreClear bits from (from + gap)
+    next-clear place at below = clear-at place at (lowest.2 (place - from) (omega (arith, at, below)))
 
-pub client-of : (bytes : List ℕ) (slot client : ℕ) → slot < 128 → client ≡ number_in bytes (client_field slot) → IsClientOf (get_or (slots_of bytes) slot None) client
-unfolding slot_in
-client-of bytes slot client within is =
-    subst (λ h. IsClientOf h client) (sym (get_or-slots_of bytes slot within))
-    (cond_both (is_set (number_in bytes FREE_SLOT_BITS) slot) None
-    (Some (record {
-      id = number_in bytes (id_field slot);
-      side = side_by_bit (is_set (number_in bytes IS_BID_BITS) slot);
-      client = number_in bytes (client_field slot);
-    }))
-    (λ h. IsClientOf h client) (λ free. tt) (λ held. sym is))
+-- ---- the bits of the slots
 
--- ---- free slots passed over
+-- whether a slot holds what passes a test, by its bits
+abbrev held_by_bits : (Holding → Bool) → ℕ → ℕ → ℕ → ℕ → Bool
+held_by_bits test free bid id client = is_held test (holding_of (eqb free 1) (eqb bid 1) id client)
+
+taken-by_bit : (free bid id client : ℕ) → free < 2 → eqb (1 - free) 1 ≡ held_by_bits any_holding free bid id client
+taken-by_bit zero bid id client low = refl
+taken-by_bit (suc zero) bid id client low = refl
+taken-by_bit (suc (suc free)) bid id client low = absurd (omega (arith, low))
+
+bid-by_bits : (free bid id client : ℕ) → free < 2 → bid < 2 → eqb (min (1 - free) bid) 1 ≡ held_by_bits (is_on Bid) free bid id client
+bid-by_bits zero zero id client low small = refl
+bid-by_bits zero (suc zero) id client low small = refl
+bid-by_bits (suc zero) zero id client low small = refl
+bid-by_bits (suc zero) (suc zero) id client low small = refl
+bid-by_bits free (suc (suc bid)) id client low small = absurd (omega (arith, small))
+bid-by_bits (suc (suc free)) bid id client low small = absurd (omega (arith, low))
+
+ask-by_bits : (free bid id client : ℕ) → free < 2 → bid < 2 → eqb (min (1 - free) (1 - bid)) 1 ≡ held_by_bits (is_on Ask) free bid id client
+ask-by_bits zero zero id client low small = refl
+ask-by_bits zero (suc zero) id client low small = refl
+ask-by_bits (suc zero) zero id client low small = refl
+ask-by_bits (suc zero) (suc zero) id client low small = refl
+ask-by_bits free (suc (suc bid)) id client low small = absurd (omega (arith, small))
+ask-by_bits (suc (suc free)) bid id client low small = absurd (omega (arith, low))
+
+module _ (bytes : List ℕ) (free bid : ℕ) (free_is : free ≡ number_in bytes FREE_SLOT_BITS) (bid_is : bid ≡ number_in bytes IS_BID_BITS)
+    (free_low : free < 2 ^ 128) where
+  by-bits : (test : Holding → Bool) (slot : ℕ) → slot < 128
+      → held_by_bits test (bit_at free slot) (bit_at bid slot) (number_in bytes (id_field slot)) (number_in bytes (client_field slot))
+      ≡ is_held test (get_or (slots_of bytes) slot None)
+  by-bits test slot within =
+      sym (ap (is_held test)
+      (get_or-slots_of bytes slot within ∙ slot_in-from bytes slot free bid (number_in bytes (id_field slot)) (number_in bytes (client_field slot))
+      (sym free_is) (sym bid_is) refl refl))
+
+  -- those that are not free
+  bits-taken : AreBitsOf any_holding (slots_of bytes) (bit_not w128 free)
+  bits-taken slot within =
+      ap (λ n. eqb n 1) (bit_at_not w128 free slot free_low within)
+      ∙ taken-by_bit (bit_at free slot) (bit_at bid slot) (number_in bytes (id_field slot)) (number_in bytes (client_field slot)) (bit_at-lt free slot)
+      ∙ by-bits any_holding slot within
+
+  -- of these the bids and the asks
+  pub bits-bid : AreBitsOf (is_on Bid) (slots_of bytes) (bit_and (bit_not w128 free) bid)
+  bits-bid slot within =
+      ap (λ n. eqb n 1) (bit_at_and (bit_not w128 free) bid slot ∙ ap (λ n. min n (bit_at bid slot)) (bit_at_not w128 free slot free_low within))
+      ∙ bid-by_bits (bit_at free slot) (bit_at bid slot) (number_in bytes (id_field slot)) (number_in bytes (client_field slot)) (bit_at-lt free slot) (bit_at-lt bid slot)
+      ∙ by-bits (is_on Bid) slot within
+
+  pub bits-ask : bid < 2 ^ 128 → AreBitsOf (is_on Ask) (slots_of bytes) (bit_and (bit_not w128 free) (bit_not w128 bid))
+  bits-ask bid_low slot within =
+      ap (λ n. eqb n 1) (bit_at_and (bit_not w128 free) (bit_not w128 bid) slot
+      ∙ ap (λ n. min n (bit_at (bit_not w128 bid) slot)) (bit_at_not w128 free slot free_low within)
+      ∙ ap (min (1 - bit_at free slot)) (bit_at_not w128 bid slot bid_low within))
+      ∙ ask-by_bits (bit_at free slot) (bit_at bid slot) (number_in bytes (id_field slot)) (number_in bytes (client_field slot)) (bit_at-lt free slot) (bit_at-lt bid slot)
+      ∙ by-bits (is_on Ask) slot within
+
+-- ---- what stands in a slot
+
+module _ (bytes : List ℕ) (slot : ℕ) (within : slot < 128) where
+  -- what is so of each holding with the slot's id and client id is so of what it holds
+  of-slot : (P : Holding → Type 0)
+      → ((side : Side) → P (record { id = number_in bytes (id_field slot); side = side; client = number_in bytes (client_field slot) }))
+      → IfSome (get_or (slots_of bytes) slot None) P
+  unfolding slot_in
+  of-slot P each =
+      subst (λ h. IfSome h P) (sym (get_or-slots_of bytes slot within))
+      (cond_both (is_set (number_in bytes FREE_SLOT_BITS) slot) None
+      (Some (record {
+        id = number_in bytes (id_field slot);
+        side = side_by_bit (is_set (number_in bytes IS_BID_BITS) slot);
+        client = number_in bytes (client_field slot);
+      }))
+      (λ h. IfSome h P) (λ free. tt) (λ held. each (side_by_bit (is_set (number_in bytes IS_BID_BITS) slot))))
+
+  pub client-of : (client : ℕ) → client ≡ number_in bytes (client_field slot) → IsClientOf (get_or (slots_of bytes) slot None) client
+  client-of client is = of-slot (λ h. h.client ≡ client) (λ side. sym is)
+
+  pub id-of : (id : ℕ) → id ≡ number_in bytes (id_field slot) → IsIdOf (get_or (slots_of bytes) slot None) id
+  id-of id is = of-slot (λ h. h.id ≡ id) (λ side. sym is)
+
+-- ---- behind the last taken slot
+
+none-held : (held : Option Holding) → is_held any_holding held ≡ false → held ≡ None
+none-held None is = refl
+none-held (Some held) is = absurd (cc)
+
+-- behind the highest bit of those that are not free, a slot is free
+pub free_behind : (bytes : List ℕ) (slot : ℕ) → slot < 128 → number_in bytes FREE_SLOT_BITS < 2 ^ 128
+    → 128 - leading_zeros w128 (bit_not w128 (number_in bytes FREE_SLOT_BITS)) ≤ slot → held_in (slots_of bytes) slot ≡ None
+free_behind bytes slot below low at =
+    let free : ℕ = number_in bytes FREE_SLOT_BITS in
+    let taken : ℕ = bit_not w128 free in
+    let top = leading_length 128 taken (omega arith) in
+    let bit : bit_at taken slot ≡ 0 = bit_at_above taken top.0 slot top.2 (omega (arith, top.1, at)) in
+    none-held (held_in (slots_of bytes) slot)
+    (sym (bits-taken bytes free (number_in bytes IS_BID_BITS) refl refl low slot below) ∙ ap (λ b. eqb b 1) bit)
 
 -- what is the same whether a free slot comes first or not is the same of the slots from one number on and from another, where those between are free
-pub skip : {Y : Type 0} (F : List (Option Holding) → Y) → ((later : List (Option Holding)) → F (None ∷ later) ≡ F later)
+skip : {Y : Type 0} (F : List (Option Holding) → Y) → ((later : List (Option Holding)) → F (None ∷ later) ≡ F later)
     → (slots : List (Option Holding)) (from to gap : ℕ) → from + gap ≡ to → to ≤ length slots → AreFree slots from to → F (drop from slots) ≡ F (drop to slots)
 skip F passes slots from to zero sum most free = let same : from ≡ to = omega (arith, sum) in ap (λ n. F (drop n slots)) same
 skip F passes slots from to (suc gap) sum most free =
@@ -87,8 +165,14 @@ skip F passes slots from to (suc gap) sum most free =
     ∙ passes (drop (from + 1) slots)
     ∙ skip F passes slots (from + 1) to gap (omega (arith, sum)) most (λ slot at below. free slot (omega (arith, at)) below)
 
--- the same along the slots of an account
-pub skip-to : {Y : Type 0} (F : List (Option Holding) → Y) → ((later : List (Option Holding)) → F (None ∷ later) ≡ F later)
-    → (bytes : List ℕ) (from to : ℕ) → from ≤ to → to ≤ 128 → AreFree (slots_of bytes) from to → F (drop from (slots_of bytes)) ≡ F (drop to (slots_of bytes))
-skip-to F passes bytes from to at most free =
-    skip F passes (slots_of bytes) from to (to - from) (omega (arith, at)) (omega (arith, length-slots_of bytes, most)) free
+-- so with all slots from there on
+pub past-taken : {Y : Type 0} (F : List (Option Holding) → Y) → ((later : List (Option Holding)) → F (None ∷ later) ≡ F later)
+    → (bytes : List ℕ) (end slot : ℕ) → end ≤ slot → AreFree (slots_of bytes) end 128 → F (drop slot (slots_of bytes)) ≡ F []
+past-taken F passes bytes end slot past free =
+    elim (cases_lt slot 128) [
+      | inl below ↦
+          skip F passes (slots_of bytes) slot 128 (128 - slot) (omega (arith, below)) (omega (arith, length-slots_of bytes))
+          (λ later at within. free later (omega (arith, past, at)) within)
+          ∙ at_drop_all F (slots_of bytes) 128 (omega (arith, length-slots_of bytes))
+      | inr above ↦ at_drop_all F (slots_of bytes) slot (omega (arith, length-slots_of bytes, above))
+    ]

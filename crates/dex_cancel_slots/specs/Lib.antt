@@ -1,4 +1,4 @@
 pub mod Slots
-pub mod NextSlots
+pub mod FirstOwn
 pub mod Given
 pub mod Cancels

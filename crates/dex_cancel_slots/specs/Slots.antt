@@ -1,5 +1,5 @@
 -- Which resting orders the slots of an account name.
-use Rattle.std.specs.Prelude.{◌≡◌, ◌<◌, ◌≤◌, ℕ, Bool, true, List, [], ◌∷◌, ◌++◌, Option, Some, None, IfSome, slice_index_or, ◌==◌, if◌then◌else◌}
+use Rattle.std.specs.Prelude.{◌≡◌, ◌<◌, ◌≤◌, ℕ, Bool, true, false, List, [], ◌∷◌, ◌++◌, Option, Some, None, IfSome, slice_index_or, ◌==◌, if◌then◌else◌}
 use Rattle.std.specs.List.{All}
 use Rattle.dex_types.specs.declared.addresses.Address.{Address}
 use Rattle.dex_types.specs.declared.orders.Order.{Order}
@@ -11,6 +11,7 @@ use Rattle.dex_types.specs.Side.{by_side, precedes, sequence_of}
 use Rattle.dex_types.specs.Soundness.{is_one_order, order_holding}
 use Rattle.dex_types.specs.Tokens.{is_same_side}
 use Rattle.dex_types.specs.Trader.{Holding}
+use Rattle.dex_orders.specs.Bits.{is_set}
 
 -- what the slot of this number holds
 abbrev pub held_in : List (Option Holding) → ℕ → Option Holding
@@ -23,6 +24,10 @@ AreFree slots from to = (slot : ℕ) → from ≤ slot → slot < to → held_in
 -- the client id of what a slot holds, where it is taken, is this one
 abbrev pub IsClientOf : Option Holding → ℕ → Type 0
 IsClientOf held client = IfSome held (λ (h : Holding). h.client ≡ client)
+
+-- the id of what a slot holds, where it is taken, is this one
+abbrev pub IsIdOf : Option Holding → ℕ → Type 0
+IsIdOf held id = IfSome held (λ (h : Holding). h.id ≡ id)
 
 -- the order that a slot names, where it is taken and its holding passes the test: the one of its id on its side, if one rests there
 abbrev pub named_by_slot : (Holding → Bool) → List Order → List Order → Option Holding → List RestingOrder
@@ -45,6 +50,19 @@ has_client client held = held.client == client
 -- the holding is of this side
 abbrev pub is_on : Side → Holding → Bool
 is_on side held = is_same_side held.side side
+
+-- a slot is taken, and its holding passes the test
+abbrev pub is_held : (Holding → Bool) → Option Holding → Bool
+is_held test None = false
+is_held test (Some held) = test held
+
+-- the bits that are set are those of the slots whose holdings pass the test
+abbrev pub AreBitsOf : (Holding → Bool) → List (Option Holding) → ℕ → Type 0
+AreBitsOf test slots bits = (slot : ℕ) → slot < 128 → is_set bits slot ≡ is_held test (held_in slots slot)
+
+-- the bits from one place up to another are not set
+abbrev pub AreClear : ℕ → ℕ → ℕ → Type 0
+AreClear bits from to = (place : ℕ) → from ≤ place → place < to → is_set bits place ≡ false
 
 -- of these orders the one with the least sequence number
 abbrev pub oldest_of : List RestingOrder → Option RestingOrder

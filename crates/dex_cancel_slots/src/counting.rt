@@ -10,7 +10,7 @@ ghost use Rattle.dex_cancel_slots.specs.Given.{slots_in};
 ghost use Rattle.dex_cancel_slots.specs.Slots.{DoSlotsName, any_holding, has_client, named_by_slot};
 
 use crate::finding::named_at;
-use crate::taken::next_taken;
+use crate::taken::taken_end;
 use dex_cancel::steps::{count_before, find_on};
 use dex_orders::OrdersRef;
 use dex_types::{Address, ClientIds, SideRead};
@@ -48,13 +48,14 @@ pub fn count_first<B: SideRead, A: SideRead>(
     ensures { result ≡ length (cancelled (cancel.First limit) account (B.orders bids.now) (A.orders asks.now)) }
 {
     let mut count = 0;
-    let mut slot = next_taken(orders, 0);
-    'slots: while slot < 128 {
+    let end = taken_end(orders);
+    let mut slot = 0;
+    'slots: while slot < end {
         if count == limit {
             return count;
         }
         count += count_at(orders, bids, asks, slot);
-        slot = next_taken(orders, slot + 1);
+        slot += 1;
     }
     count
 }
@@ -81,27 +82,33 @@ fn count_client_at<B: SideRead, A: SideRead>(
     }
 }
 
-/// How many orders of the account have the client id.
-fn count_client<B: SideRead, A: SideRead>(
+/// Whether the account has more orders of the client id than so many. It looks up no more once there are.
+fn has_more<B: SideRead, A: SideRead>(
     account: Address,
     orders: &OrdersRef<'_>,
     bids: &B,
     asks: &A,
     client: u64,
-) -> u64
+    than: u64,
+) -> bool
     requires open { IsOpen orders.now.bytes.now }
     requires bids { B.holds bids.now }
     requires asks { A.holds asks.now }
     requires names { DoSlotsName account (slots_in orders.now) (B.orders bids.now) (A.orders asks.now) }
-    ensures { result ≡ count_of_client client (all_orders_of account (B.orders bids.now) (A.orders asks.now)) }
+    ensures { let own = all_orders_of account (B.orders bids.now) (A.orders asks.now) in
+        result ≡ nat_lt than (count_of_client client own) }
 {
+    let end = taken_end(orders);
     let mut count = 0;
-    let mut slot = next_taken(orders, 0);
-    'slots: while slot < 128 {
+    let mut slot = 0;
+    'slots: while slot < end {
         count += count_client_at(orders, bids, asks, slot, client);
-        slot = next_taken(orders, slot + 1);
+        if count > than {
+            return true;
+        }
+        slot += 1;
     }
-    count
+    false
 }
 
 /// The client id at this place takes an order: it is not 0, and the account has more orders of it than the same client
@@ -124,9 +131,11 @@ fn takes_one<B: SideRead, A: SideRead>(
         result ≡ (not (client == 0) && nat_lt (count_among client (take place ids.now)) (count_of_client client own)) }
 {
     let client = ids[place];
+    if client == 0 {
+        return false;
+    }
     let before = count_before(ids, place, client);
-    let all = count_client(account, orders, bids, asks, client);
-    client != 0 && before < all
+    has_more(account, orders, bids, asks, client, before)
 }
 
 /// How many orders the client ids take, one after the other.

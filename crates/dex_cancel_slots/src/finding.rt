@@ -7,7 +7,7 @@ ghost use Rattle.dex_cancel.specs.Finding.{maybe_resting};
 ghost use Rattle.dex_cancel_slots.specs.Given.{slots_in};
 ghost use Rattle.dex_cancel_slots.specs.Slots.{DoSlotsName, has_client, named_by_slot};
 
-use crate::taken::{client_at, next_taken};
+use crate::taken::{client_at, taken_end};
 use dex_cancel::steps::{Found, find_on, older_of};
 use dex_orders::OrdersRef;
 use dex_types::{Address, SideRead};
@@ -51,10 +51,11 @@ pub fn find_oldest<B: SideRead, A: SideRead>(
     ensures { maybe_resting result ≡ oldest client (all_orders_of account (B.orders bids.now) (A.orders asks.now)) }
 {
     let mut found = None;
-    let mut slot = next_taken(orders, 0);
-    'slots: while slot < 128 {
+    let end = taken_end(orders);
+    let mut slot = 0;
+    'slots: while slot < end {
         found = older_of(found, named_at(orders, bids, asks, slot, client));
-        slot = next_taken(orders, slot + 1);
+        slot += 1;
     }
     found
 }
@@ -74,12 +75,13 @@ pub fn has_any<B: SideRead, A: SideRead>(
     ensures { let own = all_orders_of account (B.orders bids.now) (A.orders asks.now) in
         result ≡ is_some (oldest client own) }
 {
-    let mut slot = next_taken(orders, 0);
-    'slots: while slot < 128 {
+    let end = taken_end(orders);
+    let mut slot = 0;
+    'slots: while slot < end {
         if named_at(orders, bids, asks, slot, client).is_some() {
             return true;
         }
-        slot = next_taken(orders, slot + 1);
+        slot += 1;
     }
     false
 }

@@ -4,9 +4,9 @@
 mod counting;
 mod deciding;
 mod finding;
+mod first_own;
 mod laws;
 mod leaving;
-mod next_slots;
 mod pruning;
 mod taken;
 

@@ -1,8 +1,8 @@
-//! Taking an account's first orders off the sides, in the order of the ids that its slots hold.
+//! Taking an account's first orders off the sides, the next one found by its slots each time.
 
 ghost use Rattle.std.specs.Prelude.{◌≡◌, length, take};
 ghost use Rattle.dex_types.specs.Cancel as cancel;
-ghost use Rattle.dex_types.specs.Cancel.{on_side, order_with, orders_of};
+ghost use Rattle.dex_types.specs.Cancel.{orders_of};
 ghost use Rattle.dex_orders.specs.OrdersAccount.{IsOpen};
 ghost use Rattle.dex_accounts.specs.Keeps.{KeepsSide};
 ghost use Rattle.dex_cancel.specs.Leaving.{CanLeave, CanLeaveSide, DoOrdersFit, HaveLeftSide, handed, side_handed};
@@ -11,39 +11,11 @@ ghost use Rattle.dex_cancel_slots.specs.Cancels.{HaveLeftSo};
 ghost use Rattle.dex_cancel_slots.specs.Given.{slots_in};
 ghost use Rattle.dex_cancel_slots.specs.Slots.{DoSlotsName, DoSlotsNameOn};
 
-use crate::next_slots::next_slot;
+use crate::first_own::first_own;
 use dex_cancel::steps::take_off;
 use dex_orders::OrdersRef;
 use dex_ring::RingView;
 use dex_types::{Address, Lots, Side, SideBook};
-
-/// Takes the order of an id, if it rests on the side, off it and appends its out. It answers how many orders that is.
-fn take_named<S: SideBook>(
-    id: u128,
-    side: Side,
-    sizes: Lots,
-    book: &mut S,
-    ring: &mut RingView<'_>,
-) -> u32
-    requires holds { S.holds book.old }
-    requires can { let before = side_handed sizes side S.orders book.old ring.old in
-        CanLeaveSide (on_side side (order_with id before.orders)) before }
-    requires locks { DoOrdersFit side sizes (S.orders book.old) }
-    ensures count { result ≡ length (on_side side (order_with id (S.orders book.old))) }
-    ensures left { let before = side_handed sizes side S.orders book.old ring.old in
-        let after = side_handed sizes side S.orders book.new ring.new in
-        HaveLeftSide (on_side side (order_with id before.orders)) before after }
-    ensures book { KeepsSide S.holds S.same_place S.side S.room book.old book.new }
-    ensures place { ring.new.bytes.ghost_name ≡ ring.old.bytes.ghost_name }
-{
-    match book.find(id) {
-        Some(order) => {
-            take_off(order, side, sizes, book, ring);
-            1
-        }
-        None => 0,
-    }
-}
 
 /// Takes the account's first orders on a side, at most so many, and appends their outs. It answers how many orders
 /// there were.
@@ -72,11 +44,12 @@ fn prune_side<S: SideBook>(
     let mut count = 0;
     let mut last = None;
     'slots: while count < limit {
-        let Some(id) = next_slot(orders, side, last) else {
+        let Some(order) = first_own(account, orders, side, last, book) else {
             return count;
         };
-        count += take_named(id, side, sizes, book, ring);
-        last = Some(id);
+        last = Some(order.id);
+        take_off(order, side, sizes, book, ring);
+        count += 1;
     }
     count
 }

@@ -25,7 +25,12 @@ pub(crate) fn play_all<A: Abort>(
 }
 
 /// Rows act on an exchange as a case tells.
-fn play<A: Abort>(rt: &A, alloc: Global, exchange: &mut Exchange, case: Case) -> Result<(), Fail> {
+pub(crate) fn play<A: Abort>(
+    rt: &A,
+    alloc: Global,
+    exchange: &mut Exchange,
+    case: Case,
+) -> Result<(), Fail> {
     let (rows, lines, state) = case;
     let added = exchange.run(rows)?;
     assert_eq!(rt; added.as_str(), lines);

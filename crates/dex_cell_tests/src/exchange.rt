@@ -1,6 +1,8 @@
 //! A market's cell and the wallets beside it, on which rows of scripts act.
 
+ghost use Rattle.dex_accounts.specs.Decoded.{AreSound};
 ghost use Rattle.dex_cell.specs.CellState.{IsFor};
+ghost use Rattle.dex_types.specs.Accounts.{market_accounts_of};
 ghost use Rattle.std.specs.Prelude.{IfSome};
 
 use crate::acting::{Moved, act, role, sees};
@@ -9,7 +11,7 @@ use crate::words::{add_line, row_of};
 use dex_cell::MarketCell;
 use dex_rows::records::Rows;
 use dex_statement::{InstructionWords, Statement, statement_of};
-use dex_types::{Address, Program, Reply, Row, Seen, WalletSeen};
+use dex_types::{Address, MarketAccounts, Program, Reply, Row, Seen, WalletSeen};
 use std::alloc::Global;
 use std::test::Fail;
 
@@ -68,6 +70,14 @@ impl Exchange {
         };
         exchange.run(BASE)?;
         Ok(exchange)
+    }
+
+    /// The market's accounts, as they are.
+    pub fn into_accounts(self) -> MarketAccounts
+        ensures { AreSound (market_accounts_of result) }
+    {
+        let (accounts, _) = self.cell.into_parts();
+        accounts
     }
 
     /// Takes each row of a text, and answers the lines of the entries that it adds to the journal.

@@ -4,7 +4,11 @@
 #[cfg(test)]
 mod acting;
 #[cfg(test)]
+mod calls;
+#[cfg(test)]
 mod cases;
+#[cfg(test)]
+mod direct;
 #[cfg(test)]
 mod exchange;
 #[cfg(test)]

@@ -41,7 +41,7 @@ pub(crate) const USUAL: Terms = Terms {
 const ROOM: usize = 512;
 
 /// The address whose label is this one, of five letters at most; 0 stands for no letter.
-fn labelled(label: [u8; 5]) -> Address
+pub(crate) fn labelled(label: [u8; 5]) -> Address
     ensures { result.0 ≡ label ++ replicate 27 0 }
 {
     let mut bytes = [0; 32];

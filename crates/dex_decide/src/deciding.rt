@@ -32,6 +32,7 @@ use dex_slab::SlabRef;
 use dex_types::{MarketAccounts, Refusal, Row, Seen, Side};
 
 /// Sweeping the fees.
+#[inline(never)]
 pub fn decide_sweep_row(accounts: &MarketAccounts, row: &Row, seen: &Seen) -> Result<Plan, Refusal>
     requires { AreSound (market_accounts_of accounts.now) }
     ensures { result ≡ answered (reasons.why_sweep (asked_by row.entry.now) seen.now (market_of accounts.now))
@@ -47,6 +48,7 @@ pub fn decide_sweep_row(accounts: &MarketAccounts, row: &Row, seen: &Seen) -> Re
 }
 
 /// Disabling the market.
+#[inline(never)]
 pub fn decide_disable_row(accounts: &MarketAccounts, row: &Row) -> Result<Plan, Refusal>
     requires { AreSound (market_accounts_of accounts.now) }
     ensures { result ≡ answered (reasons.why_disable (asked_by row.entry.now) (market_of accounts.now)) plans.Disable }
@@ -71,6 +73,7 @@ fn account_named<'a>(accounts: &'a MarketAccounts, row: &Row) -> Option<Acting<'
 }
 
 /// Opening an account.
+#[inline(never)]
 pub fn decide_init_row(accounts: &MarketAccounts, row: &Row) -> Result<Plan, Refusal>
     requires { AreSound (market_accounts_of accounts.now) }
     ensures { result ≡ answered (reasons.why_init (asked_by row.entry.now) (market_of accounts.now)) plans.Init }
@@ -100,6 +103,7 @@ fn disabled_or_none(market: MarketRef<'_>) -> Refusal
 }
 
 /// Closing an account.
+#[inline(never)]
 pub fn decide_close_row(accounts: &MarketAccounts, row: &Row) -> Result<Plan, Refusal>
     requires { AreSound (market_accounts_of accounts.now) }
     ensures { result ≡ answered (reasons.of_party (reasons.why_close (asked_by row.entry.now))
@@ -142,6 +146,7 @@ fn decide_settle_of(
 }
 
 /// Settling.
+#[inline(never)]
 pub fn decide_settle_row(accounts: &MarketAccounts, row: &Row, seen: &Seen) -> Result<Plan, Refusal>
     requires sound { AreSound (market_accounts_of accounts.now) }
     requires sees { Sees (asked_of (row_of row.now)) seen.now }
@@ -221,6 +226,7 @@ fn decide_cancel_by(
 }
 
 /// Cancelling orders.
+#[inline(never)]
 pub fn decide_cancel_row(
     accounts: &MarketAccounts,
     row: &Row,
@@ -257,6 +263,7 @@ fn decide_prune_by(
 }
 
 /// Pruning an account.
+#[inline(never)]
 pub fn decide_prune_row(accounts: &MarketAccounts, row: &Row, limit: u16) -> Result<Plan, Refusal>
     requires { AreSound (market_accounts_of accounts.now) }
     ensures { result ≡ answered (reasons.of_party

@@ -54,7 +54,19 @@ pub fn side_of(accounts: &MarketAccounts, side: Side) -> SlabRef<'_>
     }
 }
 
+/// The wallet that pays for an order or a take of the side, where it stands.
+#[inline(never)]
+pub fn payer_seen(side: Side, seen: &Seen) -> &Option<WalletSeen>
+    ensures { result.now ≡ reasons.payer side seen.now }
+{
+    match side {
+        Side::Bid => &seen.pc,
+        Side::Ask => &seen.coin,
+    }
+}
+
 /// The mint of what an order of the side pays with.
+#[inline(never)]
 fn payer_mint(accounts: &MarketAccounts, side: Side) -> Address
     requires { AreSound (market_accounts_of accounts.now) }
     ensures { result ≡ reasons.payer_mint side (market_of accounts.now) }
@@ -69,6 +81,7 @@ fn payer_mint(accounts: &MarketAccounts, side: Side) -> Address
 }
 
 /// The first reason that asks for wallets and for the signer.
+#[inline(never)]
 fn wallet_reason(
     accounts: &MarketAccounts,
     row: &Row,
@@ -84,12 +97,12 @@ fn wallet_reason(
     let orders = OrdersRef {
         bytes: acting.bytes,
     };
-    let paying = payer(side, seen);
-    missing(paying)
+    let paying = payer_seen(side, seen);
+    missing(*paying)
         .or(not_owner(orders.owner(), row.signer))
-        .or(other_mint(payer_mint(accounts, side), paying))
+        .or(other_mint(payer_mint(accounts, side), *paying))
         .or(other_discount_mint(seen, seen.discount))
-        .or(not_signed(row.signer, paying))
+        .or(not_signed(row.signer, *paying))
         .or(not_signed(row.signer, seen.discount))
 }
 
@@ -186,6 +199,7 @@ fn decide_order_by(
 }
 
 /// A new order of the account that the row names first; the taker's own account is not looked at.
+#[inline(never)]
 pub fn decide_order_row(
     accounts: &MarketAccounts,
     row: &Row,

@@ -12,12 +12,12 @@ ghost use Rattle.dex_accounts.specs.Decoded.{AreSound};
 ghost use Rattle.dex_decide.specs.Given.{asked_by, market_of, take_given_on};
 ghost use Rattle.dex_decide.specs.Plans.{take_answer};
 
-use crate::ordering::side_of;
+use crate::ordering::{payer_seen, side_of};
 use crate::plan::Plan;
 use dex_market::MarketRef;
 use dex_match::Taker;
 use dex_meet::Leaving;
-use dex_reasons::{disabled, missing, not_signed, other_discount_mint, other_mint, payer};
+use dex_reasons::{disabled, missing, not_signed, other_discount_mint, other_mint};
 use dex_ring::RingRef;
 use dex_take::{DecidedTake, decide_take_with_leaving};
 use dex_types::{MarketAccounts, Refusal, Row, Seen, Side};
@@ -34,6 +34,7 @@ pub fn is_disabled(accounts: &MarketAccounts) -> Option<Refusal>
 }
 
 /// The first reason that asks for the market's flags, for wallets and for the signer.
+#[inline(never)]
 fn wallet_reason(accounts: &MarketAccounts, row: &Row, seen: &Seen, side: Side) -> Option<Refusal>
     requires { AreSound (market_accounts_of accounts.now) }
     ensures { result ≡ reasons.why_take_early side (asked_by row.entry.now) seen.now (market_of accounts.now) }
@@ -47,7 +48,7 @@ fn wallet_reason(accounts: &MarketAccounts, row: &Row, seen: &Seen, side: Side) 
         .or(other_mint(market.coin_mint(), seen.coin))
         .or(other_mint(market.pc_mint(), seen.pc))
         .or(other_discount_mint(seen, seen.discount))
-        .or(not_signed(row.signer, payer(side, seen)))
+        .or(not_signed(row.signer, *payer_seen(side, seen)))
         .or(not_signed(row.signer, seen.discount))
 }
 
@@ -78,6 +79,7 @@ fn decide_take_with(
 }
 
 /// A take.
+#[inline(never)]
 pub fn decide_take_row(
     accounts: &MarketAccounts,
     row: &Row,

@@ -4,12 +4,13 @@ ghost use Rattle.dex_gate.specs.declared.stage.Stage.TheVariants.{Idle, Waiting,
 ghost use Rattle.dex_gate.specs.History.{added, Extends, of_lane, AddsOne};
 ghost use Rattle.dex_gate.specs.PassView.{first_pass, next_pass, AreAll};
 
-use crate::board::{Board, DRAWN, Opened, Place, SERVED};
+use crate::bells::Bells;
+use crate::board::{Board, DRAWN, Opened, Place};
 use crate::journaled::Journaled;
 use crate::no_memory::NoMemory;
 use crate::pass::Pass;
 use crate::plays::{Draw, HandOut, TakeIn};
-use crate::steps::{linger, look, low_half, pass_on, take_out};
+use crate::steps::{comes, look, pass_on, take_out};
 use crate::turn::Turn;
 use atomic_table::Table;
 use std::alloc::Global;
@@ -20,6 +21,7 @@ use std::sync::Wait;
 /// One value that threads share. Each has it to itself for a turn, and each turn adds one entry to its history.
 pub struct Gate<V: Journaled> {
     pub(crate) table: Board<V>,
+    pub(crate) bells: Bells,
 }
 
 impl<V: Journaled> Model for Gate<V> {
@@ -37,7 +39,10 @@ impl<V: Journaled> Model for Gate<V> {
 
 impl<V: Journaled + Drop> Drop for Gate<V> {
     fn drop(self) {
-        let Self { table: _table } = self;
+        let Self {
+            table: _table,
+            bells: _bells,
+        } = self;
     }
 }
 
@@ -64,7 +69,10 @@ impl<V: Journaled> Gate<V> {
         let Ok((table, seat)) = Table::new(alloc, &[count, count], slots, &opened) else {
             return Err(NoMemory);
         };
-        let gate = Gate { table };
+        let gate = Gate {
+            table,
+            bells: Bells::new(),
+        };
         let pass = Pass { seat, ticket: 0 };
         Ok((gate, pass))
     }
@@ -108,10 +116,12 @@ impl<V: Journaled> Gate<V> {
             ≡ pass.old.mine }
     {
         for _ in rt.forever() {
-            linger(&self.table.shared, pass.ticket);
+            if !comes(&self.table.shared, pass.ticket) {
+                self.bells.set(pass.ticket);
+            }
             match self.try_turn(pass) {
                 Ok(turn) => return turn,
-                Err(served) => self.table.shared.park(rt, SERVED, low_half(served)),
+                Err(_) => self.bells.sleep(rt, pass.ticket),
             }
         }
         unreachable!()
@@ -159,7 +169,8 @@ impl<V: Journaled> Gate<V> {
             start: _start,
             pass: _pass,
         } = turn;
-        pass_on(&self.table.shared, &mut pass.seat, value);
+        let next = pass_on(&self.table.shared, &mut pass.seat, value);
+        self.bells.ring(next);
     }
 
     /// Takes all passes back, and gives the value.
@@ -175,7 +186,7 @@ impl<V: Journaled> Gate<V> {
             passes.items }
     {
         let seat = self.gather(passes);
-        let Self { table } = self;
+        let Self { table, bells: _ } = self;
         take_out(table, seat)
     }
 

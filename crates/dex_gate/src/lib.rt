@@ -5,6 +5,7 @@
 //! one history, and the entries of its number there are those that it made itself, each once.
 #![tactic(auto)]
 
+mod bells;
 mod board;
 mod gate;
 mod journaled;

@@ -136,7 +136,7 @@ fn one_pass_takes_three_turns(rt: HostRuntime) -> Result<(), Fail> {
 }
 
 // More threads than processors take many turns, and give way in each, so that those who wait are parked. Where the end of a turn
-// wakes nobody, or who waits parks on another word, or not at all, this does not end in time.
+// wakes nobody, or another than who is next, or who waits does not park at all, this does not end in time.
 #[test]
 fn eight_threads_wait_parked(rt: HostRuntime) -> Result<(), Fail> {
     let alloc = rt.alloc();

@@ -65,16 +65,16 @@ impl Journaled for BankMarket {
 
 impl BankMarket {
     /// A market of a script, of whose rows none has acted.
-    pub fn open(cell: MarketCell, script: &Script) -> BankMarket
+    pub fn open(cell: MarketCell, script: Kept<Script>) -> BankMarket
         requires fresh { cell.calls ≡ [] }
-        requires room { cell.room ≡ rows_on cell.start.address script.now.rows }
-        ensures { result ≡ record { cell = cell; stamps = []; last = 0; script = script.now } }
+        requires room { cell.room ≡ rows_on cell.start.address script.value.rows }
+        ensures { result ≡ record { cell = cell; stamps = []; last = 0; script = script.value } }
     {
         BankMarket {
             cell,
             stamps: Log::new(),
             last: Stamp::first(),
-            script: Kept::of(script),
+            script,
         }
     }
 

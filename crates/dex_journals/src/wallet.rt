@@ -73,16 +73,16 @@ impl Model for WalletTrail {
 
 impl BankWallet {
     /// A wallet of a script, of whose rows none has acted.
-    pub fn open(cell: WalletCell, script: &Script) -> BankWallet
+    pub fn open(cell: WalletCell, script: Kept<Script>) -> BankWallet
         requires fresh { cell.entries ≡ [] }
-        requires room { cell.room ≡ rows_naming cell.address script.now.rows }
-        ensures { result ≡ record { cell = cell; stamps = []; last = 0; script = script.now } }
+        requires room { cell.room ≡ rows_naming cell.address script.value.rows }
+        ensures { result ≡ record { cell = cell; stamps = []; last = 0; script = script.value } }
     {
         BankWallet {
             cell,
             stamps: Log::new(),
             last: Stamp::first(),
-            script: Kept::of(script),
+            script,
         }
     }
 

@@ -1,6 +1,6 @@
 //! Putting an address among others that rise.
 
-ghost use Rattle.std.specs.Prelude.{◌≡◌, ◌∷◌, List, Option};
+ghost use Rattle.std.specs.Prelude.{◌≡◌, ◌∷◌, [], List, Option, Some};
 ghost use Rattle.dex_types.specs.declared.addresses.Address.{Address};
 ghost use Rattle.dex_types.specs.Wallets as wallets;
 ghost use Rattle.dex_locks.specs.Places.{carry_of, moved, put};
@@ -18,36 +18,53 @@ pub enum Carry {
     Moved(Address),
 }
 
-/// The places with the address of a role, where it names one, among those that stand there; what the last place gives up
+/// Puts the address of a role, where it names one, among those that stand in these places; what the last place gives up
 /// is lost.
-pub fn with_role(places: [Option<Address>; 4], role: Option<Address>) -> [Option<Address>; 4]
-    ensures { result ≡ put (carry_of role) places }
+pub fn put_role(
+    first: &mut Option<Address>,
+    second: &mut Option<Address>,
+    third: &mut Option<Address>,
+    fourth: &mut Option<Address>,
+    role: &Option<Address>,
+)
+    ensures { first.new ∷ second.new ∷ third.new ∷ fourth.new ∷ []
+        ≡ put (carry_of role.entry.now) (first.old ∷ second.old ∷ third.old ∷ fourth.old ∷ []) }
 {
     match role {
-        Some(address) => with_address(places, address),
-        None => places,
+        Some(address) => put_address(first, second, third, fourth, *address),
+        None => {}
     }
 }
 
 /// The same where a role names this address.
-fn with_address(places: [Option<Address>; 4], address: Address) -> [Option<Address>; 4]
-    ensures { result ≡ put (Carry.New address) places }
+fn put_address(
+    first: &mut Option<Address>,
+    second: &mut Option<Address>,
+    third: &mut Option<Address>,
+    fourth: &mut Option<Address>,
+    address: Address,
+)
+    ensures { first.new ∷ second.new ∷ third.new ∷ fourth.new ∷ []
+        ≡ put (Carry.New address) (first.old ∷ second.old ∷ third.old ∷ fourth.old ∷ []) }
 {
-    let (first, carry) = put_new(places[0], address);
-    let (second, carry) = step(places[1], carry);
-    let (third, carry) = step(places[2], carry);
-    let (fourth, _) = step(places[3], carry);
-    [first, second, third, fourth]
+    let carry = put_new(first, address);
+    let carry = step(second, carry);
+    let carry = step(third, carry);
+    step(fourth, carry);
 }
 
-/// What one place holds afterwards, and what is left to be done from the next one on.
-fn step(place: Option<Address>, carry: Carry) -> (Option<Address>, Carry)
-    ensures { (others : List (Option Address)) → put carry (place ∷ others) ≡ result.0 ∷ put result.1 others }
+/// Does what is to be done at one place, and tells what is left to be done from the next one on.
+fn step(place: &mut Option<Address>, carry: Carry) -> Carry
+    ensures { (others : List (Option Address)) → put carry (place.old ∷ others) ≡ place.new ∷ put result others }
 {
     match carry {
-        Carry::Nothing => (place, Carry::Nothing),
-        Carry::New(address) => put_new(place, address),
-        Carry::Moved(address) => (Some(address), moved(place)),
+        Carry::Nothing => Carry::Nothing,
+        Carry::New(added) => put_new(place, added),
+        Carry::Moved(before) => {
+            let given = moved(*place);
+            *place = Some(before);
+            given
+        }
     }
 }
 
@@ -62,28 +79,33 @@ fn moved(place: Option<Address>) -> Carry
 }
 
 /// The step of an address whose place is to be found.
-fn put_new(place: Option<Address>, address: Address) -> (Option<Address>, Carry)
-    ensures { (others : List (Option Address)) → put (Carry.New address) (place ∷ others)
-        ≡ result.0 ∷ put result.1 others }
+fn put_new(place: &mut Option<Address>, address: Address) -> Carry
+    ensures { (others : List (Option Address)) → put (Carry.New address) (place.old ∷ others)
+        ≡ place.new ∷ put result others }
 {
-    match place {
-        None => (Some(address), Carry::Nothing),
-        Some(first) => put_before(first, address),
+    match *place {
+        None => {
+            *place = Some(address);
+            Carry::Nothing
+        }
+        Some(first) => put_before(place, first, address),
     }
 }
 
 /// The same where an address stands in the place.
-fn put_before(first: Address, address: Address) -> (Option<Address>, Carry)
+fn put_before(place: &mut Option<Address>, first: Address, address: Address) -> Carry
+    requires { place.old ≡ Some first }
     ensures { (others : List (Option Address)) → put (Carry.New address) (Some first ∷ others)
-        ≡ result.0 ∷ put result.1 others }
+        ≡ place.new ∷ put result others }
 {
     if is_same(address, first) {
-        return (Some(first), Carry::Nothing);
+        return Carry::Nothing;
     }
     if is_lower(address, first) {
-        return (Some(address), Carry::Moved(first));
+        *place = Some(address);
+        return Carry::Moved(first);
     }
-    (Some(first), Carry::New(address))
+    Carry::New(address)
 }
 
 /// Whether the first address is less than the second, by their bytes.

@@ -5,7 +5,7 @@ ghost use Rattle.dex_types.specs.Rows.{row_of};
 ghost use Rattle.dex_types.specs.Wallets.{row_wallets};
 ghost use Rattle.dex_locks.specs.Places.{StandInFront, front};
 
-use crate::insert::with_role;
+use crate::insert::put_role;
 use dex_types::{Address, Row};
 
 /// What a row takes, in the order in which it takes it: its market, and then the wallets from the front, as far as there
@@ -22,12 +22,28 @@ pub fn plan_locks(row: &Row) -> LockPlan
     ensures wallets { front result.wallets ≡ row_wallets (row_of row.entry.now) }
     ensures none_between { StandInFront result.wallets }
 {
-    let wallets = with_role([None; 4], row.referrer);
-    let wallets = with_role(wallets, row.discount);
-    let wallets = with_role(wallets, row.pc);
-    let wallets = with_role(wallets, row.coin);
+    let mut first = None;
+    let mut second = None;
+    let mut third = None;
+    let mut fourth = None;
+    put_role(
+        &mut first,
+        &mut second,
+        &mut third,
+        &mut fourth,
+        &row.referrer,
+    );
+    put_role(
+        &mut first,
+        &mut second,
+        &mut third,
+        &mut fourth,
+        &row.discount,
+    );
+    put_role(&mut first, &mut second, &mut third, &mut fourth, &row.pc);
+    put_role(&mut first, &mut second, &mut third, &mut fourth, &row.coin);
     LockPlan {
         market: row.market,
-        wallets,
+        wallets: [first, second, third, fourth],
     }
 }

@@ -9,11 +9,11 @@ ghost use Rattle.dex_types.specs.Text.{label_address};
 ghost use Rattle.dex_dump.specs.Accepted.{AreAccepted};
 
 use crate::watch::{ROUNDS, Watch};
-use anyhow::Error;
+use anyhow::{Error, bail};
 use dex_replay::replay;
 use dex_report::{Outcome, bulk_text, make_script};
 use dex_script::read_script;
-use dex_types::{Address, NoMemory};
+use dex_types::Address;
 use std::alloc::Global;
 use std::mem::drop;
 use std::time::Clock;
@@ -27,11 +27,11 @@ pub struct Phases {
     pub make_1: u128,
     /// From its bytes to the script.
     pub reading: u128,
-    /// From the script to the outcome.
+    /// From the script to the outcome, into which its accounts go.
     pub replay: u128,
     /// From the outcome to the text of the summary.
     pub summary: u128,
-    /// The script and the outcome are let go.
+    /// The outcome is let go.
     pub dropping: u128,
 }
 
@@ -70,12 +70,11 @@ pub fn round<R: Clock + AllocGlobal>(rt: &R, rows: u32) -> Result<Bulk, Error>
     let make_1 = watch.lap(rt)?;
     let script = read_script(alloc, &bytes)?;
     let reading = watch.lap(rt)?;
-    let outcome = replay(alloc, &script)?;
+    let outcome = replay(alloc, script)?;
     let replay = watch.lap(rt)?;
     let text = summary_of(alloc, rows, &outcome)?;
     let summary = watch.lap(rt)?;
     drop(outcome);
-    drop(script);
     let dropping = watch.lap(rt)?;
     Ok(Bulk {
         phases: Phases {
@@ -105,13 +104,13 @@ pub fn time_rounds<R: Clock + AllocGlobal>(rt: &R, rows: u32) -> Result<(Phases,
 }
 
 /// The summary of the made script of number 1.
-fn summary_of(alloc: Global, rows: u32, outcome: &Outcome) -> Result<Vec<u8>, NoMemory>
+fn summary_of(alloc: Global, rows: u32, outcome: &Outcome) -> Result<Vec<u8>, Error>
     requires { AreAccepted (outcome_of outcome.now).accounts }
 {
     if !is_of_made(outcome) {
-        return Err(NoMemory);
+        bail!("the markets are not those of a made script");
     }
-    bulk_text(alloc, 1, rows, outcome)
+    Ok(bulk_text(alloc, 1, rows, outcome)?)
 }
 
 /// Whether the journals and the accounts of an outcome are those of a made script's two markets.

@@ -15,7 +15,7 @@ use std::time::Clock;
 pub struct Phases {
     /// From the bytes to the script.
     pub reading: u128,
-    /// From the script to the cells with which it starts.
+    /// From the script to the cells with which it starts, into which its accounts go.
     pub building: u128,
     /// All rows on the cells.
     pub rows: u128,
@@ -23,7 +23,7 @@ pub struct Phases {
     pub closing: u128,
     /// From the outcome to the text of the report.
     pub report: u128,
-    /// The script and the outcome are let go.
+    /// The rows and the outcome are let go.
     pub dropping: u128,
 }
 
@@ -55,21 +55,21 @@ pub fn round<R: Clock + AllocGlobal>(rt: &R, bytes: &[u8]) -> Result<Replayed, E
     let alloc = rt.alloc();
     let mut watch = Watch::start(rt)?;
     let script = read_script(alloc, bytes)?;
+    let lanes = script.lanes;
     let reading = watch.lap(rt)?;
-    let cells = Cells::open(alloc, &script)?;
+    let (cells, of_script) = Cells::of_script(alloc, script)?;
     let building = watch.lap(rt)?;
-    let cells = act_all(cells, &script);
+    let cells = act_all(cells, &of_script);
     let rows = watch.lap(rt)?;
     let Ok(outcome) = cells.close(alloc) else {
         return Err(Error::from(NoMemory));
     };
     let closing = watch.lap(rt)?;
-    let count = script.rows.len() as u32;
+    let count = of_script.len() as u32;
     let text = report_text(alloc, &outcome, count)?;
     let report = watch.lap(rt)?;
-    let lanes = script.lanes;
     drop(outcome);
-    drop(script);
+    drop(of_script);
     let dropping = watch.lap(rt)?;
     Ok(Replayed {
         phases: Phases {

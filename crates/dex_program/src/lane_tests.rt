@@ -1,9 +1,9 @@
 //! Lanes side by side: that they are inside at once, and that they leave what a replay leaves where only one of them acts.
 
-use crate::program::dex_main;
+use crate::tests::run_on;
 use dex_answers::Status;
 use dex_io::{NoPace, Pace, SureSink, SureSource};
-use std::alloc::{AllocError, Global};
+use std::alloc::Global;
 use std::marker::Sync;
 use std::sync::Wait;
 use std::sync::atomic::{AtomicU64, Ordering};
@@ -58,20 +58,10 @@ fn run<R: Threads + Wait + Sync, P: Pace + Sync>(
     input: &str,
     pace: &P,
 ) -> Result<(Status, SureSink), Fail> {
-    let words = words(alloc, word)?;
     let mut source = SureSource::new(input.as_bytes().to_vec(alloc)?);
     let mut sink = SureSink::with_room(alloc, ROOM)?;
-    let status = dex_main(rt, alloc, &words, &mut source, &mut sink, pace);
+    let status = run_on(rt, alloc, word, &mut source, &mut sink, pace)?;
     Ok((status, sink))
-}
-
-// The words of a line, which one space stands between.
-fn words(alloc: Global, line: &str) -> Result<Vec<String>, AllocError> {
-    let mut words = Vec::new(alloc);
-    for word in line.split(' ') {
-        words.push(String::from_str(alloc, word)?)?;
-    }
-    Ok(words)
 }
 
 // Holds each of the two asks until the other is inside, or until it gives up.

@@ -2,12 +2,8 @@
 #![tactic(auto)]
 
 #[cfg(test)]
-mod dump_tests;
-#[cfg(test)]
 mod lane_tests;
 mod program;
-#[cfg(test)]
-mod rows_tests;
 #[cfg(test)]
 mod tests;
 

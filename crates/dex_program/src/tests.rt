@@ -4,7 +4,7 @@ ghost use Rattle.std.specs.Prelude.{None, Some};
 
 use crate::program::dex_main;
 use dex_answers::Status;
-use dex_io::{Failed, MemSink, MemSource, NoPace, Sink, Source, SureSink, SureSource};
+use dex_io::{Failed, MemSink, MemSource, NoPace, Pace, Sink, Source, SureSink, SureSource};
 use std::alloc::{AllocError, Global};
 use std::marker::Sync;
 use std::sync::Wait;
@@ -42,6 +42,19 @@ fn words(alloc: Global, line: &str) -> Result<Vec<String>, AllocError> {
     Ok(words)
 }
 
+// Runs the words of a line on a source and a sink.
+pub(crate) fn run_on<R: Threads + Wait + Sync, S: Source, K: Sink, P: Pace + Sync>(
+    rt: &R,
+    alloc: Global,
+    line: &str,
+    source: &mut S,
+    sink: &mut K,
+    pace: &P,
+) -> Result<Status, Fail> {
+    let words = words(alloc, line)?;
+    Ok(dex_main(rt, alloc, &words, source, sink, pace))
+}
+
 // Runs these words on an input that is told, with a sink that has room for the answer.
 fn run<R: Threads + Wait + Sync>(
     rt: &R,
@@ -50,10 +63,9 @@ fn run<R: Threads + Wait + Sync>(
     input: &[u8],
     room: usize,
 ) -> Result<(Status, SureSink), Fail> {
-    let words = words(alloc, line)?;
     let mut source = SureSource::new(input.to_vec(alloc)?);
     let mut sink = SureSink::with_room(alloc, room)?;
-    let status = dex_main(rt, alloc, &words, &mut source, &mut sink, &NoPace);
+    let status = run_on(rt, alloc, line, &mut source, &mut sink, &NoPace)?;
     Ok((status, sink))
 }
 
@@ -217,9 +229,8 @@ impl Source for Endless {
 #[test]
 fn an_input_with_no_end_is_too_long(rt: HostRuntime) -> Result<(), Fail> {
     let alloc = rt.alloc();
-    let words = words(alloc, "replay")?;
     let mut sink = SureSink::with_room(alloc, 100)?;
-    let status = dex_main(&rt, alloc, &words, &mut Endless, &mut sink, &NoPace);
+    let status = run_on(&rt, alloc, "replay", &mut Endless, &mut sink, &NoPace)?;
     assert_eq!(rt; status, Status::InputTooLong);
     assert_eq!(rt; sink.bytes(), b"input too long\n".as_slice());
     Ok(())
@@ -264,12 +275,11 @@ fn run_failing<R: Threads + Wait + Sync>(
     failing_read: u64,
     failing_write: u64,
 ) -> Result<(Status, Narrow), Fail> {
-    let words = words(alloc, line)?;
     let bytes = input.as_bytes().to_vec(alloc)?;
     let mut source = Drip(MemSource::new(bytes, vec![in alloc; failing_read]?));
     let sink = MemSink::with_room(alloc, 1000, vec![in alloc; failing_write]?)?;
     let mut sink = Narrow(sink);
-    let status = dex_main(rt, alloc, &words, &mut source, &mut sink, &NoPace);
+    let status = run_on(rt, alloc, line, &mut source, &mut sink, &NoPace)?;
     Ok((status, sink))
 }
 

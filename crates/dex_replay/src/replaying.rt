@@ -12,13 +12,13 @@ use dex_types::NoMemory;
 use std::alloc::Global;
 
 /// What is left when all rows of a script have acted in their order: the accounts, and the journal of each market and
-/// each wallet.
-pub fn replay(alloc: Global, script: &Script) -> Result<Outcome, NoMemory>
-    ensures outcome { IfOk result (λ outcome. IsReplayOf script.now (outcome_of outcome)) }
-    ensures lawful { IfOk result (λ outcome. IsLawful script.now (outcome_of outcome)) }
+/// each wallet. The script's accounts themselves go into the outcome: none is copied.
+pub fn replay(alloc: Global, script: Script) -> Result<Outcome, NoMemory>
+    ensures outcome { IfOk result (λ outcome. IsReplayOf script (outcome_of outcome)) }
+    ensures lawful { IfOk result (λ outcome. IsLawful script (outcome_of outcome)) }
 {
-    let mut cells = Cells::open(alloc, script)?;
-    for row in &script.rows {
+    let (mut cells, rows) = Cells::of_script(alloc, script)?;
+    for row in &rows {
         cells.step(row);
     }
     match cells.close(alloc) {

@@ -3,6 +3,7 @@
 
 mod bulk;
 mod laws;
+mod lines;
 mod made;
 mod made_rows;
 mod made_setup;

@@ -1,16 +1,16 @@
 //! The report of a replay.
 
-ghost use Rattle.std.specs.Prelude.{◌≡◌, ◌++◌, IfOk, OnOk, Some, length, map};
+ghost use Rattle.std.specs.Prelude.{◌≡◌, ◌++◌, IfOk, OnOk, length, map};
 ghost use Rattle.std.specs.List.{flat_map};
 ghost use Rattle.std.specs.String.{string_bytes};
 ghost use Rattle.dex_report.specs.Outcomes.{market_journal_of, outcome_of, wallet_journal_of};
 ghost use Rattle.dex_report.specs.Report as texts;
 
+use crate::lines::{write_entry, write_move};
 use crate::outcome::{MarketJournal, Outcome, WalletJournal};
 use dex_dump::append_dump;
-use dex_types::{Entry, Movement, NoMemory, WalletEntry};
+use dex_types::NoMemory;
 use std::alloc::{AllocError, Global};
-use std::fmt;
 use std::fmt::Write;
 
 /// The report of an outcome of so many rows, in one buffer: the number of rows, each market's journal, each wallet's,
@@ -54,7 +54,7 @@ fn write_market(text: &mut String, journal: &MarketJournal) -> Result<(), AllocE
     let count = journal.entries.len();
     write!(text, "market {market} {count}\n")?;
     'entries: for entry in &journal.entries {
-        write!(text, "{}", EntryLine(*entry))?;
+        write_entry(text, entry)?;
     }
     Ok(())
 }
@@ -77,67 +77,7 @@ fn write_wallet(text: &mut String, journal: &WalletJournal) -> Result<(), AllocE
     let count = journal.entries.len();
     write!(text, "wallet {wallet} {count}\n")?;
     'moves: for entry in &journal.entries {
-        write!(text, "{}", MoveLine(*entry))?;
+        write_move(text, entry)?;
     }
     Ok(())
-}
-
-/// A movement behind a space, or nothing.
-#[derive(Clone, Copy)]
-struct MoveWords(Option<Movement>);
-
-impl fmt::Display for MoveWords {
-    ghost output = { λ words. Some (texts.move_text words.0) };
-
-    fn fmt<W: fmt::Write>(&self, f: &mut fmt::Formatter<W>) -> fmt::Result {
-        match self.0 {
-            Some(movement) => write!(f, " {movement}"),
-            None => Ok(()),
-        }
-    }
-}
-
-/// The line of an entry of a market's journal.
-#[derive(Clone, Copy)]
-struct EntryLine(Entry);
-
-impl fmt::Display for EntryLine {
-    ghost output = { λ l. Some (texts.entry_line l.0) };
-
-    fn fmt<W: fmt::Write>(&self, f: &mut fmt::Formatter<W>) -> fmt::Result {
-        let Entry {
-            lane,
-            row,
-            reply,
-            moves: [first, second, third, fourth],
-        } = self.0;
-        let first = MoveWords(first);
-        let second = MoveWords(second);
-        let third = MoveWords(third);
-        let fourth = MoveWords(fourth);
-        write!(
-            f,
-            "entry {lane} {row} {reply}{first}{second}{third}{fourth}\n"
-        )
-    }
-}
-
-/// The line of an entry of a wallet's journal.
-#[derive(Clone, Copy)]
-struct MoveLine(WalletEntry);
-
-impl fmt::Display for MoveLine {
-    ghost output = { λ l. Some (texts.move_line l.0) };
-
-    fn fmt<W: fmt::Write>(&self, f: &mut fmt::Formatter<W>) -> fmt::Result {
-        let WalletEntry {
-            market,
-            lane,
-            row,
-            kind,
-            amount,
-            before,
-        } = self.0;
-        write!(f, "move {market} {lane} {row} {kind} {amount} {before}\n")
-    }
 }

@@ -1,5 +1,5 @@
 -- What `parse` answers for a numeral, as `number_of`.
-use Rattle.std.proofs.Common.{◌≡◌, ◌∙◌, ◌^◌, ◌<◌, ◌≤◌, ◌+◌, ◌-◌, ◌*◌, ℕ, Bool, take, get_or, List, Some, None, Result, Ok, Err, Bor, OkIff, MatchOption, MatchResult, IsUtf8, true, false, length, arith, rules, refl, ap}
+use Rattle.std.proofs.Common.{◌≡◌, ◌∙◌, ◌^◌, ◌<◌, ◌≤◌, ◌+◌, ◌-◌, ◌*◌, ℕ, Bool, nat_lt, if◌then◌else◌, Option, take, get_or, List, Some, None, Result, Ok, Err, Bor, OkIff, MatchOption, MatchResult, IsUtf8, true, false, length, arith, rules, refl, ap, sym}
 use Rattle.std.specs.Char.{digit_value, is_ascii_digit}
 use Rattle.std.proofs.lemmas.Int.Digits.{digits_value_more}
 use Rattle.std.proofs.lemmas.List.Folds.{list_all_at}
@@ -99,3 +99,36 @@ number_of-short word few is =
 -- a numeral is of digits
 pub numeral_digits : (word : List ℕ) → is_numeral word ≡ true → list_all is_ascii_digit word ≡ true
 numeral_digits word is = (numeral_parts word is).1
+
+-- what of a number is kept below a limit
+abbrev pub kept_below : ℕ → Option ℕ → Option ℕ
+kept_below limit None = None
+kept_below limit (Some number) = if nat_lt number limit then Some number else None
+
+below_cases : (limit : ℕ) (word : List ℕ) (is fits : Bool) → limit ≤ 2 ^ 64 → is_numeral word ≡ is → nat_lt (digits_value 10 word) (2 ^ 64) ≡ fits
+    → kept_below limit (number_of (2 ^ 64) word) ≡ number_of limit word
+unfolding number_of
+below_cases limit word false fits most e f = rw e refl
+below_cases limit word true true most e f = rw (e, f) refl
+below_cases limit word true false most e f =
+    let over : 2 ^ 64 ≤ digits_value 10 word = grind (arith, nat_tests) in
+    rw (e, f, le-ltb (digits_value 10 word) limit (omega arith)) refl
+
+-- a number below a limit is one of 64 bits that is below it
+number_of-below : (limit : ℕ) (word : List ℕ) → limit ≤ 2 ^ 32 → kept_below limit (number_of (2 ^ 64) word) ≡ number_of limit word
+number_of-below limit word most = below_cases limit word (is_numeral word) (nat_lt (digits_value 10 word) (2 ^ 64)) (omega arith) refl refl
+
+pub below-none : (limit : ℕ) (word : List ℕ) (r : Option ℕ) → limit ≤ 2 ^ 32 → r ≡ None → r ≡ number_of (2 ^ 64) word → None ≡ number_of limit word
+below-none limit word r most is e = rw (sym e ∙ is) at (number_of-below limit word most)
+
+below-some : (limit : ℕ) (word : List ℕ) (r : Option ℕ) (n : ℕ) → limit ≤ 2 ^ 32 → r ≡ Some n → r ≡ number_of (2 ^ 64) word
+    → kept_below limit (Some n) ≡ number_of limit word
+below-some limit word r n most is e = rw (sym e ∙ is) at (number_of-below limit word most)
+
+pub below-kept : (limit : ℕ) (word : List ℕ) (r : Option ℕ) (n : ℕ) → limit ≤ 2 ^ 32 → r ≡ Some n → r ≡ number_of (2 ^ 64) word → n < limit
+    → Some n ≡ number_of limit word
+below-kept limit word r n most is e lt = rw (lt-ltb n limit lt) at (below-some limit word r n most is e)
+
+pub below-over : (limit : ℕ) (word : List ℕ) (r : Option ℕ) (n : ℕ) → limit ≤ 2 ^ 32 → r ≡ Some n → r ≡ number_of (2 ^ 64) word → limit ≤ n
+    → None ≡ number_of limit word
+below-over limit word r n most is e over = rw (le-ltb n limit over) at (below-some limit word r n most is e)

@@ -68,7 +68,8 @@ fn address_of_label(label: &[u8]) -> Address
     Address(bytes)
 }
 
-// The address of `0x` and 64 hexadecimal digits in lower case.
+// The address of `0x` and 64 hexadecimal digits in lower case. It is not inlined: a label needs nothing of it.
+#[inline(never)]
 fn prefixed_address(text: &[u8]) -> Option<Address>
     ensures { result ≡ prefixed_address text.now }
 {

@@ -1,4 +1,4 @@
-ghost use Rattle.std.specs.Prelude.{◌≡◌, ◌≤◌, ◌^◌, MatchOption, length, true, false};
+ghost use Rattle.std.specs.Prelude.{◌≡◌, ◌<◌, ◌≤◌, ◌^◌, IfSome, MatchOption, length, true, false};
 ghost use Rattle.std.specs.Char.{is_ascii_digit};
 ghost use Rattle.std.specs.List.{list_all};
 ghost use Rattle.std.specs.Str.Parse.{digits_value};
@@ -17,14 +17,32 @@ pub fn u8_word(text: &[u8]) -> Option<u8>
 pub fn u16_word(text: &[u8]) -> Option<u16>
     ensures { result ≡ number_of (2 ^ 16) text.now }
 {
-    numeral(text)?.parse::<u16>().ok()
+    match number_below(text, 1 << 16) {
+        None => None,
+        Some(number) => Some(number as u16),
+    }
 }
 
 /// The number below 2^32 that a word writes in decimal, with no sign and no zeros in front.
 pub fn u32_word(text: &[u8]) -> Option<u32>
     ensures { result ≡ number_of (2 ^ 32) text.now }
 {
-    numeral(text)?.parse::<u32>().ok()
+    match number_below(text, 1 << 32) {
+        None => None,
+        Some(number) => Some(number as u32),
+    }
+}
+
+// The number below a limit that a word writes.
+fn number_below(text: &[u8], limit: u64) -> Option<u64>
+    requires { limit ≤ 2 ^ 32 }
+    ensures number { result ≡ number_of limit text.now }
+    ensures below { IfSome result (λ number. number < limit) }
+{
+    match u64_word(text) {
+        None => None,
+        Some(number) => { if number < limit { Some(number) } else { None } }
+    }
 }
 
 /// The number below 2^64 that a word writes in decimal, with no sign and no zeros in front.

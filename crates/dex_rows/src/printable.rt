@@ -1,4 +1,5 @@
 ghost use Rattle.std.specs.Prelude.{◌≡◌, ◌↔◌, All, IsTrue};
+ghost use Rattle.std.specs.List.{list_all};
 ghost use Rattle.csv.specs.Records.{fields_of};
 ghost use Rattle.dex_rows.specs.Printable.{IsPrintable, is_printable, is_printable_byte, row_is_printable};
 
@@ -11,7 +12,18 @@ pub fn is_printable(text: &[u8]) -> bool
     ensures value { result ≡ is_printable text.now }
     ensures every { IsTrue result ↔ IsPrintable text.now }
 {
-    text.iter().all(|&byte| is_printable_byte(byte))
+    has_printable_bytes(text)
+}
+
+// The same. It looks at each byte, also behind one that is not printable: so many can be looked at together.
+fn has_printable_bytes(text: &[u8]) -> bool
+    ensures { result ≡ list_all is_printable_byte text.now }
+{
+    let mut all = true;
+    'bytes: for place in 0..text.len() {
+        all &= is_printable_byte(text[place]);
+    }
+    all
 }
 
 // Whether a byte is from 32 to 126.

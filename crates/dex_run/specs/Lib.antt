@@ -2,6 +2,7 @@ pub mod Bank
 pub mod Seats
 pub mod Submitted
 pub mod Inside
+pub mod Outline
 pub mod Columns
 pub mod Closing
 pub mod Opened

@@ -1,37 +1,37 @@
 //! The bank of a script, and a seat for each lane.
 
-ghost use Rattle.std.specs.Prelude.{◌≡◌, ◌≤◌, ◌<◌, ◌++◌, ◌∷◌, [], All, IfOk, IsOk, OnOk, Some, map};
+ghost use Rattle.std.specs.Prelude.{◌≡◌, ◌<◌, ◌++◌, ◌∷◌, [], All, IfOk, OnOk, Some, map};
 ghost use Rattle.std.specs.List.{AllZip, range_with_len};
 ghost use Rattle.dex_types.specs.declared.movements.WalletEntry.{WalletEntry};
-ghost use Rattle.dex_types.specs.Accounts.{PlainAccount, PlainMarketAccounts, market_accounts_of, named_of};
+ghost use Rattle.dex_types.specs.Accounts.{named_of};
 ghost use Rattle.dex_history.specs.Journal.{Call};
 ghost use Rattle.dex_cell.specs.CellState.{MarketCellState};
 ghost use Rattle.dex_gate.specs.GateView.{GateView};
 ghost use Rattle.dex_gate.specs.PassView.{PassView, first_pass, next_pass};
 ghost use Rattle.dex_stamps.specs.Stamped.{Stamped};
 ghost use Rattle.dex_wallet.specs.CellState as wallet;
-ghost use Rattle.dex_bank.specs.Opened.{market_opened, rows_naming, rows_on, wallet_opened};
+ghost use Rattle.dex_bank.specs.Opened.{opened, rows_naming, rows_on};
 ghost use Rattle.dex_journals.specs.Journals.{MarketOrigin, WalletOrigin};
 ghost use Rattle.dex_run.specs.Bank.{IsBank, IsMarketGate, IsWalletGate};
 ghost use Rattle.dex_run.specs.Opened.{first_passes, fresh_seat, seat_in, split_once};
 ghost use Rattle.dex_run.specs.Seats.{IsMarketPass, IsSeatOf, IsWalletPass, SeatState};
 
 use crate::bank::Bank;
+use crate::outline::Outline;
 use crate::seat::LaneSeat;
 use dex_bank::Cells;
 use dex_cell::MarketCell;
 use dex_gate::{Gate, Journaled, Pass};
 use dex_journals::{BankMarket, BankWallet};
-use dex_places::Places;
 use dex_script::Script;
-use dex_stamps::{Kept, Stamp};
-use dex_types::{Address, MarketAccounts, Named, NoMemory};
+use dex_stamps::Stamp;
+use dex_types::{Named, NoMemory};
 use dex_wallet::WalletCell;
 use http_server::Log;
 use std::alloc::Global;
 
 /// Adds an item behind the others.
-fn add<T: Drop>(items: &mut Vec<T>, item: T) -> Result<(), NoMemory>
+pub(crate) fn add<T: Drop>(items: &mut Vec<T>, item: T) -> Result<(), NoMemory>
     ensures { OnOk result (items.new.items ≡ items.old.items ++ item ∷ []) }
 {
     match items.push(item) {
@@ -42,27 +42,22 @@ fn add<T: Drop>(items: &mut Vec<T>, item: T) -> Result<(), NoMemory>
 
 // ---- gates
 
-/// How many lanes a script has.
-fn lanes_in(script: &Script) -> u32
-    ensures lanes { result ≡ script.now.lanes }
-    ensures some { 1 ≤ result }
-    ensures few { result ≤ 16 }
-{
-    script.lanes
-}
-
 /// The gate of a market, and its first pass.
 fn market_gate(
     alloc: Global,
     cell: MarketCell,
-    script: &Script,
+    outline: &Outline,
 ) -> Result<(Gate<BankMarket>, Pass<BankMarket>), NoMemory>
     requires fresh { cell.calls ≡ [] }
-    requires room { cell.room ≡ rows_on cell.start.address script.now.rows }
-    ensures gate { IfOk result (λ made. IsMarketGate script.now cell.start made.0) }
+    requires room { cell.room ≡ rows_on cell.start.address outline.now.rows }
+    ensures gate { IfOk result (λ made. IsMarketGate outline.now cell.start made.0) }
     ensures pass { IfOk result (λ made. made.1 ≡ first_pass made.0) }
 {
-    match Gate::open(alloc, BankMarket::open(cell, script), lanes_in(script)) {
+    match Gate::open(
+        alloc,
+        BankMarket::open(cell, outline.kept()),
+        outline.lanes(),
+    ) {
         Ok(made) => Ok(made),
         Err(_) => Err(NoMemory),
     }
@@ -72,21 +67,21 @@ fn market_gate(
 fn market_gates(
     alloc: Global,
     cells: Vec<MarketCell>,
-    script: &Script,
+    outline: &Outline,
 ) -> Result<(Vec<Gate<BankMarket>>, Vec<Pass<BankMarket>>), NoMemory>
     requires fresh { All (λ (cell : MarketCellState). cell.calls ≡ []) cells.items }
-    requires room { All (λ (cell : MarketCellState). cell.room ≡ rows_on cell.start.address script.now.rows)
+    requires room { All (λ (cell : MarketCellState). cell.room ≡ rows_on cell.start.address outline.now.rows)
         cells.items }
     ensures gates { IfOk result (λ made. AllZip
         (λ (cell : MarketCellState) (gate : GateView (Stamped Call) MarketOrigin).
-        IsMarketGate script.now cell.start gate)
+        IsMarketGate outline.now cell.start gate)
         cells.items made.0.items) }
     ensures passes { IfOk result (λ made. made.1.items ≡ first_passes 1 made.0.items) }
 {
     let mut gates = Vec::new(alloc);
     let mut passes = Vec::new(alloc);
     for cell in cells {
-        let (gate, pass) = market_gate(alloc, cell, script)?;
+        let (gate, pass) = market_gate(alloc, cell, outline)?;
         add(&mut gates, gate)?;
         add(&mut passes, pass)?;
     }
@@ -97,15 +92,19 @@ fn market_gates(
 fn wallet_gate(
     alloc: Global,
     cell: WalletCell,
-    script: &Script,
+    outline: &Outline,
 ) -> Result<(Gate<BankWallet>, Pass<BankWallet>), NoMemory>
     requires fresh { cell.entries ≡ [] }
-    requires room { cell.room ≡ rows_naming cell.address script.now.rows }
-    ensures gate { IfOk result (λ made. IsWalletGate script.now
+    requires room { cell.room ≡ rows_naming cell.address outline.now.rows }
+    ensures gate { IfOk result (λ made. IsWalletGate outline.now
         (record { address = cell.address; bytes = cell.start }) made.0) }
     ensures pass { IfOk result (λ made. made.1 ≡ first_pass made.0) }
 {
-    match Gate::open(alloc, BankWallet::open(cell, script), lanes_in(script)) {
+    match Gate::open(
+        alloc,
+        BankWallet::open(cell, outline.kept()),
+        outline.lanes(),
+    ) {
         Ok(made) => Ok(made),
         Err(_) => Err(NoMemory),
     }
@@ -115,21 +114,21 @@ fn wallet_gate(
 fn wallet_gates(
     alloc: Global,
     cells: Vec<WalletCell>,
-    script: &Script,
+    outline: &Outline,
 ) -> Result<(Vec<Gate<BankWallet>>, Vec<Pass<BankWallet>>), NoMemory>
     requires fresh { All (λ (cell : wallet.CellState). cell.entries ≡ []) cells.items }
-    requires room { All (λ (cell : wallet.CellState). cell.room ≡ rows_naming cell.address script.now.rows)
+    requires room { All (λ (cell : wallet.CellState). cell.room ≡ rows_naming cell.address outline.now.rows)
         cells.items }
     ensures gates { IfOk result (λ made. AllZip
         (λ (cell : wallet.CellState) (gate : GateView (Stamped WalletEntry) WalletOrigin).
-        IsWalletGate script.now (record { address = cell.address; bytes = cell.start }) gate)
+        IsWalletGate outline.now (record { address = cell.address; bytes = cell.start }) gate)
         cells.items made.0.items) }
     ensures passes { IfOk result (λ made. made.1.items ≡ first_passes 1 made.0.items) }
 {
     let mut gates = Vec::new(alloc);
     let mut passes = Vec::new(alloc);
     for cell in cells {
-        let (gate, pass) = wallet_gate(alloc, cell, script)?;
+        let (gate, pass) = wallet_gate(alloc, cell, outline)?;
         add(&mut gates, gate)?;
         add(&mut passes, pass)?;
     }
@@ -161,14 +160,14 @@ fn split_all<V: Journaled>(
 /// The seat of a lane, of whose rows none has acted.
 fn seat(
     alloc: Global,
-    script: &Script,
+    outline: &Outline,
     lane: u32,
     markets: Vec<Pass<BankMarket>>,
     wallets: Vec<Pass<BankWallet>>,
 ) -> Result<LaneSeat, NoMemory>
-    requires markets { AllZip (IsMarketPass lane []) script.now.start.markets markets.items }
-    requires wallets { AllZip (IsWalletPass lane []) script.now.start.wallets wallets.items }
-    ensures { IfOk result (λ seat. seat ≡ fresh_seat lane script.now markets.items wallets.items) }
+    requires markets { AllZip (IsMarketPass lane []) outline.now.start.markets markets.items }
+    requires wallets { AllZip (IsWalletPass lane []) outline.now.start.wallets wallets.items }
+    ensures { IfOk result (λ seat. seat ≡ fresh_seat lane outline.now markets.items wallets.items) }
 {
     let Ok(hands) = Vec::with_capacity(alloc, 4) else {
         return Err(NoMemory);
@@ -180,37 +179,37 @@ fn seat(
         hands,
         calls: Log::new(),
         last: Stamp::first(),
-        script: Kept::of(script),
+        script: outline.kept(),
     })
 }
 
 /// The seats of all lanes.
 fn seats_of(
     alloc: Global,
-    script: &Script,
+    outline: &Outline,
     markets: &[Gate<BankMarket>],
     wallets: &[Gate<BankWallet>],
     mut market_passes: Vec<Pass<BankMarket>>,
     mut wallet_passes: Vec<Pass<BankWallet>>,
 ) -> Result<Vec<LaneSeat>, NoMemory>
-    requires markets { AllZip (IsMarketGate script.now) script.now.start.markets markets.now }
-    requires wallets { AllZip (IsWalletGate script.now) script.now.start.wallets wallets.now }
+    requires markets { AllZip (IsMarketGate outline.now) outline.now.start.markets markets.now }
+    requires wallets { AllZip (IsWalletGate outline.now) outline.now.start.wallets wallets.now }
     requires market_passes { market_passes.items ≡ first_passes 1 markets.now }
     requires wallet_passes { wallet_passes.items ≡ first_passes 1 wallets.now }
     ensures { IfOk result (λ seats. seats.items
-        ≡ map (seat_in (record { script = script.now; markets = markets.now; wallets = wallets.now }))
-        (range_with_len 0 script.now.lanes)) }
+        ≡ map (seat_in (record { script = outline.now; markets = markets.now; wallets = wallets.now }))
+        (range_with_len 0 outline.now.lanes)) }
 {
     let mut seats = Vec::new(alloc);
-    for lane in 1..lanes_in(script) {
+    for lane in 1..outline.lanes() {
         let of_markets = split_all(alloc, markets, &mut market_passes)?;
         let of_wallets = split_all(alloc, wallets, &mut wallet_passes)?;
         add(
             &mut seats,
-            seat(alloc, script, lane, of_markets, of_wallets)?,
+            seat(alloc, outline, lane, of_markets, of_wallets)?,
         )?;
     }
-    let first = seat(alloc, script, 0, market_passes, wallet_passes)?;
+    let first = seat(alloc, outline, 0, market_passes, wallet_passes)?;
     match seats.insert(0, first) {
         Ok(()) => Ok(seats),
         Err(_) => Err(NoMemory),
@@ -219,74 +218,68 @@ fn seats_of(
 
 // ---- the bank
 
-/// The addresses of markets.
-fn market_addresses(alloc: Global, markets: &[MarketAccounts]) -> Result<Vec<Address>, NoMemory>
-    ensures { IfOk result (λ addresses. addresses.items
-        ≡ map (λ (accounts : PlainMarketAccounts). accounts.address) (map market_accounts_of markets.now)) }
-{
-    let mut addresses = Vec::new(alloc);
-    for accounts in markets {
-        add(&mut addresses, accounts.address)?;
-    }
-    Ok(addresses)
-}
-
-/// The addresses of wallets.
-fn wallet_addresses(alloc: Global, wallets: &[Named]) -> Result<Vec<Address>, NoMemory>
-    ensures { IfOk result (λ addresses. addresses.items
-        ≡ map (λ (account : PlainAccount). account.address) (map named_of wallets.now)) }
-{
-    let mut addresses = Vec::new(alloc);
-    for account in wallets {
-        add(&mut addresses, account.address)?;
-    }
-    Ok(addresses)
-}
-
-/// The places of a script's markets.
-fn market_places(alloc: Global, script: &Script) -> Result<Places, NoMemory>
-    ensures { IfOk result (λ places. places
-        ≡ map (λ (accounts : PlainMarketAccounts). accounts.address) script.now.start.markets) }
-{
-    Places::of(alloc, market_addresses(alloc, &script.start.markets)?)
-}
-
-/// The places of a script's wallets.
-fn wallet_places(alloc: Global, script: &Script) -> Result<Places, NoMemory>
-    ensures { IfOk result (λ places. places
-        ≡ map (λ (account : PlainAccount). account.address) script.now.start.wallets) }
-{
-    Places::of(alloc, wallet_addresses(alloc, &script.start.wallets)?)
-}
-
 /// The bank of these gates.
 fn bank_of(
-    alloc: Global,
-    script: &Script,
+    outline: Outline,
     mints: Vec<Named>,
     markets: Vec<Gate<BankMarket>>,
     wallets: Vec<Gate<BankWallet>>,
-) -> Result<Bank, NoMemory>
-    requires markets { AllZip (IsMarketGate script.now) script.now.start.markets markets.items }
-    requires wallets { AllZip (IsWalletGate script.now) script.now.start.wallets wallets.items }
-    requires mints { map named_of mints.items ≡ script.now.start.mints }
-    ensures bank { IfOk result (λ bank. bank
-        ≡ record { script = script.now; markets = markets.items; wallets = wallets.items }) }
-    ensures kept { IfOk result IsBank }
+) -> Bank
+    requires markets { AllZip (IsMarketGate outline) outline.start.markets markets.items }
+    requires wallets { AllZip (IsWalletGate outline) outline.start.wallets wallets.items }
+    requires mints { map named_of mints.items ≡ outline.start.mints }
+    ensures bank { result ≡ record { script = outline; markets = markets.items; wallets = wallets.items } }
+    ensures kept { IsBank result }
 {
-    let market_places = market_places(alloc, script)?;
-    let wallet_places = wallet_places(alloc, script)?;
-    Ok(Bank {
+    let Outline {
+        lanes: _,
+        srm,
+        msrm,
+        program,
+        market_places,
+        wallet_places,
+        script,
+    } = outline;
+    Bank {
         mints,
-        srm: script.start.srm,
-        msrm: script.start.msrm,
-        program: script.program,
+        srm,
+        msrm,
+        program,
         markets,
         wallets,
         market_places,
         wallet_places,
-        script: Kept::of(script),
-    })
+        script,
+    }
+}
+
+/// The bank of a script's cells, and one seat for each lane, by their numbers. The cells themselves go behind the gates.
+pub(crate) fn bank_over(
+    alloc: Global,
+    outline: Outline,
+    cells: Cells,
+) -> Result<(Bank, Vec<LaneSeat>), NoMemory>
+    requires { cells ≡ opened outline }
+    ensures bank { IfOk result (λ made. made.0.script ≡ outline) }
+    ensures kept { IfOk result (λ made. IsBank made.0) }
+    ensures seats { IfOk result (λ made. All (IsSeatOf made.0) made.1.items) }
+    ensures lanes { IfOk result (λ made. map (λ (seat : SeatState). seat.lane) made.1.items
+        ≡ range_with_len 0 outline.lanes) }
+    ensures fresh { IfOk result (λ made. All (λ (seat : SeatState). seat.calls ≡ []) made.1.items) }
+{
+    let (mints, markets, wallets) = cells.into_parts();
+    let (markets, market_passes) = market_gates(alloc, markets, &outline)?;
+    let (wallets, wallet_passes) = wallet_gates(alloc, wallets, &outline)?;
+    let seats = seats_of(
+        alloc,
+        &outline,
+        &markets,
+        &wallets,
+        market_passes,
+        wallet_passes,
+    )?;
+    let bank = bank_of(outline, mints, markets, wallets);
+    Ok((bank, seats))
 }
 
 /// The bank of a script, and one seat for each lane, by their numbers. Asks memory.
@@ -298,17 +291,7 @@ pub fn build(alloc: Global, script: &Script) -> Result<(Bank, Vec<LaneSeat>), No
         ≡ range_with_len 0 script.now.lanes) }
     ensures fresh { IfOk result (λ made. All (λ (seat : SeatState). seat.calls ≡ []) made.1.items) }
 {
-    let (mints, markets, wallets) = Cells::open(alloc, script)?.into_parts();
-    let (markets, market_passes) = market_gates(alloc, markets, script)?;
-    let (wallets, wallet_passes) = wallet_gates(alloc, wallets, script)?;
-    let seats = seats_of(
-        alloc,
-        script,
-        &markets,
-        &wallets,
-        market_passes,
-        wallet_passes,
-    )?;
-    let bank = bank_of(alloc, script, mints, markets, wallets)?;
-    Ok((bank, seats))
+    let outline = Outline::of(alloc, script)?;
+    let cells = Cells::open(alloc, script)?;
+    bank_over(alloc, outline, cells)
 }

@@ -7,6 +7,7 @@ mod closing;
 mod columns;
 mod lane;
 mod made;
+mod outline;
 mod running;
 mod seat;
 mod seeing;

@@ -8,9 +8,11 @@ ghost use Rattle.dex_order.specs.OneOrder.{IsOneOrder};
 ghost use Rattle.dex_run.specs.Running.{CanRun, HasRun, IsJobOf};
 
 use crate::bank::Bank;
-use crate::building::build;
+use crate::building::bank_over;
 use crate::lane::LaneJob;
+use crate::outline::Outline;
 use crate::seat::LaneSeat;
+use dex_bank::Cells;
 use dex_io::Pace;
 use dex_lanes::run_jobs;
 use dex_report::Outcome;
@@ -91,17 +93,20 @@ fn run_all<R: Threads + Wait + Sync, P: Pace + Sync>(
 }
 
 /// Lets the lanes of a script act side by side, each on a thread of its own where one can be made, and gives what is left.
+/// The script's accounts themselves go into the outcome: none is copied.
 pub fn run<R: Threads + Wait + Sync, P: Pace + Sync>(
     rt: &R,
     alloc: Global,
-    script: &Script,
+    script: Script,
     pace: &P,
 ) -> Result<Outcome, NoMemory>
-    ensures run { IfOk result (λ outcome. IsRunOf script.now (outcome_of outcome)) }
-    ensures one_order { IfOk result (λ outcome. IsOneOrder script.now (outcome_of outcome)) }
+    ensures run { IfOk result (λ outcome. IsRunOf script (outcome_of outcome)) }
+    ensures one_order { IfOk result (λ outcome. IsOneOrder script (outcome_of outcome)) }
 {
-    let (bank, seats) = build(alloc, script)?;
-    let seats = run_all(rt, alloc, &bank, seats, &script.rows, pace)?;
+    let outline = Outline::of(alloc, &script)?;
+    let (cells, rows) = Cells::of_script(alloc, script)?;
+    let (bank, seats) = bank_over(alloc, outline, cells)?;
+    let seats = run_all(rt, alloc, &bank, seats, &rows, pace)?;
     match bank.close(alloc, seats) {
         Ok(outcome) => Ok(outcome),
         Err(_) => Err(NoMemory),

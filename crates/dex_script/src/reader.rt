@@ -74,6 +74,22 @@ impl Reader {
     {
         match statement_of(alloc, row)? {
             Statement::Instruction(words) => self.add_instruction(alloc, number, words),
+            statement => self.add_stated(alloc, number, statement),
+        }
+    }
+
+    /// Adds what a row of any kind states. It is not inlined: a script is nearly all instruction rows.
+    #[inline(never)]
+    fn add_stated(
+        &mut self,
+        alloc: Global,
+        number: u32,
+        statement: Statement,
+    ) -> Result<(), RowError>
+        ensures { TellsIn result self.new (spec.with_statement self.old number statement) }
+    {
+        match statement {
+            Statement::Instruction(words) => self.add_instruction(alloc, number, words),
             Statement::Clock(now) => {
                 self.set_clock(now);
                 Ok(())

@@ -29,4 +29,12 @@ impl<T> Kept<T> {
         let _ = value;
         Kept { of: PhantomData }
     }
+
+    /// The same value again.
+    pub fn same(&self) -> Kept<T>
+        ensures { result.value ≡ self.now.value }
+    {
+        let _ = self;
+        Kept { of: PhantomData }
+    }
 }

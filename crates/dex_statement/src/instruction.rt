@@ -2,13 +2,15 @@
 
 ghost use Rattle.std.specs.Prelude.{◌≡◌};
 ghost use Rattle.csv.specs.Records.{fields_of};
+ghost use Rattle.dex_statement.specs.declared.forms.Form.TheVariants as form;
 ghost use Rattle.dex_statement.specs.Statements as statements;
 ghost use Rattle.dex_statement.specs.Telling.{Tells, TellsAs};
 
 use crate::faults::{FaultKind, RowError};
-use crate::order_words::data_of;
+use crate::order_words::data_in;
 use crate::parties::{Parties, parties_of};
-use crate::words::{field_at, words_of};
+use crate::statement::Statement;
+use crate::words::field_at;
 use csv::ByteRecord;
 use dex_rows::base64_words::base64_word;
 use dex_rows::numbers::u32_word;
@@ -33,9 +35,10 @@ impl Model for InstructionWords {
 }
 
 /// What an `ix` row states, whose last field is the instruction's bytes in base64.
+#[inline(never)]
 #[tactic(auto, unfolding(crate::specs::Statements::bytes_row))]
-pub(crate) fn bytes_row(alloc: Global, row: &ByteRecord) -> Result<InstructionWords, RowError>
-    ensures { Tells result (statements.bytes_row (fields_of row.now)) }
+pub(crate) fn bytes_row(alloc: Global, row: &ByteRecord) -> Result<Statement, RowError>
+    ensures { Tells result (statements.stated form.Bytes (fields_of row.now)) }
 {
     if field_count(row) != 10 {
         return Err(RowError::Fault(FaultKind::FieldCount));
@@ -43,28 +46,28 @@ pub(crate) fn bytes_row(alloc: Global, row: &ByteRecord) -> Result<InstructionWo
     let lane = u32_word(field_at(row, 1)).ok_or(FaultKind::BadNumber)?;
     let bytes = base64_word(alloc, field_at(row, 9))?.ok_or(FaultKind::BadNumber)?;
     let parties = parties_of(alloc, row)?;
-    Ok(InstructionWords {
+    Ok(Statement::Instruction(InstructionWords {
         lane,
         parties,
         bytes,
-    })
+    }))
 }
 
 /// What a `do` row states, whose last field is the instruction in words.
+#[inline(never)]
 #[tactic(auto, unfolding(crate::specs::Statements::words_row))]
-pub(crate) fn words_row(alloc: Global, row: &ByteRecord) -> Result<InstructionWords, RowError>
-    ensures { Tells result (statements.words_row (fields_of row.now)) }
+pub(crate) fn words_row(alloc: Global, row: &ByteRecord) -> Result<Statement, RowError>
+    ensures { Tells result (statements.stated form.Words (fields_of row.now)) }
 {
     if field_count(row) != 10 {
         return Err(RowError::Fault(FaultKind::FieldCount));
     }
-    let words = words_of(alloc, field_at(row, 9))?;
-    let bytes = data_of(alloc, &words)?;
+    let bytes = data_in(alloc, field_at(row, 9))?;
     let lane = u32_word(field_at(row, 1)).ok_or(FaultKind::BadNumber)?;
     let parties = parties_of(alloc, row)?;
-    Ok(InstructionWords {
+    Ok(Statement::Instruction(InstructionWords {
         lane,
         parties,
         bytes,
-    })
+    }))
 }

@@ -4,10 +4,12 @@ ghost use Rattle.std.specs.Prelude.{◌≡◌, ◌≤◌, ◌∷◌, [], IfOk, M
 ghost use Rattle.dex_instruction.specs.Spelling.{spelling};
 ghost use Rattle.dex_statement.specs.OrderWords as order;
 ghost use Rattle.dex_statement.specs.Telling.{TellsAs};
-ghost use Rattle.dex_statement.specs.Words.{texts};
+ghost use Rattle.dex_statement.specs.Words.{texts, words_of};
 
 use crate::faults::{FaultKind, RowError};
-use crate::words::{order_type_of, self_trade_of, side_of, time_word, word_at};
+use crate::words::{
+    MOST_WORDS, few_words, order_type_of, self_trade_of, side_of, time_word, word_at, words_of,
+};
 use dex_instruction::encode;
 use dex_rows::numbers::{u16_word, u64_word, u128_word};
 use dex_types::{ClientIds, Ix};
@@ -31,6 +33,28 @@ pub enum Verb {
     CancelByClients,
 }
 
+/// The instruction's bytes that the words of a field ask for. It takes memory for the words only where they are more than the
+/// longest form has.
+pub(crate) fn data_in(alloc: Global, field: &[u8]) -> Result<Vec<u8>, RowError>
+    ensures { TellsAs (λ bytes. bytes.items) result (order.data_of (words_of field.now)) }
+{
+    let none: &[u8] = &[];
+    let mut words = [none; MOST_WORDS];
+    match few_words(field, &mut words) {
+        Some(count) => data_of(alloc, &words[..count]),
+        None => data_of_many(alloc, field),
+    }
+}
+
+/// The same, of any number of words.
+#[inline(never)]
+fn data_of_many(alloc: Global, field: &[u8]) -> Result<Vec<u8>, RowError>
+    ensures { TellsAs (λ bytes. bytes.items) result (order.data_of (words_of field.now)) }
+{
+    let words = words_of(alloc, field)?;
+    data_of(alloc, &words)
+}
+
 /// The instruction's bytes that the words of a `do` row ask for.
 #[tactic(auto, unfolding(crate::specs::OrderWords::data_of))]
 pub(crate) fn data_of(alloc: Global, words: &[&[u8]]) -> Result<Vec<u8>, RowError>
@@ -49,7 +73,7 @@ fn spelling_of(alloc: Global, ix: &Ix) -> Result<Vec<u8>, RowError>
 {
     let mut out = [0; 128];
     let count = encode(ix, &mut out);
-    let mut data = Vec::new(alloc);
+    let mut data = Vec::with_capacity(alloc, count)?;
     data.extend_from_slice(&out[..count])?;
     Ok(data)
 }

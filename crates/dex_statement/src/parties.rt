@@ -69,10 +69,10 @@ pub(crate) fn parties_of(alloc: Global, row: &ByteRecord) -> Result<Parties, Row
 fn named_of(alloc: Global, field: &[u8]) -> Result<Vec<Address>, RowError>
     ensures { TellsAs (λ named. named.items) result (parties.named_of field.now) }
 {
-    let mut named = Vec::new(alloc);
     if field == b"-".as_slice() {
-        return Ok(named);
+        return Ok(Vec::new(alloc));
     }
+    let mut named = Vec::with_capacity(alloc, 1)?;
     let mut rest = field;
     'words: while let Some((word, behind)) = first_word(rest) {
         let address = address_word(word).ok_or(FaultKind::BadLabel)?;

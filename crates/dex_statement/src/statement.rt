@@ -65,8 +65,20 @@ pub fn statement_of(alloc: Global, row: &ByteRecord) -> Result<Statement, RowErr
     }
 }
 
-/// What a row of a form states.
+/// What a row of a form states. A script is nearly all `do` rows, so these go their own way.
 fn stated(alloc: Global, form: Form, row: &ByteRecord) -> Result<Statement, RowError>
+    ensures { Tells result (statements.stated form (fields_of row.now)) }
+{
+    if form == Form::Words {
+        words_row(alloc, row)
+    } else {
+        stated_by_form(alloc, form, row)
+    }
+}
+
+/// What a row of any form states. It is not inlined: it has room for every kind of row.
+#[inline(never)]
+fn stated_by_form(alloc: Global, form: Form, row: &ByteRecord) -> Result<Statement, RowError>
     ensures { Tells result (statements.stated form (fields_of row.now)) }
 {
     match form {
@@ -78,7 +90,7 @@ fn stated(alloc: Global, form: Form, row: &ByteRecord) -> Result<Statement, RowE
         Form::Wallet => Ok(wallet_of(row)?),
         Form::Orders => Ok(orders_of(row)?),
         Form::Market => Ok(Statement::Market(market_of(alloc, row)?)),
-        Form::Bytes => Ok(Statement::Instruction(bytes_row(alloc, row)?)),
-        Form::Words => Ok(Statement::Instruction(words_row(alloc, row)?)),
+        Form::Bytes => bytes_row(alloc, row),
+        Form::Words => words_row(alloc, row),
     }
 }

@@ -1,6 +1,6 @@
 //! The fields of a row, and the words of a field.
 
-ghost use Rattle.std.specs.Prelude.{◌≡◌, ◌<◌, ◌==◌, ◌∷◌, [], IfOk, IfSome, MatchOption, length};
+ghost use Rattle.std.specs.Prelude.{◌≡◌, ◌<◌, ◌≤◌, ◌==◌, ◌∷◌, [], IfOk, IfSome, MatchOption, length, take};
 ghost use Rattle.std.specs.List.{position};
 ghost use Rattle.csv.specs.Records.{fields_of};
 ghost use Rattle.dex_statement.specs.Words as script;
@@ -23,7 +23,26 @@ pub(crate) fn field_at(row: &ByteRecord, place: usize) -> &[u8]
 }
 
 /// How many words the longest form of a `do` row has.
-const MOST_WORDS: usize = 10;
+pub(crate) const MOST_WORDS: usize = 10;
+
+/// Puts the words of a field into `words`, and answers how many they are; None where they are more than find room.
+pub(crate) fn few_words<'a>(field: &'a [u8], words: &mut [&'a [u8]; MOST_WORDS]) -> Option<usize>
+    ensures within { IfSome result (λ count. count ≤ length words.new) }
+    ensures words { IfSome result (λ count. script.texts (take count words.new) ≡ script.words_of field.now) }
+{
+    let mut rest = field;
+    let mut count = 0;
+    'words: while let Some((word, behind)) = first_word(rest) {
+        if count == MOST_WORDS - 1 {
+            return None;
+        }
+        words[count] = word;
+        count += 1;
+        rest = behind;
+    }
+    words[count] = rest;
+    Some(count + 1)
+}
 
 /// The words of a field: what stands before, between and behind its spaces.
 pub(crate) fn words_of(alloc: Global, field: &[u8]) -> Result<Vec<&[u8]>, AllocError>

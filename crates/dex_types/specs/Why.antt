@@ -39,7 +39,7 @@ abbrev pub of_party : (Party → Option Refusal) → Option Party → Option Ref
 of_party why None = Some refusal.NoAccount
 of_party why (Some party) = why party
 
--- why opening an account of a market is refused; where the market has no account at the address, for that
+-- why opening an account of a market is refused: the market is disabled, or it has no blank account at the address
 abbrev pub why_opening : Bool → Option Trader → Option Refusal
 why_opening is_disabled trader = first_of (when_disabled is_disabled ∷ not_blank trader ∷ [])
 

@@ -18,13 +18,13 @@ probe_each-requires-clause-apart c =
 pub probe_each-requires-clause-home : goal.probe_each-requires-clause-home
 probe_each-requires-clause-home c =
     home-behind c.args.row.now c.args.seen.now c.args.market.now c.args.wallets.now c.answer-reply.new.wallets c.requires.row c.requires.market c.requires.wallets
-    c.answer-reply.ensures.wallets c.last_moves-moves.result
+    c.answer-reply.ensures.wallets c.last_moves-moves.result.now
     (c.last_moves-moves.ensures c.args.market.now.calls (call_on c.args.row.now c.args.seen.now c.args.market.now) c.answer-reply.ensures.acted.calls)
 
 pub probe_each-requires-clause-spare : goal.probe_each-requires-clause-spare
 probe_each-requires-clause-spare c =
     look-behind c.args.row.now c.args.seen.now c.args.market.now c.args.wallets.now c.answer-reply.new.wallets c.requires.row c.requires.market c.requires.wallets
-    c.answer-reply.ensures.wallets c.last_moves-moves.result
+    c.answer-reply.ensures.wallets c.last_moves-moves.result.now
     (c.last_moves-moves.ensures c.args.market.now.calls (call_on c.args.row.now c.args.seen.now c.args.market.now) c.answer-reply.ensures.acted.calls)
 
 -- what it moves
@@ -33,7 +33,7 @@ moved c = (step_on c.args.row.now c.args.seen.now c.args.market.now).transfers
 
 acted : (c : goal.After-wallets-2-1) → c.probe_each.new.cells ≡ map (cell_acted (row_of c.args.row.now) c.args.seen.now (moved c)) c.args.wallets.now
 acted c =
-    probed-whole c.args.row.now c.args.seen.now (moved c) c.last_moves-moves.result c.args.wallets.now c.answer-reply.new.wallets c.probe_each.new.cells
+    probed-whole c.args.row.now c.args.seen.now (moved c) c.last_moves-moves.result.now c.args.wallets.now c.answer-reply.new.wallets c.probe_each.new.cells
     (c.last_moves-moves.ensures c.args.market.now.calls (call_on c.args.row.now c.args.seen.now c.args.market.now) c.answer-reply.ensures.acted.calls)
     c.answer-reply.ensures.wallets c.probe_each.ensures
 

@@ -1,4 +1,4 @@
-use Rattle.std.proofs.Common.{map, ap, ◌∙◌, arith}
+use Rattle.std.proofs.Common.{map, ap, ◌∙◌}
 use Rattle.dex_types.specs.Accounts.{market_accounts_of}
 use Rattle.dex_types.specs.Rows.{row_of}
 use Rattle.dex_cell.specs.CellState.{new_cell}
@@ -8,7 +8,7 @@ use Rattle.dex_bank.proofs.opening.market_cells.Goals as goal
 
 pub loop-accounts-preserved : goal.loop-accounts-preserved
 loop-accounts-preserved c =
-    mapped-more (market_opened (map row_of c.args.rows.now)) market_accounts_of c.args.markets.now c.loop-accounts.accounts-index c.accounts-item.result
-    c.in_ok-market_cell.field-0 c.loop-accounts.cells.items c.add.new.items.items (omega arith) c.accounts-item.is
-    (c.in_ok-market_cell.ensures ∙ ap (new_cell (market_accounts_of c.accounts-item.result)) (c.times-room.ensures ∙ c.in_ok-counted.ensures c.accounts-item.result.address))
+    mapped-more (market_opened (map row_of c.args.rows.now)) market_accounts_of c.loop-accounts.yielded c.in-Some.accounts
+    c.in_ok-market_cell.field-0 c.loop-accounts.cells.items c.add.new.items.items
+    (c.in_ok-market_cell.ensures ∙ ap (new_cell (market_accounts_of c.in-Some.accounts)) (c.times-room.ensures ∙ c.in_ok-counted.ensures c.in-Some.accounts.address))
     c.loop-accounts.invariant c.in_ok-add.ensures

@@ -1,8 +1,8 @@
-use Rattle.std.proofs.Common.{◌≡◌, map, take}
+use Rattle.std.proofs.Common.{◌≡◌, map}
 use Rattle.dex_types.specs.Accounts.{market_accounts_of}
 use Rattle.dex_types.specs.Rows.{row_of}
 use Rattle.dex_bank.specs.Opened.{market_opened}
 use Rattle.dex_bank.proofs.opening.market_cells.Given as goal
 
 abbrev pub invariant-loop-accounts : goal.invariant-loop-accounts
-invariant-loop-accounts l = l.cells.items ≡ map (market_opened (map row_of l.rows)) (map market_accounts_of (take l.accounts-index l.markets))
+invariant-loop-accounts l = l.cells.items ≡ map (market_opened (map row_of l.fn.rows)) (map market_accounts_of l.yielded)

@@ -1,4 +1,4 @@
-use Rattle.std.proofs.Common.{◌≡◌, map, take}
+use Rattle.std.proofs.Common.{◌≡◌, map}
 use Rattle.std.specs.List.{All}
 use Rattle.dex_types.specs.Accounts.{named_of}
 use Rattle.dex_types.specs.Rows.{row_of}
@@ -8,4 +8,4 @@ use Rattle.dex_bank.proofs.opening.wallet_cells.Given as goal
 
 abbrev pub invariant-loop-account : goal.invariant-loop-account
 invariant-loop-account l =
-    (l.cells.items ≡ map (wallet_opened (map row_of l.rows)) (map named_of (take l.account-index l.wallets))) × All IsWalletCell l.cells.items
+    (l.cells.items ≡ map (wallet_opened (map row_of l.fn.rows)) (map named_of l.yielded)) × All IsWalletCell l.cells.items

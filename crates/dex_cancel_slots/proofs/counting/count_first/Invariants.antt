@@ -12,4 +12,4 @@ invariant-slots g l =
     }
 
 abbrev pub decreases-slots : goal.decreases-slots
-decreases-slots g l = 128 - l.slot
+decreases-slots g l = l.end - l.slot

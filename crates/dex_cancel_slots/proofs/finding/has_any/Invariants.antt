@@ -9,4 +9,4 @@ invariant-slots g l =
     oldest_of (named (drop l.slot (slots_in l.orders))) ≡ oldest_of (named (slots_in l.orders))
 
 abbrev pub decreases-slots : goal.decreases-slots
-decreases-slots g l = 128 - l.slot
+decreases-slots g l = l.end - l.slot

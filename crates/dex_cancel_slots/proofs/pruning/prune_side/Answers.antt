@@ -1,11 +1,14 @@
-use Rattle.std.proofs.Common.{◌+◌, ◌≡◌, length, take, refl, sym, ap, ◌∙◌, arith}
+use Rattle.std.proofs.Common.{◌≡◌, ◌<◌, ◌^◌, [], ◌∷◌, length, take, refl, sym, ap, ◌∙◌, arith}
 use Rattle.std.proofs.lemmas.List.{length-take, length-take-le}
-use Rattle.dex_types.specs.Cancel.{on_side, order_with, orders_of}
+use Rattle.dex_types.specs.declared.orders.Order.{Order}
+use Rattle.dex_types.specs.Cancel.{orders_of}
+use Rattle.dex_types.specs.Owed.{order_lock}
+use Rattle.dex_sound.proofs.WithoutLaws.{found-All}
 use Rattle.dex_cancel.specs.Leaving.{queue_of, with_outs, without_all}
 use Rattle.dex_cancel.proofs.LeavingLaws.{room-now}
+use Rattle.dex_cancel.proofs.WalkSteps.{on}
 use Rattle.dex_cancel_slots.specs.Given.{slots_in}
-use Rattle.dex_cancel_slots.proofs.NextLaws.{next-held, waiting-fewer}
-use Rattle.dex_cancel_slots.proofs.PruneLaws.{fit-now, one-named, pruned-all, pruned-more, pruned-next, pruned-none}
+use Rattle.dex_cancel_slots.proofs.PruneLaws.{fit-now, pruned-all, pruned-more, pruned-next, pruned-none}
 use Rattle.dex_cancel_slots.proofs.pruning.prune_side.Goals as goal
 
 pub slots-init : goal.slots-init
@@ -18,45 +21,48 @@ slots-init g c = record {
   ring_place = refl;
 }
 
-pub take_named-count-requires-clause-locks : goal.take_named-count-requires-clause-locks
-take_named-count-requires-clause-locks g c =
-    let first = g.S.SideRead.orders c.args.book.now in
-    fit-now c.args.sizes c.args.side (take c.slots.count (orders_of c.args.account c.args.side first)) first (g.S.SideRead.orders c.slots.book)
-    c.requires.locks c.slots.invariant.pruned.orders_are
+pub first_own-requires-clause-names : goal.first_own-requires-clause-names
+first_own-requires-clause-names g c = c.slots.invariant.pruned.names
 
-pub take_named-count-requires-clause-can : goal.take_named-count-requires-clause-can
-take_named-count-requires-clause-can g c =
+pub first_own-requires-clause-behind : goal.first_own-requires-clause-behind
+first_own-requires-clause-behind g c = c.slots.invariant.pruned.behind
+
+pub take_off-requires-clause-rests : goal.take_off-requires-clause-rests
+take_off-requires-clause-rests g c = c.in-Some.ensures.rests.rests
+
+pub take_off-requires-clause-fits : goal.take_off-requires-clause-fits
+take_off-requires-clause-fits g c =
+    let first = g.S.SideRead.orders c.args.book.now in
+    let now = g.S.SideRead.orders c.slots.book in
+    let fit = fit-now c.args.sizes c.args.side (take c.slots.count (orders_of c.args.account c.args.side first)) first now
+    c.requires.locks c.slots.invariant.pruned.orders_are in
+    found-All (λ (o : Order). order_lock c.args.side c.args.sizes o < 2 ^ 64) c.in-Some.order.id c.in-Some.order now c.in-Some.ensures.rests.rests fit
+
+pub take_off-requires-clause-can : goal.take_off-requires-clause-can
+take_off-requires-clause-can g c =
     let first = g.S.SideRead.orders c.args.book.now in
     let now = g.S.SideRead.orders c.slots.book in
     let held = c.slots.invariant in
     let all = orders_of c.args.account c.args.side first in
-    let found = order_with c.in-Some.id now in
     let next = pruned-next c.args.sizes c.args.account (slots_in c.args.orders.now) c.args.side c.slots.count first (queue_of c.args.ring.now.bytes.now) c.slots.last now
-    (queue_of c.slots.ring.bytes.now) held.pruned c.in-Some.id c.in-Some.ensures in
+    (queue_of c.slots.ring.bytes.now) held.pruned c.in-Some.order c.in-Some.ensures in
     record {
       accepted = held.accepted;
-      room = room-now c.args.sizes (take c.slots.count all) (on_side c.args.side found) (take c.args.limit all) (queue_of c.args.ring.now.bytes.now) (queue_of c.slots.ring.bytes.now)
+      room = room-now c.args.sizes (take c.slots.count all) (on c.args.side c.in-Some.order ∷ []) (take c.args.limit all) (queue_of c.args.ring.now.bytes.now) (queue_of c.slots.ring.bytes.now)
           held.pruned.ring_is c.requires.can.room
-          (omega (arith, next.within, held.most, c.slots-test.true, one-named c.args.side found, length-take c.slots.count all, length-take c.args.limit all));
+          (omega (arith, next.within, held.most, c.slots-test.true, length-take c.slots.count all, length-take c.args.limit all));
     }
-
-pub slots-smaller : goal.slots-smaller
-slots-smaller g c =
-    let slots = slots_in c.args.orders.now in
-    waiting-fewer c.args.side c.slots.last slots c.in-Some.id (next-held c.args.side c.slots.last slots c.in-Some.id (sym c.in-Some.ensures))
 
 pub slots-preserved : goal.slots-preserved
 slots-preserved g c =
     let held = c.slots.invariant in
-    let now = g.S.SideRead.orders c.slots.book in
-    let after = c.take_named-count.ensures in
+    let after = c.take_off.ensures in
     record {
       pruned =
           pruned-more c.args.sizes c.args.account (slots_in c.args.orders.now) c.args.side c.slots.count (g.S.SideRead.orders c.args.book.now) (queue_of c.args.ring.now.bytes.now)
-          c.slots.last now (queue_of c.slots.ring.bytes.now) held.pruned c.in-Some.id c.in-Some.ensures
-          (g.S.SideRead.orders c.take_named-count.new.book) (queue_of c.take_named-count.new.ring.bytes.now) (c.slots.count + c.take_named-count.result)
-          (ap (λ n. c.slots.count + n) after.count) after.left.orders after.left.queue;
-      most = omega (arith, held.most, c.slots-test.true, after.count, one-named c.args.side (order_with c.in-Some.id now));
+          c.slots.last (g.S.SideRead.orders c.slots.book) (queue_of c.slots.ring.bytes.now) held.pruned c.in-Some.order c.in-Some.ensures
+          (g.S.SideRead.orders c.take_off.new.book) (queue_of c.take_off.new.ring.bytes.now) after.left.orders after.left.queue;
+      most = omega (arith, c.slots-test.true);
       accepted = after.left.accepted;
       book = record {
         holding = after.book.holding;

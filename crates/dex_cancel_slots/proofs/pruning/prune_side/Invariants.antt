@@ -1,9 +1,8 @@
-use Rattle.std.proofs.Common.{◌≡◌, ◌≤◌}
+use Rattle.std.proofs.Common.{◌≡◌, ◌≤◌, ◌-◌}
 use Rattle.dex_ring.specs.Ring.{IsEventQueue}
 use Rattle.dex_accounts.specs.Keeps.{KeepsSide}
 use Rattle.dex_cancel.specs.Leaving.{queue_of}
 use Rattle.dex_cancel_slots.specs.Given.{slots_in}
-use Rattle.dex_cancel_slots.proofs.NextLaws.{waiting}
 use Rattle.dex_cancel_slots.proofs.PruneLaws.{IsPrunedTo}
 use Rattle.dex_cancel_slots.proofs.pruning.prune_side.Given as goal
 
@@ -18,4 +17,4 @@ invariant-slots g l = record {
 }
 
 abbrev pub decreases-slots : goal.decreases-slots
-decreases-slots g l = waiting l.fn.side l.last (slots_in l.orders)
+decreases-slots g l = l.fn.limit - l.count

@@ -8,7 +8,7 @@ pub returns-then-is_same : goal.returns-then-is_same
 unfolding put
 returns-then-is_same c others =
     let same : is_same c.args.address c.args.first ≡ true = sym c.is_same.ensures ∙ c.if-is_same.true in
-    rw same refl
+    rw (same, c.requires) refl
 
 pub returns-then-is_lower : goal.returns-then-is_lower
 unfolding put
@@ -22,4 +22,4 @@ unfolding put
 returns c others =
     let same : is_same c.args.address c.args.first ≡ false = sym c.is_same.ensures ∙ c.if-is_same.false in
     let lower : is_lower c.args.address c.args.first ≡ false = sym c.is_lower.ensures ∙ c.if-is_lower.false in
-    rw (same, lower) refl
+    rw (same, lower, c.requires) refl

@@ -8,4 +8,4 @@ returns-in-Nothing c others = rw c.in-Nothing.is refl
 
 pub returns-in-Moved : goal.returns-in-Moved
 unfolding put
-returns-in-Moved c others = rw (c.in-Moved.is, c.moved.ensures) refl
+returns-in-Moved c others = rw (c.in-Moved.is, c.moved-given.ensures) refl

@@ -3,8 +3,6 @@ use Rattle.dex_types.specs.Rows.{PlainRow, row_of}
 use Rattle.dex_fold.specs.Fold.{act, fold}
 use Rattle.dex_fold.proofs.FoldLaws.{fold-append}
 use Rattle.dex_fold.specs.World.{World}
-use Rattle.dex_script.specs.Drafts.{PlainScript}
-use Rattle.dex_script.specs.Facts.{IsScript}
 use Rattle.dex_bank.specs.Cells.{world_of}
 use Rattle.dex_report.specs.Outcomes.{PlainOutcome}
 use Rattle.dex_replay.specs.Lawful.{IsLawful}
@@ -16,10 +14,10 @@ use Rattle.dex_replay.proofs.replaying.replay.Goals as goal
 
 pub step-requires : goal.step-requires
 step-requires c =
-    let script = c.args.script.now in
-    let is = subst IsScript c.script.view_is c.script.invariant in
+    let script = c.args.script in
+    let is = c.in_ok-cells.ensures.script in
     let rows = c.deref-row-items.result.now in
-    let are : AreOf script rows = sym (ap (λ (s : PlainScript). s.rows) c.script.view_is) ∙ ap (λ some. map row_of some) (sym c.deref-row-items.ensures.value) in
+    let are : AreOf script rows = sym c.in_ok-cells.ensures.rows ∙ ap (λ some. map row_of some) (sym c.deref-row-items.ensures.value) in
     let place = c.loop-row.row-index in
     let row = c.row-item.result in
     can-act script c.loop-row.cells (are-of-script script c.loop-row.cells c.loop-row.invariant.opened) c.loop-row.invariant.its
@@ -30,16 +28,16 @@ pub loop-row-init : goal.loop-row-init
 loop-row-init c =
     let made = c.in_ok-cells.ensures.cells in
     record {
-      opened = opened-opened c.args.script.now c.in_ok-cells.cells made;
-      acted = ap world_of made ∙ opened-world c.args.script.now;
-      its = opened-address c.args.script.now c.in_ok-cells.cells made;
+      opened = opened-opened c.args.script c.in_ok-cells.cells made;
+      acted = ap world_of made ∙ opened-world c.args.script;
+      its = opened-address c.args.script c.in_ok-cells.cells made;
     }
 
 pub loop-row-preserved : goal.loop-row-preserved
 loop-row-preserved c =
-    let script = c.args.script.now in
+    let script = c.args.script in
     let rows = c.deref-row-items.result.now in
-    let are : AreOf script rows = sym (ap (λ (s : PlainScript). s.rows) c.script.view_is) ∙ ap (λ some. map row_of some) (sym c.deref-row-items.ensures.value) in
+    let are : AreOf script rows = sym c.in_ok-cells.ensures.rows ∙ ap (λ some. map row_of some) (sym c.deref-row-items.ensures.value) in
     let place = c.loop-row.row-index in
     let row = c.row-item.result in
     record {
@@ -53,20 +51,20 @@ loop-row-preserved c =
 
 pub returns-in-Ok-clause-outcome : goal.returns-in-Ok-clause-outcome
 returns-in-Ok-clause-outcome c =
-    let script = c.args.script.now in
-    let is = subst IsScript c.script.view_is c.script.invariant in
+    let script = c.args.script in
+    let is = c.in_ok-cells.ensures.script in
     let rows = c.deref-row-items.result.now in
-    let are : AreOf script rows = sym (ap (λ (s : PlainScript). s.rows) c.script.view_is) ∙ ap (λ some. map row_of some) (sym c.deref-row-items.ensures.value) in
+    let are : AreOf script rows = sym c.in_ok-cells.ensures.rows ∙ ap (λ some. map row_of some) (sym c.deref-row-items.ensures.value) in
     let ended = all-acted script rows are c.loop-row.row-index c.loop-row-test.false (world_of c.loop-row.cells) c.loop-row.invariant.acted in
     let both = at-end script c.loop-row.cells is.start is.rows c.loop-row.invariant.opened c.in-Ok.ensures.cells ended in
     subst (λ (outcome : PlainOutcome). IsReplayOf script outcome) (sym c.in-Ok.ensures.outcome) both.0
 
 pub returns-in-Ok-clause-lawful : goal.returns-in-Ok-clause-lawful
 returns-in-Ok-clause-lawful c =
-    let script = c.args.script.now in
-    let is = subst IsScript c.script.view_is c.script.invariant in
+    let script = c.args.script in
+    let is = c.in_ok-cells.ensures.script in
     let rows = c.deref-row-items.result.now in
-    let are : AreOf script rows = sym (ap (λ (s : PlainScript). s.rows) c.script.view_is) ∙ ap (λ some. map row_of some) (sym c.deref-row-items.ensures.value) in
+    let are : AreOf script rows = sym c.in_ok-cells.ensures.rows ∙ ap (λ some. map row_of some) (sym c.deref-row-items.ensures.value) in
     let ended = all-acted script rows are c.loop-row.row-index c.loop-row-test.false (world_of c.loop-row.cells) c.loop-row.invariant.acted in
     let both = at-end script c.loop-row.cells is.start is.rows c.loop-row.invariant.opened c.in-Ok.ensures.cells ended in
     subst (λ (outcome : PlainOutcome). IsLawful script outcome) (sym c.in-Ok.ensures.outcome) both.1

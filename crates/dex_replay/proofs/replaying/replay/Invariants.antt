@@ -9,7 +9,7 @@ use Rattle.dex_replay.proofs.replaying.replay.Given as goal
 -- the rows so far have acted, and the cells are those that were opened
 abbrev pub invariant-loop-row : goal.invariant-loop-row
 invariant-loop-row l = record {
-  opened : opened_of l.cells ≡ opened l.script;
-  acted : world_of l.cells ≡ fold (take l.row-index l.script.rows) (start_world l.script);
+  opened : opened_of l.cells ≡ opened l.fn.script;
+  acted : world_of l.cells ≡ fold (take l.row-index l.fn.script.rows) (start_world l.fn.script);
   its : All HasItsAddress l.cells.markets;
 }

@@ -11,6 +11,6 @@ use Rattle.dex_run.proofs.building.market_gates.Given as goal
 
 abbrev pub invariant-loop-cell : goal.invariant-loop-cell
 invariant-loop-cell l = record {
-  gates : AllZip (λ (cell : MarketCellState) (gate : GateView (Stamped Call) MarketOrigin). IsMarketGate l.fn.script cell.start gate) l.yielded l.gates.items;
+  gates : AllZip (λ (cell : MarketCellState) (gate : GateView (Stamped Call) MarketOrigin). IsMarketGate l.fn.outline cell.start gate) l.yielded l.gates.items;
   passes : l.passes.items ≡ first_passes 1 l.gates.items;
 }

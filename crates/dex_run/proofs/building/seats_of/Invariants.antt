@@ -9,5 +9,5 @@ invariant-loop-lane l = record {
   markets : l.market_passes.items ≡ first_passes l.lane l.fn.markets;
   wallets : l.wallet_passes.items ≡ first_passes l.lane l.fn.wallets;
   seats : l.seats.items
-      ≡ map (seat_in (record { script = l.fn.script; markets = l.fn.markets; wallets = l.fn.wallets })) (range_with_len 1 (l.lane - 1));
+      ≡ map (seat_in (record { script = l.fn.outline; markets = l.fn.markets; wallets = l.fn.wallets })) (range_with_len 1 (l.lane - 1));
 }

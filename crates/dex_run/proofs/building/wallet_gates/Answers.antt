@@ -10,7 +10,7 @@ use Rattle.dex_run.proofs.building.wallet_gates.Goals as goal
 pub loop-cell-preserved : goal.loop-cell-preserved
 loop-cell-preserved c = record {
   gates = zip-more (λ (cell : CellState) (gate : GateView (Stamped WalletEntry) WalletOrigin).
-      IsWalletGate c.args.script.now (record { address = cell.address; bytes = cell.start }) gate) c.loop-cell.yielded
+      IsWalletGate c.args.outline.now (record { address = cell.address; bytes = cell.start }) gate) c.loop-cell.yielded
       c.loop-cell.gates.items c.add.new.items.items c.in-Some.cell c.in_ok-gate.gate c.loop-cell.invariant.gates c.in_ok-gate.ensures.gate c.in_ok-add.ensures;
   passes = firsts-more c.loop-cell.gates.items c.add.new.items.items c.loop-cell.passes.items c.add-in-loop-cell.new.items.items c.in_ok-gate.gate c.in_ok-gate.pass
       c.loop-cell.invariant.passes c.in_ok-gate.ensures.pass c.in_ok-add.ensures c.in_ok-add-2.ensures;

@@ -12,6 +12,6 @@ use Rattle.dex_run.proofs.building.wallet_gates.Given as goal
 abbrev pub invariant-loop-cell : goal.invariant-loop-cell
 invariant-loop-cell l = record {
   gates : AllZip (λ (cell : CellState) (gate : GateView (Stamped WalletEntry) WalletOrigin).
-      IsWalletGate l.fn.script (record { address = cell.address; bytes = cell.start }) gate) l.yielded l.gates.items;
+      IsWalletGate l.fn.outline (record { address = cell.address; bytes = cell.start }) gate) l.yielded l.gates.items;
   passes : l.passes.items ≡ first_passes 1 l.gates.items;
 }

@@ -18,10 +18,10 @@ close-requires-clause-lanes g c =
 
 pub returns-in-Ok-clause-run : goal.returns-in-Ok-clause-run
 returns-in-Ok-clause-run g c =
-    subst (λ (s : PlainScript). IsRunOf s (outcome_of c.in-Ok.outcome)) c.in_ok-bank.ensures.bank
+    subst (λ (s : PlainScript). IsRunOf s (outcome_of c.in-Ok.outcome)) (c.in_ok-bank.ensures.bank ∙ c.in_ok-outline.ensures)
     (c.in-Ok.ensures.run (after-done c.in_ok-bank.bank c.in_ok-bank.seats.items c.in_ok-seats.seats.items c.in_ok-seats.ensures))
 
 pub returns-in-Ok-clause-one_order : goal.returns-in-Ok-clause-one_order
 returns-in-Ok-clause-one_order g c =
-    subst (λ (s : PlainScript). IsOneOrder s (outcome_of c.in-Ok.outcome)) c.in_ok-bank.ensures.bank
+    subst (λ (s : PlainScript). IsOneOrder s (outcome_of c.in-Ok.outcome)) (c.in_ok-bank.ensures.bank ∙ c.in_ok-outline.ensures)
     (c.in-Ok.ensures.one_order (after-done c.in_ok-bank.bank c.in_ok-bank.seats.items c.in_ok-seats.seats.items c.in_ok-seats.ensures))

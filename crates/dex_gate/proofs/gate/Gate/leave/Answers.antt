@@ -5,13 +5,13 @@ use Rattle.dex_gate.specs.PassView.{PassView}
 use Rattle.dex_gate.proofs.Seating.{sits, is_pass, view_of_posed}
 use Rattle.dex_gate.proofs.gate.Gate.leave.Goals as goal
 
-pub pass_on-requires-clause-table : goal.pass_on-requires-clause-table
-pass_on-requires-clause-table g c =
+pub pass_on-next-requires-clause-table : goal.pass_on-next-requires-clause-table
+pass_on-next-requires-clause-table g c =
     let at = sits _ _ _ (Out c.args.turn.start) _ _ c.pass.invariant c.pass.view_is c.requires.gate c.requires.turn.2 in
     (search rules, at.table_so ∙ sym (ap (λ z. z.table) c.self.view_is))
 
-pub pass_on-requires-clause-turn : goal.pass_on-requires-clause-turn
-pass_on-requires-clause-turn g c =
+pub pass_on-next-requires-clause-turn : goal.pass_on-next-requires-clause-turn
+pass_on-next-requires-clause-turn g c =
     let at = sits _ _ _ (Out c.args.turn.start) _ _ c.pass.invariant c.pass.view_is c.requires.gate c.requires.turn.2 in
     let value = ap (λ z. z.value) c.turn.view_is in
     record {
@@ -26,7 +26,7 @@ pass_on-requires-clause-turn g c =
 pub invariant_of-pass : goal.invariant_of-pass
 invariant_of-pass g c =
     let at = sits _ _ _ (Out c.args.turn.start) _ _ c.pass.invariant c.pass.view_is c.requires.gate c.requires.turn.2 in
-    is_pass _ _ _ _ (c.pass_on.ensures.passed at.card _ _ at.posed_so).0
+    is_pass _ _ _ _ (c.pass_on-next.ensures.passed at.card _ _ at.posed_so).0
 
 pub returns-clause-pass : goal.returns-clause-pass
 returns-clause-pass g c =
@@ -34,10 +34,10 @@ returns-clause-pass g c =
     let value = ap (λ z. z.value) c.turn.view_is in
     let after : PassView g.row.V-Entry.Denot g.row.V-Origin.Denot → g.row.V.Denot → PassView g.row.V-Entry.Denot g.row.V-Origin.Denot = λ z x.
     record z { seen = g.V.Journaled.entries x; mine = z.mine ++ added c.args.turn.start (g.V.Journaled.entries x); stage = Idle } in
-    view_of_posed _ _ _ _ _ _ c.pass_on.ensures.table (c.pass_on.ensures.passed at.card _ _ at.posed_so).0 ∙ (λ i. after (at.shown_so i) (value i))
+    view_of_posed _ _ _ _ _ _ c.pass_on-next.ensures.table (c.pass_on-next.ensures.passed at.card _ _ at.posed_so).0 ∙ (λ i. after (at.shown_so i) (value i))
 
 pub returns-clause-seen : goal.returns-clause-seen
 returns-clause-seen g c =
     let at = sits _ _ _ (Out c.args.turn.start) _ _ c.pass.invariant c.pass.view_is c.requires.gate c.requires.turn.2 in
     let value = ap (λ z. z.value) c.turn.view_is in
-    subst (λ (z : PassView g.row.V-Entry.Denot g.row.V-Origin.Denot × g.row.V.Denot). Extends z.0.seen (g.V.Journaled.entries z.1)) (λ i. (at.shown_so i, value i)) (c.pass_on.ensures.passed at.card _ _ at.posed_so).1
+    subst (λ (z : PassView g.row.V-Entry.Denot g.row.V-Origin.Denot × g.row.V.Denot). Extends z.0.seen (g.V.Journaled.entries z.1)) (λ i. (at.shown_so i, value i)) (c.pass_on-next.ensures.passed at.card _ _ at.posed_so).1

@@ -1,0 +1,57 @@
+//! The calls that only borrow a script come to what those come to that take it.
+
+use crate::answering::{ACCOUNTS, ASK, BOB_USD, USUAL, WALLETS, joined};
+use dex_bank::Cells;
+use dex_report::{Outcome, report_text};
+use dex_run::build;
+use dex_script::{Script, read_script};
+use std::alloc::Global;
+use std::test::Fail;
+
+// The script of two traders, one on each of two lanes, with three rows.
+fn script(alloc: Global) -> Result<Script, Fail> {
+    let text = joined(alloc, &[WALLETS, b"0", BOB_USD, USUAL, ACCOUNTS, ASK])?;
+    match read_script(alloc, &text) {
+        Ok(script) => Ok(script),
+        Err(_) => Err(Fail::new("no script")),
+    }
+}
+
+// What the cells of the script leave when no row has acted.
+fn left(alloc: Global, cells: Cells) -> Result<Outcome, Fail> {
+    match cells.close(alloc) {
+        Ok(outcome) => Ok(outcome),
+        Err(_) => Err(Fail::new("no memory")),
+    }
+}
+
+// The report of what is left when the script's own accounts went into the cells.
+fn wanted(alloc: Global, script: Script) -> Result<Vec<u8>, Fail> {
+    let (cells, rows) = Cells::of_script(alloc, script)?;
+    if rows.len() != 3 {
+        return Err(Fail::new("not three rows"));
+    }
+    Ok(report_text(alloc, &left(alloc, cells)?, 0)?)
+}
+
+#[test]
+fn cells_are_opened(rt: HostRuntime) -> Result<(), Fail> {
+    let alloc = rt.alloc();
+    let script = script(alloc)?;
+    let outcome = left(alloc, Cells::open(alloc, &script)?)?;
+    assert_eq!(rt; report_text(alloc, &outcome, 0)?, wanted(alloc, script)?);
+    Ok(())
+}
+
+#[test]
+fn a_bank_is_built(rt: HostRuntime) -> Result<(), Fail> {
+    let alloc = rt.alloc();
+    let script = script(alloc)?;
+    let (bank, seats) = build(alloc, &script)?;
+    assert_eq!(rt; seats.len(), 2);
+    let Ok(outcome) = bank.close(alloc, seats) else {
+        return Err(Fail::new("no memory"));
+    };
+    assert_eq!(rt; report_text(alloc, &outcome, 0)?, wanted(alloc, script)?);
+    Ok(())
+}

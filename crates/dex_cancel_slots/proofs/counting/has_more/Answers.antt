@@ -1,0 +1,52 @@
+use Rattle.std.proofs.Common.{length, refl, sym, arith}
+use Rattle.std.proofs.lemmas.Bool.{le-ltb, lt-ltb}
+use Rattle.dex_types.specs.Cancel.{all_orders_of}
+use Rattle.dex_orders.proofs.SlotLaw.{length-slots_of}
+use Rattle.dex_cancel.specs.Counting.{count_of_client}
+use Rattle.dex_cancel_slots.specs.Given.{slots_in}
+use Rattle.dex_cancel_slots.specs.Slots.{has_client, orders_in}
+use Rattle.dex_cancel_slots.proofs.AnswerLaws.{told-count}
+use Rattle.dex_cancel_slots.proofs.SlotSteps.{count-step}
+use Rattle.dex_cancel_slots.proofs.TakenLaws.{past-taken}
+use Rattle.dex_cancel_slots.proofs.counting.has_more.Goals as goal
+
+pub returns-then-count-than : goal.returns-then-count-than
+returns-then-count-than g c =
+    let bids = g.B.SideRead.orders c.args.bids.now in
+    let asks = g.A.SideRead.orders c.args.asks.now in
+    sym (lt-ltb c.args.than (count_of_client c.args.client (all_orders_of c.args.account bids asks))
+    (omega (
+      arith,
+      c.if-count-than.true,
+      c.count_client_at-count.ensures.count,
+      c.slots.invariant.sum,
+      count-step (has_client c.args.client) bids asks (slots_in c.args.orders.now) c.slots.slot
+          (omega (arith, length-slots_of c.args.orders.now.bytes.now, c.slots-test.true, c.taken_end-end.ensures.within)),
+      told-count c.args.account (slots_in c.args.orders.now) bids asks c.requires.names c.args.client,
+    )))
+
+pub slots-preserved : goal.slots-preserved
+slots-preserved g c =
+    let bids = g.B.SideRead.orders c.args.bids.now in
+    let asks = g.A.SideRead.orders c.args.asks.now in
+    let step = count-step (has_client c.args.client) bids asks (slots_in c.args.orders.now) c.slots.slot
+    (omega (arith, length-slots_of c.args.orders.now.bytes.now, c.slots-test.true, c.taken_end-end.ensures.within)) in
+    record {
+      sum = omega (arith, step, c.count_client_at-count.ensures.count, c.slots.invariant.sum);
+      small = omega (arith, c.count_client_at-count.ensures.one, c.slots.invariant.small);
+      most = omega (arith, c.if-count-than.false);
+    }
+
+pub returns : goal.returns
+returns g c =
+    let bids = g.B.SideRead.orders c.args.bids.now in
+    let asks = g.A.SideRead.orders c.args.asks.now in
+    sym (le-ltb c.args.than (count_of_client c.args.client (all_orders_of c.args.account bids asks))
+    (omega (
+      arith,
+      c.slots.invariant.sum,
+      c.slots.invariant.most,
+      past-taken (λ s. length (orders_in (has_client c.args.client) bids asks s)) (λ later. refl) c.args.orders.now.bytes.now c.taken_end-end.result c.slots.slot
+          (omega (arith, c.slots-test.false)) c.taken_end-end.ensures.free,
+      told-count c.args.account (slots_in c.args.orders.now) bids asks c.requires.names c.args.client,
+    )))

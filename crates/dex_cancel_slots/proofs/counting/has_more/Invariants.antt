@@ -1,0 +1,15 @@
+use Rattle.std.proofs.Common.{◌≡◌, ◌≤◌, ◌+◌, ◌-◌, drop, length}
+use Rattle.dex_cancel_slots.specs.Given.{slots_in}
+use Rattle.dex_cancel_slots.specs.Slots.{has_client, orders_in}
+use Rattle.dex_cancel_slots.proofs.counting.has_more.Given as goal
+
+abbrev pub invariant-slots : goal.invariant-slots
+invariant-slots g l =
+    let named = orders_in (has_client l.client) (g.B.SideRead.orders l.bids) (g.A.SideRead.orders l.asks) in record {
+      sum : l.count + length (named (drop l.slot (slots_in l.orders))) ≡ length (named (slots_in l.orders));
+      small : l.count ≤ l.slot;
+      most : l.count ≤ l.than;
+    }
+
+abbrev pub decreases-slots : goal.decreases-slots
+decreases-slots g l = l.end - l.slot

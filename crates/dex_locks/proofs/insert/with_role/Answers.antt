@@ -1,7 +1,0 @@
-use Rattle.std.proofs.Common.{refl}
-use Rattle.dex_locks.specs.Places.{put}
-use Rattle.dex_locks.proofs.insert.with_role.Goals as goal
-
-pub returns-in-None : goal.returns-in-None
-unfolding put
-returns-in-None c = rw c.in-None.is refl
