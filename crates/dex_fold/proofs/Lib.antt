@@ -1,1 +1,4 @@
 pub mod FoldLaws
+pub mod GroupLaws
+pub mod ItemLaws
+pub mod FarLaws

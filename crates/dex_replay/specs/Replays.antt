@@ -7,6 +7,7 @@ use Rattle.dex_accounts.specs.StandsFor.{StandsFor}
 use Rattle.dex_cell.specs.CellState.{AreOfOneMarket}
 use Rattle.dex_dump.specs.Accepted.{AreAccepted, address_of}
 use Rattle.dex_fold.specs.Fold.{fold}
+use Rattle.dex_fold.specs.Items.{Item, fold_items}
 use Rattle.dex_fold.specs.World.{MarketState, WalletState, World}
 use Rattle.dex_report.specs.Outcomes.{PlainMarketJournal, PlainOutcome, PlainWalletJournal}
 use Rattle.dex_script.specs.Drafts.{PlainScript}
@@ -70,3 +71,22 @@ pub record IsReplayOf (script : PlainScript) (outcome : PlainOutcome) : Type 0 w
   pub stand : AllZip (λ (accounts : PlainMarketAccounts) (state : MarketState). StandsFor accounts state.market)
       outcome.accounts.markets (end_world script).markets
   pub amounts : outcome.accounts.wallets ≡ with_amounts script.start.wallets (end_world script).wallets
+
+-- ---- items
+
+-- the world when items have acted in this order
+abbrev pub world_after : PlainScript → List Item → World
+world_after script items = fold_items items (start_world script)
+
+-- the outcome is what is left when these items have acted: the journals are those of that world, the accounts of markets
+-- stand for its markets, and the wallets have its amounts and are else as they were
+pub record IsLeftBy (script : PlainScript) (items : List Item) (outcome : PlainOutcome) : Type 0 where
+  pub start : IsOfStart script outcome
+  pub accepted : AreAccepted outcome.accounts
+  pub markets : map (λ (journal : PlainMarketJournal). journal.entries) outcome.markets
+      ≡ map (λ (state : MarketState). state.entries) (world_after script items).markets
+  pub wallets : map (λ (journal : PlainWalletJournal). journal.entries) outcome.wallets
+      ≡ map (λ (state : WalletState). state.entries) (world_after script items).wallets
+  pub stand : AllZip (λ (accounts : PlainMarketAccounts) (state : MarketState). StandsFor accounts state.market)
+      outcome.accounts.markets (world_after script items).markets
+  pub amounts : outcome.accounts.wallets ≡ with_amounts script.start.wallets (world_after script items).wallets

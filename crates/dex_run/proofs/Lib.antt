@@ -16,3 +16,5 @@ mod Acted
 mod Taking
 mod Entering
 mod SeatAfter
+pub mod EachKind
+mod Marketing
