@@ -1,5 +1,5 @@
 -- Items: the rows of one number, which act together, all or none.
-use Rattle.std.specs.Prelude.{ℕ, ◌≡◌, ◌==◌, Bool, true, false, List, [], ◌∷◌, Option, Some, None, is_some, map, if◌then◌else◌}
+use Rattle.std.specs.Prelude.{ℕ, ◌≡◌, ◌==◌, Bool, true, false, List, [], ◌∷◌, All, Option, Some, None, is_some, map, if◌then◌else◌}
 use Rattle.std.specs.List.{filter, list_any}
 use Rattle.dex_types.specs.declared.addresses.Address.{Address}
 use Rattle.dex_types.specs.declared.refusals.Refusal.{Refusal}
@@ -25,6 +25,10 @@ pair_of first second = record { first = first; others = second ∷ [] }
 abbrev pub items_of : List PlainRow → List Item
 items_of rows = grouped (λ (row : PlainRow). row.number) rows
 
+-- the rows of a lane
+abbrev pub rows_of_lane : ℕ → List PlainRow → List PlainRow
+rows_of_lane lane rows = filter (λ (row : PlainRow). row.lane == lane) rows
+
 -- the items of a lane
 abbrev pub items_of_lane : ℕ → List Item → List Item
 items_of_lane lane items = filter (λ (item : Item). item.first.lane == lane) items
@@ -33,6 +37,11 @@ items_of_lane lane items = filter (λ (item : Item). item.first.lane == lane) it
 pub record ShareNothing (one other : PlainRow) : Type 0 where
   pub markets : is_same one.market other.market ≡ false
   pub wallets : (wallet : Address) → names other wallet ≡ true → names one wallet ≡ false
+
+-- so do each two of these rows
+abbrev pub EachApart : List PlainRow → Type 0
+EachApart [] = Unit {0}
+EachApart (row ∷ rows) = All (ShareNothing row) rows × EachApart rows
 
 -- ---- all or none
 

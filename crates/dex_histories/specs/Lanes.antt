@@ -1,17 +1,13 @@
 -- What a lane made.
-use Rattle.std.specs.Prelude.{ℕ, ◌≡◌, ◌==◌, ◌<◌, ◌&&◌, true, false, not, List, [], ◌∷◌, All, length, map, take}
+use Rattle.std.specs.Prelude.{ℕ, ◌≡◌, ◌==◌, ◌<◌, ◌&&◌, true, false, not, List, All, length, map, take}
 use Rattle.std.specs.List.{AllPairs, list_any}
-use Rattle.dex_types.specs.declared.addresses.Address.{Address}
-use Rattle.dex_types.specs.Addresses.{is_same}
-use Rattle.dex_types.specs.Rows.{PlainRow}
-use Rattle.dex_fold.specs.Fold.{names}
 use Rattle.dex_fold.specs.Groups.{Group, grouped, members}
+use Rattle.dex_fold.specs.Items.{rows_of_lane}
 use Rattle.dex_types.specs.declared.movements.Movement.{Movement}
 use Rattle.dex_history.specs.Journal.{Call, asked_of, asked_wallets, front, is_held, is_refused}
 use Rattle.dex_replay.specs.Lawful.{IsSight}
 use Rattle.dex_script.specs.Drafts.{PlainScript}
 use Rattle.dex_stamps.specs.Stamped.{Stamped}
-use Rattle.dex_journals.specs.Made.{rows_of_lane}
 
 -- a call moves each wallet that its row names, once, by rising address
 abbrev pub MovesEach : Call → Type 0
@@ -35,16 +31,6 @@ IsAsOthers calls call = is_held call.item ≡ (list_any (λ (other : Stamped Cal
 -- of an item's calls none is refused and none held back, or each is the one or the other
 abbrev pub AreAllOrNone : Group (Stamped Call) → Type 0
 AreAllOrNone calls = All (IsAsOthers (members calls)) (members calls)
-
--- two rows name different markets, and no wallet both
-pub record AreApart (one other : PlainRow) : Type 0 where
-  pub markets : is_same one.market other.market ≡ false
-  pub wallets : (wallet : Address) → names other wallet ≡ true → names one wallet ≡ false
-
--- so do each two rows of an item
-abbrev pub EachApart : List PlainRow → Type 0
-EachApart [] = Unit {0}
-EachApart (row ∷ rows) = All (AreApart row) rows × EachApart rows
 
 -- the calls that a lane of the script made so far: they ask for its first rows, one for each, in their order; each sees what a
 -- row of the script may see and moves the wallets of its row; their stamps rise from item to item; and each item did all or none

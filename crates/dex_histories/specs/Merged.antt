@@ -6,14 +6,14 @@ use Rattle.dex_types.specs.Accounts.{PlainAccount, PlainMarketAccounts}
 use Rattle.dex_history.specs.Journal.{Call}
 use Rattle.dex_bank.specs.Closed.{closed}
 use Rattle.dex_fold.specs.Groups.{members}
-use Rattle.dex_fold.specs.Items.{Item, items_of}
+use Rattle.dex_fold.specs.Items.{Item, items_of, rows_of_lane}
 use Rattle.dex_report.specs.Outcomes.{PlainOutcome}
 use Rattle.dex_script.specs.Drafts.{PlainScript}
 use Rattle.dex_script.specs.Facts.{IsScript}
 use Rattle.dex_stamps.specs.Stamped.{Stamped}
 use Rattle.dex_journals.specs.Journals.{BankMarketState, BankWalletState, IsBankMarket, IsBankWallet}
 use Rattle.dex_journals.specs.Journals.{market_calls, market_origin, wallet_entries, wallet_origin}
-use Rattle.dex_journals.specs.Made.{calls_of_lane, calls_on, entries_of_lane, entries_on, rows_of_lane}
+use Rattle.dex_journals.specs.Made.{calls_of_lane, calls_on, entries_of_lane, entries_on}
 use Rattle.dex_histories.specs.Lanes.{EachApart, IsLaneDone, Lane}
 
 -- a market that the script starts with, when all lanes are done: for each lane its journal has just the lane's calls on the

@@ -1,5 +1,5 @@
 -- Histories of a market: each row answered by the step at its place.
-use Rattle.std.specs.Prelude.{ℕ, ◌≡◌, ◌&&◌, Bool, true, false, List, [], ◌∷◌, ◌++◌, Option, Some, None, Result, Ok, map, take, replicate, if◌then◌else◌}
+use Rattle.std.specs.Prelude.{ℕ, ◌≡◌, ◌&&◌, Bool, true, false, List, [], ◌∷◌, ◌++◌, Option, Some, None, Result, Ok, Err, map, take, replicate, if◌then◌else◌}
 use Rattle.dex_types.specs.declared.instructions.BadData.{BadData}
 use Rattle.dex_types.specs.declared.instructions.Ix.{Ix}
 use Rattle.dex_types.specs.declared.instructions.Ix.TheVariants.{MatchOrders, SendTake}
@@ -111,6 +111,11 @@ pub record Call : Type 0 where
 abbrev pub is_take : Result Ix BadData → Bool
 is_take (Ok (SendTake side price lots max_pc min_lots min_pc limit)) = true
 is_take instruction = false
+
+-- what was decoded is a take, or broke a rule: the data of a row that can be held back, or that any market refuses
+abbrev pub is_take_or_bad : Result Ix BadData → Bool
+is_take_or_bad (Err bad) = true
+is_take_or_bad (Ok ix) = is_take (Ok ix)
 
 -- the reply is that there is nothing to tell
 abbrev pub is_done : Reply → Bool

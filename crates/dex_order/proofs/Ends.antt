@@ -20,7 +20,7 @@ use Rattle.dex_replay.specs.Lawful.{IsLawful}
 use Rattle.dex_replay.specs.Replays.{IsLeftBy, with_amounts, world_after}
 use Rattle.dex_replay.proofs.MappedLists.{map-map}
 use Rattle.dex_histories.specs.Merged.{AreMerged, Histories, IsMarketMerged, IsWalletMerged, left}
-use Rattle.dex_order.specs.OneOrder.{IsOneOrder}
+use Rattle.dex_replay.specs.Runs.{IsOneOrder}
 use Rattle.dex_order.proofs.Fronts.{market_front, market_with, wallet_front, wallet_with, world_front}
 use Rattle.dex_order.proofs.Journals.{are-legal, made, market-journal, market-start, ordered, wallet-journal, wallet-start}
 use Rattle.dex_order.proofs.Once.{are-once}

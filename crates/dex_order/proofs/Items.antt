@@ -9,7 +9,7 @@ use Rattle.dex_history.specs.Journal.{Asked, Call, asked_of}
 use Rattle.dex_script.specs.Drafts.{PlainScript}
 use Rattle.dex_script.specs.Facts.{IsRowOf}
 use Rattle.dex_stamps.specs.Stamped.{Stamped}
-use Rattle.dex_journals.specs.Made.{rows_of_lane}
+use Rattle.dex_fold.specs.Items.{rows_of_lane}
 use Rattle.dex_replay.specs.Lawful.{IsSight}
 use Rattle.dex_replay.proofs.MappedLists.{All-unmap}
 use Rattle.dex_histories.specs.Lanes.{IsLaneDone, Lane, MovesEach}

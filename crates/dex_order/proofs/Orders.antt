@@ -5,11 +5,10 @@ use Rattle.std.proofs.lemmas.Bool.{cases_Bool, cond-false, cond-true, eqb-true, 
 use Rattle.std.proofs.lemmas.List.Elements.{All-cons, All-nil, All-weaker}
 use Rattle.dex_types.specs.Rows.{PlainRow}
 use Rattle.dex_fold.specs.Items as item
-use Rattle.dex_fold.specs.Items.{items_of, items_of_lane}
+use Rattle.dex_fold.specs.Items.{items_of, items_of_lane, rows_of_lane}
 use Rattle.dex_script.specs.Drafts.{PlainScript}
 use Rattle.dex_script.specs.Facts.{lanes_of}
 use Rattle.dex_stamps.specs.Stamped.{Stamped}
-use Rattle.dex_journals.specs.Made.{rows_of_lane}
 use Rattle.dex_replay.proofs.MappedLists.{filter-of}
 use Rattle.dex_histories.specs.Merged.{AreMerged, Histories}
 use Rattle.dex_order.proofs.Gathered.{filter-none, one-within}

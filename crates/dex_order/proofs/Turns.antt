@@ -10,12 +10,11 @@ use Rattle.dex_types.specs.Rows.{PlainRow}
 use Rattle.dex_history.specs.Journal.{Asked, Call, asked_of}
 use Rattle.dex_fold.specs.Groups.{Group, grouped, map_group, members}
 use Rattle.dex_fold.specs.Items as item
-use Rattle.dex_fold.specs.Items.{items_of}
+use Rattle.dex_fold.specs.Items.{items_of, rows_of_lane}
 use Rattle.dex_fold.proofs.GroupLaws.{EachTwo, Goes, IsOneStamp, Rise, grouped-agree, grouped-flat, grouped-map, grouped-rise, grouped-stamps}
 use Rattle.dex_script.specs.Drafts.{PlainScript}
 use Rattle.dex_script.specs.Facts.{IsRowOf}
 use Rattle.dex_stamps.specs.Stamped.{Stamped}
-use Rattle.dex_journals.specs.Made.{rows_of_lane}
 use Rattle.dex_replay.proofs.MappedLists.{All-unmap, map-map}
 use Rattle.dex_histories.specs.Lanes.{AreAllOrNone, EachApart, IsAsOthers, IsBefore, IsLaneDone, Lane, number_in}
 use Rattle.dex_order.proofs.Gathered.{filter-all, filter-none, none-before}

@@ -16,5 +16,3 @@ mod Acted
 mod Taking
 mod Entering
 mod SeatAfter
-pub mod EachKind
-mod Marketing

@@ -8,4 +8,3 @@ pub mod Closing
 pub mod Opened
 pub mod Running
 pub mod Turns
-pub mod Held

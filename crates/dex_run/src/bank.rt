@@ -5,7 +5,7 @@ ghost use Rattle.std.specs.List.{list_any};
 ghost use Rattle.dex_types.specs.Addresses.{is_same};
 ghost use Rattle.dex_places.specs.Places.{IsPlace};
 ghost use Rattle.dex_gate.specs.GateView.{GateView};
-ghost use Rattle.dex_run.specs.Bank.{IsBank, market_addresses, wallet_addresses};
+ghost use Rattle.dex_run.specs.Bank.{IsBank, wallet_addresses};
 
 use dex_gate::Gate;
 use dex_journals::{BankMarket, BankWallet};
@@ -48,15 +48,6 @@ impl Bank {
         ensures bank { IsBank self.now }
     {
         self.wallet_places.place(address)
-    }
-
-    /// The place of the market of an address.
-    pub(crate) fn market_place(&self, address: Address) -> usize
-        requires { list_any (is_same address) (market_addresses self.now.script) ≡ true }
-        ensures place { IsPlace address (market_addresses self.now.script) result }
-        ensures bank { IsBank self.now }
-    {
-        self.market_places.place(address)
     }
 
     /// The gate of the market at a place.

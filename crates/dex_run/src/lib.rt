@@ -7,7 +7,6 @@ mod closing;
 mod columns;
 mod lane;
 mod made;
-mod markets;
 mod outline;
 mod running;
 mod seat;

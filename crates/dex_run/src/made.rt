@@ -10,10 +10,3 @@ pub struct Made {
     pub entry: Entry,
     pub stamp: Stamp,
 }
-
-/// What is told of an item beside its rows: of its first row, and of its second where it has one.
-#[derive(Drop)]
-pub struct Acted {
-    pub first: Made,
-    pub second: Option<Made>,
-}
