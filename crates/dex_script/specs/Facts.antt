@@ -50,17 +50,19 @@ pub record AreLegs (one other : PlainRow) : Type 0 where
   pub second : IsLeg other
   pub apart : ShareNothing one other
 
--- the rows of a script: not too many items, each row of the start, with numbers that never fall, and rows of one number are legs
+-- no two of these rows have one number: there is no swap
+abbrev pub HasNoSwap : List PlainRow → Type 0
+HasNoSwap rows = AllPairs (λ (one other : PlainRow). one.number < other.number) rows
+
+-- the rows of a script: not too many items, each row of the start, with numbers that never fall, and rows of one number are legs.
+-- Today no two rows have one number (`single`)
 pub record AreRows (script : PlainScript) : Type 0 where
   pub few : length (items_of script.rows) ≤ 100000
   pub each : All (IsRowOf script.start) script.rows
   pub rising : AllPairs (λ (one other : PlainRow). one.number ≤ other.number) script.rows
   pub legs : AllPairs (λ (one other : PlainRow). one.number ≡ other.number → AreLegs one other) script.rows
+  pub single : HasNoSwap script.rows
   pub lanes : script.lanes ≡ lanes_of script.rows
-
--- no two rows of a script have one number: it has no swap
-abbrev pub HasNoSwap : PlainScript → Type 0
-HasNoSwap script = AllPairs (λ (one other : PlainRow). one.number < other.number) script.rows
 
 -- what holds of every script
 pub record IsScript (script : PlainScript) : Type 0 where
