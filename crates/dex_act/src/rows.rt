@@ -1,13 +1,12 @@
 //! One row, on its market's cell and on the cells of the wallets that it names.
 
-ghost use Rattle.std.specs.Prelude.{◌≡◌, ◌<◌, ◌++◌, ◌∷◌, [], List, Ok, length, map};
+ghost use Rattle.std.specs.Prelude.{◌≡◌, ◌<◌, ◌++◌, ◌∷◌, [], List, Ok, false, length, map, true};
 ghost use Rattle.std.specs.List.{All};
-ghost use Rattle.dex_types.specs.declared.refusals.Refusal.{Refusal};
-ghost use Rattle.dex_types.specs.declared.replies.Reply.TheVariants.{Done, Refused};
+ghost use Rattle.dex_types.specs.declared.replies.Reply.TheVariants.{Done};
 ghost use Rattle.dex_types.specs.Rows.{row_of};
 ghost use Rattle.dex_types.specs.Transfers.{no_transfers};
-ghost use Rattle.dex_history.specs.Journal.{Call};
-ghost use Rattle.dex_cell.specs.CellState.{CanHold, HasActed, HasSpare, IsDone, IsFor, IsMarketCell};
+ghost use Rattle.dex_history.specs.Journal.{Call, is_refusal};
+ghost use Rattle.dex_cell.specs.CellState.{CanHold, HasActed, HasSpare, IsFor, IsMarketCell};
 ghost use Rattle.dex_cell.specs.CellState.{answer_on, held_on, refused_on, step_on};
 ghost use Rattle.dex_fold.specs.Fold.{wallet_acted};
 ghost use Rattle.dex_wallet.specs.CellState.{IsWalletCell};
@@ -33,7 +32,7 @@ fn accept(
     requires wallets { SeesCells seen.now wallets.old }
     requires decided { Ok plan.now ≡ answer_on row.now seen.now market.old }
     ensures reply { result ≡ (step_on row.entry.now seen.now market.old).reply }
-    ensures done { IsDone result }
+    ensures done { is_refusal result ≡ false }
     ensures acted { HasActed row.entry.now seen.now market.old market.new }
     ensures cell { IsMarketCell market.new }
     ensures wallets { wallets.new ≡ cells_paid row.entry.now seen.now market.old wallets.old }
@@ -53,8 +52,7 @@ fn answer(market: &mut MarketCell, wallets: &mut [WalletCell], row: &Row, seen: 
     requires wallets { SeesCells seen.now wallets.old }
     ensures reply { result ≡ (step_on row.entry.now seen.now market.old).reply }
     ensures acted { HasActed row.entry.now seen.now market.old market.new }
-    ensures refused { (why : Refusal) → result ≡ Refused why
-        → market.new ≡ refused_on row.entry.now seen.now market.old }
+    ensures refused { is_refusal result ≡ true → market.new ≡ refused_on row.entry.now seen.now market.old }
     ensures cell { IsMarketCell market.new }
     ensures wallets { wallets.new ≡ cells_paid row.entry.now seen.now market.old wallets.old }
 {
@@ -87,8 +85,7 @@ pub fn act(market: &mut MarketCell, wallets: &mut [WalletCell], row: &Row, seen:
     requires wallets { SeesCells seen.now wallets.old }
     ensures reply { result ≡ (step_on row.entry.now seen.now market.old).reply }
     ensures acted { HasActed row.entry.now seen.now market.old market.new }
-    ensures refused { (why : Refusal) → result ≡ Refused why
-        → market.new ≡ refused_on row.entry.now seen.now market.old }
+    ensures refused { is_refusal result ≡ true → market.new ≡ refused_on row.entry.now seen.now market.old }
     ensures cell { IsMarketCell market.new }
     ensures wallets { wallets.new ≡ cells_acted row.entry.now seen.now market.old wallets.old }
     ensures states { map wallet_state_of wallets.new

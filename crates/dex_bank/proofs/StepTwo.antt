@@ -7,19 +7,17 @@ use Rattle.dex_types.specs.declared.addresses.Address.{Address}
 use Rattle.dex_types.specs.declared.movements.WalletEntry.{WalletEntry}
 use Rattle.dex_types.specs.declared.refusals.Refusal.{Refusal}
 use Rattle.dex_types.specs.declared.replies.Reply.{Reply}
-use Rattle.dex_types.specs.declared.replies.Reply.TheVariants.{Refused}
 use Rattle.dex_types.specs.declared.rows.Seen.{Seen}
 use Rattle.dex_types.specs.Addresses.{is_same}
 use Rattle.dex_types.specs.Accounts.{PlainMarketAccounts}
 use Rattle.dex_types.specs.Market.{Market}
 use Rattle.dex_types.specs.Rows.{PlainRow}
-use Rattle.dex_types.specs.Steps.{Step, act_decoded, unless_refused}
 use Rattle.dex_types.specs.Transfers.{Transfers}
-use Rattle.dex_types.specs.Why.{why}
 use Rattle.dex_types.specs.Wallets.{movement_of, row_wallets}
 use Rattle.dex_laws.proofs.TraderLaws.{is_same-refl, is_same-true}
 use Rattle.dex_instruction.specs.Reading.{decoded}
-use Rattle.dex_history.specs.Journal.{is_take, request_of, row_step}
+use Rattle.dex_history.specs.Journal.{is_refusal, is_take, request_of, row_step}
+use Rattle.dex_history.proofs.RefusalLaws.{step-refused}
 use Rattle.dex_cell.specs.CellState as market
 use Rattle.dex_cell.specs.CellState.{IsMarketCell, MarketCellState}
 use Rattle.dex_wallet.specs.CellState as wallet
@@ -46,20 +44,13 @@ can-wait row cells take spared = record {
 -- a row that is refused is answered so
 pub refused-reply : (row : PlainRow) (world : World) (reply : Reply)
     → ((m : Market) → market_at row.market world.markets ≡ Some m → reply ≡ (row_step row (seen_by row world) m).reply)
-    → is_some (why_in world row) ≡ true → (reason : Refusal) × (reply ≡ Refused reason)
+    → is_some (why_in world row) ≡ true → is_refusal reply ≡ true
 refused-reply row world reply told refused = on (market_at row.market world.markets) refl refused
   where
-    by-reason : (m : Market) → market_at row.market world.markets ≡ Some m → (found : Option Refusal) → why (request_of row) (seen_by row world) m ≡ found
-        → is_some found ≡ true → (reason : Refusal) × (reply ≡ Refused reason)
-    by-reason m at None is some = absurd (false≢true some)
-    by-reason m at (Some reason) is some =
-        let seen : Seen = seen_by row world in
-        let acted : Step = act_decoded (request_of row).instruction (request_of row) seen m in
-        (reason, told m at ∙ ap (λ (found : Option Refusal). (unless_refused found m acted).reply) is)
     on : (found : Option Market) → market_at row.market world.markets ≡ found → is_some (why_on row (seen_by row world) found) ≡ true
-        → (reason : Refusal) × (reply ≡ Refused reason)
+        → is_refusal reply ≡ true
     on None at some = absurd (false≢true some)
-    on (Some m) at some = by-reason m at (why (request_of row) (seen_by row world) m) refl some
+    on (Some m) at some = ap (λ (r : Reply). is_refusal r) (told m at) ∙ step-refused (request_of row) (seen_by row world) m ∙ some
 
 -- ---- behind a row that shares nothing with it
 

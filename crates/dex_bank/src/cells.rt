@@ -40,12 +40,10 @@ impl Model for Cells {
 }
 
 impl Cells {
-    ghost use Rattle.dex_types.specs.declared.refusals.Refusal.{Refusal};
-    ghost use Rattle.dex_types.specs.declared.replies.Reply.TheVariants.{Refused};
     ghost use Rattle.dex_types.specs.Accounts.{named_of};
     ghost use Rattle.dex_types.specs.Market.{Market};
     ghost use Rattle.dex_types.specs.Rows.{row_of};
-    ghost use Rattle.dex_history.specs.Journal.{row_step};
+    ghost use Rattle.dex_history.specs.Journal.{is_refusal, row_step};
     ghost use Rattle.dex_fold.specs.Fold.{act};
     ghost use Rattle.dex_fold.specs.Items.{act_item, pair_of, why_in};
     ghost use Rattle.dex_fold.specs.World.{market_at, seen_by};
@@ -144,7 +142,7 @@ impl Cells {
         ensures acted { spec.world_of self.new ≡ act (row_of row.entry.now) (spec.world_of self.old) }
         ensures kept { spec.opened_of self.new ≡ spec.opened_of self.old }
         ensures others { spec.OthersStay row.entry.now.market self.old.markets self.new.markets }
-        ensures refused { (why : Refusal) → result ≡ Refused why
+        ensures refused { is_refusal result ≡ true
             → spec.accounts_in self.new.markets ≡ spec.accounts_in self.old.markets }
         ensures cells { AreCells self.new }
     {

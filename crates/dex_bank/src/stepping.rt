@@ -2,13 +2,12 @@
 
 ghost use Rattle.std.specs.Prelude.{◌≡◌, ◌<◌, ◌||◌, length, None, Some, true, if◌then◌else◌, is_some, map, slice_index_or, slice_set};
 ghost use Rattle.std.specs.List.{All};
-ghost use Rattle.dex_types.specs.declared.refusals.Refusal.{Refusal};
-ghost use Rattle.dex_types.specs.declared.replies.Reply.TheVariants.{Done, Refused};
+ghost use Rattle.dex_types.specs.declared.replies.Reply.TheVariants.{Done};
 ghost use Rattle.dex_types.specs.Market.{Market};
 ghost use Rattle.dex_types.specs.Rows.{row_of};
 ghost use Rattle.dex_types.specs.Transfers.{no_transfers};
 ghost use Rattle.dex_types.specs.Why.{why};
-ghost use Rattle.dex_history.specs.Journal.{request_of, row_step};
+ghost use Rattle.dex_history.specs.Journal.{is_refusal, request_of, row_step};
 ghost use Rattle.dex_cell.specs.CellState.{CanHold, IsFor, MarketCellState, market_at, refused_on, step_on};
 ghost use Rattle.dex_fold.specs.Fold as fold;
 ghost use Rattle.dex_fold.specs.Items.{act_item, idle_row, pair_of, why_in};
@@ -82,8 +81,7 @@ fn act_at(
     ensures reply { (default : MarketCellState) →
         result ≡ (step_on row.entry.now seen.now (slice_index_or markets.old place default)).reply }
     ensures market { HasActedAt row.entry.now seen.now place markets.old markets.new }
-    ensures refused { (why : Refusal) (default : MarketCellState) → result ≡ Refused why
-        → markets.new
+    ensures refused { is_refusal result ≡ true → (default : MarketCellState) → markets.new
         ≡ slice_set markets.old place (refused_on row.entry.now seen.now (slice_index_or markets.old place default)) }
     ensures wallets { (default : MarketCellState) →
         HaveActed (row_of row.entry.now) seen.now
@@ -101,7 +99,7 @@ pub(crate) fn stepped(cells: &mut Cells, row: &Row) -> Reply
     ensures acted { world_of cells.new ≡ fold.act (row_of row.entry.now) (world_of cells.old) }
     ensures kept { opened_of cells.new ≡ opened_of cells.old }
     ensures others { OthersStay row.entry.now.market cells.old.markets cells.new.markets }
-    ensures refused { (why : Refusal) → result ≡ Refused why
+    ensures refused { is_refusal result ≡ true
         → accounts_in cells.new.markets ≡ accounts_in cells.old.markets }
     ensures cells { AreCells cells.new }
 {

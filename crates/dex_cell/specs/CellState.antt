@@ -98,11 +98,6 @@ step_on row seen cell = row_step (row_of row) seen (market_at cell)
 abbrev pub call_on : Row → Seen → MarketCellState → Call
 call_on row seen cell = call_made (row_of row) seen (market_at cell)
 
--- a reply that is no refusal
-abbrev pub IsDone : Reply → Type 0
-IsDone (Refused why) = ⊥
-IsDone _ = Unit {0}
-
 -- it is one of this market, and it sees exactly the wallets that it names
 pub record IsFor (row : Row) (seen : Seen) (cell : MarketCellState) : Type 0 where
   pub market : row.market ≡ cell.accounts.address

@@ -1,6 +1,6 @@
 //! A market's cell.
 
-ghost use Rattle.std.specs.Prelude.{◌≡◌, IfOk, Ok, Err, length, ◌-◌};
+ghost use Rattle.std.specs.Prelude.{◌≡◌, IfOk, Ok, Err, false, length, ◌-◌};
 ghost use Rattle.dex_ring.specs.Leaving.{leaving_of};
 ghost use Rattle.dex_ring.specs.Ring.{IsEventQueue, ring_of};
 
@@ -77,9 +77,10 @@ impl MarketCell {
     ghost use Rattle.dex_types.specs.Side.{Coin, Pc};
     ghost use Rattle.dex_accounts.specs.Accepted.{IsAccepted};
     ghost use Rattle.dex_accounts.specs.Decoded.{AreSound};
+    ghost use Rattle.dex_history.specs.Journal.{is_refusal};
     ghost use Rattle.dex_wallet.specs.TokenAmount.{held_in};
     ghost use Rattle.dex_cell.specs.CellState as cells;
-    ghost use Rattle.dex_cell.specs.CellState.{CanHold, HasActed, HasSpare, IsDone, IsFor, IsMarketCell};
+    ghost use Rattle.dex_cell.specs.CellState.{CanHold, HasActed, HasSpare, IsFor, IsMarketCell};
     ghost use Rattle.dex_cell.specs.CellState.{answer_on, market_at, step_on};
     ghost use Rattle.dex_cell.specs.Paying.{paid_in, paid_out};
 
@@ -170,7 +171,7 @@ impl MarketCell {
         requires pc { pc ≡ paid_in Pc plan (market_at self.old) }
         requires spare { HasSpare self.old }
         ensures reply { result.0 ≡ (step_on row.entry.now seen.now self.old).reply }
-        ensures done { IsDone result.0 }
+        ensures done { is_refusal result.0 ≡ false }
         ensures paid { result.1 ≡ paid_out (market_at self.old) (step_on row.entry.now seen.now self.old).transfers }
         ensures acted { HasActed row.entry.now seen.now self.old self.new }
         ensures cell { IsMarketCell self.new }

@@ -5,5 +5,4 @@ use Rattle.dex_bank.proofs.stepping.act_or_wait.Goals as goal
 
 pub returns-else-waits-clause-stays : goal.returns-else-waits-clause-stays
 returns-else-waits-clause-stays c = λ refused.
-    let told = refused-reply (row_of c.args.row.now) (world_of c.args.cells.now) c.stepped.result c.stepped.ensures.reply refused in
-    c.stepped.ensures.refused told.0 told.1
+    c.stepped.ensures.refused (refused-reply (row_of c.args.row.now) (world_of c.args.cells.now) c.stepped.result c.stepped.ensures.reply refused)

@@ -1,17 +1,12 @@
-use Rattle.std.proofs.Common.{◌≡◌, get_or, is_some, Option, Some, None, refl, sym, ap, ◌∙◌}
+use Rattle.std.proofs.Common.{◌≡◌, get_or, is_some, sym, ap, ◌∙◌}
 use Rattle.std.specs.Result.{is_err}
 use Rattle.std.proofs.lemmas.List.{get_or_read}
-use Rattle.dex_types.specs.declared.refusals.Refusal.{Refusal}
-use Rattle.dex_types.specs.Reasons.{answered}
 use Rattle.dex_types.specs.Rows.{row_of}
 use Rattle.dex_types.specs.Why.{why}
 use Rattle.dex_history.specs.Journal.{request_of}
 use Rattle.dex_cell.specs.CellState.{MarketCellState, market_at}
+use Rattle.dex_cell.proofs.PlanLaws.{answered-refused}
 use Rattle.dex_bank.proofs.stepping.is_refused_at.Goals as goal
-
-answered-refused : {X : Type 0} → (found : Option Refusal) (plan : X) → is_err (answered found plan) ≡ is_some found
-answered-refused None plan = refl
-answered-refused (Some why) plan = refl
 
 pub returns : goal.returns
 returns c = λ default.

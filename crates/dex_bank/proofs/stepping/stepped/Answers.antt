@@ -2,12 +2,10 @@ use Rattle.std.proofs.Common.{◌≡◌, List, Some, get_or, set, refl, sym, ap,
 use Rattle.std.proofs.lemmas.List.{with_items_is}
 use Rattle.std.specs.Vec.{with_items}
 use Rattle.dex_types.specs.declared.addresses.Address.{Address}
-use Rattle.dex_types.specs.declared.refusals.Refusal.{Refusal}
-use Rattle.dex_types.specs.declared.replies.Reply.TheVariants.{Refused}
 use Rattle.dex_types.specs.declared.rows.Seen.{Seen}
 use Rattle.dex_types.specs.Market.{Market}
 use Rattle.dex_types.specs.Rows.{row_of}
-use Rattle.dex_history.specs.Journal.{row_step}
+use Rattle.dex_history.specs.Journal.{is_refusal, row_step}
 use Rattle.dex_cell.specs.CellState.{MarketCellState, refused_on, step_on}
 use Rattle.dex_wallet.specs.CellState.{CellState}
 use Rattle.dex_fold.specs.Fold.{act}
@@ -123,21 +121,21 @@ returns-clause-others c =
     (others-stay address (before c).markets c.place_of-place.result (has c).cell (first c)))
 
 -- a market that refuses the row stays but for its journal
-refused : (c : goal.After-cells-2-1) (why : Refusal) → c.act_at.result ≡ Refused why
+refused : (c : goal.After-cells-2-1) → is_refusal c.act_at.result ≡ true
     → c.act_at.new.markets
     ≡ set (before c).markets c.place_of-place.result
     (refused_on c.args.row.now c.seen_by-seen.result (get_or (before c).markets c.place_of-place.result (has c).cell))
-refused c why is =
+refused c is =
     subst (λ (ms : List MarketCellState).
     c.act_at.new.markets
     ≡ set ms c.place_of-place.result (refused_on c.args.row.now c.seen_by-seen.result (get_or ms c.place_of-place.result (has c).cell))) c.deref_mut.ensures.value
-    (c.act_at.ensures.refused why (has c).cell is)
+    (c.act_at.ensures.refused is (has c).cell)
 
 pub returns-clause-refused : goal.returns-clause-refused
-returns-clause-refused c = λ why is.
+returns-clause-refused c = λ is.
     let place = c.place_of-place.result in
     let market : MarketCellState = get_or (before c).markets place (has c).cell in
     subst (λ (cs : CellsState). accounts_in (left c).markets ≡ accounts_in cs.markets) c.cells.view_is
     (ap (λ (cs : CellsState). accounts_in cs.markets) (left-is c)
-    ∙ ap accounts_in (refused c why is)
+    ∙ ap accounts_in (refused c is)
     ∙ accounts-stay (before c).markets place (refused_on c.args.row.now c.seen_by-seen.result market) (has c).cell refl)
