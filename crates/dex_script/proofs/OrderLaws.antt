@@ -1,6 +1,5 @@
 -- The instruction rows of a script: their numbers rise, and each is of the start.
 use Rattle.std.proofs.Common.{◌≡◌, ◌∙◌, ℕ, ◌+◌, ◌-◌, ◌^◌, ◌<◌, ◌≤◌, ◌∷◌, [], ◌++◌, ◌||◌, ◌==◌, Bool, true, false, not, nat_le, nat_lt, List, Result, Ok, Err, All, ap, arith, length, length-append, max, refl, subst, sym}
-use Rattle.std.specs.List.{AllPairs}
 use Rattle.std.proofs.lemmas.Bool.{eqb-false, leb-false, ltb-false, not-false}
 use Rattle.std.proofs.lemmas.List.Elements.{All-append, All-cons, All-nil}
 use Rattle.std.proofs.lemmas.List.Quantifiers.{all_pairs_push}
