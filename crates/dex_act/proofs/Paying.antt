@@ -13,7 +13,7 @@ use Rattle.dex_types.specs.Soundness.{IsSound}
 use Rattle.dex_types.specs.Transfers.{Transfers, no_transfers}
 use Rattle.dex_types.specs.declared.movements.MoveKind.TheVariants.{Debit, Credit}
 use Rattle.dex_types.specs.Wallets.{amount_at, balance_seen, brought_to, movement_of, movements, seen_wallets, taken_from}
-use Rattle.dex_history.specs.Journal.{Sees, asked_of, front, places, row_step}
+use Rattle.dex_history.specs.Journal.{Sees, asked_of, idle, front, places, row_step}
 use Rattle.dex_history.proofs.MintLaws.{IsOfMint}
 use Rattle.dex_history.proofs.StepMoves.{row-can, row-moves}
 use Rattle.dex_history.proofs.WalletLaws.{places-movements, wallet-movement_by}
@@ -38,6 +38,28 @@ row-moves-of row seen m sound sees = record {
   mints = row-of (asked_of row) seen m;
   apart = sound.form.mints;
 }
+
+-- a row that is held back moves nothing, which is possible
+pub held-moves : (row : PlainRow) (seen : Seen) (m : Market) → IsSound m → Sees (asked_of row) seen → RowMoves seen m no_transfers
+held-moves row seen m sound sees =
+    let sees_idle : Sees (idle (asked_of row)) seen = record {
+      coin = sees.coin;
+      pc = sees.pc;
+      discount = sees.discount;
+      referrer = sees.referrer;
+      coin_pc = sees.coin_pc;
+      coin_discount = sees.coin_discount;
+      coin_referrer = sees.coin_referrer;
+      pc_discount = sees.pc_discount;
+      pc_referrer = sees.pc_referrer;
+      discount_referrer = sees.discount_referrer;
+    } in
+    record {
+      moves = λ address. row-moves (idle (asked_of row)) seen m address sound sees_idle;
+      one_in = (row-can (idle (asked_of row)) seen m sound sees_idle).one_in;
+      mints = row-of (idle (asked_of row)) seen m;
+      apart = sound.form.mints;
+    }
 
 -- what is known of a cell
 abbrev pub IsSeenRight : Seen → CellState → Type 0

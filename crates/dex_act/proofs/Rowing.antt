@@ -1,5 +1,5 @@
 -- The steps of a row on cells, put together.
-use Rattle.std.proofs.Common.{◌≡◌, ℕ, List, map, Option, Ok, Err, sym, ap, ◌∙◌, subst}
+use Rattle.std.proofs.Common.{◌≡◌, ℕ, List, map, Option, Ok, Err, refl, sym, ap, ◌∙◌, subst}
 use Rattle.std.specs.List.{All}
 use Rattle.dex_types.specs.declared.addresses.Address.{Address}
 use Rattle.dex_types.specs.declared.movements.Movement.{Movement}
@@ -10,7 +10,7 @@ use Rattle.dex_types.specs.Market.{Market}
 use Rattle.dex_types.specs.Rows.{row_of}
 use Rattle.dex_types.specs.Side.{Coin, Pc}
 use Rattle.dex_types.specs.Steps.{Step}
-use Rattle.dex_types.specs.Transfers.{Transfers}
+use Rattle.dex_types.specs.Transfers.{Transfers, no_transfers}
 use Rattle.dex_types.specs.Wallets.{amount_at, movements}
 use Rattle.dex_history.specs.Journal.{front, places, request_of}
 use Rattle.dex_decide.specs.declared.plan.Deposit.{Deposit}
@@ -20,12 +20,13 @@ use Rattle.dex_cell.specs.declared.payouts.Payouts.{Payouts}
 use Rattle.dex_cell.specs.CellState.{IsFor, IsMarketCell, MarketCellState, answer_on, market_at, step_on}
 use Rattle.dex_cell.specs.Paying.{paid_in, paid_out, parcel_of}
 use Rattle.dex_cell.proofs.PlanLaws.{coin-enters, pc-enters, planned-moves, refused-step}
-use Rattle.dex_wallet.specs.CellState.{CellState}
+use Rattle.dex_fold.specs.Fold.{wallet_acted}
+use Rattle.dex_wallet.specs.CellState.{CellState, IsWalletCell}
 use Rattle.dex_wallet.specs.TokenAmount.{TokenAmount}
-use Rattle.dex_act.specs.Wallets.{AreApart, AreMovedHere, CanBePaid, CanLook, CanPay, IsOf, SeesCells, amount_in, cell_acted, cell_credited, cell_debited, cell_paid, moves_probed}
+use Rattle.dex_act.specs.Wallets.{AreApart, AreMovedHere, CanBePaid, CanLook, CanPay, IsOf, SeesCells, amount_in, cell_acted, cell_credited, cell_debited, cell_paid, moves_probed, wallet_state_of}
 use Rattle.dex_act.proofs.Acting.{RowMoves}
 use Rattle.dex_act.proofs.CellLists.{AreApart-map}
-use Rattle.dex_act.proofs.Paying.{acted-all, can-be-paid, can-pay, coin-mints, look-all, moved-here-all, paid-address, paid-nothing, paid-whole, pc-mints, row-moves-of}
+use Rattle.dex_act.proofs.Paying.{acted-all, can-be-paid, can-pay, coin-mints, held-moves, look-all, moved-here-all, paid-address, paid-nothing, paid-whole, pc-mints, row-moves-of, states-acted}
 
 -- what a row moves on its market's cell
 pub moves-of : (row : Row) (seen : Seen) (market : MarketCellState) → IsFor row seen market → IsMarketCell market → RowMoves seen (market_at market) (step_on row seen market).transfers
@@ -138,3 +139,33 @@ probed-whole row seen t moves cells paid new told behind probed =
     ∙ ap (λ (l : List CellState). map (moves_probed (row_of row) (front moves)) l) behind
     ∙ ap (λ (l : List (Option Movement)). map (moves_probed (row_of row) (front l)) (map (cell_paid (row_of row) seen t) cells)) told
     ∙ acted-all (row_of row) seen t cells
+
+-- ---- a row that is held back
+
+module _ (row : Row) (seen : Seen) (market : MarketCellState) (cells : List CellState) (for : IsFor row seen market) (cell : IsMarketCell market) (sees : SeesCells seen cells) where
+  idle-moves : RowMoves seen (market_at market) no_transfers
+  idle-moves = held-moves (row_of row) seen (market_at market) cell.sound.sound for.sees
+
+  nothing-paid : map (cell_paid (row_of row) seen no_transfers) cells ≡ cells
+  nothing-paid = paid-nothing (row_of row) seen no_transfers cells refl
+
+  pub home-idle : (told : List (Option Movement)) → told ≡ places (movements seen no_transfers) → AreMovedHere cells (front told)
+  home-idle told is =
+      subst (λ (l : List (Option Movement)). AreMovedHere cells (front l)) (sym is)
+      (subst (λ (l : List CellState). AreMovedHere l (front (places (movements seen no_transfers)))) nothing-paid (moved-here-all (row_of row) seen no_transfers cells sees))
+
+  pub look-idle : (told : List (Option Movement)) → told ≡ places (movements seen no_transfers) → All (CanLook (row_of row) (front told)) cells
+  look-idle told is =
+      subst (λ (l : List (Option Movement)). All (CanLook (row_of row) (front l)) cells) (sym is)
+      (subst (All (CanLook (row_of row) (front (places (movements seen no_transfers))))) nothing-paid
+      (look-all (row_of row) seen (market_at market) no_transfers cells idle-moves sees))
+
+  module _ (told : List (Option Movement)) (new : List CellState) (is : told ≡ places (movements seen no_transfers))
+      (probed : new ≡ map (moves_probed (row_of row) (front told)) cells) where
+    pub idle-acted : new ≡ map (cell_acted (row_of row) seen no_transfers) cells
+    idle-acted = probed-whole row seen no_transfers told cells cells new is (sym nothing-paid) probed
+
+    pub idle-states : (map wallet_state_of new ≡ map (wallet_acted (row_of row) seen no_transfers) (map wallet_state_of cells)) × All IsWalletCell new
+    idle-states =
+        subst (λ (l : List CellState). (map wallet_state_of l ≡ map (wallet_acted (row_of row) seen no_transfers) (map wallet_state_of cells)) × All IsWalletCell l)
+        (sym idle-acted) (states-acted (row_of row) seen (market_at market) no_transfers cells idle-moves for.sees sees)

@@ -11,6 +11,7 @@ use Rattle.dex_types.specs.Wallets.{address_seen, amount_at, balance_in, is_lowe
 use Rattle.dex_laws.proofs.TraderLaws.{is_same-true, is_same-sym}
 use Rattle.dex_wallet.specs.CellState.{CellState, balance_of, seen_of}
 use Rattle.dex_fold.specs.World.{role_at, wallet_at}
+use Rattle.dex_fold.proofs.NameLaws.{any-with_address}
 use Rattle.dex_act.specs.Wallets.{AreApart, Fits, IsHome, IsRight, any_hit, hits, is_among, roles_of, wallet_state_of}
 use Rattle.dex_act.proofs.CellLists.{neither}
 
@@ -88,31 +89,6 @@ role_at-home None cells = tt
 role_at-home (Some address) cells = wallet_at-home address cells
 
 -- ---- all roles
-
-or-swap : (a b c : Bool) → (a || (b || c)) ≡ (b || (a || c))
-or-swap true true c = refl
-or-swap true false c = refl
-or-swap false true c = refl
-or-swap false false c = refl
-
-or-again : (a c : Bool) → (a || c) ≡ (a || (a || c))
-or-again true c = refl
-or-again false c = refl
-
-any-with_address : (address new : Address) (addresses : List Address) → list_any (is_same address) (with_address new addresses) ≡ (is_same address new || list_any (is_same address) addresses)
-any-with_address address new [] = refl
-any-with_address address new (first ∷ others) =
-    let rest : Bool = list_any (is_same address) others in
-    cond_both (is_same new first) (first ∷ others) (cond (is_lower new first) (new ∷ first ∷ others) (first ∷ with_address new others))
-    (λ list. list_any (is_same address) list ≡ (is_same address new || (is_same address first || rest)))
-    (λ same.
-    let is : new ≡ first = is_same-true new first same in
-    or-again (is_same address first) rest ∙ ap (λ (x : Address). is_same address x || (is_same address first || rest)) (sym is))
-    (λ apart.
-    cond_both (is_lower new first) (new ∷ first ∷ others) (first ∷ with_address new others)
-    (λ list. list_any (is_same address) list ≡ (is_same address new || (is_same address first || rest)))
-    (λ lower. refl)
-    (λ higher. ap (λ (b : Bool). is_same address first || b) (any-with_address address new others) ∙ or-swap (is_same address first) (is_same address new) rest))
 
 any-with_role : (address : Address) (role : Option WalletSeen) (addresses : List Address)
     → list_any (is_same address) (with_role (address_seen role) addresses) ≡ (hits address role || list_any (is_same address) addresses)

@@ -4,5 +4,5 @@
 mod rows;
 mod wallets;
 
-pub use rows::act;
+pub use rows::{act, hold};
 pub use wallets::wallet_at;

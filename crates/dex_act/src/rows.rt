@@ -1,11 +1,14 @@
 //! One row, on its market's cell and on the cells of the wallets that it names.
 
-ghost use Rattle.std.specs.Prelude.{◌≡◌, ◌<◌, ◌++◌, ◌∷◌, [], List, Ok, length, map};
+ghost use Rattle.std.specs.Prelude.{◌≡◌, ◌<◌, ◌++◌, ◌∷◌, [], List, Ok, false, length, map, true};
 ghost use Rattle.std.specs.List.{All};
-ghost use Rattle.dex_types.specs.declared.refusals.Refusal.{Refusal};
-ghost use Rattle.dex_types.specs.declared.replies.Reply.TheVariants.{Refused};
-ghost use Rattle.dex_history.specs.Journal.{Call};
-ghost use Rattle.dex_cell.specs.CellState.{HasActed, HasSpare, IsDone, IsFor, IsMarketCell, answer_on, refused_on, step_on};
+ghost use Rattle.dex_types.specs.declared.replies.Reply.TheVariants.{Done};
+ghost use Rattle.dex_types.specs.Rows.{row_of};
+ghost use Rattle.dex_types.specs.Transfers.{no_transfers};
+ghost use Rattle.dex_history.specs.Journal.{Call, is_refusal};
+ghost use Rattle.dex_cell.specs.CellState.{CanHold, HasActed, HasSpare, IsFor, IsMarketCell};
+ghost use Rattle.dex_cell.specs.CellState.{answer_on, held_on, refused_on, step_on};
+ghost use Rattle.dex_fold.specs.Fold.{wallet_acted};
 ghost use Rattle.dex_wallet.specs.CellState.{IsWalletCell};
 ghost use Rattle.dex_act.specs.Wallets.{AreApart, SeesCells, cells_acted, cells_paid, made_of, states_acted, wallet_state_of};
 
@@ -29,7 +32,7 @@ fn accept(
     requires wallets { SeesCells seen.now wallets.old }
     requires decided { Ok plan.now ≡ answer_on row.now seen.now market.old }
     ensures reply { result ≡ (step_on row.entry.now seen.now market.old).reply }
-    ensures done { IsDone result }
+    ensures done { is_refusal result ≡ false }
     ensures acted { HasActed row.entry.now seen.now market.old market.new }
     ensures cell { IsMarketCell market.new }
     ensures wallets { wallets.new ≡ cells_paid row.entry.now seen.now market.old wallets.old }
@@ -49,8 +52,7 @@ fn answer(market: &mut MarketCell, wallets: &mut [WalletCell], row: &Row, seen: 
     requires wallets { SeesCells seen.now wallets.old }
     ensures reply { result ≡ (step_on row.entry.now seen.now market.old).reply }
     ensures acted { HasActed row.entry.now seen.now market.old market.new }
-    ensures refused { (why : Refusal) → result ≡ Refused why
-        → market.new ≡ refused_on row.entry.now seen.now market.old }
+    ensures refused { is_refusal result ≡ true → market.new ≡ refused_on row.entry.now seen.now market.old }
     ensures cell { IsMarketCell market.new }
     ensures wallets { wallets.new ≡ cells_paid row.entry.now seen.now market.old wallets.old }
 {
@@ -83,8 +85,7 @@ pub fn act(market: &mut MarketCell, wallets: &mut [WalletCell], row: &Row, seen:
     requires wallets { SeesCells seen.now wallets.old }
     ensures reply { result ≡ (step_on row.entry.now seen.now market.old).reply }
     ensures acted { HasActed row.entry.now seen.now market.old market.new }
-    ensures refused { (why : Refusal) → result ≡ Refused why
-        → market.new ≡ refused_on row.entry.now seen.now market.old }
+    ensures refused { is_refusal result ≡ true → market.new ≡ refused_on row.entry.now seen.now market.old }
     ensures cell { IsMarketCell market.new }
     ensures wallets { wallets.new ≡ cells_acted row.entry.now seen.now market.old wallets.old }
     ensures states { map wallet_state_of wallets.new
@@ -94,6 +95,29 @@ pub fn act(market: &mut MarketCell, wallets: &mut [WalletCell], row: &Row, seen:
     ensures made { map made_of wallets.new ≡ map made_of wallets.old }
 {
     let reply = answer(market, wallets, row, seen);
+    let moves = last_moves(market);
+    probe_each(wallets, row, moves);
+    reply
+}
+
+/// A take that is held back, since another row of its number is refused: its market writes down that nothing was to do, and it looks
+/// at the wallets that it names. No account changes.
+pub fn hold(market: &mut MarketCell, wallets: &mut [WalletCell], row: &Row, seen: &Seen) -> Reply
+    requires row { IsFor row.now seen.now market.old }
+    requires market { IsMarketCell market.old }
+    requires held { CanHold row.now seen.now market.old }
+    requires spare { HasSpare market.old }
+    requires wallets { SeesCells seen.now wallets.old }
+    ensures reply { result ≡ Done }
+    ensures held { market.new ≡ held_on row.entry.now seen.now market.old }
+    ensures cell { IsMarketCell market.new }
+    ensures states { map wallet_state_of wallets.new
+        ≡ map (wallet_acted (row_of row.entry.now) seen.now no_transfers) (map wallet_state_of wallets.old) }
+    ensures kept { All IsWalletCell wallets.new }
+    ensures apart { AreApart wallets.new }
+    ensures made { map made_of wallets.new ≡ map made_of wallets.old }
+{
+    let reply = market.idle(row, seen);
     let moves = last_moves(market);
     probe_each(wallets, row, moves);
     reply

@@ -21,8 +21,7 @@ use Rattle.dex_report.specs.Made.{made_text}
 use Rattle.dex_report.specs.Outcomes.{PlainOutcome}
 use Rattle.dex_report.specs.Report.{report_text}
 use Rattle.dex_replay.specs.Replays.{IsReplayOf}
-use Rattle.dex_histories.specs.Runs.{IsRunOf}
-use Rattle.dex_order.specs.OneOrder.{IsOneOrder}
+use Rattle.dex_replay.specs.Runs.{IsOneOrder, IsRunOf}
 use Rattle.dex_lines.specs.Lines as lines
 use Rattle.dex_answers.specs.declared.status.Status.{Status}
 use Rattle.dex_answers.specs.declared.status.Status.TheVariants as status

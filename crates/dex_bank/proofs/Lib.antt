@@ -4,3 +4,4 @@ mod OpenLists
 pub mod StepMarkets
 pub mod StepCells
 pub mod StepWorld
+pub mod StepTwo

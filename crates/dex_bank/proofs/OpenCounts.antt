@@ -10,8 +10,9 @@ use Rattle.dex_types.specs.Addresses.{is_same}
 use Rattle.dex_types.specs.Rows.{PlainRow, row_of}
 use Rattle.dex_types.specs.Wallets.{is_lower, with_address, with_role}
 use Rattle.dex_laws.proofs.TraderLaws.{is_same-true, is_same-sym}
-use Rattle.dex_fold.specs.Fold.{names}
-use Rattle.dex_bank.specs.Counts.{is_earlier, is_role, one}
+use Rattle.dex_fold.specs.Fold.{is_role, names}
+use Rattle.dex_fold.proofs.NameLaws.{names-roles}
+use Rattle.dex_bank.specs.Counts.{is_earlier, one}
 
 -- ---- one address more
 
@@ -79,49 +80,6 @@ counted-new earlier wallet other before =
     never : (b : Bool) → one (b && false) ≡ one false
     never true = refl
     never false = refl
-
--- the wallets that a row names are those of its roles
-or-swap : (a b c : Bool) → (a || (b || c)) ≡ (b || (a || c))
-or-swap true true c = refl
-or-swap true false c = refl
-or-swap false true c = refl
-or-swap false false c = refl
-
-or-again : (a c : Bool) → (a || c) ≡ (a || (a || c))
-or-again true c = refl
-or-again false c = refl
-
-any-with_address : (address new : Address) (addresses : List Address)
-    → list_any (is_same address) (with_address new addresses) ≡ (is_same address new || list_any (is_same address) addresses)
-any-with_address address new [] = refl
-any-with_address address new (first ∷ others) =
-    let rest : Bool = list_any (is_same address) others in
-    cond_both (is_same new first) (first ∷ others) (cond (is_lower new first) (new ∷ first ∷ others) (first ∷ with_address new others))
-    (λ list. list_any (is_same address) list ≡ (is_same address new || (is_same address first || rest)))
-    (λ same.
-    let is : new ≡ first = is_same-true new first same in
-    or-again (is_same address first) rest ∙ ap (λ (x : Address). is_same address x || (is_same address first || rest)) (sym is))
-    (λ apart.
-    cond_both (is_lower new first) (new ∷ first ∷ others) (first ∷ with_address new others)
-    (λ list. list_any (is_same address) list ≡ (is_same address new || (is_same address first || rest)))
-    (λ lower. refl)
-    (λ higher. ap (λ (b : Bool). is_same address first || b) (any-with_address address new others) ∙ or-swap (is_same address first) (is_same address new) rest))
-
-any-with_role : (address : Address) (role : Option Address) (addresses : List Address)
-    → list_any (is_same address) (with_role role addresses) ≡ (is_role role address || list_any (is_same address) addresses)
-any-with_role address None addresses = refl
-any-with_role address (Some wallet) addresses = any-with_address address wallet addresses
-
-names-roles : (row : PlainRow) (address : Address)
-    → names row address ≡ (is_role row.coin address || (is_role row.pc address || (is_role row.discount address || (is_role row.referrer address || false))))
-names-roles row address =
-    let one_role : List Address = with_role row.referrer [] in
-    let two : List Address = with_role row.discount one_role in
-    let three : List Address = with_role row.pc two in
-    any-with_role address row.coin three
-    ∙ ap (λ (b : Bool). is_role row.coin address || b) (any-with_role address row.pc two
-    ∙ ap (λ (b : Bool). is_role row.pc address || b) (any-with_role address row.discount one_role
-    ∙ ap (λ (b : Bool). is_role row.discount address || b) (any-with_role address row.referrer [])))
 
 -- each counted where no earlier one was, all together count a wallet of any once
 roles-once : (n : ℕ) (coin pc discount referrer : Bool)

@@ -7,19 +7,21 @@ use Rattle.dex_types.specs.declared.rows.Row.{Row}
 use Rattle.dex_types.specs.declared.rows.Seen.{Seen}
 use Rattle.dex_types.specs.Addresses.{is_same}
 use Rattle.dex_types.specs.Market.{Market}
-use Rattle.dex_types.specs.Rows.{row_of}
+use Rattle.dex_types.specs.Rows.{PlainRow, row_of}
+use Rattle.dex_types.specs.Why.{why}
 use Rattle.dex_laws.proofs.TraderLaws.{is_same-true}
-use Rattle.dex_history.specs.Journal.{Sees, asked_of, row_step}
+use Rattle.dex_history.specs.Journal.{Sees, asked_of, request_of, row_step}
 use Rattle.dex_cell.specs.CellState as market
-use Rattle.dex_cell.specs.CellState.{IsFor, IsMarketCell, MarketCellState, step_on}
+use Rattle.dex_cell.specs.CellState.{CanHold, IsFor, IsMarketCell, MarketCellState}
 use Rattle.dex_wallet.specs.CellState.{CellState}
 use Rattle.dex_fold.specs.Fold.{act, acted, markets_acted, wallet_acted}
+use Rattle.dex_fold.specs.Items.{why_in, why_on}
 use Rattle.dex_fold.specs.World.{MarketState, WalletState, World, market_at, seen_by}
 use Rattle.dex_act.specs.Wallets.{Fits, SeesCells, made_of, roles_of, wallet_state_of}
 use Rattle.dex_act.proofs.Sights.{row-sees, sees-cells}
-use Rattle.dex_bank.specs.Cells.{AreCells, CanAct, CellsState, opened_of, world_of}
-use Rattle.dex_bank.specs.Stepping.{CanActAt, HasActedAt, HaveActed, IsFirstAt}
-use Rattle.dex_bank.proofs.StepMarkets.{market-found, markets-acted-at, markets-kept, markets-opened}
+use Rattle.dex_bank.specs.Cells.{AreCells, CanAct, CanWait, CellsState, opened_of, world_of}
+use Rattle.dex_bank.specs.Stepping.{CanActAt, HaveActed, IsFirstAt}
+use Rattle.dex_bank.proofs.StepMarkets.{HasBecomeAt, market-found, markets-become-at, markets-kept, markets-opened}
 
 module _ (row : Row) (seen : Seen) (place : ℕ) (cells : CellsState) (seen_is : seen ≡ seen_by (row_of row) (world_of cells))
     (first : IsFirstAt row.market cells.markets place) where
@@ -46,50 +48,77 @@ module _ (row : Row) (seen : Seen) (place : ℕ) (cells : CellsState) (seen_is :
         (subst (λ (s : Seen). All Fits (roles_of s)) seen_is fits));
   }
 
-  -- ---- after
+  -- and is held back there
+  pub can-hold : CanWait (row_of row) cells → (default : MarketCellState) → CanHold row seen (get_or cells.markets place default)
+  can-hold can default =
+      let here : Market = market.market_at (get_or cells.markets place default) in
+      let found : market_at row.market world.markets ≡ Some here = market-found row.market cells.markets place default first in
+      record {
+        take = can.take;
+        spared =
+            ap (λ (s : Seen). why (request_of (row_of row)) s here) seen_is
+            ∙ ap (why_on (row_of row) (seen_by (row_of row) world)) (sym found)
+            ∙ can.spared;
+      }
 
-  module _ (markets : List MarketCellState) (wallets : List CellState) (has : HasActedAt row seen place cells.markets markets)
-      (have : (default : MarketCellState) → HaveActed row seen (step_on row seen (get_or cells.markets place default)).transfers cells.wallets wallets) where
-    abbrev stepped : CellsState
-    stepped = record cells { markets = markets; wallets = wallets }
+  -- it is refused there or nowhere
+  pub refused-here : (default : MarketCellState) → why (request_of (row_of row)) seen (market.market_at (get_or cells.markets place default)) ≡ why_in world (row_of row)
+  refused-here default =
+      let here : Market = market.market_at (get_or cells.markets place default) in
+      let found : market_at row.market world.markets ≡ Some here = market-found row.market cells.markets place default first in
+      ap (λ (s : Seen). why (request_of (row_of row)) s here) seen_is ∙ ap (why_on (row_of row) (seen_by (row_of row) world)) (sym found)
 
-    abbrev here : Market
-    here = market.market_at (get_or cells.markets place has.cell)
+-- ---- after
 
-    found : market_at row.market world.markets ≡ Some here
-    found = market-found row.market cells.markets place has.cell first
+module _ (doing : PlainRow) (seen : Seen) (place : ℕ) (cells : CellsState) (seen_is : seen ≡ seen_by doing (world_of cells))
+    (first : IsFirstAt doing.market cells.markets place) (markets : List MarketCellState) (wallets : List CellState)
+    (has : HasBecomeAt doing seen place cells.markets markets)
+    (have :
+        (default : MarketCellState)
+        → HaveActed doing seen (row_step doing seen (market.market_at (get_or cells.markets place default))).transfers cells.wallets wallets) where
+  abbrev before : World
+  before = world_of cells
 
-    -- the world that they are has acted
-    pub stepped-acted : world_of stepped ≡ act (row_of row) world
-    stepped-acted =
-        let made : List MarketState → List WalletState → World = λ ms ws. record world { markets = ms; wallets = ws } in
-        let after : Seen → World = λ s.
-        made (markets_acted (row_of row) s world.markets) (map (wallet_acted (row_of row) s (row_step (row_of row) s here).transfers) world.wallets) in
-        ap (λ (ms : List MarketState). made ms (map wallet_state_of wallets)) (markets-acted-at row seen place cells.markets markets first has)
-        ∙ ap (made (markets_acted (row_of row) seen world.markets)) (have has.cell).states
-        ∙ ap after seen_is
-        ∙ sym (ap (λ (m : Option Market). acted (row_of row) m world) found)
+  abbrev stepped : CellsState
+  stepped = record cells { markets = markets; wallets = wallets }
 
-    -- each cell is as it was opened
-    pub stepped-opened : opened_of stepped ≡ opened_of cells
-    stepped-opened =
-        let made : List MarketCellState → List CellState → CellsState = λ ms ws. record cells { markets = ms; wallets = ws } in
-        ap (λ (ms : List MarketCellState). made ms (map made_of wallets)) (markets-opened row seen place cells.markets markets has)
-        ∙ ap (made (opened_of cells).markets) (have has.cell).made
+  abbrev here : Market
+  here = market.market_at (get_or cells.markets place has.cell)
 
-    -- and each is one
-    pub stepped-cells : AreCells cells → AreCells stepped
-    stepped-cells are = record {
-      markets = markets-kept row seen place cells.markets markets has are.markets;
-      wallets = (have has.cell).kept;
-      apart = (have has.cell).apart;
-    }
+  found : market_at doing.market before.markets ≡ Some here
+  found = market-found doing.market cells.markets place has.cell first
 
-    -- the reply is that of the market that was found
-    pub stepped-reply : (reply : Reply) → ((default : MarketCellState) → reply ≡ (step_on row seen (get_or cells.markets place default)).reply)
-        → (m : Market) → market_at row.market world.markets ≡ Some m → reply ≡ (row_step (row_of row) (seen_by (row_of row) world) m).reply
-    stepped-reply reply given m at =
-        let is : here ≡ m = let both : Some here ≡ Some m = sym found ∙ at in cc in
-        given has.cell
-        ∙ ap (λ (s : Seen). (row_step (row_of row) s here).reply) seen_is
-        ∙ ap (λ (x : Market). (row_step (row_of row) (seen_by (row_of row) world) x).reply) is
+  -- the world that they are has acted
+  pub stepped-acted : world_of stepped ≡ act doing before
+  stepped-acted =
+      let made : List MarketState → List WalletState → World = λ ms ws. record before { markets = ms; wallets = ws } in
+      let after : Seen → World = λ s.
+      made (markets_acted doing s before.markets) (map (wallet_acted doing s (row_step doing s here).transfers) before.wallets) in
+      ap (λ (ms : List MarketState). made ms (map wallet_state_of wallets)) (markets-become-at doing seen place cells.markets markets first has)
+      ∙ ap (made (markets_acted doing seen before.markets)) (have has.cell).states
+      ∙ ap after seen_is
+      ∙ sym (ap (λ (m : Option Market). acted doing m before) found)
+
+  -- each cell is as it was opened
+  pub stepped-opened : opened_of stepped ≡ opened_of cells
+  stepped-opened =
+      let made : List MarketCellState → List CellState → CellsState = λ ms ws. record cells { markets = ms; wallets = ws } in
+      ap (λ (ms : List MarketCellState). made ms (map made_of wallets)) (markets-opened doing seen place cells.markets markets has)
+      ∙ ap (made (opened_of cells).markets) (have has.cell).made
+
+  -- and each is one
+  pub stepped-cells : AreCells cells → AreCells stepped
+  stepped-cells are = record {
+    markets = markets-kept doing seen place cells.markets markets has are.markets;
+    wallets = (have has.cell).kept;
+    apart = (have has.cell).apart;
+  }
+
+  -- the reply is that of the market that was found
+  pub stepped-reply : (reply : Reply) → ((default : MarketCellState) → reply ≡ (row_step doing seen (market.market_at (get_or cells.markets place default))).reply) → (m : Market) → market_at doing.market before.markets ≡ Some m
+      → reply ≡ (row_step doing (seen_by doing before) m).reply
+  stepped-reply reply given m at =
+      let is : here ≡ m = let both : Some here ≡ Some m = sym found ∙ at in cc in
+      given has.cell
+      ∙ ap (λ (s : Seen). (row_step doing s here).reply) seen_is
+      ∙ ap (λ (x : Market). (row_step doing (seen_by doing before) x).reply) is

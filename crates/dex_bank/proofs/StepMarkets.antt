@@ -1,5 +1,5 @@
 -- Cells of markets, the first of whose at an address acts.
-use Rattle.std.proofs.Common.{◌≡◌, ℕ, zero, suc, true, false, List, [], ◌∷◌, map, set, get_or, Some, refl, sym, ap, ◌∙◌, subst, arith}
+use Rattle.std.proofs.Common.{◌≡◌, ℕ, zero, suc, true, false, List, [], ◌∷◌, ◌++◌, map, set, get_or, Some, refl, sym, ap, ◌∙◌, subst, arith}
 use Rattle.std.specs.List.{All}
 use Rattle.std.proofs.lemmas.List.{map-append}
 use Rattle.std.proofs.lemmas.List.Elements.{All-set}
@@ -12,15 +12,19 @@ use Rattle.dex_types.specs.declared.rows.Seen.{Seen}
 use Rattle.dex_types.specs.Accounts.{PlainMarketAccounts}
 use Rattle.dex_types.specs.Addresses.{is_same}
 use Rattle.dex_types.specs.Market.{Market}
-use Rattle.dex_types.specs.Rows.{row_of}
+use Rattle.dex_types.specs.Rows.{PlainRow, row_of}
+use Rattle.dex_types.specs.Steps.{Step}
+use Rattle.dex_movements.specs.Entries.{entry_by}
 use Rattle.dex_accounts.specs.Decoded.{market_in}
 use Rattle.dex_history.specs.Journal.{Call}
 use Rattle.dex_cell.specs.CellState as cells
-use Rattle.dex_cell.specs.CellState.{HasActed, IsMarketCell, MarketCellState, call_on, entries_of, new_cell, step_on}
+use Rattle.dex_cell.specs.CellState.{HasActed, IsMarketCell, MarketCellState, call_on, entries_of, held_made, held_on, new_cell, step_on}
 use Rattle.dex_fold.specs.Fold.{market_acted, markets_acted}
+use Rattle.dex_fold.specs.Items.{idle_row}
 use Rattle.dex_fold.specs.World.{MarketState, market_at}
+use Rattle.dex_fold.proofs.ItemLaws.{idle-step}
 use Rattle.dex_bank.specs.Cells.{OthersStay, accounts_in, market_state_of}
-use Rattle.dex_bank.specs.Stepping.{HasActedAt, IsFirstAt}
+use Rattle.dex_bank.specs.Stepping.{HasActedAt, HasHeldAt, IsFirstAt}
 
 -- the address of the market that accounts tell is theirs
 listing-address : (accounts : PlainMarketAccounts) → (market_in accounts).listing.address ≡ accounts.address
@@ -62,39 +66,81 @@ acted-state row seen cell after acted =
     ap (λ (m : Market). state m (entries_of after)) acted.market
     ∙ ap (state (step_on row seen cell).market) (ap (map entry) acted.calls ∙ map-append entry cell.calls (call_on row seen cell ∷ []))
 
-acted-first : (row : Row) (seen : Seen) (markets : List MarketCellState) (place : ℕ) (after : MarketCellState) → IsFirstAt row.market markets place
-    → ((default : MarketCellState) → HasActed row seen (get_or markets place default) after)
-    → map market_state_of (set markets place after) ≡ markets_acted (row_of row) seen (map market_state_of markets)
-acted-first row seen [] place after first acted = absurd (omega (arith, first.within))
-acted-first row seen (cell ∷ others) zero after first acted =
-    let same : is_same row.market (market_in cell.accounts).listing.address ≡ true = ap (is_same row.market) (listing-address cell.accounts) ∙ first.here cell in
-    ap (λ (state : MarketState). state ∷ map market_state_of others) (acted-state row seen cell after (acted cell)) ∙ sym (cond-true _ _ _ same)
-acted-first row seen (cell ∷ others) (suc place) after first acted =
-    let later = first-later row.market cell others place first in
-    let other : is_same row.market (market_in cell.accounts).listing.address ≡ false = ap (is_same row.market) (listing-address cell.accounts) ∙ later.0 in
-    ap (λ (states : List MarketState). market_state_of cell ∷ states) (acted-first row seen others place after later.1 acted) ∙ sym (cond-false _ _ _ other)
+-- the cell at the place has become what a row makes of it, and no other changed
+pub record HasBecomeAt (doing : PlainRow) (seen : Seen) (place : ℕ) (before after : List MarketCellState) : Type 0 where
+  pub cell : MarketCellState
+  pub is : after ≡ set before place cell
+  pub kept : IsMarketCell cell
+  pub state : (default : MarketCellState) → market_state_of cell ≡ market_acted doing seen (market_state_of (get_or before place default))
+  pub start : (default : MarketCellState) → cell.start ≡ (get_or before place default).start
+  pub room : (default : MarketCellState) → cell.room ≡ (get_or before place default).room
+
+-- where it acts
+pub acted-became : (row : Row) (seen : Seen) (place : ℕ) (before after : List MarketCellState) → HasActedAt row seen place before after
+    → HasBecomeAt (row_of row) seen place before after
+acted-became row seen place before after has = record {
+  cell = has.cell;
+  is = has.is;
+  kept = has.kept;
+  state = λ default. acted-state row seen (get_or before place default) has.cell (has.acted default);
+  start = λ default. (has.acted default).start;
+  room = λ default. (has.acted default).room;
+}
+
+-- and where it is held back, as a row with nothing to do
+held-state : (row : Row) (seen : Seen) (cell : MarketCellState) → market_state_of (held_on row seen cell) ≡ market_acted (idle_row (row_of row)) seen (market_state_of cell)
+held-state row seen cell =
+    let entry : Call → Entry = λ call. call.entry in
+    let m : Market = cells.market_at cell in
+    let state : Step → MarketState = λ s.
+    record { market = s.market; entries = entries_of cell ++ entry_by (row_of row) seen s.reply s.transfers ∷ [] } in
+    let of : List Entry → MarketState = λ entries. record { market = m; entries = entries } in
+    ap of (map-append entry cell.calls (held_made (row_of row) seen ∷ []))
+    ∙ ap state (sym (idle-step (row_of row) seen m))
+
+pub held-became : (row : Row) (seen : Seen) (place : ℕ) (before after : List MarketCellState) → HasHeldAt row seen place before after
+    → HasBecomeAt (idle_row (row_of row)) seen place before after
+held-became row seen place before after has = record {
+  cell = has.cell;
+  is = has.is;
+  kept = has.kept;
+  state = λ default. ap market_state_of (has.held default) ∙ held-state row seen (get_or before place default);
+  start = λ default. ap (λ (cell : MarketCellState). cell.start) (has.held default);
+  room = λ default. ap (λ (cell : MarketCellState). cell.room) (has.held default);
+}
+
+become-first : (doing : PlainRow) (seen : Seen) (markets : List MarketCellState) (place : ℕ) (after : MarketCellState) → IsFirstAt doing.market markets place
+    → ((default : MarketCellState) → market_state_of after ≡ market_acted doing seen (market_state_of (get_or markets place default)))
+    → map market_state_of (set markets place after) ≡ markets_acted doing seen (map market_state_of markets)
+become-first doing seen [] place after first state = absurd (omega (arith, first.within))
+become-first doing seen (cell ∷ others) zero after first state =
+    let same : is_same doing.market (market_in cell.accounts).listing.address ≡ true = ap (is_same doing.market) (listing-address cell.accounts) ∙ first.here cell in
+    ap (λ (one : MarketState). one ∷ map market_state_of others) (state cell) ∙ sym (cond-true _ _ _ same)
+become-first doing seen (cell ∷ others) (suc place) after first state =
+    let later = first-later doing.market cell others place first in
+    let other : is_same doing.market (market_in cell.accounts).listing.address ≡ false = ap (is_same doing.market) (listing-address cell.accounts) ∙ later.0 in
+    ap (λ (states : List MarketState). market_state_of cell ∷ states) (become-first doing seen others place after later.1 state) ∙ sym (cond-false _ _ _ other)
 
 -- the markets after it
-pub markets-acted-at : (row : Row) (seen : Seen) (place : ℕ) (before after : List MarketCellState) → IsFirstAt row.market before place → HasActedAt row seen place before after
-    → map market_state_of after ≡ markets_acted (row_of row) seen (map market_state_of before)
-markets-acted-at row seen place before after first has =
-    ap (map market_state_of) has.is ∙ acted-first row seen before place has.cell first has.acted
+pub markets-become-at : (doing : PlainRow) (seen : Seen) (place : ℕ) (before after : List MarketCellState) → IsFirstAt doing.market before place
+    → HasBecomeAt doing seen place before after → map market_state_of after ≡ markets_acted doing seen (map market_state_of before)
+markets-become-at doing seen place before after first has =
+    ap (map market_state_of) has.is ∙ become-first doing seen before place has.cell first has.state
 
 -- each is the one that it was, with the same start and the same room
-pub markets-opened : (row : Row) (seen : Seen) (place : ℕ) (before after : List MarketCellState) → HasActedAt row seen place before after
+pub markets-opened : (doing : PlainRow) (seen : Seen) (place : ℕ) (before after : List MarketCellState) → HasBecomeAt doing seen place before after
     → map (λ (cell : MarketCellState). new_cell cell.start cell.room) after ≡ map (λ (cell : MarketCellState). new_cell cell.start cell.room) before
-markets-opened row seen place before after has =
+markets-opened doing seen place before after has =
     let opened : MarketCellState → MarketCellState = λ cell. new_cell cell.start cell.room in
-    let acted = has.acted has.cell in
     ap (map opened) has.is
     ∙ map-set_same opened before place has.cell has.cell
-    (ap (λ (start : PlainMarketAccounts). new_cell start has.cell.room) acted.start
-    ∙ ap (new_cell (get_or before place has.cell).start) acted.room)
+    (ap (λ (start : PlainMarketAccounts). new_cell start has.cell.room) (has.start has.cell)
+    ∙ ap (new_cell (get_or before place has.cell).start) (has.room has.cell))
 
 -- and each is kept
-pub markets-kept : (row : Row) (seen : Seen) (place : ℕ) (before after : List MarketCellState) → HasActedAt row seen place before after → All IsMarketCell before
+pub markets-kept : (doing : PlainRow) (seen : Seen) (place : ℕ) (before after : List MarketCellState) → HasBecomeAt doing seen place before after → All IsMarketCell before
     → All IsMarketCell after
-markets-kept row seen place before after has all = subst (All IsMarketCell) (sym has.is) (All-set IsMarketCell before place has.cell has.kept all)
+markets-kept doing seen place before after has all = subst (All IsMarketCell) (sym has.is) (All-set IsMarketCell before place has.cell has.kept all)
 
 -- the others stay
 pub others-stay : (address : Address) (before : List MarketCellState) (place : ℕ) (cell : MarketCellState) → IsFirstAt address before place

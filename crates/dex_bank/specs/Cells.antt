@@ -1,17 +1,20 @@
 -- The cells of an exchange, and the world that they are.
-use Rattle.std.specs.Prelude.{◌≡◌, Bool, true, false, List, map, All, Option}
+use Rattle.std.specs.Prelude.{◌≡◌, Bool, true, false, List, map, All, Option, None, is_some}
 use Rattle.std.specs.List.{AllZip, list_any}
 use Rattle.dex_types.specs.declared.addresses.Address.{Address}
 use Rattle.dex_types.specs.declared.terms.Program.{Program}
 use Rattle.dex_types.specs.Accounts.{PlainAccount, PlainMarketAccounts}
 use Rattle.dex_types.specs.Addresses.{is_same}
 use Rattle.dex_types.specs.Rows.{PlainRow}
+use Rattle.dex_instruction.specs.Reading.{decoded}
+use Rattle.dex_history.specs.Journal.{is_take}
 use Rattle.dex_types.specs.Wallets.{row_wallets}
 use Rattle.dex_cell.specs.CellState as market_cell
 use Rattle.dex_cell.specs.CellState.{IsMarketCell, MarketCellState, entries_of}
 use Rattle.dex_wallet.specs.CellState as wallet_cell
 use Rattle.dex_wallet.specs.CellState.{CellState, IsWalletCell}
 use Rattle.dex_fold.specs.Fold.{names}
+use Rattle.dex_fold.specs.Items.{ShareNothing, why_in}
 use Rattle.dex_fold.specs.World.{MarketState, World}
 use Rattle.dex_act.specs.Wallets.{AreApart, is_among, wallet_state_of}
 
@@ -58,6 +61,23 @@ pub record CanAct (row : PlainRow) (cells : CellsState) : Type 0 where
       All (λ (cell : MarketCellState). is_same row.market cell.accounts.address ≡ true → market_cell.HasSpare cell)
       cells.markets
   pub wallet_spare : All (λ (cell : CellState). names row cell.address ≡ true → wallet_cell.HasSpare cell) cells.wallets
+
+-- a take that would not be refused in the world that the cells are
+pub record CanWait (row : PlainRow) (cells : CellsState) : Type 0 where
+  pub take : is_take (decoded row.bytes) ≡ true
+  pub spared : why_in (world_of cells) row ≡ None
+
+-- what is no take is refused in the world that the cells are
+abbrev pub IsTakeOrRefused : PlainRow → CellsState → Type 0
+IsTakeOrRefused row cells = is_take (decoded row.bytes) ≡ false → is_some (why_in (world_of cells) row) ≡ true
+
+-- both can act, and share no market and no wallet; each of the two is a take, or is refused
+pub record CanActBoth (first second : PlainRow) (cells : CellsState) : Type 0 where
+  pub first_can : CanAct first cells
+  pub second_can : CanAct second cells
+  pub share : ShareNothing first second
+  pub first_take : IsTakeOrRefused first cells
+  pub second_take : IsTakeOrRefused second cells
 
 -- ---- what no row changes
 

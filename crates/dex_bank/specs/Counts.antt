@@ -1,11 +1,12 @@
 -- How often addresses were counted.
-use Rattle.std.specs.Prelude.{ℕ, Bool, false, List, Option, Some, None, if◌then◌else◌}
+use Rattle.std.specs.Prelude.{ℕ, Bool, List, Option, if◌then◌else◌}
 use Rattle.std.specs.HashMap as hash
 use Rattle.std.specs.HashMap.{HashMap}
 use Rattle.std.specs.List.{list_any}
 use Rattle.std.specs.Option.{unwrap_or}
 use Rattle.dex_types.specs.declared.addresses.Address.{Address}
 use Rattle.dex_types.specs.Addresses.{is_same}
+use Rattle.dex_fold.specs.Fold.{is_role}
 
 -- one where it is so
 abbrev pub one : Bool → ℕ
@@ -14,11 +15,6 @@ one holds = if holds then 1 else 0
 -- how often an address was counted
 abbrev pub times : {Hasher : Type 0} → HashMap Address ℕ Hasher → Address → ℕ
 times counted address = unwrap_or (hash.get is_same counted address) 0
-
--- a role is that of the wallet of an address
-abbrev pub is_role : Option Address → Address → Bool
-is_role None address = false
-is_role (Some wallet) address = is_same address wallet
 
 -- one of these roles is
 abbrev pub is_earlier : List (Option Address) → Address → Bool

@@ -5,9 +5,9 @@ use Rattle.dex_types.specs.declared.addresses.Address.{Address}
 use Rattle.dex_types.specs.declared.rows.Row.{Row}
 use Rattle.dex_types.specs.declared.rows.Seen.{Seen}
 use Rattle.dex_types.specs.Addresses.{is_same}
-use Rattle.dex_types.specs.Rows.{row_of}
+use Rattle.dex_types.specs.Rows.{PlainRow}
 use Rattle.dex_types.specs.Transfers.{Transfers}
-use Rattle.dex_cell.specs.CellState.{HasActed, HasSpare, IsFor, IsMarketCell, MarketCellState}
+use Rattle.dex_cell.specs.CellState.{HasActed, HasSpare, IsFor, IsMarketCell, MarketCellState, held_on}
 use Rattle.dex_wallet.specs.CellState.{CellState, IsWalletCell}
 use Rattle.dex_fold.specs.Fold.{wallet_acted}
 use Rattle.dex_act.specs.Wallets.{AreApart, SeesCells, made_of, wallet_state_of}
@@ -36,8 +36,17 @@ pub record HasActedAt (row : Row) (seen : Seen) (place : ℕ) (before after : Li
   pub acted : (default : MarketCellState) → HasActed row seen (slice_index_or before place default) cell
 
 -- each wallet that the row names was moved once, as the transfers say, and each cell is still that of its wallet
-pub record HaveActed (row : Row) (seen : Seen) (t : Transfers) (before after : List CellState) : Type 0 where
-  pub states : map wallet_state_of after ≡ map (wallet_acted (row_of row) seen t) (map wallet_state_of before)
+pub record HaveActed (row : PlainRow) (seen : Seen) (t : Transfers) (before after : List CellState) : Type 0 where
+  pub states : map wallet_state_of after ≡ map (wallet_acted row seen t) (map wallet_state_of before)
   pub kept : All IsWalletCell after
   pub apart : AreApart after
   pub made : map made_of after ≡ map made_of before
+
+-- ---- a row that is held back
+
+-- the market at the place was held back, and no other changed
+pub record HasHeldAt (row : Row) (seen : Seen) (place : ℕ) (before after : List MarketCellState) : Type 0 where
+  pub cell : MarketCellState
+  pub is : after ≡ slice_set before place cell
+  pub kept : IsMarketCell cell
+  pub held : (default : MarketCellState) → cell ≡ held_on row seen (slice_index_or before place default)

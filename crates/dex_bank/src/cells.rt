@@ -1,12 +1,12 @@
 //! All cells of an exchange.
 
-ghost use Rattle.std.specs.Prelude.{◌≡◌, ◌≤◌, IfErr, IfOk, Some, length, map};
+ghost use Rattle.std.specs.Prelude.{◌≡◌, ◌≤◌, ◌||◌, is_some, true, IfErr, IfOk, Some, length, map};
 
 use crate::closing::{closed, left_by};
 use crate::copying::accounts_copy;
 use crate::opening::opened;
 use crate::room::Room;
-use crate::stepping::stepped;
+use crate::stepping::{stepped, stepped_both};
 use dex_cell::MarketCell;
 use dex_report::Outcome;
 use dex_script::Script;
@@ -40,18 +40,17 @@ impl Model for Cells {
 }
 
 impl Cells {
-    ghost use Rattle.dex_types.specs.declared.refusals.Refusal.{Refusal};
-    ghost use Rattle.dex_types.specs.declared.replies.Reply.TheVariants.{Refused};
     ghost use Rattle.dex_types.specs.Accounts.{named_of};
     ghost use Rattle.dex_types.specs.Market.{Market};
     ghost use Rattle.dex_types.specs.Rows.{row_of};
-    ghost use Rattle.dex_history.specs.Journal.{row_step};
+    ghost use Rattle.dex_history.specs.Journal.{is_refusal, row_step};
     ghost use Rattle.dex_fold.specs.Fold.{act};
+    ghost use Rattle.dex_fold.specs.Items.{act_item, pair_of, why_in};
     ghost use Rattle.dex_fold.specs.World.{market_at, seen_by};
     ghost use Rattle.dex_report.specs.Outcomes.{outcome_of};
     ghost use Rattle.dex_script.specs.Facts.{IsScript};
     ghost use Rattle.dex_bank.specs.Cells as spec;
-    ghost use Rattle.dex_bank.specs.Cells.{AreCells, CanAct};
+    ghost use Rattle.dex_bank.specs.Cells.{AreCells, CanAct, CanActBoth};
     ghost use Rattle.dex_bank.specs.Closed as left;
     ghost use Rattle.dex_bank.specs.Opened as first;
 
@@ -143,11 +142,25 @@ impl Cells {
         ensures acted { spec.world_of self.new ≡ act (row_of row.entry.now) (spec.world_of self.old) }
         ensures kept { spec.opened_of self.new ≡ spec.opened_of self.old }
         ensures others { spec.OthersStay row.entry.now.market self.old.markets self.new.markets }
-        ensures refused { (why : Refusal) → result ≡ Refused why
+        ensures refused { is_refusal result ≡ true
             → spec.accounts_in self.new.markets ≡ spec.accounts_in self.old.markets }
         ensures cells { AreCells self.new }
     {
         stepped(self, row)
+    }
+
+    /// Two legs of one swap act, both or neither, and these are their markets' replies. It takes no memory.
+    pub fn step_two(&mut self, first: &Row, second: &Row) -> (Reply, Reply)
+        requires { CanActBoth (row_of first.now) (row_of second.now) self.old }
+        ensures acted { spec.world_of self.new
+            ≡ act_item (pair_of (row_of first.entry.now) (row_of second.entry.now)) (spec.world_of self.old) }
+        ensures kept { spec.opened_of self.new ≡ spec.opened_of self.old }
+        ensures stays { (is_some (why_in (spec.world_of self.old) (row_of first.entry.now))
+            || is_some (why_in (spec.world_of self.old) (row_of second.entry.now))) ≡ true
+            → spec.accounts_in self.new.markets ≡ spec.accounts_in self.old.markets }
+        ensures cells { AreCells self.new }
+    {
+        stepped_both(self, first, second)
     }
 
     /// The accounts and the journals of all cells, as they are. Where there is no memory for them, all cells are given back as they

@@ -5,8 +5,9 @@ ghost use Rattle.dex_types.specs.declared.addresses.Address.{Address as AddressO
 ghost use Rattle.dex_types.specs.Addresses as addresses;
 ghost use Rattle.dex_types.specs.Rows.{row_of};
 ghost use Rattle.dex_fold.specs.Fold as fold;
+ghost use Rattle.dex_fold.specs.Fold.{is_role};
 ghost use Rattle.dex_bank.specs.Counts as counts;
-ghost use Rattle.dex_bank.specs.Counts.{is_earlier, is_role, one};
+ghost use Rattle.dex_bank.specs.Counts.{is_earlier, one};
 ghost use Rattle.dex_bank.specs.Opened as first;
 
 use dex_types::{Address, NoMemory, Row, is_same};

@@ -1,21 +1,24 @@
 //! One row on all cells.
 
-ghost use Rattle.std.specs.Prelude.{◌≡◌, None, Some, true, map, slice_index_or, slice_set};
+ghost use Rattle.std.specs.Prelude.{◌≡◌, ◌<◌, ◌||◌, length, None, Some, true, if◌then◌else◌, is_some, map, slice_index_or, slice_set};
 ghost use Rattle.std.specs.List.{All};
-ghost use Rattle.dex_types.specs.declared.refusals.Refusal.{Refusal};
-ghost use Rattle.dex_types.specs.declared.replies.Reply.TheVariants.{Refused};
+ghost use Rattle.dex_types.specs.declared.replies.Reply.TheVariants.{Done};
 ghost use Rattle.dex_types.specs.Market.{Market};
 ghost use Rattle.dex_types.specs.Rows.{row_of};
-ghost use Rattle.dex_history.specs.Journal.{row_step};
-ghost use Rattle.dex_cell.specs.CellState.{MarketCellState, refused_on, step_on};
+ghost use Rattle.dex_types.specs.Transfers.{no_transfers};
+ghost use Rattle.dex_types.specs.Why.{why};
+ghost use Rattle.dex_history.specs.Journal.{is_refusal, request_of, row_step};
+ghost use Rattle.dex_cell.specs.CellState.{CanHold, IsFor, MarketCellState, market_at, refused_on, step_on};
 ghost use Rattle.dex_fold.specs.Fold as fold;
+ghost use Rattle.dex_fold.specs.Items.{act_item, idle_row, pair_of, why_in};
 ghost use Rattle.dex_fold.specs.World as world;
 ghost use Rattle.dex_act.specs.Wallets.{Fits, roles_of, wallet_state_of};
-ghost use Rattle.dex_bank.specs.Cells.{AreCells, CanAct, OthersStay, accounts_in, is_market, opened_of, world_of};
-ghost use Rattle.dex_bank.specs.Stepping.{CanActAt, HasActedAt, HaveActed, IsFirstAt};
+ghost use Rattle.dex_bank.specs.Cells.{AreCells, CanAct, CanActBoth, CanWait, OthersStay, accounts_in};
+ghost use Rattle.dex_bank.specs.Cells.{is_market, opened_of, world_of};
+ghost use Rattle.dex_bank.specs.Stepping.{CanActAt, HasActedAt, HasHeldAt, HaveActed, IsFirstAt};
 
 use crate::cells::Cells;
-use dex_act::{act, wallet_at};
+use dex_act::{act, hold, wallet_at};
 use dex_cell::MarketCell;
 use dex_types::{Address, Reply, Row, Seen, WalletSeen, is_same};
 use dex_wallet::WalletCell;
@@ -78,11 +81,10 @@ fn act_at(
     ensures reply { (default : MarketCellState) →
         result ≡ (step_on row.entry.now seen.now (slice_index_or markets.old place default)).reply }
     ensures market { HasActedAt row.entry.now seen.now place markets.old markets.new }
-    ensures refused { (why : Refusal) (default : MarketCellState) → result ≡ Refused why
-        → markets.new
+    ensures refused { is_refusal result ≡ true → (default : MarketCellState) → markets.new
         ≡ slice_set markets.old place (refused_on row.entry.now seen.now (slice_index_or markets.old place default)) }
     ensures wallets { (default : MarketCellState) →
-        HaveActed row.entry.now seen.now
+        HaveActed (row_of row.entry.now) seen.now
         (step_on row.entry.now seen.now (slice_index_or markets.old place default)).transfers wallets.old wallets.new }
 {
     act(&mut markets[place], wallets, row, seen)
@@ -97,11 +99,104 @@ pub(crate) fn stepped(cells: &mut Cells, row: &Row) -> Reply
     ensures acted { world_of cells.new ≡ fold.act (row_of row.entry.now) (world_of cells.old) }
     ensures kept { opened_of cells.new ≡ opened_of cells.old }
     ensures others { OthersStay row.entry.now.market cells.old.markets cells.new.markets }
-    ensures refused { (why : Refusal) → result ≡ Refused why
+    ensures refused { is_refusal result ≡ true
         → accounts_in cells.new.markets ≡ accounts_in cells.old.markets }
     ensures cells { AreCells cells.new }
 {
     let seen = seen_by(cells, row);
     let place = place_of(&cells.markets, row.market);
     act_at(&mut cells.markets, place, &mut cells.wallets, row, &seen)
+}
+
+/// A take is held back at the market at a place, and looks at the wallets that it names.
+fn hold_at(
+    markets: &mut [MarketCell],
+    place: usize,
+    wallets: &mut [WalletCell],
+    row: &Row,
+    seen: &Seen,
+) -> Reply
+    requires row { CanActAt row.now seen.now place markets.old wallets.old }
+    requires held { (default : MarketCellState) → CanHold row.now seen.now (slice_index_or markets.old place default) }
+    ensures reply { result ≡ Done }
+    ensures market { HasHeldAt row.entry.now seen.now place markets.old markets.new }
+    ensures wallets { HaveActed (row_of row.entry.now) seen.now no_transfers wallets.old wallets.new }
+{
+    hold(&mut markets[place], wallets, row, seen)
+}
+
+/// A take is held back on all cells: it does nothing, and looks at the wallets that it names.
+fn held(cells: &mut Cells, row: &Row) -> Reply
+    requires row { CanAct (row_of row.now) cells.old }
+    requires held { CanWait (row_of row.now) cells.old }
+    ensures reply { result ≡ Done }
+    ensures acted { world_of cells.new ≡ fold.act (idle_row (row_of row.entry.now)) (world_of cells.old) }
+    ensures kept { opened_of cells.new ≡ opened_of cells.old }
+    ensures others { OthersStay row.entry.now.market cells.old.markets cells.new.markets }
+    ensures accounts { accounts_in cells.new.markets ≡ accounts_in cells.old.markets }
+    ensures cells { AreCells cells.new }
+{
+    let seen = seen_by(cells, row);
+    let place = place_of(&cells.markets, row.market);
+    hold_at(&mut cells.markets, place, &mut cells.wallets, row, &seen)
+}
+
+/// Whether the market at a place would refuse a row.
+fn is_refused_at(markets: &[MarketCell], place: usize, row: &Row, seen: &Seen) -> bool
+    requires within { place < length markets.now }
+    requires row { (default : MarketCellState) → IsFor row.now seen.now (slice_index_or markets.now place default) }
+    ensures { (default : MarketCellState) → result
+        ≡ is_some (why (request_of (row_of row.entry.now)) seen.now (market_at (slice_index_or markets.now place default))) }
+{
+    markets[place].decide(row, seen).is_err()
+}
+
+/// Whether a row would be refused now.
+fn is_refused(cells: &Cells, row: &Row) -> bool
+    requires { CanAct (row_of row.now) cells.now }
+    ensures refused { result ≡ is_some (why_in (world_of cells.now) (row_of row.entry.now)) }
+    ensures cells { AreCells cells.now }
+{
+    let seen = seen_by(cells, row);
+    let place = place_of(&cells.markets, row.market);
+    is_refused_at(&cells.markets, place, row, &seen)
+}
+
+/// A row acts, or is held back.
+fn act_or_wait(cells: &mut Cells, row: &Row, waits: bool) -> Reply
+    requires row { CanAct (row_of row.now) cells.old }
+    requires held { waits ≡ true → CanWait (row_of row.now) cells.old }
+    ensures acted { world_of cells.new
+        ≡ fold.act (if waits then idle_row (row_of row.entry.now) else row_of row.entry.now) (world_of cells.old) }
+    ensures kept { opened_of cells.new ≡ opened_of cells.old }
+    ensures others { OthersStay row.entry.now.market cells.old.markets cells.new.markets }
+    ensures accounts { waits ≡ true → accounts_in cells.new.markets ≡ accounts_in cells.old.markets }
+    ensures stays { is_some (why_in (world_of cells.old) (row_of row.entry.now)) ≡ true
+        → accounts_in cells.new.markets ≡ accounts_in cells.old.markets }
+    ensures cells { AreCells cells.new }
+{
+    if waits {
+        held(cells, row)
+    } else {
+        stepped(cells, row)
+    }
+}
+
+/// Two legs of one swap act, both or neither.
+pub(crate) fn stepped_both(cells: &mut Cells, first: &Row, second: &Row) -> (Reply, Reply)
+    requires { CanActBoth (row_of first.now) (row_of second.now) cells.old }
+    ensures acted { world_of cells.new
+        ≡ act_item (pair_of (row_of first.entry.now) (row_of second.entry.now)) (world_of cells.old) }
+    ensures kept { opened_of cells.new ≡ opened_of cells.old }
+    ensures stays { (is_some (why_in (world_of cells.old) (row_of first.entry.now))
+        || is_some (why_in (world_of cells.old) (row_of second.entry.now))) ≡ true
+        → accounts_in cells.new.markets ≡ accounts_in cells.old.markets }
+    ensures cells { AreCells cells.new }
+{
+    let first_refused = is_refused(cells, first);
+    let second_refused = is_refused(cells, second);
+    let any = first_refused || second_refused;
+    let one = act_or_wait(cells, first, any && !first_refused);
+    let two = act_or_wait(cells, second, any && !second_refused);
+    (one, two)
 }

@@ -3,34 +3,37 @@ use Rattle.std.proofs.Common.{◌≡◌, ◌==◌, ℕ, Bool, true, false, cond,
 use Rattle.std.specs.List.{All, Contains, filter}
 use Rattle.std.proofs.lemmas.Bool.{cond-true, eq-eqb}
 use Rattle.std.proofs.lemmas.List.Elements.{All-cons, All-contains_itself, All-filter, All-head, All-nil, All-tail, All-weaker}
+use Rattle.dex_types.specs.declared.addresses.Address.{Address}
 use Rattle.dex_types.specs.declared.movements.Entry.{Entry}
 use Rattle.dex_types.specs.declared.rows.Seen.{Seen}
 use Rattle.dex_types.specs.Accounts.{PlainMarketAccounts}
 use Rattle.dex_types.specs.Addresses.{is_same}
-use Rattle.dex_types.specs.Market.{Market}
+use Rattle.dex_types.specs.Market.{Listing, Market}
 use Rattle.dex_types.specs.Rows.{PlainRow}
 use Rattle.dex_accounts.specs.Decoded.{market_in}
-use Rattle.dex_history.specs.Journal.{Asked, Call, IsLegal, asked_of, step_of}
+use Rattle.dex_sound.proofs.KeepLaws.{step-keeps}
+use Rattle.dex_history.specs.Journal.{Asked, Call, IsLegal, acted_of, asked_of, step_of}
 use Rattle.dex_report.specs.Outcomes.{PlainMarketJournal, PlainOutcome}
 use Rattle.dex_script.specs.Drafts.{PlainScript}
 use Rattle.dex_script.specs.Facts.{IsScript}
 use Rattle.dex_script.specs.Firsts.{first_of}
 use Rattle.dex_replay.specs.Lawful.{AllThree, IsLawful, IsLawfulMarket, IsSight, rows_of_market}
+use Rattle.dex_replay.proofs.LastAccounts.{listing-in}
 use Rattle.dex_replay.proofs.MappedLists.{All-across}
-use Rattle.dex_calls.specs.Told.{IsCallOf, TellsHistory, call_by, call_told, calls_told, with_call}
+use Rattle.dex_calls.specs.Told.{IsCallOf, TellsHistory, call_by, call_told, calls_told, is_row_on, with_call}
 use Rattle.dex_calls.proofs.Finding.{row-found, wallets-once}
 use Rattle.dex_calls.proofs.SightTold.{sight-told}
 
 -- ---- one call
 
 pub call-told : (script : PlainScript) → IsScript script → (row : PlainRow) (m : Market) (call : Call) → IsCallOf script row m call
-    → call_told script call.entry ≡ Some call
+    → call_told script row.market call.entry ≡ Some call
 call-told script facts row m call is =
     let number : call.entry.row ≡ row.number =
     ap (λ (entry : Entry). entry.row) is.stands.entry ∙ ap (λ (asked : Asked). asked.number) is.asks in
     let seen = sight-told script row call m (wallets-once script.start facts.start.accepted) is.asks is.sight is.stands in
-    ap (λ (n : ℕ). first_of (λ (one : PlainRow). one.number == n) (call_by script call.entry) script.rows) number
-    ∙ row-found (call_by script call.entry) row script.rows facts.rows.rising is.row_is
+    ap (λ (n : ℕ). first_of (is_row_on row.market n) (call_by script call.entry) script.rows) number
+    ∙ row-found (call_by script call.entry) row script.rows facts.rows.legs is.row_is
     ∙ ap (λ (one : Seen). Some (record (call_by script call.entry row) { seen = one })) seen
     ∙ ap (λ (asked : Asked). Some (record call { asked = asked })) (sym is.asks)
 
@@ -44,19 +47,24 @@ record IsAskedIn (rows : List PlainRow) (asked : Asked) : Type 0 where
 
 calls-told : (script : PlainScript) → IsScript script → (m : Market) (calls : List Call) → IsLegal m calls
     → All (λ (call : Call). IsAskedIn script.rows call.asked) calls → All (λ (call : Call). IsSight script call.seen) calls
-    → calls_told script (map (λ (call : Call). call.entry) calls) ≡ Some calls
+    → calls_told script m.listing.address (map (λ (call : Call). call.entry) calls) ≡ Some calls
 calls-told script facts m [] legal asked sees = refl
 calls-told script facts m (call ∷ calls) legal asked sees =
     let by : IsAskedIn script.rows call.asked = All-head (λ (one : Call). IsAskedIn script.rows one.asked) call calls asked in
-    let first : call_told script call.entry ≡ Some call = call-told script facts by.row m call (record {
+    let address : Address = m.listing.address in
+    let on : by.row.market ≡ address = sym (ap (λ (asked : Asked). asked.market) by.asks) ∙ legal.0.market in
+    let stays : (step_of call m).market.listing.address ≡ address =
+    ap (λ (listing : Listing). listing.address) (step-keeps (acted_of call).request call.seen m).listing in
+    let first : call_told script by.row.market call.entry ≡ Some call = call-told script facts by.row m call (record {
       row_is = by.there;
       asks = by.asks;
       sight = All-head (λ (one : Call). IsSight script one.seen) call calls sees;
       stands = legal.0;
     }) in
-    ap (λ (one : Option Call). with_call one (calls_told script (map (λ (other : Call). other.entry) calls))) first
-    ∙ ap (with_call (Some call))
-    (calls-told script facts (step_of call m).market calls legal.1 (All-tail (λ (one : Call). IsAskedIn script.rows one.asked) call calls asked)
+    let later : List Entry = map (λ (other : Call). other.entry) calls in
+    ap (λ (one : Option Call). with_call one (calls_told script address later)) (ap (λ (a : Address). call_told script a call.entry) (sym on) ∙ first)
+    ∙ ap (with_call (Some call)) (ap (λ (a : Address). calls_told script a later) (sym stays)
+    ∙ calls-told script facts (step_of call m).market calls legal.1 (All-tail (λ (one : Call). IsAskedIn script.rows one.asked) call calls asked)
     (All-tail (λ (one : Call). IsSight script one.seen) call calls sees))
 
 -- ---- a lawful market
@@ -95,12 +103,14 @@ module _ (script : PlainScript) (first last : PlainMarketAccounts) (journal : Pl
       (All-filter (λ (row : PlainRow). row.lane == lane) Asks (filter (λ (row : PlainRow). is_same row.market first.address) script.rows)
       (All-filter (λ (row : PlainRow). is_same row.market first.address) Asks script.rows each-asks)))
 
-  of-lawful : IsScript script → calls_told script journal.entries ≡ Some lawful.calls
+  of-lawful : IsScript script → calls_told script first.address journal.entries ≡ Some lawful.calls
   of-lawful facts =
-      ap (calls_told script) lawful.entries ∙ calls-told script facts (market_in first) lawful.calls lawful.legal all-asked lawful.sees
+      ap (calls_told script first.address) lawful.entries
+      ∙ ap (λ (listing : Listing). calls_told script listing.address (map (λ (call : Call). call.entry) lawful.calls)) (sym (listing-in first))
+      ∙ calls-told script facts (market_in first) lawful.calls lawful.legal all-asked lawful.sees
 
 pub lawful-told : (script : PlainScript) → IsScript script → (first last : PlainMarketAccounts) (journal : PlainMarketJournal)
-    → (lawful : IsLawfulMarket script first last journal) → calls_told script journal.entries ≡ Some lawful.calls
+    → (lawful : IsLawfulMarket script first last journal) → calls_told script first.address journal.entries ≡ Some lawful.calls
 lawful-told script facts first last journal lawful = of-lawful script first last journal lawful facts
 
 pub history-told : (script : PlainScript) → IsScript script → (first last : PlainMarketAccounts) (journal : PlainMarketJournal)

@@ -1,7 +1,7 @@
--- The row of a number and the wallet of an address are found, where none stands twice.
-use Rattle.std.proofs.Common.{◌≡◌, ℕ, zero, suc, ◌<◌, ◌≤◌, ◌==◌, inl, inr, true, false, List, [], ◌∷◌, ◌++◌, length, get_or, map, Some, sym, ap, ◌∙◌, subst, arith}
+-- The row of a number on a market and the wallet of an address are found, where none stands twice.
+use Rattle.std.proofs.Common.{◌≡◌, ℕ, zero, suc, ◌<◌, ◌≤◌, ◌==◌, ◌&&◌, ⊎_elim, inl, inr, Bool, true, false, List, [], ◌∷◌, ◌++◌, length, get_or, map, Some, refl, sym, ap, ◌∙◌, subst, arith}
 use Rattle.std.specs.List.{AllPairs, Contains, flat_map}
-use Rattle.std.proofs.lemmas.Bool.{cases_Bool, cond-false, cond-true, eq-eqb, ne_eqb}
+use Rattle.std.proofs.lemmas.Bool.{cases_Bool, cond-false, cond-true, eq-eqb, eqb-true}
 use Rattle.dex_types.specs.declared.addresses.Address.{Address}
 use Rattle.dex_types.specs.Accounts.{PlainAccount, PlainAccounts}
 use Rattle.dex_types.specs.Addresses.{is_same}
@@ -9,32 +9,46 @@ use Rattle.dex_types.specs.Rows.{PlainRow}
 use Rattle.dex_laws.proofs.TraderLaws.{is_same-refl}
 use Rattle.dex_dump.specs.Accepted.{AreAccepted, address_of, all_of_market, times}
 use Rattle.dex_dump.proofs.TakenLaws.{times-append, times-cons}
+use Rattle.dex_script.specs.Facts.{AreLegs}
 use Rattle.dex_script.specs.Firsts.{first_of}
+use Rattle.dex_calls.specs.Told.{is_row_on}
 
 -- ---- a row
 
--- a row stands before one of a higher number
-abbrev pub Rising : PlainRow → PlainRow → Type 0
-Rising one other = one.number < other.number
+-- two rows of one number are legs, so they are on different markets
+abbrev pub MayBeLegs : PlainRow → PlainRow → Type 0
+MayBeLegs one other = one.number ≡ other.number → AreLegs one other
 
 module _ {Y : Type 0} (told : PlainRow → Y) (row : PlainRow) where
-  abbrev row_found : List PlainRow → Type 0
-  row_found rows = first_of (λ (one : PlainRow). one.number == row.number) told rows ≡ Some (told row)
+  abbrev is_it : PlainRow → Bool
+  is_it one = is_row_on row.market row.number one
 
-  pub row-found : (rows : List PlainRow) → AllPairs Rising rows → Contains rows row → row_found rows
-  row-found rows rising here = at rows rising here.0 here.1 here.2
+  another : (one : PlainRow) → MayBeLegs one row → is_it one ≡ false
+  another one legs =
+      ⊎_elim
+      (λ (same : (one.number == row.number) ≡ true).
+      ap (λ (b : Bool). b && is_same one.market row.market) same ∙ (legs (eqb-true one.number row.number same)).apart.markets)
+      (λ (other : (one.number == row.number) ≡ false). ap (λ (b : Bool). b && is_same one.market row.market) other)
+      (cases_Bool (one.number == row.number))
+
+  itself : is_it row ≡ true
+  itself =
+      ap (λ (b : Bool). b && is_same row.market row.market) (eq-eqb row.number row.number refl) ∙ is_same-refl row.market
+
+  abbrev row_found : List PlainRow → Type 0
+  row_found rows = first_of is_it told rows ≡ Some (told row)
+
+  pub row-found : (rows : List PlainRow) → AllPairs MayBeLegs rows → Contains rows row → row_found rows
+  row-found rows legs here = at rows legs here.0 here.1 here.2
     where
-      at : (some : List PlainRow) → AllPairs Rising some → (k : ℕ) → k < length some → get_or some k row ≡ row → row_found some
-      at [] rising k within is = absurd (omega (arith, within))
-      at (first ∷ others) rising zero within is =
-          cond-true (first.number == row.number) (Some (told first)) (first_of (λ (one : PlainRow). one.number == row.number) told others)
-          (eq-eqb first.number row.number (ap (λ (one : PlainRow). one.number) is))
-          ∙ ap (λ (one : PlainRow). Some (told one)) is
-      at (first ∷ others) rising (suc k) within is =
-          let below : first.number < row.number = subst (λ (one : PlainRow). first.number < one.number) is (rising 0 (suc k) row (omega arith) within) in
-          cond-false (first.number == row.number) (Some (told first)) (first_of (λ (one : PlainRow). one.number == row.number) told others)
-          (ne_eqb first.number row.number (λ same. absurd (omega (arith, same, below))))
-          ∙ at others (λ i j d before end. rising (suc i) (suc j) d (omega (arith, before)) (omega (arith, end))) k (omega (arith, within)) is
+      at : (some : List PlainRow) → AllPairs MayBeLegs some → (k : ℕ) → k < length some → get_or some k row ≡ row → row_found some
+      at [] legs k within is = absurd (omega (arith, within))
+      at (first ∷ others) legs zero within is =
+          cond-true (is_it first) (Some (told first)) (first_of is_it told others) (ap is_it is ∙ itself) ∙ ap (λ (one : PlainRow). Some (told one)) is
+      at (first ∷ others) legs (suc k) within is =
+          cond-false (is_it first) (Some (told first)) (first_of is_it told others)
+          (another first (subst (MayBeLegs first) is (legs 0 (suc k) row (omega arith) within)))
+          ∙ at others (λ i j d before end. legs (suc i) (suc j) d (omega (arith, before)) (omega (arith, end))) k (omega (arith, within)) is
 
 -- ---- a wallet
 

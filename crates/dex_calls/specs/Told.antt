@@ -1,5 +1,5 @@
 -- The call of an entry of a market's journal, as the script and the entry tell it.
-use Rattle.std.specs.Prelude.{◌≡◌, ◌==◌, ℕ, Option, Some, None, List, [], ◌∷◌, map, if◌then◌else◌}
+use Rattle.std.specs.Prelude.{◌≡◌, ◌==◌, ◌&&◌, ℕ, Bool, Option, Some, None, List, [], ◌∷◌, map, if◌then◌else◌}
 use Rattle.std.specs.List.{Contains}
 use Rattle.dex_types.specs.declared.addresses.Address.{Address}
 use Rattle.dex_types.specs.declared.movements.Entry.{Entry}
@@ -61,19 +61,23 @@ seen_told script row entry =
 abbrev pub call_by : PlainScript → Entry → PlainRow → Call
 call_by script entry row = record { asked = asked_of row; seen = seen_told script row entry; entry = entry }
 
--- the call that an entry tells: that of the script's row of its number
-abbrev pub call_told : PlainScript → Entry → Option Call
-call_told script entry = first_of (λ (row : PlainRow). row.number == entry.row) (call_by script entry) script.rows
+-- a row of this number on this market
+abbrev pub is_row_on : Address → ℕ → PlainRow → Bool
+is_row_on market number row = (row.number == number) && is_same row.market market
+
+-- the call that an entry of a market's journal tells: that of the script's row of its number on the market
+abbrev pub call_told : PlainScript → Address → Entry → Option Call
+call_told script market entry = first_of (is_row_on market entry.row) (call_by script entry) script.rows
 
 -- one call more, where there is one
 abbrev pub with_call : Option Call → Option (List Call) → Option (List Call)
 with_call (Some call) (Some calls) = Some (call ∷ calls)
 with_call _ _ = None
 
--- the calls that entries tell, where each tells one
-abbrev pub calls_told : PlainScript → List Entry → Option (List Call)
-calls_told script [] = Some []
-calls_told script (entry ∷ entries) = with_call (call_told script entry) (calls_told script entries)
+-- the calls that entries of a market's journal tell, where each tells one
+abbrev pub calls_told : PlainScript → Address → List Entry → Option (List Call)
+calls_told script market [] = Some []
+calls_told script market (entry ∷ entries) = with_call (call_told script market entry) (calls_told script market entries)
 
 -- ---- whose call it is
 
@@ -89,7 +93,7 @@ pub record IsCallOf (script : PlainScript) (row : PlainRow) (m : Market) (call :
 pub record TellsHistory (script : PlainScript) (first last : PlainMarketAccounts) (journal : PlainMarketJournal)
     : Type 0 where
   pub calls : List Call
-  pub told : calls_told script journal.entries ≡ Some calls
+  pub told : calls_told script first.address journal.entries ≡ Some calls
   pub entries : map (λ (call : Call). call.entry) calls ≡ journal.entries
   pub legal : IsLegal (market_in first) calls
   pub stands : StandsFor last (market_after (market_in first) calls)

@@ -15,11 +15,11 @@ ghost use Rattle.dex_calls.specs.Told.{IsCallOf, TellsHistory, call_told, calls_
 /// The call of an entry of a lawful journal is the one that the script and the entry tell.
 pub fn an_entry_tells_its_call()
     ensures call { (script : PlainScript) → IsScript script → (row : PlainRow) (m : Market) (call : Call)
-        → IsCallOf script row m call → call_told script call.entry ≡ Some call }
+        → IsCallOf script row m call → call_told script row.market call.entry ≡ Some call }
     ensures calls { (script : PlainScript) → IsScript script
         → (first last : PlainMarketAccounts) (journal : PlainMarketJournal)
         → (lawful : IsLawfulMarket script first last journal)
-        → calls_told script journal.entries ≡ Some lawful.calls }
+        → calls_told script first.address journal.entries ≡ Some lawful.calls }
     ensures history { (script : PlainScript) → IsScript script
         → (first last : PlainMarketAccounts) (journal : PlainMarketJournal)
         → IsLawfulMarket script first last journal → TellsHistory script first last journal }

@@ -1,5 +1,5 @@
 -- A cell with a call more is a cell again.
-use Rattle.std.proofs.Common.{◌≡◌, [], ◌∷◌, ◌++◌, refl, sym, ap, subst, ◌∙◌, arith, length-append}
+use Rattle.std.proofs.Common.{◌≡◌, ◌&&◌, Bool, true, [], ◌∷◌, ◌++◌, refl, sym, ap, subst, ◌∙◌, arith, length-append}
 use Rattle.dex_types.specs.declared.refusals.Refusal.{Refusal}
 use Rattle.dex_types.specs.declared.replies.Reply.{Reply}
 use Rattle.dex_types.specs.declared.replies.Reply.TheVariants.{Refused}
@@ -10,18 +10,19 @@ use Rattle.dex_types.specs.Market.{Market}
 use Rattle.dex_types.specs.Rows.{PlainRow, row_of}
 use Rattle.dex_types.specs.Steps.{Step, refused}
 use Rattle.dex_accounts.specs.Decoded.{market_in}
-use Rattle.dex_history.specs.Journal.{Call, Sees, Stands, asked_of, market_after, row_step}
+use Rattle.dex_history.specs.Journal.{Call, Sees, Stands, asked_of, is_held, market_after, row_step}
+use Rattle.dex_history.proofs.HeldLaws.{held-stands, held-step, own-stands, own-step}
 use Rattle.dex_history.proofs.HistoryLaws.{IsLegal-one, market_after-one}
 use Rattle.dex_history.proofs.PriceLaws.{decoded-priced}
 use Rattle.dex_ring.specs.declared.leaving.Leaving.{Leaving}
 use Rattle.dex_ring.specs.Leaving.{leaving_of}
 use Rattle.dex_step.specs.Acting.{HasStepped}
 use Rattle.dex_wallet.specs.TokenAmount.{TokenAmount, held_in}
-use Rattle.dex_cell.specs.CellState.{HasSpare, IsFor, IsMarketCell, MarketCellState, call_made, call_on, market_at, refused_on, step_on}
+use Rattle.dex_cell.specs.CellState.{CanHold, HasSpare, IsFor, IsMarketCell, MarketCellState, call_made, call_on, held_made, held_on, market_at, refused_on, step_on}
 
 -- the call of a row stands on the market of its address
 stands : (row : PlainRow) (seen : Seen) (m : Market) → row.market ≡ m.listing.address → Sees (asked_of row) seen → Stands (call_made row seen m) m
-stands row seen m market sees = record { market = market; price = decoded-priced row.bytes; sees = sees; entry = refl }
+stands row seen m market sees = own-stands (call_made row seen m) m market (decoded-priced row.bytes) sees refl
 
 -- the cell after the step of a row
 pub called : (cell : MarketCellState) (row : Row) (seen : Seen) (accounts : PlainMarketAccounts) (reply : Reply) (leaving : Leaving) (coin pc : TokenAmount)
@@ -43,7 +44,9 @@ called cell row seen accounts reply leaving coin pc is for spare stepped coin_is
       };
       start = is.start;
       legal = (IsLegal-one cell.calls call (market_in cell.start)).1 (is.legal, standing);
-      end_is = stepped.market ∙ ap (λ (x : Market). (row_step (row_of row) seen x).market) is.end_is ∙ sym (market_after-one cell.calls call (market_in cell.start));
+      end_is = stepped.market ∙ ap (λ (x : Market). (row_step (row_of row) seen x).market) is.end_is
+          ∙ sym (ap (λ (s : Step). s.market) (own-step call m (market_after (market_in cell.start) cell.calls) refl))
+          ∙ sym (market_after-one cell.calls call (market_in cell.start));
       coin = coin_is;
       pc = pc_is;
       room = omega (arith, length-append cell.calls (call ∷ []), spare);
@@ -60,3 +63,26 @@ refused-called cell row seen refusal leaving is for spare refuses =
       leaving_is = refl;
       kept = record { address = refl; authority = refl; addresses = refl; accepted = λ accepted. accepted };
     }) is.coin is.pc
+
+-- the cell after a take that was held back
+pub held-called : (cell : MarketCellState) (row : Row) (seen : Seen) → IsMarketCell cell → IsFor row seen cell → CanHold row seen cell → HasSpare cell
+    → IsMarketCell (held_on row seen cell)
+held-called cell row seen is for can spare =
+    let m : Market = market_in cell.accounts in
+    let call : Call = held_made (row_of row) seen in
+    let standing : Stands call m =
+    held-stands call m (for.market ∙ is.sound.stands.address) (decoded-priced row.bytes.items) for.sees can.take can.spared refl in
+    let held : is_held call ≡ true = ap (λ (b : Bool). b && true) can.take in
+    record {
+      sound = is.sound;
+      accepted = is.accepted;
+      one_market = is.one_market;
+      start = is.start;
+      legal = (IsLegal-one cell.calls call (market_in cell.start)).1 (is.legal, subst (λ (x : Market). Stands call x) is.end_is standing);
+      end_is = is.end_is
+          ∙ sym (ap (λ (s : Step). s.market) (held-step call (market_after (market_in cell.start) cell.calls) held))
+          ∙ sym (market_after-one cell.calls call (market_in cell.start));
+      coin = is.coin;
+      pc = is.pc;
+      room = omega (arith, length-append cell.calls (call ∷ []), spare);
+    }

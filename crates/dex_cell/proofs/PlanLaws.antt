@@ -1,5 +1,6 @@
 -- What a decided plan moves is what the row's step moves.
-use Rattle.std.proofs.Common.{◌≡◌, ℕ, List, [], ◌∷◌, Option, Some, None, Result, Ok, Err, refl, sym, ap, subst, ◌∙◌}
+use Rattle.std.proofs.Common.{◌≡◌, ℕ, false, is_some, List, [], ◌∷◌, Option, Some, None, Result, Ok, Err, refl, sym, ap, subst, ◌∙◌}
+use Rattle.std.specs.Result.{is_err}
 use Rattle.dex_types.specs.declared.addresses.Address.{Address}
 use Rattle.dex_types.specs.declared.instructions.BadData.{BadData}
 use Rattle.dex_types.specs.declared.instructions.Ix.{Ix}
@@ -24,8 +25,9 @@ use Rattle.dex_decide.specs.declared.plan.Plan.{Plan}
 use Rattle.dex_decide.specs.declared.plan.Plan.TheVariants as plans
 use Rattle.dex_decide.specs.Owing.{deposit_of, owed}
 use Rattle.dex_decide.specs.Plans.{by_party, decided, order_plan, plan_decoded, plan_on, settle_plan}
-use Rattle.dex_history.specs.Journal.{request_of}
-use Rattle.dex_cell.specs.CellState.{IsDone, MarketCellState, answer_on, market_at, step_on}
+use Rattle.dex_history.specs.Journal.{is_refusal, request_of}
+use Rattle.dex_history.proofs.RefusalLaws.{step-refused}
+use Rattle.dex_cell.specs.CellState.{MarketCellState, answer_on, market_at, step_on}
 use Rattle.dex_cell.specs.PlanAmounts.{plan_transfers}
 
 -- where nothing moves for a party, nothing moves without one
@@ -153,41 +155,12 @@ pc-enters plans.Init = refl
 
 -- ---- an accepted row is answered by no refusal
 
-party-done : (acts : Party → Step) (m : Market) (party : Option Party) → ((found : Party) → IsDone (acts found).reply) → IsDone (steps.by_party acts m party).reply
-party-done acts m None each = tt
-party-done acts m (Some found) each = each found
+pub answered-refused : {X : Type 0} → (found : Option Refusal) (plan : X) → is_err (answered found plan) ≡ is_some found
+answered-refused None plan = refl
+answered-refused (Some why) plan = refl
 
-opens-done : (named : List Address) (signer : Address) (m : Market) → IsDone (act_init named signer m).reply
-opens-done [] signer m = tt
-opens-done (address ∷ others) signer m = tt
-
-ix-done : (ix : Ix) (request : Request) (seen : Seen) (m : Market) → IsDone (act ix request seen m).reply
-ix-done (InitializeMarket coin_lot pc_lot fee_rate_bps nonce dust) request seen m = tt
-ix-done (MatchOrders limit) request seen m = tt
-ix-done (ConsumeEvents limit) request seen m = tt
-ix-done SettleFunds request seen m = party-done _ m (party_of request.named m.traders) (λ party. tt)
-ix-done DisableMarket request seen m = tt
-ix-done SweepFees request seen m = tt
-ix-done (NewOrderV3 side price lots max_pc self_trade order_type client limit latest) request seen m =
-    party-done _ m (party_of request.named m.traders) (λ party. tt)
-ix-done (CancelOrderV2 side id) request seen m = party-done _ m (party_of request.named m.traders) (λ party. tt)
-ix-done (CancelOrderByClientIdV2 client) request seen m = party-done _ m (party_of request.named m.traders) (λ party. tt)
-ix-done (SendTake side price lots max_pc min_lots min_pc limit) request seen m = tt
-ix-done CloseOpenOrders request seen m = party-done _ m (party_of request.named m.traders) (λ party. tt)
-ix-done InitOpenOrders request seen m = opens-done request.named request.signer m
-ix-done (Prune limit) request seen m = party-done _ m (party_of request.named m.traders) (λ party. tt)
-ix-done (CancelOrdersByClientIds ids) request seen m = party-done _ m (party_of request.named m.traders) (λ party. tt)
-
-decoded-done : (instruction : Result Ix BadData) (request : Request) (seen : Seen) (m : Market) → IsDone (act_decoded instruction request seen m).reply
-decoded-done (Err rule) request seen m = tt
-decoded-done (Ok ix) request seen m = ix-done ix request seen m
-
-unless-done : (reason : Option Refusal) (planned plan : Plan) (m : Market) (acted : Step) → Ok plan ≡ answered reason planned
-    → IsDone acted.reply → IsDone (unless_refused reason m acted).reply
-unless-done None planned plan m acted is done = done
-unless-done (Some refusal) planned plan m acted is done = absurd (subst IsPlan is tt)
-
-pub planned-done : (plan : Plan) (request : Request) (seen : Seen) (m : Market) → Ok plan ≡ decided request seen m → IsDone (step request seen m).reply
+pub planned-done : (plan : Plan) (request : Request) (seen : Seen) (m : Market) → Ok plan ≡ decided request seen m
+    → is_refusal (step request seen m).reply ≡ false
 planned-done plan request seen m is =
-    unless-done (why request seen m) (plan_decoded request.instruction request seen m) plan m (act_decoded request.instruction request seen m) is
-    (decoded-done request.instruction request seen m)
+    step-refused request seen m
+    ∙ sym (ap (λ (answer : Result Plan Refusal). is_err answer) is ∙ answered-refused (why request seen m) (plan_decoded request.instruction request seen m))

@@ -1,9 +1,9 @@
 -- What a market's cell keeps.
-use Rattle.std.specs.Prelude.{ℕ, ◌≡◌, ◌<◌, ◌≤◌, List, [], ◌∷◌, ◌++◌, length, map, Result}
+use Rattle.std.specs.Prelude.{ℕ, ◌≡◌, ◌<◌, ◌≤◌, true, List, [], ◌∷◌, ◌++◌, None, length, map, Result}
 use Rattle.dex_types.specs.declared.movements.Entry.{Entry}
 use Rattle.dex_types.specs.declared.refusals.Refusal.{Refusal}
 use Rattle.dex_types.specs.declared.replies.Reply.{Reply}
-use Rattle.dex_types.specs.declared.replies.Reply.TheVariants.{Refused}
+use Rattle.dex_types.specs.declared.replies.Reply.TheVariants.{Done, Refused}
 use Rattle.dex_types.specs.declared.rows.Row.{Row}
 use Rattle.dex_types.specs.declared.rows.Seen.{Seen}
 use Rattle.dex_types.specs.Accounts.{PlainMarketAccounts}
@@ -11,11 +11,13 @@ use Rattle.dex_types.specs.Market.{Market}
 use Rattle.dex_types.specs.Rows.{PlainRow, row_of}
 use Rattle.dex_types.specs.Soundness.{IsSound}
 use Rattle.dex_types.specs.Steps.{Step}
+use Rattle.dex_types.specs.Transfers.{no_transfers}
+use Rattle.dex_types.specs.Why.{why}
 use Rattle.dex_accounts.specs.Accepted.{IsAccepted}
 use Rattle.dex_accounts.specs.Decoded.{AreSound, market_in}
 use Rattle.dex_decide.specs.declared.plan.Plan.{Plan}
 use Rattle.dex_decide.specs.Plans.{decided}
-use Rattle.dex_history.specs.Journal.{Call, IsLegal, Sees, asked_of, market_after, request_of, row_step}
+use Rattle.dex_history.specs.Journal.{Call, IsLegal, Sees, asked_of, is_take, market_after, request_of, row_step}
 use Rattle.dex_movements.specs.Entries.{entry_by}
 use Rattle.dex_step.specs.Acting.{addresses_of}
 use Rattle.dex_wallet.specs.TokenAmount.{TokenAmount, held_in}
@@ -74,6 +76,10 @@ call_made row seen m =
     let s = row_step row seen m in
     record { asked = asked_of row; seen = seen; entry = entry_by row seen s.reply s.transfers }
 
+-- the call of a take that is held back: nothing moves
+abbrev pub held_made : PlainRow → Seen → Call
+held_made row seen = record { asked = asked_of row; seen = seen; entry = entry_by row seen Done no_transfers }
+
 -- ---- a row at the end of the calls
 
 -- the market there
@@ -92,11 +98,6 @@ step_on row seen cell = row_step (row_of row) seen (market_at cell)
 abbrev pub call_on : Row → Seen → MarketCellState → Call
 call_on row seen cell = call_made (row_of row) seen (market_at cell)
 
--- a reply that is no refusal
-abbrev pub IsDone : Reply → Type 0
-IsDone (Refused why) = ⊥
-IsDone _ = Unit {0}
-
 -- it is one of this market, and it sees exactly the wallets that it names
 pub record IsFor (row : Row) (seen : Seen) (cell : MarketCellState) : Type 0 where
   pub market : row.market ≡ cell.accounts.address
@@ -112,3 +113,12 @@ pub record HasActed (row : Row) (seen : Seen) (before after : MarketCellState) :
 -- it was refused: its call stands behind the others, and all else is as it was
 abbrev pub refused_on : Row → Seen → MarketCellState → MarketCellState
 refused_on row seen cell = record cell { calls = cell.calls ++ call_on row seen cell ∷ [] }
+
+-- it is a take, and would not be refused
+pub record CanHold (row : Row) (seen : Seen) (cell : MarketCellState) : Type 0 where
+  pub take : is_take (asked_of (row_of row)).request.instruction ≡ true
+  pub spared : why (request_of (row_of row)) seen (market_at cell) ≡ None
+
+-- it was held back: its call stands behind the others, and all else is as it was
+abbrev pub held_on : Row → Seen → MarketCellState → MarketCellState
+held_on row seen cell = record cell { calls = cell.calls ++ held_made (row_of row) seen ∷ [] }

@@ -1,6 +1,6 @@
 //! A market's cell.
 
-ghost use Rattle.std.specs.Prelude.{◌≡◌, IfOk, Ok, Err, length, ◌-◌};
+ghost use Rattle.std.specs.Prelude.{◌≡◌, IfOk, Ok, Err, false, length, ◌-◌};
 ghost use Rattle.dex_ring.specs.Leaving.{leaving_of};
 ghost use Rattle.dex_ring.specs.Ring.{IsEventQueue, ring_of};
 
@@ -72,14 +72,16 @@ fn leaving_in(events: &[u8]) -> Leaving
 }
 
 impl MarketCell {
-    ghost use Rattle.dex_types.specs.declared.replies.Reply.TheVariants.{Refused};
+    ghost use Rattle.dex_types.specs.declared.replies.Reply.TheVariants.{Done, Refused};
     ghost use Rattle.dex_types.specs.Accounts.{market_accounts_of};
     ghost use Rattle.dex_types.specs.Side.{Coin, Pc};
     ghost use Rattle.dex_accounts.specs.Accepted.{IsAccepted};
     ghost use Rattle.dex_accounts.specs.Decoded.{AreSound};
+    ghost use Rattle.dex_history.specs.Journal.{is_refusal};
     ghost use Rattle.dex_wallet.specs.TokenAmount.{held_in};
     ghost use Rattle.dex_cell.specs.CellState as cells;
-    ghost use Rattle.dex_cell.specs.CellState.{HasActed, HasSpare, IsDone, IsFor, IsMarketCell, answer_on, market_at, step_on};
+    ghost use Rattle.dex_cell.specs.CellState.{CanHold, HasActed, HasSpare, IsFor, IsMarketCell};
+    ghost use Rattle.dex_cell.specs.CellState.{answer_on, market_at, step_on};
     ghost use Rattle.dex_cell.specs.Paying.{paid_in, paid_out};
 
     /// The cell of a market's accounts and of the parcels that its vaults are, with room for so many rows. Where there is no
@@ -169,7 +171,7 @@ impl MarketCell {
         requires pc { pc ≡ paid_in Pc plan (market_at self.old) }
         requires spare { HasSpare self.old }
         ensures reply { result.0 ≡ (step_on row.entry.now seen.now self.old).reply }
-        ensures done { IsDone result.0 }
+        ensures done { is_refusal result.0 ≡ false }
         ensures paid { result.1 ≡ paid_out (market_at self.old) (step_on row.entry.now seen.now self.old).transfers }
         ensures acted { HasActed row.entry.now seen.now self.old self.new }
         ensures cell { IsMarketCell self.new }
@@ -197,6 +199,22 @@ impl MarketCell {
         let entry = entry_of(row, seen, Reply::Refused(refusal), &Amounts::none());
         self.calls = self.calls.and(row, &Told { seen: *seen, entry });
         append(&mut self.entries, entry);
+    }
+
+    /// Writes down that a take is held back, which would not be refused, since another row of its number is: the journal has one
+    /// entry more, its reply is that it is done, and all accounts stay as they are, byte by byte.
+    pub fn idle(&mut self, row: &Row, seen: &Seen) -> Reply
+        requires row { IsFor row.now seen.now self.old }
+        requires held { CanHold row.now seen.now self.old }
+        requires spare { HasSpare self.old }
+        ensures reply { result ≡ Done }
+        ensures held { self.new ≡ cells.held_on row.entry.now seen.now self.old }
+        ensures cell { IsMarketCell self.new }
+    {
+        let entry = entry_of(row, seen, Reply::Done, &Amounts::none());
+        self.calls = self.calls.and(row, &Told { seen: *seen, entry });
+        append(&mut self.entries, entry);
+        Reply::Done
     }
 
     /// The accounts and the journal, as they are. Both parcels are given up.

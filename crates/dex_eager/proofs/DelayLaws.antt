@@ -23,33 +23,34 @@ use Rattle.dex_laws.proofs.TraderLaws.{is_same-true, traders-induction, trader_a
 use Rattle.dex_sound.proofs.KeepLaws.{step-keeps}
 use Rattle.dex_sound.specs.Kept.{addresses}
 use Rattle.dex_history.proofs.HistoryLaws.{IsLegal-front}
+use Rattle.dex_history.proofs.HeldLaws.{acted-priced}
 use Rattle.dex_history.proofs.PriceLaws.{asked-sound}
-use Rattle.dex_history.specs.Journal.{Call, IsLegal, step_of, entry_on, market_after}
+use Rattle.dex_history.specs.Journal.{Call, IsLegal, acted_of, is_refusal, step_of, entry_on, market_after}
 use Rattle.dex_eager.specs.Eager.{Eager, EagerStep, eager_at, worth_at, unchanged, by_account, eager_order, eager_take, eager_act, eager_decoded, eager_step}
-use Rattle.dex_eager.specs.Histories.{IsPaidAs, Fill, Trade, is_refusal, is_crank, counts, counted, trade_of, trades, eager_call, eager_after, eager_start, eager_end, eager_fills, fills_by, fills_of, appended, moves_after, moves_of}
+use Rattle.dex_eager.specs.Histories.{IsPaidAs, Fill, Trade, is_crank, counts, counted, trade_of, trades, eager_call, eager_after, eager_start, eager_end, eager_fills, fills_by, fills_of, appended, moves_after, moves_of}
 use Rattle.dex_eager.specs.Slots.{maker_fills}
 use Rattle.dex_eager.specs.Worth.{Worth, Ledger, no_moves, with_step, free_in, own_owed, worth_in, worth_of}
 use Rattle.dex_eager.proofs.HistorySteps.{Goes, step-goes}
 use Rattle.dex_eager.proofs.WorthLists.{worths_by, worths-by}
 
 -- a call that counts is the eager market's, and any other changes nothing there
-call-goes : (call : Call) (m : Market) (ledger : Ledger) → IsSound m → Goes m ledger call.asked.request call.seen
-call-goes call m ledger sound = step-goes m ledger call.asked.request call.seen sound
+call-goes : (call : Call) (m : Market) (ledger : Ledger) → IsSound m → Goes m ledger (acted_of call).request call.seen
+call-goes call m ledger sound = step-goes m ledger (acted_of call).request call.seen sound
 
 answered : (call : Call) (m : Market) → call.entry ≡ entry_on call m → call.entry.reply ≡ (step_of call m).reply
 answered call m is = ap (λ entry. entry.reply) is
 
 counted-goes : (call : Call) (m : Market) (ledger : Ledger) → IsSound m → call.entry ≡ entry_on call m → counts call ≡ true
-    → IsPaidAs m ledger call.asked.request.named (step_of call m) (eager_call call (eager_at m ledger))
+    → IsPaidAs m ledger (acted_of call).request.named (step_of call m) (eager_call call (eager_at m ledger))
 counted-goes call m ledger sound is does =
     (call-goes call m ledger sound).counted
-    (sym (ap (λ reply. not (is_refusal reply) && not (is_crank call.asked.request.instruction)) (answered call m is)) ∙ does)
+    (sym (ap (λ reply. not (is_refusal reply) && not (is_crank (acted_of call).request.instruction)) (answered call m is)) ∙ does)
 
 passed-goes : (call : Call) (m : Market) (ledger : Ledger) → IsSound m → call.entry ≡ entry_on call m → counts call ≡ false
-    → IsPaidAs m ledger call.asked.request.named (step_of call m) (unchanged (eager_at m ledger))
+    → IsPaidAs m ledger (acted_of call).request.named (step_of call m) (unchanged (eager_at m ledger))
 passed-goes call m ledger sound is not_counted =
     (call-goes call m ledger sound).passed
-    (sym (ap (λ reply. not (is_refusal reply) && not (is_crank call.asked.request.instruction)) (answered call m is)) ∙ not_counted)
+    (sym (ap (λ reply. not (is_refusal reply) && not (is_crank (acted_of call).request.instruction)) (answered call m is)) ∙ not_counted)
 
 counted-true : (call : Call) (calls : List Call) → counts call ≡ true → counted (call ∷ calls) ≡ call ∷ counted calls
 counted-true call calls is = cond-true _ _ _ is
@@ -63,9 +64,9 @@ pub history-market : (calls : List Call) (m : Market) (ledger : Ledger) → IsSo
 history-market [] m ledger sound legal = refl
 history-market (call ∷ calls) m ledger sound legal =
     let after : Market = (step_of call m).market in
-    let later : Ledger = with_step call.asked.request.named (step_of call m) ledger in
+    let later : Ledger = with_step (acted_of call).request.named (step_of call m) ledger in
     let rest : eager_after (eager_at after later) (counted calls) ≡ eager_at (market_after after calls) (moves_after after calls later) =
-    history-market calls after later (asked-sound call.asked call.seen m sound legal.0.price) legal.1 in
+    history-market calls after later (asked-sound (acted_of call) call.seen m sound (acted-priced call legal.0.price)) legal.1 in
     ⊎_elim
     (λ (does : counts call ≡ true).
     ap (eager_after (eager_at m ledger)) (counted-true call calls does)
@@ -83,18 +84,18 @@ pub history-fills : (calls : List Call) (m : Market) (ledger : Ledger) → IsSou
 history-fills [] m ledger sound legal = refl
 history-fills (call ∷ calls) m ledger sound legal =
     let after : Market = (step_of call m).market in
-    let later : Ledger = with_step call.asked.request.named (step_of call m) ledger in
+    let later : Ledger = with_step (acted_of call).request.named (step_of call m) ledger in
     let rest : eager_fills (eager_at after later) (counted calls) ≡ fills_of after calls =
-    history-fills calls after later (asked-sound call.asked call.seen m sound legal.0.price) legal.1 in
+    history-fills calls after later (asked-sound (acted_of call) call.seen m sound (acted-priced call legal.0.price)) legal.1 in
     ⊎_elim
     (λ (does : counts call ≡ true).
-    let paid : IsPaidAs m ledger call.asked.request.named (step_of call m) (eager_call call (eager_at m ledger)) = counted-goes call m ledger sound legal.0.entry does in
+    let paid : IsPaidAs m ledger (acted_of call).request.named (step_of call m) (eager_call call (eager_at m ledger)) = counted-goes call m ledger sound legal.0.entry does in
     ap (eager_fills (eager_at m ledger)) (counted-true call calls does)
     ∙ ap (λ fills. fills_by call fills ++ eager_fills (eager_call call (eager_at m ledger)).market (counted calls)) (sym paid.fills)
     ∙ ap (λ e. fills_by call (maker_fills (appended m after)) ++ eager_fills e (counted calls)) (sym paid.market)
     ∙ ap (λ fills. fills_by call (maker_fills (appended m after)) ++ fills) rest)
     (λ (passes : counts call ≡ false).
-    let paid : IsPaidAs m ledger call.asked.request.named (step_of call m) (unchanged (eager_at m ledger)) = passed-goes call m ledger sound legal.0.entry passes in
+    let paid : IsPaidAs m ledger (acted_of call).request.named (step_of call m) (unchanged (eager_at m ledger)) = passed-goes call m ledger sound legal.0.entry passes in
     ap (eager_fills (eager_at m ledger)) (counted-false call calls passes)
     ∙ ap (λ e. eager_fills e (counted calls)) (sym paid.market)
     ∙ rest
@@ -149,7 +150,7 @@ decoded-sees (Ok ix) request seen other e tier program = act-sees ix request see
 trade-same : (call other : Call) (e : Eager) → trade_of call ≡ trade_of other → eager_call call e ≡ eager_call other e
 trade-same call other e same =
     ap (λ (trade : Trade). eager_step trade.asked.request call.seen e) same
-    ∙ decoded-sees other.asked.request.instruction other.asked.request call.seen other.seen e (ap (λ (trade : Trade). trade.tier) same) (ap (λ (trade : Trade). trade.program) same)
+    ∙ decoded-sees (acted_of other).request.instruction (acted_of other).request call.seen other.seen e (ap (λ (trade : Trade). trade.tier) same) (ap (λ (trade : Trade). trade.program) same)
 
 -- the first and the others of two equal lists
 abbrev first_or : Trade → List Trade → Trade
@@ -178,7 +179,7 @@ trades-fills (call ∷ calls) [] e same = absurd cc
 trades-fills (call ∷ calls) (other ∷ others) e same =
     let one : trade_of call ≡ trade_of other = ap (first_or (trade_of call)) same in
     let numbered : ℕ → List QueuedEvent → List Fill = λ number events. map (λ event. record { row = number; event = event }) events in
-    ap (λ (s : EagerStep). numbered call.asked.number s.fills ++ eager_fills s.market calls) (trade-same call other e one)
+    ap (λ (s : EagerStep). numbered (acted_of call).number s.fills ++ eager_fills s.market calls) (trade-same call other e one)
     ∙ ap (λ (trade : Trade). numbered trade.asked.number (eager_call other e).fills ++ eager_fills (eager_call other e).market calls) one
     ∙ ap (λ fills. fills_by other (eager_call other e).fills ++ fills) (trades-fills calls others (eager_call other e).market (ap behind same))
 
@@ -226,7 +227,7 @@ worth-drained token owner m ledger drained =
 pub addresses-after : (calls : List Call) (m : Market) → addresses (market_after m calls).traders ≡ addresses m.traders
 addresses-after [] m = refl
 addresses-after (call ∷ calls) m =
-    addresses-after calls (step_of call m).market ∙ (step-keeps call.asked.request call.seen m).accounts
+    addresses-after calls (step_of call m).market ∙ (step-keeps (acted_of call).request call.seen m).accounts
 
 -- so the worths at its end are of the accounts at its start
 worths-at-start : (calls : List Call) (m : Market) (worth : Address → Worth)

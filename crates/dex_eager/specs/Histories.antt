@@ -4,23 +4,16 @@ use Rattle.dex_types.specs.declared.addresses.Address.{Address}
 use Rattle.dex_types.specs.declared.instructions.BadData.{BadData}
 use Rattle.dex_types.specs.declared.instructions.Ix.{Ix}
 use Rattle.dex_types.specs.declared.instructions.Ix.TheVariants.{ConsumeEvents}
-use Rattle.dex_types.specs.declared.replies.Reply.{Reply}
-use Rattle.dex_types.specs.declared.replies.Reply.TheVariants.{Refused}
 use Rattle.dex_types.specs.declared.terms.Program.{Program}
 use Rattle.dex_types.specs.declared.terms.Tier.{Tier}
 use Rattle.dex_types.specs.Market.{Market}
 use Rattle.dex_types.specs.QueuedEvent.{QueuedEvent}
 use Rattle.dex_types.specs.Steps.{Step}
 use Rattle.dex_types.specs.Terms.{tier_seen}
-use Rattle.dex_history.specs.Journal.{Asked, Call, step_of}
+use Rattle.dex_history.specs.Journal.{Asked, Call, acted_of, is_refusal, step_of}
 use Rattle.dex_eager.specs.Eager.{Eager, EagerStep, eager_at, eager_step}
 use Rattle.dex_eager.specs.Slots.{maker_fills}
 use Rattle.dex_eager.specs.Worth.{Ledger, no_moves, with_step}
-
--- the answer is a refusal
-abbrev pub is_refusal : Reply → Bool
-is_refusal (Refused refusal) = true
-is_refusal reply = false
 
 -- the instruction is a crank
 abbrev pub is_crank : Result Ix BadData → Bool
@@ -29,7 +22,7 @@ is_crank instruction = false
 
 -- the call was accepted, and is no crank
 abbrev pub counts : Call → Bool
-counts call = not (is_refusal call.entry.reply) && not (is_crank call.asked.request.instruction)
+counts call = not (is_refusal call.entry.reply) && not (is_crank (acted_of call).request.instruction)
 
 -- the accepted calls but cranks
 abbrev pub counted : List Call → List Call
@@ -38,7 +31,7 @@ counted (call ∷ calls) = if counts call then call ∷ counted calls else count
 
 -- the eager market after a call, and the fills that it made
 abbrev pub eager_call : Call → Eager → EagerStep
-eager_call call e = eager_step call.asked.request call.seen e
+eager_call call e = eager_step (acted_of call).request call.seen e
 
 -- the eager market after these calls, each of which counts
 abbrev pub eager_after : Eager → List Call → Eager
@@ -60,7 +53,7 @@ pub record Fill : Type 0 where
 
 -- the fills that a row made
 abbrev pub fills_by : Call → List QueuedEvent → List Fill
-fills_by call events = map (λ event. record { row = call.asked.number; event = event }) events
+fills_by call events = map (λ event. record { row = (acted_of call).number; event = event }) events
 
 -- the events that stand in a market behind those that stood in an earlier one; a row appends events, or takes some from the front
 abbrev pub appended : Market → Market → List QueuedEvent
@@ -79,7 +72,7 @@ eager_fills e (call ∷ calls) = fills_by call (eager_call call e).fills ++ eage
 -- what moved between wallets and the market in a history
 abbrev pub moves_after : Market → List Call → Ledger → Ledger
 moves_after m [] ledger = ledger
-moves_after m (call ∷ calls) ledger = moves_after (step_of call m).market calls (with_step call.asked.request.named (step_of call m) ledger)
+moves_after m (call ∷ calls) ledger = moves_after (step_of call m).market calls (with_step (acted_of call).request.named (step_of call m) ledger)
 
 -- what moved since the start
 abbrev pub moves_of : Market → List Call → Ledger
@@ -93,7 +86,7 @@ pub record Trade : Type 0 where
 
 -- what a call's trade goes by
 abbrev pub trade_of : Call → Trade
-trade_of call = record { asked = call.asked; tier = tier_seen call.seen; program = call.seen.program }
+trade_of call = record { asked = acted_of call; tier = tier_seen call.seen; program = call.seen.program }
 
 -- what the accepted calls of a history but cranks go by
 abbrev pub trades : List Call → List Trade

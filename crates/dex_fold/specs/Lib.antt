@@ -1,2 +1,4 @@
 pub mod World
 pub mod Fold
+pub mod Groups
+pub mod Items

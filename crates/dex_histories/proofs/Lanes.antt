@@ -10,7 +10,7 @@ use Rattle.dex_history.specs.Journal.{Call, asked_of}
 use Rattle.dex_script.specs.Drafts.{PlainScript}
 use Rattle.dex_script.specs.Facts.{lanes_of}
 use Rattle.dex_stamps.specs.Stamped.{Stamped}
-use Rattle.dex_journals.specs.Made.{rows_of_lane}
+use Rattle.dex_fold.specs.Items.{rows_of_lane}
 use Rattle.dex_histories.specs.Lanes.{IsLaneDone, Lane}
 use Rattle.dex_histories.proofs.Parts.{Contains-filter, Contains-unfilter, filter-comm, filter_none}
 

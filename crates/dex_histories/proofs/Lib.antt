@@ -2,6 +2,7 @@ mod Conserving
 mod ConservingParts
 mod Items
 mod JournalSums
+mod LaneGrowth
 mod LaneSums
 mod Lanes
 mod LastCells

@@ -13,7 +13,8 @@ use Rattle.dex_bank.specs.Closed.{market_journal_in}
 use Rattle.dex_script.specs.Drafts.{PlainScript}
 use Rattle.dex_stamps.specs.Stamped.{Stamped}
 use Rattle.dex_journals.specs.Journals.{BankMarketState, MarketOrigin, market_calls}
-use Rattle.dex_journals.specs.Made.{calls_on, rows_of_lane}
+use Rattle.dex_journals.specs.Made.{calls_on}
+use Rattle.dex_fold.specs.Items.{rows_of_lane}
 use Rattle.dex_replay.specs.Lawful.{IsLawfulMarket, IsSight, rows_of_market}
 use Rattle.dex_replay.proofs.MappedLists.{filter-across, map-map}
 use Rattle.dex_histories.specs.Lanes.{IsLaneDone, Lane}

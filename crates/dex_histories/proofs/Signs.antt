@@ -14,7 +14,8 @@ use Rattle.dex_script.specs.Facts.{IsRowOf}
 use Rattle.dex_script.specs.Known.{has_market}
 use Rattle.dex_stamps.specs.Stamped.{Stamped}
 use Rattle.dex_journals.specs.Journals.{BankMarketState, market_calls}
-use Rattle.dex_journals.specs.Made.{calls_on, rows_of_lane}
+use Rattle.dex_journals.specs.Made.{calls_on}
+use Rattle.dex_fold.specs.Items.{rows_of_lane}
 use Rattle.dex_histories.specs.Lanes.{IsLaneDone, Lane}
 use Rattle.dex_histories.specs.Merged.{AreMerged, Histories, IsMarketMerged}
 use Rattle.dex_replay.proofs.MappedLists.{All-across}

@@ -14,8 +14,9 @@ use Rattle.dex_types.specs.Wallets.{movements}
 use Rattle.dex_laws.proofs.TraderLaws.{is_same-true}
 use Rattle.dex_sound.proofs.KeepLaws.{step-keeps}
 use Rattle.dex_history.specs.Balances.{mint_of}
-use Rattle.dex_history.specs.Journal.{Call, IsLegal, Sees, Stands, front, market_after, step_of}
+use Rattle.dex_history.specs.Journal.{Call, IsLegal, Sees, Stands, acted_of, front, market_after, step_of}
 use Rattle.dex_history.specs.Mints.{MeetVaults, all_credited, all_debited}
+use Rattle.dex_history.proofs.HeldLaws.{acted-priced, acted-sees}
 use Rattle.dex_history.proofs.PriceLaws.{asked-sound}
 use Rattle.dex_history.proofs.StepConserves.{row-conserves}
 use Rattle.dex_history.proofs.StepMints.{row-meets}
@@ -48,9 +49,9 @@ step-kept : (mint : Address) (m : Market) (call : Call) → IsSound m → Sees c
 step-kept mint m call sound sees =
     let s : Step = step_of call m in
     let moves : List Movement = movements call.seen s.transfers in
-    let meets : MeetVaults call.seen m s.transfers moves = row-meets call.asked call.seen m sound sees in
+    let meets : MeetVaults call.seen m s.transfers moves = row-meets (acted_of call) call.seen m sound (acted-sees call sees) in
     ap (λ (l : Listing). cond (is_same mint l.coin_mint) s.market.coin_vault 0 + cond (is_same mint l.pc_mint) s.market.pc_vault 0 + all_credited call.seen mint moves)
-    (step-keeps call.asked.request call.seen m).listing
+    (step-keeps (acted_of call).request call.seen m).listing
     ∙ by-mints (is_same mint m.listing.coin_mint) (is_same mint m.listing.pc_mint) s.market.coin_vault s.market.pc_vault m.coin_vault m.pc_vault
     (all_debited call.seen mint moves) (all_credited call.seen mint moves)
     (λ coin pc. both_ways (is_same mint m.listing.pc_mint) (ap (λ (a : Address). is_same a m.listing.pc_mint) (is_same-true mint m.listing.coin_mint coin) ∙ sound.form.mints) pc)
@@ -62,7 +63,7 @@ step-kept mint m call sound sees =
     of_token token is =
         let moves : List Movement = movements call.seen (step_of call m).transfers in
         subst (λ (a : Address). vault token (step_of call m).market + all_credited call.seen a moves ≡ vault token m + all_debited call.seen a moves) (sym is)
-        (row-conserves call.asked call.seen m token sound sees)
+        (row-conserves (acted_of call) call.seen m token sound (acted-sees call sees))
 
 -- a call's movements are those of its transfers
 pub moves-are : (call : Call) (m : Market) → Stands call m → front call.entry.moves ≡ movements call.seen (step_of call m).transfers
@@ -75,7 +76,7 @@ calls-kept mint [] m sound legal = refl
 calls-kept mint (call ∷ calls) m sound legal =
     let stands : Stands call m = legal.0 in
     let now : Market = (step_of call m).market in
-    let still : IsSound now = asked-sound call.asked call.seen m sound stands.price in
+    let still : IsSound now = asked-sound (acted_of call) call.seen m sound (acted-priced call stands.price) in
     let first : in_market mint now + brought_by mint call ≡ in_market mint m + taken_by mint call =
     subst (λ (moves : List Movement). in_market mint now + all_credited call.seen mint moves ≡ in_market mint m + all_debited call.seen mint moves)
     (sym (moves-are call m stands)) (step-kept mint m call sound stands.sees) in

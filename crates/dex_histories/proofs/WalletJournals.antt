@@ -12,7 +12,8 @@ use Rattle.dex_bank.specs.Closed.{account_in, wallet_journal_in}
 use Rattle.dex_script.specs.Drafts.{PlainScript}
 use Rattle.dex_stamps.specs.Stamped.{Stamped}
 use Rattle.dex_journals.specs.Journals.{BankWalletState, WalletOrigin, wallet_entries}
-use Rattle.dex_journals.specs.Made.{entries_on, rows_of_lane}
+use Rattle.dex_journals.specs.Made.{entries_on}
+use Rattle.dex_fold.specs.Items.{rows_of_lane}
 use Rattle.dex_replay.specs.Lawful.{IsLawfulWallet, origin_of_entry, origin_of_row, rows_of_wallet}
 use Rattle.dex_replay.proofs.MappedLists.{filter-of, map-map}
 use Rattle.dex_replay.proofs.Starts.{start_account}

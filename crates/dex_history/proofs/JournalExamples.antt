@@ -1,6 +1,7 @@
 -- worked examples of journals
 use Rattle.std.proofs.Common.{lit≤, lit<, arith, ◌≡◌, ◌≤◌, ◌<◌, ℕ, List, [], ◌∷◌, Option, Some, None, refl, sym, ap, slice_index_or, codes}
 use Rattle.std.specs.Prelude.{pos}
+use Rattle.std.proofs.lemmas.Bool.{false≢true}
 use Rattle.dex_types.specs.declared.addresses.Address.{Address}
 use Rattle.dex_types.specs.declared.movements.Entry.{Entry}
 use Rattle.dex_types.specs.declared.movements.MoveKind.{MoveKind}
@@ -92,6 +93,7 @@ ask_stands = record {
   market = refl;
   price = lit≤ tt;
   sees = only ask_call.asked ask_call.seen refl refl refl refl tt tt tt;
+  held = λ is. absurd (false≢true is);
   entry = refl;
 }
 
@@ -101,6 +103,7 @@ buy_stands = record {
   market = refl;
   price = lit≤ tt;
   sees = only buy_call.asked buy_call.seen refl refl refl refl tt tt tt;
+  held = λ is. absurd (false≢true is);
   entry = refl;
 }
 

@@ -17,7 +17,8 @@ use Rattle.dex_instruction.specs.Reading.{decoded, instruction, tagged, unless_b
 use Rattle.dex_instruction.specs.Rules.{tag_in, is_zero_at, has_zero_field, broken}
 use Rattle.dex_instruction.proofs.Whole.{is_whole}
 use Rattle.dex_sound.proofs.StepSound.{step-sound}
-use Rattle.dex_history.specs.Journal.{Asked, Call, IsLegal, asked_step, request_of, row_step, step_of, market_after}
+use Rattle.dex_history.specs.Journal.{Asked, Call, IsLegal, acted_of, asked_step, request_of, row_step, step_of, market_after}
+use Rattle.dex_history.proofs.HeldLaws.{acted-priced}
 
 -- one of two instructions, by a test
 either : (test : Bool) (ix other : Ix) → (test ≡ true → HasPrice (Ok ix)) → HasPrice (Ok other) → HasPrice (Ok (cond test ix other))
@@ -70,7 +71,7 @@ asked-sound asked seen m sound priced = step-sound asked.request seen m sound pr
 pub calls-sound : (calls : List Call) (m : Market) → IsSound m → IsLegal m calls → IsSound (market_after m calls)
 calls-sound [] m sound legal = sound
 calls-sound (call ∷ calls) m sound legal =
-    calls-sound calls (step_of call m).market (asked-sound call.asked call.seen m sound legal.0.price) legal.1
+    calls-sound calls (step_of call m).market (asked-sound (acted_of call) call.seen m sound (acted-priced call legal.0.price)) legal.1
 
 -- a crank is answered how many events it consumed
 pub crank-answered : (row : PlainRow) (seen : Seen) (m : Market) (limit : ℕ) → decoded row.bytes ≡ Ok (ConsumeEvents limit)

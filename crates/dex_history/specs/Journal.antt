@@ -1,5 +1,10 @@
 -- Histories of a market: each row answered by the step at its place.
-use Rattle.std.specs.Prelude.{ℕ, ◌≡◌, List, [], ◌∷◌, ◌++◌, Option, Some, None, map, take, replicate}
+use Rattle.std.specs.Prelude.{ℕ, ◌≡◌, ◌&&◌, Bool, true, false, List, [], ◌∷◌, ◌++◌, Option, Some, None, Result, Ok, Err, map, take, replicate, if◌then◌else◌}
+use Rattle.dex_types.specs.declared.instructions.BadData.{BadData}
+use Rattle.dex_types.specs.declared.instructions.Ix.{Ix}
+use Rattle.dex_types.specs.declared.instructions.Ix.TheVariants.{MatchOrders, SendTake}
+use Rattle.dex_types.specs.declared.replies.Reply.{Reply}
+use Rattle.dex_types.specs.declared.replies.Reply.TheVariants.{Done, Refused}
 use Rattle.dex_types.specs.declared.movements.Entry.{Entry}
 use Rattle.dex_types.specs.declared.movements.Movement.{Movement}
 use Rattle.dex_types.specs.declared.addresses.Address.{Address}
@@ -11,6 +16,7 @@ use Rattle.dex_types.specs.Rows.{PlainRow}
 use Rattle.dex_types.specs.Wallets.{address_seen, movements, with_role}
 use Rattle.dex_types.specs.Requests.{HasPrice, Request}
 use Rattle.dex_types.specs.Steps.{Step, step}
+use Rattle.dex_types.specs.Why.{why}
 use Rattle.dex_instruction.specs.Reading.{decoded}
 
 -- two roles of one wallet see one wallet, with one mint, one owner and one balance
@@ -99,9 +105,47 @@ pub record Call : Type 0 where
   pub seen : Seen
   pub entry : Entry
 
+-- ---- takes that were held back
+
+-- what was decoded is a take
+abbrev pub is_take : Result Ix BadData → Bool
+is_take (Ok (SendTake side price lots max_pc min_lots min_pc limit)) = true
+is_take instruction = false
+
+-- what was decoded is a take, or broke a rule: the data of a row that can be held back, or that any market refuses
+abbrev pub is_take_or_bad : Result Ix BadData → Bool
+is_take_or_bad (Err bad) = true
+is_take_or_bad (Ok ix) = is_take (Ok ix)
+
+-- the reply is that there is nothing to tell
+abbrev pub is_done : Reply → Bool
+is_done Done = true
+is_done reply = false
+
+-- the reply is a refusal
+abbrev pub is_refusal : Reply → Bool
+is_refusal (Refused refusal) = true
+is_refusal reply = false
+
+-- the call was refused
+abbrev pub is_refused : Call → Bool
+is_refused call = is_refusal call.entry.reply
+
+-- a call was held back: a take is answered Done only so, since what it took it tells, and else why it is refused
+abbrev pub is_held : Call → Bool
+is_held call = is_take call.asked.request.instruction && is_done call.entry.reply
+
+-- the same row with nothing to do
+abbrev pub idle : Asked → Asked
+idle asked = record asked { request = record asked.request { instruction = Ok (MatchOrders 0) } }
+
+-- what the market does for a call: what was asked, and nothing where it was held back
+abbrev pub acted_of : Call → Asked
+acted_of call = if is_held call then idle call.asked else call.asked
+
 -- the step of a call on a market
 abbrev pub step_of : Call → Market → Step
-step_of call m = asked_step call.asked call.seen m
+step_of call m = asked_step (acted_of call) call.seen m
 
 -- the entry of a call with this step: its reply, and one movement for each wallet that the row names
 abbrev pub entry_by : Call → Step → Entry
@@ -112,11 +156,13 @@ abbrev pub entry_on : Call → Market → Entry
 entry_on call m = entry_by call (step_of call m)
 
 -- a call stands in a market's history at this place: its row is one of the market, what it asks for states a price where it is an
--- order or a take, it saw the wallets that its row names, and it has the entry that it makes here
+-- order or a take, it saw the wallets that its row names, it was held back only where it would not be refused, and it has the entry
+-- that it makes here
 pub record Stands (call : Call) (m : Market) : Type 0 where
   pub market : call.asked.market ≡ m.listing.address
   pub price : HasPrice call.asked.request.instruction
   pub sees : Sees call.asked call.seen
+  pub held : is_held call ≡ true → why call.asked.request call.seen m ≡ None
   pub entry : call.entry ≡ entry_on call m
 
 -- these calls are a history of the market from here on: each stands at its place

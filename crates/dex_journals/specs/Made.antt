@@ -5,13 +5,8 @@ use Rattle.dex_types.specs.declared.addresses.Address.{Address}
 use Rattle.dex_types.specs.declared.movements.Movement.{Movement}
 use Rattle.dex_types.specs.declared.movements.WalletEntry.{WalletEntry}
 use Rattle.dex_types.specs.Addresses.{is_same}
-use Rattle.dex_types.specs.Rows.{PlainRow}
 use Rattle.dex_history.specs.Journal.{Call, front, wallet_entry_of}
 use Rattle.dex_stamps.specs.Stamped.{Stamped}
-
--- the rows of a lane
-abbrev pub rows_of_lane : ℕ → List PlainRow → List PlainRow
-rows_of_lane lane rows = filter (λ (row : PlainRow). row.lane == lane) rows
 
 -- the calls of a lane
 abbrev pub calls_of_lane : ℕ → List (Stamped Call) → List (Stamped Call)

@@ -14,7 +14,7 @@ use Rattle.dex_types.specs.Rows.{PlainRow}
 use Rattle.dex_types.specs.Transfers.{Transfers}
 use Rattle.dex_types.specs.Wallets.{balance_seen, brought_to, movement_of, movements, row_wallets, seen_wallets, taken_from, with_role}
 use Rattle.dex_laws.proofs.TraderLaws.{is_same-sym, is_same-true}
-use Rattle.dex_history.specs.Journal.{Asked, Call, Sees, Stands, asked_of, entry_on, front, row_step}
+use Rattle.dex_history.specs.Journal.{Asked, Call, Sees, Stands, asked_of, asked_step, entry_by, front, idle, is_held, row_step}
 use Rattle.dex_history.proofs.AddressOrder.{AreRising, times, with_address-rising, with_address-times}
 use Rattle.dex_history.proofs.WalletLaws.{places-movements, wallet-movement_by}
 use Rattle.dex_movements.specs.Entries.{wallet_entry_by}
@@ -25,11 +25,13 @@ use Rattle.dex_stamps.specs.Stamped.{Stamped, items_of}
 use Rattle.dex_journals.specs.Made.{entries_in, entry_made}
 use Rattle.dex_replay.proofs.MappedLists.{filter-of, map-map}
 
--- a call that stands on a market is the one that its row makes there
-pub is-made : (row : PlainRow) (call : Call) (m : Market) → call.asked ≡ asked_of row → Stands call m → call ≡ call_made row call.seen m
-is-made row call m asks stands =
-    ap (λ (entry : Entry). record call { entry = entry }) stands.entry
-    ∙ ap (λ (asked : Asked). record { asked = asked; seen = call.seen; entry = entry_on (record { asked = asked; seen = call.seen; entry = call.entry }) m }) asks
+-- a call that stands on a market and was not held back is the one that its row makes there
+pub is-made : (row : PlainRow) (call : Call) (m : Market) → call.asked ≡ asked_of row → is_held call ≡ false → Stands call m → call ≡ call_made row call.seen m
+is-made row call m asks own stands =
+    ap (λ (entry : Entry). record call { entry = entry })
+    (stands.entry ∙ ap (λ (asked : Asked). entry_by call (asked_step asked call.seen m)) (cond-false (is_held call) (idle call.asked) call.asked own))
+    ∙ ap (λ (asked : Asked).
+    record { asked = asked; seen = call.seen; entry = entry_by (record { asked = asked; seen = call.seen; entry = call.entry }) (asked_step asked call.seen m) }) asks
 
 -- ---- no row names a wallet twice
 

@@ -1,6 +1,6 @@
 -- What all lanes leave is the replay of their rows in the order of their stamps.
 use Rattle.std.proofs.Common.{◌≡◌, ℕ, List, [], ◌∷◌, map, refl, sym, ap, ◌∙◌, subst}
-use Rattle.std.specs.List.{AllZip}
+use Rattle.std.specs.List.{AllZip, flat_map}
 use Rattle.dex_types.specs.Accounts.{PlainAccount, PlainMarketAccounts}
 use Rattle.dex_types.specs.Market.{Market}
 use Rattle.dex_types.specs.WalletJournal.{balance_after}
@@ -17,15 +17,18 @@ use Rattle.dex_report.specs.Outcomes.{PlainMarketJournal, PlainWalletJournal}
 use Rattle.dex_script.specs.Drafts.{PlainScript}
 use Rattle.dex_journals.specs.Journals.{BankMarketState, BankWalletState}
 use Rattle.dex_replay.specs.Lawful.{IsLawful}
-use Rattle.dex_replay.specs.Replays.{IsReplayOf, end_world, with_amounts}
+use Rattle.dex_replay.specs.Replays.{IsLeftBy, with_amounts, world_after}
 use Rattle.dex_replay.proofs.MappedLists.{map-map}
 use Rattle.dex_histories.specs.Merged.{AreMerged, Histories, IsMarketMerged, IsWalletMerged, left}
-use Rattle.dex_order.specs.OneOrder.{IsOneOrder, reordered}
+use Rattle.dex_replay.specs.Runs.{IsOneOrder}
 use Rattle.dex_order.proofs.Fronts.{market_front, market_with, wallet_front, wallet_with, world_front}
 use Rattle.dex_order.proofs.Journals.{are-legal, made, market-journal, market-start, ordered, wallet-journal, wallet-start}
 use Rattle.dex_order.proofs.Once.{are-once}
-use Rattle.dex_order.proofs.Orders.{lanes-kept, order_of}
-use Rattle.dex_order.proofs.Steps.{items-replayed}
+use Rattle.dex_order.proofs.Items.{Item, call_in}
+use Rattle.dex_order.proofs.Orders.{lanes-kept, order_of, ordered_turns, turns-flat}
+use Rattle.dex_order.proofs.Turns.{items_in}
+use Rattle.dex_order.proofs.Acting.{turns-act}
+use Rattle.dex_order.proofs.Steps.{AreLegal}
 
 -- ---- two lists place by place
 
@@ -87,9 +90,12 @@ module _ (script : PlainScript) (all : Histories) (merged : AreMerged script all
 
   -- ---- all of them
 
-  last-world : end_world (reordered script (order_of script all merged)) ≡ world_front script (made script all merged)
+  last-world : world_after script (order_of script all merged) ≡ world_front script (made script all merged)
   last-world =
-      items-replayed script [] (ordered script all merged) (are-once script merged.facts.start.accepted) (are-legal script all merged)
+      let same : map call_in (flat_map items_in (ordered_turns script all merged)) ≡ made script all merged = ap (map call_in) (turns-flat script all merged) in
+      turns-act script [] (ordered_turns script all merged) (are-once script merged.facts.start.accepted)
+      (subst (AreLegal script) (sym same) (are-legal script all merged))
+      ∙ ap (world_front script) same
 
   -- the journals of markets and of wallets
   market-entries : map (λ (journal : PlainMarketJournal). journal.entries) (left script all).markets
@@ -131,7 +137,7 @@ module _ (script : PlainScript) (all : Histories) (merged : AreMerged script all
       script.start.wallets all.wallets merged.wallets
       ∙ amounts-zipped script.start.wallets
 
-  is-replay : IsLawful script (left script all) → AreAccepted (left script all).accounts → IsReplayOf (reordered script (order_of script all merged)) (left script all)
+  is-replay : IsLawful script (left script all) → AreAccepted (left script all).accounts → IsLeftBy script (order_of script all merged) (left script all)
   is-replay lawful accepted = record {
     start = record {
       mints = lawful.start.mints;

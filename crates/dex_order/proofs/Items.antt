@@ -9,10 +9,10 @@ use Rattle.dex_history.specs.Journal.{Asked, Call, asked_of}
 use Rattle.dex_script.specs.Drafts.{PlainScript}
 use Rattle.dex_script.specs.Facts.{IsRowOf}
 use Rattle.dex_stamps.specs.Stamped.{Stamped}
-use Rattle.dex_journals.specs.Made.{rows_of_lane}
+use Rattle.dex_fold.specs.Items.{rows_of_lane}
 use Rattle.dex_replay.specs.Lawful.{IsSight}
 use Rattle.dex_replay.proofs.MappedLists.{All-unmap}
-use Rattle.dex_histories.specs.Lanes.{IsLaneDone, Lane}
+use Rattle.dex_histories.specs.Lanes.{IsLaneDone, Lane, MovesEach}
 use Rattle.dex_order.proofs.Sorted.{Rises, rises-from_pairs}
 use Rattle.dex_order.proofs.Gathered.{filter-all, filter-none}
 
@@ -22,6 +22,7 @@ pub record Item (script : PlainScript) : Type 0 where
   pub call : Stamped Call
   pub asks : call.item.asked ≡ asked_of row
   pub sight : IsSight script call.item.seen
+  pub moves : MovesEach call.item
   pub fits : IsRowOf script.start row
 
 abbrev pub row_in : {script : PlainScript} → Item script → PlainRow
@@ -35,6 +36,9 @@ stamp_in item = item.call.stamp
 
 abbrev pub Sees : PlainScript → Stamped Call → Type 0
 Sees script call = IsSight script call.item.seen
+
+abbrev pub Moves : Stamped Call → Type 0
+Moves call = MovesEach call.item
 
 abbrev pub asked_in : Stamped Call → Asked
 asked_in call = call.item.asked
@@ -50,39 +54,40 @@ rest-same x y xs ys same = cc
 
 module _ (script : PlainScript) where
   abbrev pub zipped : (calls : List (Stamped Call)) (rows : List PlainRow) → map asked_in calls ≡ map asked_of rows
-      → All (Sees script) calls → All (IsRowOf script.start) rows → List (Item script)
-  zipped [] rows same sees fit = []
-  zipped (call ∷ calls) [] same sees fit = []
-  zipped (call ∷ calls) (row ∷ rows) same sees fit =
+      → All (Sees script) calls → All Moves calls → All (IsRowOf script.start) rows → List (Item script)
+  zipped [] rows same sees moves fit = []
+  zipped (call ∷ calls) [] same sees moves fit = []
+  zipped (call ∷ calls) (row ∷ rows) same sees moves fit =
       record {
         row = row;
         call = call;
         asks = first-same (asked_in call) (asked_of row) (map asked_in calls) (map asked_of rows) same;
         sight = All-head (Sees script) call calls sees;
+        moves = All-head Moves call calls moves;
         fits = All-head (IsRowOf script.start) row rows fit;
       } ∷ zipped calls rows (rest-same (asked_in call) (asked_of row) (map asked_in calls) (map asked_of rows) same)
-      (All-tail (Sees script) call calls sees) (All-tail (IsRowOf script.start) row rows fit)
+      (All-tail (Sees script) call calls sees) (All-tail Moves call calls moves) (All-tail (IsRowOf script.start) row rows fit)
 
   zipped-calls : (calls : List (Stamped Call)) (rows : List PlainRow) (same : map asked_in calls ≡ map asked_of rows)
-      (sees : All (Sees script) calls) (fit : All (IsRowOf script.start) rows)
-      → map call_in (zipped calls rows same sees fit) ≡ calls
-  zipped-calls [] rows same sees fit = refl
-  zipped-calls (call ∷ calls) [] same sees fit = absurd (cc)
-  zipped-calls (call ∷ calls) (row ∷ rows) same sees fit =
+      (sees : All (Sees script) calls) (moves : All Moves calls) (fit : All (IsRowOf script.start) rows)
+      → map call_in (zipped calls rows same sees moves fit) ≡ calls
+  zipped-calls [] rows same sees moves fit = refl
+  zipped-calls (call ∷ calls) [] same sees moves fit = absurd (cc)
+  zipped-calls (call ∷ calls) (row ∷ rows) same sees moves fit =
       ap (λ (some : List (Stamped Call)). call ∷ some)
       (zipped-calls calls rows (rest-same (asked_in call) (asked_of row) (map asked_in calls) (map asked_of rows) same)
-      (All-tail (Sees script) call calls sees) (All-tail (IsRowOf script.start) row rows fit))
+      (All-tail (Sees script) call calls sees) (All-tail Moves call calls moves) (All-tail (IsRowOf script.start) row rows fit))
 
   zipped-rows : (calls : List (Stamped Call)) (rows : List PlainRow) (same : map asked_in calls ≡ map asked_of rows)
-      (sees : All (Sees script) calls) (fit : All (IsRowOf script.start) rows)
-      → map row_in (zipped calls rows same sees fit) ≡ rows
-  zipped-rows [] [] same sees fit = refl
-  zipped-rows [] (row ∷ rows) same sees fit = absurd (cc)
-  zipped-rows (call ∷ calls) [] same sees fit = absurd (cc)
-  zipped-rows (call ∷ calls) (row ∷ rows) same sees fit =
+      (sees : All (Sees script) calls) (moves : All Moves calls) (fit : All (IsRowOf script.start) rows)
+      → map row_in (zipped calls rows same sees moves fit) ≡ rows
+  zipped-rows [] [] same sees moves fit = refl
+  zipped-rows [] (row ∷ rows) same sees moves fit = absurd (cc)
+  zipped-rows (call ∷ calls) [] same sees moves fit = absurd (cc)
+  zipped-rows (call ∷ calls) (row ∷ rows) same sees moves fit =
       ap (λ (some : List PlainRow). row ∷ some)
       (zipped-rows calls rows (rest-same (asked_in call) (asked_of row) (map asked_in calls) (map asked_of rows) same)
-      (All-tail (Sees script) call calls sees) (All-tail (IsRowOf script.start) row rows fit))
+      (All-tail (Sees script) call calls sees) (All-tail Moves call calls moves) (All-tail (IsRowOf script.start) row rows fit))
 
 -- what is made of each rises where what is made does
 rises-unmap : {A B : Type 0} (key : B → ℕ) (f : A → B) (xs : List A) → Rises key (map f xs) → Rises (λ x. key (f x)) xs
@@ -104,7 +109,7 @@ module _ (script : PlainScript) (fit : All (IsRowOf script.start) script.rows) w
   fit-in lane = All-filter (λ (row : PlainRow). eqb row.lane lane.number) (IsRowOf script.start) script.rows fit
 
   abbrev pub lane_items : (lane : Lane) → IsLaneDone script lane → List (Item script)
-  lane_items lane done = zipped script lane.calls (rows_in lane) (lane-asks lane done) done.calls.sees (fit-in lane)
+  lane_items lane done = zipped script lane.calls (rows_in lane) (lane-asks lane done) done.calls.sees done.calls.moves (fit-in lane)
 
   abbrev pub all_items : (lanes : List Lane) → All (IsLaneDone script) lanes → List (Item script)
   all_items [] done = []
@@ -119,11 +124,14 @@ module _ (script : PlainScript) (fit : All (IsRowOf script.start) script.rows) w
       let rest : All (IsLaneDone script) lanes = All-tail (IsLaneDone script) lane lanes done in
       map-append call_in (lane_items lane here) (all_items lanes rest)
       ∙ ap (λ (some : List (Stamped Call)). some ++ map call_in (all_items lanes rest))
-      (zipped-calls script lane.calls (rows_in lane) (lane-asks lane here) here.calls.sees (fit-in lane))
+      (zipped-calls script lane.calls (rows_in lane) (lane-asks lane here) here.calls.sees here.calls.moves (fit-in lane))
       ∙ ap (λ (some : List (Stamped Call)). lane.calls ++ some) (calls-all lanes rest)
 
-  lane-rows : (lane : Lane) (done : IsLaneDone script lane) → map row_in (lane_items lane done) ≡ rows_in lane
-  lane-rows lane done = zipped-rows script lane.calls (rows_in lane) (lane-asks lane done) done.calls.sees (fit-in lane)
+  pub lane-rows : (lane : Lane) (done : IsLaneDone script lane) → map row_in (lane_items lane done) ≡ rows_in lane
+  lane-rows lane done = zipped-rows script lane.calls (rows_in lane) (lane-asks lane done) done.calls.sees done.calls.moves (fit-in lane)
+
+  pub lane-calls : (lane : Lane) (done : IsLaneDone script lane) → map call_in (lane_items lane done) ≡ lane.calls
+  lane-calls lane done = zipped-calls script lane.calls (rows_in lane) (lane-asks lane done) done.calls.sees done.calls.moves (fit-in lane)
 
   pub rows-all : (lanes : List Lane) (done : All (IsLaneDone script) lanes)
       → map row_in (all_items lanes done) ≡ flat_map (λ (lane : Lane). rows_of_lane lane.number script.rows) lanes
@@ -134,74 +142,3 @@ module _ (script : PlainScript) (fit : All (IsRowOf script.start) script.rows) w
       map-append row_in (lane_items lane here) (all_items lanes rest)
       ∙ ap (λ (some : List PlainRow). some ++ map row_in (all_items lanes rest)) (lane-rows lane here)
       ∙ ap (λ (some : List PlainRow). rows_in lane ++ some) (rows-all lanes rest)
-
-  -- ---- the part of one lane rises
-
-  abbrev pub IsOf : ℕ → Item script → Bool
-  IsOf number item = eqb item.row.lane number
-
-  lane-numbers : (lane : Lane) (done : IsLaneDone script lane) → All (λ (item : Item script). IsOf lane.number item ≡ true) (lane_items lane done)
-  lane-numbers lane done =
-      All-unmap (λ (row : PlainRow). eqb row.lane lane.number ≡ true) row_in (lane_items lane done)
-      (subst (λ (rows : List PlainRow). All (λ (row : PlainRow). eqb row.lane lane.number ≡ true) rows) (sym (lane-rows lane done))
-      (filter_passes (λ (row : PlainRow). eqb row.lane lane.number) script.rows))
-
-  lane-rises : (lane : Lane) (done : IsLaneDone script lane) → Rises stamp_in (lane_items lane done)
-  lane-rises lane done =
-      rises-unmap (λ (call : Stamped Call). call.stamp) call_in (lane_items lane done)
-      (subst (λ (calls : List (Stamped Call)). Rises (λ (call : Stamped Call). call.stamp) calls)
-      (sym (zipped-calls script lane.calls (rows_in lane) (lane-asks lane done) done.calls.sees (fit-in lane)))
-      (rises-from_pairs (λ (call : Stamped Call). call.stamp) lane.calls done.calls.rising))
-
-  lane-other : (number : ℕ) (lane : Lane) (done : IsLaneDone script lane) → (lane.number ≡ number → ⊥)
-      → filter (IsOf number) (lane_items lane done) ≡ []
-  lane-other number lane done other =
-      filter-none (IsOf number) (lane_items lane done)
-      (All-weaker (λ (item : Item script). IsOf lane.number item ≡ true) (λ (item : Item script). IsOf number item ≡ false)
-      (λ item is. ne_eqb item.row.lane number (λ same. other (sym (eqb-true item.row.lane lane.number is) ∙ same)))
-      (lane_items lane done) (lane-numbers lane done))
-
-  none-below : (number first count : ℕ) (lanes : List Lane) (done : All (IsLaneDone script) lanes) → number < first
-      → map (λ (lane : Lane). lane.number) lanes ≡ range_with_len first count → filter (IsOf number) (all_items lanes done) ≡ []
-  none-below number first count [] done below numbers = refl
-  none-below number first zero (lane ∷ lanes) done below numbers = absurd (cc)
-  none-below number first (suc count) (lane ∷ lanes) done below numbers =
-      let here : IsLaneDone script lane = All-head (IsLaneDone script) lane lanes done in
-      let rest : All (IsLaneDone script) lanes = All-tail (IsLaneDone script) lane lanes done in
-      let own : lane.number ≡ first =
-      first-same lane.number first (map (λ (one : Lane). one.number) lanes) (range_with_len (first + 1) count) numbers in
-      filter-append (IsOf number) (lane_items lane here) (all_items lanes rest)
-      ∙ ap (λ (some : List (Item script)). some ++ filter (IsOf number) (all_items lanes rest))
-      (lane-other number lane here (λ same. absurd (omega (arith, same, own, below))))
-      ∙ none-below number (first + 1) count lanes rest (omega (arith, below))
-      (rest-same lane.number first (map (λ (one : Lane). one.number) lanes) (range_with_len (first + 1) count) numbers)
-
-  pub part-rises : (number first count : ℕ) (lanes : List Lane) (done : All (IsLaneDone script) lanes)
-      → map (λ (lane : Lane). lane.number) lanes ≡ range_with_len first count → Rises stamp_in (filter (IsOf number) (all_items lanes done))
-  part-rises number first count [] done numbers = tt
-  part-rises number first zero (lane ∷ lanes) done numbers = absurd (cc)
-  part-rises number first (suc count) (lane ∷ lanes) done numbers =
-      let here : IsLaneDone script lane = All-head (IsLaneDone script) lane lanes done in
-      let rest : All (IsLaneDone script) lanes = All-tail (IsLaneDone script) lane lanes done in
-      let own : lane.number ≡ first =
-      first-same lane.number first (map (λ (one : Lane). one.number) lanes) (range_with_len (first + 1) count) numbers in
-      let later : map (λ (one : Lane). one.number) lanes ≡ range_with_len (first + 1) count =
-      rest-same lane.number first (map (λ (one : Lane). one.number) lanes) (range_with_len (first + 1) count) numbers in
-      let split = filter-append (IsOf number) (lane_items lane here) (all_items lanes rest) in
-      ⊎_elim
-      (λ (mine : eqb lane.number number ≡ true).
-      let same : lane.number ≡ number = eqb-true lane.number number mine in
-      let all : filter (IsOf number) (lane_items lane here) ≡ lane_items lane here =
-      filter-all (IsOf number) (lane_items lane here)
-      (subst (λ (n : ℕ). All (λ (item : Item script). IsOf n item ≡ true) (lane_items lane here)) same (lane-numbers lane here)) in
-      let none : filter (IsOf number) (all_items lanes rest) ≡ [] = none-below number (first + 1) count lanes rest (omega (arith, same, own)) later in
-      subst (λ (items : List (Item script)). Rises stamp_in items)
-      (sym (split ∙ ap (λ (some : List (Item script)). some ++ filter (IsOf number) (all_items lanes rest)) all
-      ∙ ap (λ (some : List (Item script)). lane_items lane here ++ some) none ∙ append-nil (lane_items lane here)))
-      (lane-rises lane here))
-      (λ (apart : eqb lane.number number ≡ false).
-      subst (λ (items : List (Item script)). Rises stamp_in items)
-      (sym (split ∙ ap (λ (some : List (Item script)). some ++ filter (IsOf number) (all_items lanes rest))
-      (lane-other number lane here (λ same. eqb-false lane.number number apart same))))
-      (part-rises number (first + 1) count lanes rest later))
-      (cases_Bool (eqb lane.number number))

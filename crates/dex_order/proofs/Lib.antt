@@ -9,3 +9,6 @@ mod Orders
 mod Seeing
 mod Sorted
 mod Steps
+mod Acting
+mod Settled
+mod Turns

@@ -90,7 +90,7 @@ balance-in wallet ((Some first) ∷ roles) one here =
         absurd (let same : is_same wallet.address first.address ≡ true = subst (λ (w : WalletSeen). is_same wallet.address w.address ≡ true) (sym one) (is_same-refl wallet.address) in cc)
     later apart (inr there) = there
 
-hit-in : (wallet : WalletSeen) (roles : List (Option WalletSeen)) → IsIn wallet roles → any_hit wallet.address roles ≡ true
+pub hit-in : (wallet : WalletSeen) (roles : List (Option WalletSeen)) → IsIn wallet roles → any_hit wallet.address roles ≡ true
 hit-in wallet [] here = absurd here
 hit-in wallet (role ∷ roles) (inl is) =
     or_left (hits wallet.address role) (any_hit wallet.address roles) (ap (hits wallet.address) is ∙ is_same-refl wallet.address)

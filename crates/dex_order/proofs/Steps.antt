@@ -3,7 +3,7 @@ use Rattle.std.proofs.Common.{◌≡◌, ℕ, ◌≤◌, Bool, true, false, ◌|
 use Rattle.std.specs.List.{All}
 use Rattle.std.proofs.lemmas.Bool.{cases_Bool, cond-false, cond-true, false≢true}
 use Rattle.std.proofs.lemmas.List.{append-nil, append_assoc, map_push}
-use Rattle.std.proofs.lemmas.List.Elements.{All-head, All-tail}
+use Rattle.std.proofs.lemmas.List.Elements.{All-head, All-tail, All-weaker}
 use Rattle.std.proofs.lemmas.List.Sums.{sum_by-cons}
 use Rattle.dex_types.specs.declared.addresses.Address.{Address}
 use Rattle.dex_types.specs.declared.movements.Entry.{Entry}
@@ -13,10 +13,12 @@ use Rattle.dex_types.specs.Accounts.{PlainAccount, PlainMarketAccounts}
 use Rattle.dex_types.specs.Addresses.{is_same}
 use Rattle.dex_types.specs.Market.{Listing, Market}
 use Rattle.dex_types.specs.Rows.{PlainRow}
+use Rattle.dex_types.specs.Steps.{Step}
 use Rattle.dex_types.specs.Wallets.{movement_of}
 use Rattle.dex_accounts.specs.Decoded.{market_in}
-use Rattle.dex_history.specs.Journal.{Asked, Call, IsLegal, Sees, Stands, asked_of, market_after, row_step}
-use Rattle.dex_history.proofs.HistoryLaws.{IsLegal-append, balance_after-append, market_after-one}
+use Rattle.dex_history.specs.Journal.{Asked, Call, IsLegal, Sees, Stands, asked_of, is_held, market_after, row_step}
+use Rattle.dex_history.proofs.HeldLaws.{own-step}
+use Rattle.dex_history.proofs.HistoryLaws.{IsLegal-append, IsWalletLegal-append, balance_after-append, market_after-one}
 use Rattle.dex_movements.specs.Entries.{entry_by, wallet_entry_by}
 use Rattle.dex_fold.specs.Fold.{act, acted, fold, market_acted, markets_acted, names, wallet_acted, wallet_moved}
 use Rattle.dex_fold.specs.World.{MarketState, WalletState, World, market_at, seen_by}
@@ -25,11 +27,13 @@ use Rattle.dex_dump.specs.Accepted.{address_of, times}
 use Rattle.dex_script.specs.Drafts.{PlainScript}
 use Rattle.dex_script.specs.Known.{has_market}
 use Rattle.dex_token.specs.TokenAccount.{wallet_words}
+use Rattle.dex_wallet.specs.CellState.{balance_of}
+use Rattle.dex_types.specs.WalletJournal.{IsWalletLegal}
 use Rattle.dex_stamps.specs.Stamped.{Stamped, items_of}
 use Rattle.dex_replay.proofs.LastAccounts.{listing-in, market_after-listing}
 use Rattle.dex_replay.proofs.MappedLists.{map-agree, map-map}
 use Rattle.dex_order.proofs.CallEntries.{entries-made, is-made}
-use Rattle.dex_order.proofs.Fronts.{calls_at, calls_at-append, calls_at-elsewhere, calls_at-here, entries_at, entries_at-one, market_front, market_with, wallet_front, wallet_with, world_front}
+use Rattle.dex_order.proofs.Fronts.{calls_at, calls_at-append, calls_at-elsewhere, calls_at-here, entries_at, entries_at-append, entries_at-one, market_front, market_with, wallet_front, wallet_with, world_front}
 use Rattle.dex_order.proofs.Items.{Item, call_in, row_in}
 use Rattle.dex_order.proofs.Seeing.{IsWalletLegalAt, next-sees}
 
@@ -37,7 +41,7 @@ abbrev market_address : PlainMarketAccounts → Address
 market_address accounts = accounts.address
 
 -- a market keeps its address
-front-address : (made : List (Stamped Call)) (accounts : PlainMarketAccounts) → (market_front made accounts).market.listing.address ≡ accounts.address
+pub front-address : (made : List (Stamped Call)) (accounts : PlainMarketAccounts) → (market_front made accounts).market.listing.address ≡ accounts.address
 front-address made accounts =
     ap (λ (listing : Listing). listing.address) (market_after-listing (calls_at accounts.address made) (market_in accounts))
     ∙ ap (λ (listing : Listing). listing.address) (listing-in accounts)
@@ -63,6 +67,8 @@ module _ (row : PlainRow) (seen : Seen) (m : Market) (stamp : ℕ) (sees : Sees 
       let entries : List Entry = map (λ (call : Call). call.entry) calls in
       ap (λ (market : Market). with (entries ++ entry_at market ∷ [])) own
       ∙ ap with (sym (map_push (λ (call : Call). call.entry) calls (call_made row seen m)))
+      ∙ ap (λ (s : Step). record { market = s.market; entries = map (λ (call : Call). call.entry) (calls ++ call_made row seen m ∷ []) })
+      (sym (own-step (call_made row seen m) m before refl))
       ∙ ap (λ (market : Market). record { market = market; entries = map (λ (call : Call). call.entry) (calls ++ call_made row seen m ∷ []) })
       (sym (market_after-one calls (call_made row seen m) (market_in accounts)))
       ∙ ap (market_with accounts) (sym (calls_at-here accounts.address made next here))
@@ -165,7 +171,7 @@ module _ (made later : List (Stamped Call)) (call : Stamped Call) where
   abbrev Found : List PlainMarketAccounts → Type 0
   Found all = (m : Market) × (market_at call.item.asked.market (map (market_front made) all) ≡ Some m) × Stands call.item m
 
-  market-found : (all : List PlainMarketAccounts) → has_market call.item.asked.market all ≡ true → All (IsMarketLegalAt (made ++ call ∷ later)) all → Found all
+  pub market-found : (all : List PlainMarketAccounts) → has_market call.item.asked.market all ≡ true → All (IsMarketLegalAt (made ++ call ∷ later)) all → Found all
   market-found [] known legal = absurd (false≢true known)
   market-found (accounts ∷ all) known legal =
       let market : Address = call.item.asked.market in
@@ -200,9 +206,31 @@ pub record AreLegal (script : PlainScript) (made : List (Stamped Call)) : Type 0
   pub markets : All (IsMarketLegalAt made) script.start.markets
   pub wallets : All (IsWalletLegalAt made) script.start.wallets
 
-item-acts : (script : PlainScript) (made later : List (Stamped Call)) (item : Item script) → AreOnce script → AreLegal script (made ++ item.call ∷ later)
-    → act item.row (world_front script made) ≡ world_front script (made ++ item.call ∷ [])
-item-acts script made later item once legal =
+-- so are those of fewer calls
+pub legal-front : (script : PlainScript) (made later : List (Stamped Call)) → AreLegal script (made ++ later) → AreLegal script made
+legal-front script made later legal = record {
+  markets = All-weaker (IsMarketLegalAt (made ++ later)) (IsMarketLegalAt made)
+      (λ accounts is.
+      ((IsLegal-append (calls_at accounts.address made) (calls_at accounts.address later) (market_in accounts)).0
+      (subst (IsLegal (market_in accounts)) (calls_at-append accounts.address made later) is)).0)
+      script.start.markets legal.markets;
+  wallets = All-weaker (IsWalletLegalAt (made ++ later)) (IsWalletLegalAt made)
+      (λ account is.
+      ((IsWalletLegal-append (entries_at account.address made) (entries_at account.address later) (balance_of account.bytes)).0
+      (subst (IsWalletLegal (balance_of account.bytes)) (entries_at-append account.address made later) is)).0)
+      script.start.wallets legal.wallets;
+}
+
+-- what the next row finds: its market, on which its call stands, and what the call saw
+pub record Finds (script : PlainScript) (made : List (Stamped Call)) (item : Item script) : Type 0 where
+  pub m : Market
+  pub at : market_at item.row.market (world_front script made).markets ≡ Some m
+  pub stands : Stands item.call.item m
+  pub sees : seen_by item.row (world_front script made) ≡ item.call.item.seen
+
+pub item-finds : (script : PlainScript) (made later : List (Stamped Call)) (item : Item script) → AreOnce script → AreLegal script (made ++ item.call ∷ later)
+    → is_held item.call.item ≡ false → Finds script made item
+item-finds script made later item once legal own =
     let row : PlainRow = item.row in
     let seen : Seen = item.call.item.seen in
     let market : item.call.item.asked.market ≡ row.market = ap (λ (asked : Asked). asked.market) item.asks in
@@ -211,21 +239,34 @@ item-acts script made later item once legal =
     let m : Market = found.0 in
     let sees : Sees (asked_of row) seen = subst (λ (asked : Asked). Sees asked seen) item.asks found.2.sees in
     let same : item.call ≡ record { item = call_made row seen m; stamp = item.call.stamp } =
-    ap (λ (call : Call). record { item = call; stamp = item.call.stamp }) (is-made row item.call.item m item.asks found.2) in
+    ap (λ (call : Call). record { item = call; stamp = item.call.stamp }) (is-made row item.call.item m item.asks own found.2) in
     let wallets : All (IsWalletLegalAt (made ++ record { item = call_made row seen m; stamp = item.call.stamp } ∷ later)) script.start.wallets =
     subst (λ (call : Stamped Call). All (IsWalletLegalAt (made ++ call ∷ later)) script.start.wallets) same legal.wallets in
-    let at : market_at row.market (world_front script made).markets ≡ Some m =
-    subst (λ (a : Address). market_at a (world_front script made).markets ≡ Some m) market found.1 in
-    next-acts row seen m item.call.stamp sees made script at
-    (next-sees row seen m item.call.stamp sees made later script wallets once.wallets item.sight) (once.markets row.market)
-    ∙ ap (λ (call : Stamped Call). world_front script (made ++ call ∷ [])) (sym same)
+    record {
+      m = m;
+      at = subst (λ (a : Address). market_at a (world_front script made).markets ≡ Some m) market found.1;
+      stands = found.2;
+      sees = next-sees row seen m item.call.stamp sees made later script wallets once.wallets item.sight;
+    }
+
+item-acts : (script : PlainScript) (made later : List (Stamped Call)) (item : Item script) → AreOnce script → AreLegal script (made ++ item.call ∷ later)
+    → is_held item.call.item ≡ false → act item.row (world_front script made) ≡ world_front script (made ++ item.call ∷ [])
+item-acts script made later item once legal own =
+    let row : PlainRow = item.row in
+    let seen : Seen = item.call.item.seen in
+    let finds : Finds script made item = item-finds script made later item once legal own in
+    let sees : Sees (asked_of row) seen = subst (λ (asked : Asked). Sees asked seen) item.asks finds.stands.sees in
+    next-acts row seen finds.m item.call.stamp sees made script finds.at finds.sees (once.markets row.market)
+    ∙ ap (λ (call : Stamped Call). world_front script (made ++ call ∷ []))
+    (sym (ap (λ (call : Call). record { item = call; stamp = item.call.stamp }) (is-made row item.call.item finds.m item.asks own finds.stands)))
 
 pub items-replayed : (script : PlainScript) (made : List (Stamped Call)) (items : List (Item script)) → AreOnce script
-    → AreLegal script (made ++ map call_in items) → fold (map row_in items) (world_front script made) ≡ world_front script (made ++ map call_in items)
-items-replayed script made [] once legal = ap (world_front script) (sym (append-nil made))
-items-replayed script made (item ∷ items) once legal =
+    → AreLegal script (made ++ map call_in items) → All (λ (item : Item script). is_held item.call.item ≡ false) items → fold (map row_in items) (world_front script made) ≡ world_front script (made ++ map call_in items)
+items-replayed script made [] once legal own = ap (world_front script) (sym (append-nil made))
+items-replayed script made (item ∷ items) once legal own =
     let later : List (Stamped Call) = map call_in items in
     let again : (made ++ item.call ∷ []) ++ later ≡ made ++ item.call ∷ later = append_assoc made (item.call ∷ []) later in
-    ap (fold (map row_in items)) (item-acts script made later item once legal)
+    ap (fold (map row_in items)) (item-acts script made later item once legal (All-head (λ (one : Item script). is_held one.call.item ≡ false) item items own))
     ∙ items-replayed script (made ++ item.call ∷ []) items once (subst (AreLegal script) (sym again) legal)
+    (All-tail (λ (one : Item script). is_held one.call.item ≡ false) item items own)
     ∙ ap (world_front script) again

@@ -2,7 +2,7 @@
 
 ghost use Rattle.dex_script.specs.Drafts.{PlainScript};
 ghost use Rattle.dex_histories.specs.Merged.{AreMerged, Histories, left};
-ghost use Rattle.dex_order.specs.OneOrder.{IsOneOrder};
+ghost use Rattle.dex_replay.specs.Runs.{IsOneOrder};
 
 use dex_histories::laws::{what_lanes_leave_is_lawful, what_lanes_leave_is_sound};
 

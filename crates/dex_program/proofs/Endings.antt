@@ -11,8 +11,7 @@ use Rattle.dex_answers.specs.declared.status.Status.{Status}
 use Rattle.dex_answers.specs.declared.status.Status.TheVariants as status
 use Rattle.dex_answers.specs.Suits.{Suits}
 use Rattle.dex_answers.proofs.AnswerLaws.{answered}
-use Rattle.dex_histories.specs.Runs.{IsRunOf}
-use Rattle.dex_order.specs.OneOrder.{IsOneOrder}
+use Rattle.dex_replay.specs.Runs.{IsOneOrder, IsRunOf}
 use Rattle.dex_report.specs.Outcomes.{PlainOutcome}
 use Rattle.dex_report.specs.Report.{report_text}
 use Rattle.dex_script.specs.Drafts.{PlainScript}

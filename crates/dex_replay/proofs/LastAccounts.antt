@@ -16,7 +16,7 @@ use Rattle.dex_token.specs.TokenAccount.{IsWallet, WalletWords, wallet_words}
 use Rattle.dex_token.proofs.AmountWrites.{wallet_words-with_amount}
 use Rattle.dex_accounts.specs.Accepted.{IsAccepted}
 use Rattle.dex_accounts.specs.Decoded.{listing_in, market_in}
-use Rattle.dex_history.specs.Journal.{Call, market_after, step_of}
+use Rattle.dex_history.specs.Journal.{Call, acted_of, market_after, step_of}
 use Rattle.dex_cell.specs.CellState.{IsMarketCell, MarketCellState}
 use Rattle.dex_wallet.specs.CellState.{CellState, IsWalletCell, balance_of}
 use Rattle.dex_dump.specs.Accepted.{AreAccepted, AreApart, HasMints, IsMintOf, address_of, addresses_of, all_of_market, times}
@@ -32,7 +32,7 @@ use Rattle.dex_replay.proofs.Starts.{AreOfScript, start_account, wallet-addresse
 -- its listing stays
 pub market_after-listing : (calls : List Call) (m : Market) → (market_after m calls).listing ≡ m.listing
 market_after-listing [] m = refl
-market_after-listing (call ∷ calls) m = market_after-listing calls (step_of call m).market ∙ (step-keeps call.asked.request call.seen m).listing
+market_after-listing (call ∷ calls) m = market_after-listing calls (step_of call m).market ∙ (step-keeps (acted_of call).request call.seen m).listing
 
 -- the listing that accounts tell
 pub listing-in : (accounts : PlainMarketAccounts) → (market_in accounts).listing ≡ listing_in accounts

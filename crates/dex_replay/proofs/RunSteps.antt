@@ -16,11 +16,13 @@ use Rattle.dex_types.specs.Accounts.{PlainAccount, PlainAccounts, PlainMarketAcc
 use Rattle.dex_types.specs.Addresses.{is_same}
 use Rattle.dex_types.specs.Market.{Listing, Market}
 use Rattle.dex_types.specs.Rows.{PlainRow}
+use Rattle.dex_types.specs.Steps.{Step}
 use Rattle.dex_types.specs.Transfers.{Transfers}
 use Rattle.dex_types.specs.Wallets.{balance_seen, brought_to, movement_of, row_wallets, seen_wallets, taken_from}
 use Rattle.dex_laws.proofs.TraderLaws.{is_same-true, is_same-refl}
 use Rattle.dex_accounts.specs.Decoded.{market_in}
-use Rattle.dex_history.specs.Journal.{Asked, Call, Sees, Stands, asked_of, front, request_of, row_step, wallet_entry_of}
+use Rattle.dex_history.specs.Journal.{Asked, Call, Sees, Stands, asked_of, front, market_after, request_of, row_step, wallet_entry_of}
+use Rattle.dex_history.proofs.HeldLaws.{own-stands, own-step}
 use Rattle.dex_history.proofs.HistoryLaws.{IsLegal-one, market_after-one}
 use Rattle.dex_history.proofs.PriceLaws.{decoded-priced}
 use Rattle.dex_history.proofs.WalletLaws.{places-movements, wallet-movement_by}
@@ -123,12 +125,14 @@ module _ (script : PlainScript) (done : List PlainRow) (row : PlainRow) (seen : 
   acts first state same is =
       let call : Call = call_made row seen state.market in
       let own : row.market ≡ state.market.listing.address = is_same-true row.market first.address same ∙ sym (history-address script done first state is) in
-      let stands : Stands call state.market = record { market = own; price = decoded-priced row.bytes; sees = sees; entry = refl } in
+      let stands : Stands call state.market = own-stands call state.market own (decoded-priced row.bytes) sees refl in
       record {
         calls = is.calls ++ call ∷ [];
         entries = ap (λ (entries : List Entry). entries ++ call.entry ∷ []) is.entries ∙ sym (map_push (λ (one : Call). one.entry) is.calls call);
         legal = (IsLegal-one is.calls call (market_in first)).1 (is.legal, subst (λ (m : Market). Stands call m) is.end_is stands);
-        end_is = ap (λ (m : Market). (row_step row seen m).market) is.end_is ∙ sym (market_after-one is.calls call (market_in first));
+        end_is = ap (λ (m : Market). (row_step row seen m).market) is.end_is
+            ∙ sym (ap (λ (s : Step). s.market) (own-step call state.market (market_after (market_in first) is.calls) refl))
+            ∙ sym (market_after-one is.calls call (market_in first));
         asked = map_push (λ (one : Call). one.asked) is.calls call
             ∙ ap (λ (asked : List Asked). asked ++ asked_of row ∷ []) is.asked
             ∙ sym (map_push asked_of (on first.address done) row)

@@ -1,10 +1,11 @@
 -- What a run of a script may leave, in whatever order its lanes act.
-use Rattle.std.specs.Prelude.{◌≡◌, ◌==◌, ℕ, Option, Some, None, List, [], ◌∷◌, map, All}
-use Rattle.std.specs.List.{Any, Contains, filter}
+use Rattle.std.specs.Prelude.{◌≡◌, ◌==◌, ◌&&◌, ℕ, Bool, not, Option, Some, None, List, [], ◌∷◌, map, All, if◌then◌else◌}
+use Rattle.std.specs.List.{Any, Contains, filter, list_any}
 use Rattle.dex_types.specs.declared.addresses.Address.{Address}
 use Rattle.dex_types.specs.declared.movements.Entry.{Entry}
 use Rattle.dex_types.specs.declared.movements.Movement.{Movement}
 use Rattle.dex_types.specs.declared.movements.WalletEntry.{WalletEntry}
+use Rattle.dex_types.specs.declared.replies.Reply.{Reply}
 use Rattle.dex_types.specs.declared.rows.Seen.{Seen}
 use Rattle.dex_types.specs.declared.rows.WalletSeen.{WalletSeen}
 use Rattle.dex_types.specs.Accounts.{PlainAccount, PlainMarketAccounts}
@@ -13,8 +14,11 @@ use Rattle.dex_types.specs.Rows.{PlainRow}
 use Rattle.dex_types.specs.WalletJournal.{IsWalletLegal, balance_after}
 use Rattle.dex_accounts.specs.Decoded.{market_in}
 use Rattle.dex_accounts.specs.StandsFor.{StandsFor}
-use Rattle.dex_history.specs.Journal.{Call, IsLegal, asked_of, front, market_after, wallet_entry_of}
+use Rattle.dex_instruction.specs.Reading.{decoded}
+use Rattle.dex_history.specs.Journal.{Call, IsLegal, asked_of, front, is_done, is_refusal, is_take, market_after, wallet_entry_of}
 use Rattle.dex_fold.specs.Fold.{names}
+use Rattle.dex_fold.specs.Groups.{members}
+use Rattle.dex_fold.specs.Items.{Item, items_of, rows_of_lane}
 use Rattle.dex_report.specs.Outcomes.{PlainMarketJournal, PlainOutcome, PlainWalletJournal}
 use Rattle.dex_script.specs.Drafts.{PlainScript}
 use Rattle.dex_token.specs.TokenAccount.{wallet_words, with_amount}
@@ -113,10 +117,35 @@ abbrev pub AreTold : List PlainWalletJournal → PlainMarketJournal → Type 0
 AreTold journals journal =
     All (λ (entry : Entry). All (IsTold journals journal.address entry) (front entry.moves)) journal.entries
 
+-- ---- items
+
+-- the entries of the journal of a market
+abbrev pub entries_at : Address → List PlainMarketJournal → List Entry
+entries_at address [] = []
+entries_at address (journal ∷ journals) =
+    if is_same address journal.address then journal.entries else entries_at address journals
+
+-- a row's reply, as its market's journal has it, is such
+abbrev pub is_answered : (Reply → Bool) → List PlainMarketJournal → PlainRow → Bool
+is_answered test journals row =
+    list_any (λ (entry : Entry). (entry.row == row.number) && test entry.reply) (entries_at row.market journals)
+
+-- a row was held back: it asks for a take, and the reply is that nothing was to do
+abbrev pub was_held : List PlainMarketJournal → PlainRow → Bool
+was_held journals row = is_take (decoded row.bytes) && is_answered is_done journals row
+
+-- of the rows of an item one is held back exactly where it is not refused and another of them is
+abbrev pub IsAllOrNone : List PlainMarketJournal → Item → Type 0
+IsAllOrNone journals item = All (λ (row : PlainRow). was_held journals row
+    ≡ (list_any (is_answered is_refusal journals) (members item) && not (is_answered is_refusal journals row))) (members item)
+
+-- ---- all
+
 -- the outcome is one that the script allows: it is of the script's start; each market and each wallet has a lawful journal
--- and what stands at its end; and what moved between them stands in both
+-- and what stands at its end; what moved between them stands in both; and each item did all that its rows ask, or nothing
 pub record IsLawful (script : PlainScript) (outcome : PlainOutcome) : Type 0 where
   pub start : IsOfStart script outcome
   pub markets : AllThree (IsLawfulMarket script) script.start.markets outcome.accounts.markets outcome.markets
   pub wallets : AllThree (IsLawfulWallet script) script.start.wallets outcome.accounts.wallets outcome.wallets
   pub told : All (AreTold outcome.wallets) outcome.markets
+  pub items : (lane : ℕ) → All (IsAllOrNone outcome.markets) (items_of (rows_of_lane lane script.rows))

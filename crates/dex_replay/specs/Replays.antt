@@ -2,11 +2,13 @@
 use Rattle.std.specs.Prelude.{◌≡◌, List, [], ◌∷◌, map}
 use Rattle.std.specs.List.{AllZip}
 use Rattle.dex_types.specs.Accounts.{PlainAccount, PlainMarketAccounts}
+use Rattle.dex_types.specs.Rows.{PlainRow}
 use Rattle.dex_accounts.specs.Decoded.{market_in}
 use Rattle.dex_accounts.specs.StandsFor.{StandsFor}
 use Rattle.dex_cell.specs.CellState.{AreOfOneMarket}
 use Rattle.dex_dump.specs.Accepted.{AreAccepted, address_of}
 use Rattle.dex_fold.specs.Fold.{fold}
+use Rattle.dex_fold.specs.Items.{Item, fold_items, items_of}
 use Rattle.dex_fold.specs.World.{MarketState, WalletState, World}
 use Rattle.dex_report.specs.Outcomes.{PlainMarketJournal, PlainOutcome, PlainWalletJournal}
 use Rattle.dex_script.specs.Drafts.{PlainScript}
@@ -35,9 +37,9 @@ start_world script = record {
   program = script.program;
 }
 
--- the world when all its rows have acted in their order
-abbrev pub end_world : PlainScript → World
-end_world script = fold script.rows (start_world script)
+-- the world when items have acted in this order
+abbrev pub world_after : PlainScript → List Item → World
+world_after script items = fold_items items (start_world script)
 
 -- token accounts with the amounts of these wallets
 abbrev pub with_amounts : List PlainAccount → List WalletState → List PlainAccount
@@ -58,15 +60,33 @@ pub record IsOfStart (script : PlainScript) (outcome : PlainOutcome) : Type 0 wh
   pub wallet_journals : map (λ (journal : PlainWalletJournal). journal.address) outcome.wallets
       ≡ map address_of script.start.wallets
 
--- the outcome is what is left when all rows of the script have acted: the journals are those of that world, the accounts of markets
+-- the outcome is what is left when these items have acted: the journals are those of that world, the accounts of markets
 -- stand for its markets, and the wallets have its amounts and are else as they were
-pub record IsReplayOf (script : PlainScript) (outcome : PlainOutcome) : Type 0 where
+pub record IsLeftBy (script : PlainScript) (items : List Item) (outcome : PlainOutcome) : Type 0 where
   pub start : IsOfStart script outcome
   pub accepted : AreAccepted outcome.accounts
   pub markets : map (λ (journal : PlainMarketJournal). journal.entries) outcome.markets
-      ≡ map (λ (state : MarketState). state.entries) (end_world script).markets
+      ≡ map (λ (state : MarketState). state.entries) (world_after script items).markets
   pub wallets : map (λ (journal : PlainWalletJournal). journal.entries) outcome.wallets
-      ≡ map (λ (state : WalletState). state.entries) (end_world script).wallets
+      ≡ map (λ (state : WalletState). state.entries) (world_after script items).wallets
   pub stand : AllZip (λ (accounts : PlainMarketAccounts) (state : MarketState). StandsFor accounts state.market)
-      outcome.accounts.markets (end_world script).markets
-  pub amounts : outcome.accounts.wallets ≡ with_amounts script.start.wallets (end_world script).wallets
+      outcome.accounts.markets (world_after script items).markets
+  pub amounts : outcome.accounts.wallets ≡ with_amounts script.start.wallets (world_after script items).wallets
+
+-- the outcome is what is left when all items of the script have acted in their order
+abbrev pub IsReplayOf : PlainScript → PlainOutcome → Type 0
+IsReplayOf script outcome = IsLeftBy script (items_of script.rows) outcome
+
+-- ---- rows one by one
+
+-- the outcome is what is left when these rows have acted, each by itself
+pub record IsLeftByRows (script : PlainScript) (rows : List PlainRow) (outcome : PlainOutcome) : Type 0 where
+  pub start : IsOfStart script outcome
+  pub accepted : AreAccepted outcome.accounts
+  pub markets : map (λ (journal : PlainMarketJournal). journal.entries) outcome.markets
+      ≡ map (λ (state : MarketState). state.entries) (fold rows (start_world script)).markets
+  pub wallets : map (λ (journal : PlainWalletJournal). journal.entries) outcome.wallets
+      ≡ map (λ (state : WalletState). state.entries) (fold rows (start_world script)).wallets
+  pub stand : AllZip (λ (accounts : PlainMarketAccounts) (state : MarketState). StandsFor accounts state.market)
+      outcome.accounts.markets (fold rows (start_world script)).markets
+  pub amounts : outcome.accounts.wallets ≡ with_amounts script.start.wallets (fold rows (start_world script)).wallets

@@ -1,32 +1,20 @@
 -- The summary of a large run.
-use Rattle.std.specs.Prelude.{◌≡◌, ℕ, Bool, true, false, not, List, [], ◌∷◌, ◌++◌, length, map, codes, count_by}
+use Rattle.std.specs.Prelude.{◌≡◌, ℕ, not, List, [], ◌∷◌, ◌++◌, length, map, codes, count_by}
 use Rattle.std.specs.Fmt.{decimal}
 use Rattle.std.specs.List.{All, flat_map, sum_by}
 use Rattle.dex_types.specs.declared.addresses.Address.{Address}
 use Rattle.dex_types.specs.declared.movements.Entry.{Entry}
-use Rattle.dex_types.specs.declared.replies.Reply.{Reply}
-use Rattle.dex_types.specs.declared.replies.Reply.TheVariants.{Ordered, Took, Cancelled, Consumed, Settled, Swept, Done, Refused}
 use Rattle.dex_types.specs.Accounts.{PlainMarketAccounts}
 use Rattle.dex_types.specs.Market.{Market}
 use Rattle.dex_types.specs.Text.{address_text, label_address, spaced}
 use Rattle.dex_accounts.specs.Accepted.{IsAccepted}
 use Rattle.dex_accounts.specs.Decoded.{market_in}
+use Rattle.dex_history.specs.Journal.{is_refusal}
 use Rattle.dex_report.specs.declared.bulk.BookCounts.{BookCounts}
 use Rattle.dex_report.specs.declared.bulk.MarketFunds.{MarketFunds}
 use Rattle.dex_report.specs.declared.bulk.MarketSummary.{MarketSummary}
 use Rattle.dex_report.specs.Lines.{line}
 use Rattle.dex_report.specs.Outcomes.{PlainMarketJournal, PlainOutcome}
-
--- a reply is a refusal
-abbrev pub is_refusal : Reply → Bool
-is_refusal (Refused why) = true
-is_refusal (Ordered id slot lots pc fee rested) = false
-is_refusal (Took lots pc fee) = false
-is_refusal (Cancelled count) = false
-is_refusal (Consumed count) = false
-is_refusal (Settled coin pc referrer) = false
-is_refusal (Swept pc) = false
-is_refusal Done = false
 
 -- how many rows of a journal were refused
 abbrev pub refused_in : PlainMarketJournal → ℕ

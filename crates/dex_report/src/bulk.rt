@@ -7,6 +7,7 @@ ghost use Rattle.dex_types.specs.declared.movements.Entry.{Entry};
 ghost use Rattle.dex_types.specs.Accounts.{market_accounts_of};
 ghost use Rattle.dex_accounts.specs.Accepted.{IsAccepted};
 ghost use Rattle.dex_accounts.specs.Decoded.{market_in};
+ghost use Rattle.dex_history.specs.Journal.{is_refusal};
 ghost use Rattle.dex_market.specs.MarketAccount.{IsMarket, market_words};
 ghost use Rattle.dex_ring.specs.Ring.{IsEventQueue, ring_of};
 ghost use Rattle.dex_slab.specs.Slab.{IsSlab, resting};
@@ -71,7 +72,7 @@ fn totals(journals: &[MarketJournal]) -> (u64, u64)
 }
 
 fn accepted(entries: &[Entry]) -> u64
-    ensures count { result ≡ count_by (λ (entry : Entry). not (summaries.is_refusal entry.reply)) entries.now }
+    ensures count { result ≡ count_by (λ (entry : Entry). not (is_refusal entry.reply)) entries.now }
     ensures within { result ≤ length entries.now }
 {
     entries
@@ -81,7 +82,7 @@ fn accepted(entries: &[Entry]) -> u64
 }
 
 fn refused(entries: &[Entry]) -> u64
-    ensures count { result ≡ count_by (λ (entry : Entry). summaries.is_refusal entry.reply) entries.now }
+    ensures count { result ≡ count_by (λ (entry : Entry). is_refusal entry.reply) entries.now }
     ensures within { result ≤ length entries.now }
 {
     entries
@@ -91,7 +92,7 @@ fn refused(entries: &[Entry]) -> u64
 }
 
 fn is_refusal(reply: &Reply) -> bool
-    ensures { result ≡ summaries.is_refusal reply.now }
+    ensures { result ≡ is_refusal reply.now }
 {
     matches!(reply, Reply::Refused(_))
 }

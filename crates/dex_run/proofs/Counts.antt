@@ -15,7 +15,8 @@ use Rattle.dex_fold.specs.Fold.{names}
 use Rattle.dex_replay.specs.Lawful.{rows_of_market, rows_of_wallet}
 use Rattle.dex_script.specs.Drafts.{PlainScript}
 use Rattle.dex_stamps.specs.Stamped.{Stamped, stamped}
-use Rattle.dex_journals.specs.Made.{calls_on, entries_in, entries_on, entry_made, rows_of_lane}
+use Rattle.dex_journals.specs.Made.{calls_on, entries_in, entries_on, entry_made}
+use Rattle.dex_fold.specs.Items.{rows_of_lane}
 use Rattle.dex_histories.specs.Lanes.{MovesEach}
 use Rattle.dex_run.specs.Turns.{IsDue}
 use Rattle.dex_run.proofs.Once.{asked-once, some-any}

@@ -6,7 +6,7 @@ use Rattle.std.proofs.lemmas.List.Elements.{filter-append}
 use Rattle.dex_types.specs.declared.rows.Row.{Row}
 use Rattle.dex_types.specs.Rows.{PlainRow, row_of}
 use Rattle.dex_script.specs.Drafts.{PlainScript}
-use Rattle.dex_journals.specs.Made.{rows_of_lane}
+use Rattle.dex_fold.specs.Items.{rows_of_lane}
 use Rattle.dex_run.specs.Seats.{IsDone, SeatState}
 use Rattle.dex_run.specs.Submitted.{IsNext}
 

@@ -23,7 +23,8 @@ use Rattle.dex_script.specs.Known.{has_market}
 use Rattle.dex_replay.specs.Lawful.{AllThree, IsSight}
 use Rattle.dex_stamps.specs.Stamped.{Stamped}
 use Rattle.dex_journals.specs.Journals.{MarketOrigin}
-use Rattle.dex_journals.specs.Made.{calls_on, entries_in, entries_on, rows_of_lane}
+use Rattle.dex_journals.specs.Made.{calls_on, entries_in, entries_on}
+use Rattle.dex_fold.specs.Items.{rows_of_lane}
 use Rattle.dex_histories.specs.Lanes.{IsLane, MovesEach}
 use Rattle.dex_run.specs.Bank.{BankState, IsBank, IsMarketGate, market_addresses}
 use Rattle.dex_run.specs.Seats.{IsMarketPass, IsSeat, IsSeatOf, IsWalletPass, SeatState}

@@ -4,8 +4,7 @@ ghost use Rattle.std.specs.Prelude.{◌≡◌, List, All, IfErr, IfOk, IfSome, l
 ghost use Rattle.std.specs.List.{AllZip, range_with_len};
 ghost use Rattle.dex_report.specs.Outcomes.{PlainOutcome, outcome_of};
 ghost use Rattle.dex_script.specs.Drafts.{PlainScript};
-ghost use Rattle.dex_histories.specs.Runs.{IsRunOf};
-ghost use Rattle.dex_order.specs.OneOrder.{IsOneOrder};
+ghost use Rattle.dex_replay.specs.Runs.{IsOneOrder, IsRunOf};
 ghost use Rattle.dex_journals.specs.Journals.{BankMarketState, BankWalletState, IsBankMarket, IsBankWallet};
 ghost use Rattle.dex_run.specs.Bank.{IsBank};
 ghost use Rattle.dex_run.specs.Closing.{AreMarketsClosed, AreWalletsClosed, ClosesAs, HasGateRoom, HasRoom};

@@ -3,8 +3,7 @@
 ghost use Rattle.std.specs.Prelude.{◌≡◌, ◌<◌, ◌≤◌, ◌++◌, ◌∷◌, [], All, IfOk, OnOk, length, map, vec_capacity, vec_len};
 ghost use Rattle.std.specs.List.{AllZip};
 ghost use Rattle.dex_report.specs.Outcomes.{outcome_of};
-ghost use Rattle.dex_histories.specs.Runs.{IsRunOf};
-ghost use Rattle.dex_order.specs.OneOrder.{IsOneOrder};
+ghost use Rattle.dex_replay.specs.Runs.{IsOneOrder, IsRunOf};
 ghost use Rattle.dex_run.specs.Running.{CanRun, HasRun, IsJobOf};
 
 use crate::bank::Bank;

@@ -1,6 +1,5 @@
 -- The instruction rows of a script: their numbers rise, and each is of the start.
 use Rattle.std.proofs.Common.{◌≡◌, ◌∙◌, ℕ, ◌+◌, ◌-◌, ◌^◌, ◌<◌, ◌≤◌, ◌∷◌, [], ◌++◌, ◌||◌, ◌==◌, Bool, true, false, not, nat_le, nat_lt, List, Result, Ok, Err, All, ap, arith, length, length-append, max, refl, subst, sym}
-use Rattle.std.specs.List.{AllPairs}
 use Rattle.std.proofs.lemmas.Bool.{eqb-false, leb-false, ltb-false, not-false}
 use Rattle.std.proofs.lemmas.List.Elements.{All-append, All-cons, All-nil}
 use Rattle.std.proofs.lemmas.List.Quantifiers.{all_pairs_push}
@@ -12,6 +11,7 @@ use Rattle.dex_dump.specs.Answers.{AnswersDump, PlainAnswer, next_number}
 use Rattle.dex_dump.proofs.SoFarLaws.{dump-read}
 use Rattle.dex_audit.specs.Findings.{findings}
 use Rattle.dex_audit_rules.specs.declared.finding.Finding.{Finding}
+use Rattle.dex_fold.proofs.GroupLaws.{grouped-few}
 use Rattle.dex_statement.specs.declared.faults.FaultKind.{FaultKind}
 use Rattle.dex_statement.specs.declared.faults.FaultKind.TheVariants.{UnknownLabel, OverLimit}
 use Rattle.dex_statement.specs.declared.statement.Statement.{Statement}
@@ -21,16 +21,34 @@ use Rattle.dex_statement.specs.Stated.{PlainInstruction}
 use Rattle.dex_statement.specs.Statements.{statement_of}
 use Rattle.dex_statement.specs.Words.{Fields}
 use Rattle.dex_script.specs.Drafts.{PlainDraft, PlainScript, behind_dump, no_rows}
-use Rattle.dex_script.specs.Facts.{AreRows, IsRowOf, lanes_of}
+use Rattle.dex_script.specs.Facts.{AreRows, HasNoSwap, IsRowOf, lanes_of}
 use Rattle.dex_script.specs.Known.{has_market, is_known_role}
 use Rattle.dex_script.specs.Rows.{exceeds_row, instruction_row, is_unknown, with_instruction, with_known, with_row, with_statement}
 use Rattle.dex_script.specs.Scripts.{AnswersBy, Reads, Refusal, begins_with_dump, behind, draft_after, fault_in, script_from, unless_found}
 use Rattle.dex_script.proofs.FaultLaws.{bind-ok, no-error, ok-same, or-none, unless-ok}
 use Rattle.dex_script.proofs.KeptLaws.{Kept, kept-clock, kept-market, kept-mint, kept-msrm, kept-orders, kept-program, kept-srm, kept-wallet}
 
+-- the rows of a script: their numbers rise, so no two have one number
+pub record AreRising (script : PlainScript) : Type 0 where
+  pub few : length script.rows ≤ 100000
+  pub each : All (IsRowOf script.start) script.rows
+  pub single : HasNoSwap script.rows
+  pub lanes : script.lanes ≡ lanes_of script.rows
+
+-- so they are the rows of a script of which some may have one number
+are-rows : (script : PlainScript) → AreRising script → AreRows script
+are-rows script are = record {
+  few = omega (arith, grouped-few (λ (row : PlainRow). row.number) script.rows, are.few);
+  each = are.each;
+  rising = λ i j d before within. let less = are.single i j d before within in omega (arith, less);
+  legs = λ i j d before within same. let less = are.single i j d before within in absurd (omega (arith, less, same));
+  single = are.single;
+  lanes = are.lanes;
+}
+
 -- what holds of a script so far, whose next row has this number
 pub record IsGood (number : ℕ) (draft : PlainDraft) : Type 0 where
-  pub rows : AreRows draft.script
+  pub rows : AreRising draft.script
   pub below : All (λ (one : PlainRow). one.number < number) draft.script.rows
   pub quiet : draft.is_late ≡ false → draft.script.rows ≡ []
   pub small : number ≤ 2 ^ 32 - 1
@@ -102,7 +120,7 @@ pushed number draft words good known few within other =
         few = omega (arith, length-append rows (one ∷ []), room);
         each = All-append (IsRowOf draft.script.start) rows (one ∷ []) good.rows.each
             (one-row (IsRowOf draft.script.start) one (known-row draft.script.start number draft words known within));
-        rising = all_pairs_push (λ (a b : PlainRow). a.number < b.number) rows one good.rows.rising (λ k d inside. good.below k d inside);
+        single = all_pairs_push (λ (a b : PlainRow). a.number < b.number) rows one good.rows.single (λ k d inside. good.below k d inside);
         lanes = ap (λ (n : ℕ). max n (words.lane + 1)) good.rows.lanes ∙ sym (lanes_of-push rows one);
       };
       below = All-append (λ (r : PlainRow). r.number < next_number number) rows (one ∷ [])
@@ -129,26 +147,26 @@ known-good number draft after words good is =
 -- ---- other rows
 
 -- no rows are good of any start
-empty-rows : (script : PlainScript) → script.rows ≡ [] → script.lanes ≡ 1 → AreRows script
+empty-rows : (script : PlainScript) → script.rows ≡ [] → script.lanes ≡ 1 → AreRising script
 empty-rows script none one = record {
   few = subst (λ (rows : List PlainRow). length rows ≤ 100000) (sym none) (omega arith);
   each = subst (All (IsRowOf script.start)) (sym none) (All-nil (IsRowOf script.start));
-  rising = subst (AllPairs (λ (a b : PlainRow). a.number < b.number)) (sym none) (λ i j d before within. absurd (omega arith));
+  single = subst HasNoSwap (sym none) (λ i j d before within. absurd (omega arith));
   lanes = one ∙ sym (ap lanes_of none);
 }
 
-same-rows : (before after : PlainScript) → after.rows ≡ before.rows → after.lanes ≡ before.lanes → after.start ≡ before.start → AreRows before → AreRows after
+same-rows : (before after : PlainScript) → after.rows ≡ before.rows → after.lanes ≡ before.lanes → after.start ≡ before.start → AreRising before → AreRising after
 same-rows before after rows lanes start are = record {
   few = subst (λ (rs : List PlainRow). length rs ≤ 100000) (sym rows) are.few;
   each = subst (λ (s : PlainAccounts). All (IsRowOf s) after.rows) (sym start) (subst (All (IsRowOf before.start)) (sym rows) are.each);
-  rising = subst (AllPairs (λ (a b : PlainRow). a.number < b.number)) (sym rows) are.rising;
+  single = subst HasNoSwap (sym rows) are.single;
   lanes = lanes ∙ are.lanes ∙ sym (ap lanes_of rows);
 }
 
 kept-good : (number : ℕ) (before after : PlainDraft) → IsGood number before → Kept before after → IsGood (next_number number) after
 kept-good number before after good kept = by before.is_late refl
   where
-    rows_now : (late : Bool) → before.is_late ≡ late → AreRows after.script
+    rows_now : (late : Bool) → before.is_late ≡ late → AreRising after.script
     rows_now true is = same-rows before.script after.script kept.rows kept.lanes (kept.start is) good.rows
     rows_now false is =
         let none = good.quiet is in
@@ -224,7 +242,7 @@ fault-ok number (Err kind) x is = absurd (no-error _ x is)
 
 -- behind all rows
 pub record Ends (before last : PlainDraft) : Type 0 where
-  pub rows : AreRows last.script
+  pub rows : AreRising last.script
   pub start : before.is_late ≡ true → last.script.start ≡ before.script.start
 
 by-rows : (number : ℕ) (before last : PlainDraft) (rows : List Fields) → IsGood number before → draft_after before number rows ≡ Ok last
@@ -256,16 +274,16 @@ abbrev pub last_script : PlainDraft → Result PlainScript Refusal
 last_script last = Ok last.script
 
 from-rows : (number : ℕ) (draft : PlainDraft) (rows : List Fields) (script : PlainScript) → IsGood number draft
-    → Ok script ≡ script_from draft number rows → AreRows script × (draft.is_late ≡ true → script.start ≡ draft.script.start)
+    → Ok script ≡ script_from draft number rows → AreRising script × (draft.is_late ≡ true → script.start ≡ draft.script.start)
 from-rows number draft rows script good is =
     let a = bind-ok (draft_after draft number rows) last_script script (sym is) in
     let ends = by-rows number draft a.0 rows good a.1 in
     let e = ok-same {E = Refusal} a.0.script script a.2 in
-    (subst AreRows e ends.rows, λ late. sym (ap (λ (s : PlainScript). s.start) e) ∙ ends.start late)
+    (subst AreRising e ends.rows, λ late. sym (ap (λ (s : PlainScript). s.start) e) ∙ ends.start late)
 
 -- what a dump and the rows behind it give
 pub record StartsWith (script : PlainScript) : Type 0 where
-  pub rows : AreRows script
+  pub rows : AreRising script
   pub accepted : AreAccepted script.start
   pub held : HoldBytes script.start
   pub none : findings script.start ≡ []
@@ -290,12 +308,12 @@ from-dump rows (Ok dump) script told is =
       none = subst (λ (accounts : PlainAccounts). findings accounts ≡ []) (sym same) a.0;
     }
 
-by-answer : (begins : Bool) (rows : List Fields) (script : PlainScript) → AnswersBy begins rows (Ok script) → AreRows script
+by-answer : (begins : Bool) (rows : List Fields) (script : PlainScript) → AnswersBy begins rows (Ok script) → AreRising script
 by-answer true rows script told = (from-dump rows told.0 script told.1 told.2).rows
 by-answer false rows script is = (from-rows 1 no_rows rows script (first-good 1 no_rows refl refl (omega arith)) is).0
 
 pub read-rows : (text : List ℕ) (script : PlainScript) → Reads text script → AreRows script
-read-rows text script reads = by-answer (begins_with_dump (rows_of text)) (rows_of text) script reads
+read-rows text script reads = are-rows script (by-answer (begins_with_dump (rows_of text)) (rows_of text) script reads)
 
 pub read-dump : (text : List ℕ) (script : PlainScript) → begins_with_dump (rows_of text) ≡ true → Reads text script → StartsWith script
 read-dump text script begins reads =

@@ -1,11 +1,14 @@
 -- What holds of every script.
-use Rattle.std.specs.Prelude.{◌≡◌, ℕ, ◌+◌, ◌<◌, ◌≤◌, true, List, [], ◌∷◌, length, max, All}
+use Rattle.std.specs.Prelude.{◌≡◌, ℕ, ◌+◌, ◌<◌, ◌≤◌, true, List, [], ◌∷◌, None, length, max, All}
 use Rattle.std.specs.List.{AllPairs}
 use Rattle.dex_types.specs.Accounts.{PlainAccounts}
 use Rattle.dex_types.specs.Rows.{PlainRow}
 use Rattle.dex_accounts.specs.Decoded.{AreSound}
 use Rattle.dex_audit.specs.Audited.{IsConserved}
 use Rattle.dex_dump.specs.Accepted.{AreAccepted}
+use Rattle.dex_instruction.specs.Reading.{decoded}
+use Rattle.dex_history.specs.Journal.{is_take_or_bad}
+use Rattle.dex_fold.specs.Items.{ShareNothing, items_of}
 use Rattle.dex_script.specs.Drafts.{PlainScript}
 use Rattle.dex_script.specs.Known.{has_market, is_known_role}
 
@@ -32,11 +35,33 @@ pub record IsRowOf (start : PlainAccounts) (row : PlainRow) : Type 0 where
   pub named : length row.named ≤ 16
   pub bytes : length row.bytes ≤ 256
 
--- the rows of a script: not too many, each of the start, with rising numbers
+-- a row that may be a leg of a swap: its data is a take's or does not decode, and it names no open-orders account, no discount and no
+-- referrer
+pub record IsLeg (row : PlainRow) : Type 0 where
+  pub take : is_take_or_bad (decoded row.bytes) ≡ true
+  pub named : row.named ≡ []
+  pub discount : row.discount ≡ None
+  pub referrer : row.referrer ≡ None
+
+-- two legs of one swap: they are of one lane, and share no market and no wallet
+pub record AreLegs (one other : PlainRow) : Type 0 where
+  pub lane : one.lane ≡ other.lane
+  pub first : IsLeg one
+  pub second : IsLeg other
+  pub apart : ShareNothing one other
+
+-- no two of these rows have one number: there is no swap
+abbrev pub HasNoSwap : List PlainRow → Type 0
+HasNoSwap rows = AllPairs (λ (one other : PlainRow). one.number < other.number) rows
+
+-- the rows of a script: not too many items, each row of the start, with numbers that never fall, and rows of one number are legs.
+-- Today no two rows have one number (`single`)
 pub record AreRows (script : PlainScript) : Type 0 where
-  pub few : length script.rows ≤ 100000
+  pub few : length (items_of script.rows) ≤ 100000
   pub each : All (IsRowOf script.start) script.rows
-  pub rising : AllPairs (λ (one other : PlainRow). one.number < other.number) script.rows
+  pub rising : AllPairs (λ (one other : PlainRow). one.number ≤ other.number) script.rows
+  pub legs : AllPairs (λ (one other : PlainRow). one.number ≡ other.number → AreLegs one other) script.rows
+  pub single : HasNoSwap script.rows
   pub lanes : script.lanes ≡ lanes_of script.rows
 
 -- what holds of every script

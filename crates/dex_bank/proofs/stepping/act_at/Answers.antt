@@ -13,7 +13,7 @@ returns-clause-wallets c = λ default.
     let market : MarketCellState = get_or c.args.markets.now c.args.place read in
     let here : market ≡ get_or c.args.markets.now c.args.place default =
     sym c.index-markets-place.is ∙ get_or_read c.args.markets.now c.args.place read c.requires.within c.index-markets-place.is default in
-    subst (λ (cell : MarketCellState). HaveActed c.args.row.now c.args.seen.now (step_on c.args.row.now c.args.seen.now cell).transfers c.args.wallets.now c.act.new.wallets) here
+    subst (λ (cell : MarketCellState). HaveActed (row_of c.args.row.now) c.args.seen.now (step_on c.args.row.now c.args.seen.now cell).transfers c.args.wallets.now c.act.new.wallets) here
     (record {
       states = c.act.ensures.states;
       kept = c.act.ensures.kept;

@@ -1,13 +1,11 @@
-use Rattle.std.proofs.Common.{◌≡◌, List, Some, get_or, set, refl, sym, ap, ◌∙◌, subst, arith}
+use Rattle.std.proofs.Common.{◌≡◌, true, List, Some, get_or, set, refl, sym, ap, ◌∙◌, subst, arith}
 use Rattle.std.proofs.lemmas.List.{with_items_is}
 use Rattle.std.specs.Vec.{with_items}
 use Rattle.dex_types.specs.declared.addresses.Address.{Address}
-use Rattle.dex_types.specs.declared.refusals.Refusal.{Refusal}
-use Rattle.dex_types.specs.declared.replies.Reply.TheVariants.{Refused}
 use Rattle.dex_types.specs.declared.rows.Seen.{Seen}
 use Rattle.dex_types.specs.Market.{Market}
 use Rattle.dex_types.specs.Rows.{row_of}
-use Rattle.dex_history.specs.Journal.{row_step}
+use Rattle.dex_history.specs.Journal.{is_refusal, row_step}
 use Rattle.dex_cell.specs.CellState.{MarketCellState, refused_on, step_on}
 use Rattle.dex_wallet.specs.CellState.{CellState}
 use Rattle.dex_fold.specs.Fold.{act}
@@ -16,7 +14,7 @@ use Rattle.dex_bank.specs.Cells.{AreCells, CanAct, CellsState, OthersStay, accou
 use Rattle.dex_bank.specs.CellsInside.{cells_inside}
 use Rattle.dex_bank.specs.Stepping.{CanActAt, HasActedAt, HaveActed, IsFirstAt}
 use Rattle.dex_bank.proofs.StepCells.{can-act-at, stepped-acted, stepped-cells, stepped-opened, stepped-reply}
-use Rattle.dex_bank.proofs.StepMarkets.{accounts-stay, others-stay}
+use Rattle.dex_bank.proofs.StepMarkets.{HasBecomeAt, accounts-stay, acted-became, others-stay}
 use Rattle.dex_bank.proofs.stepping.stepped.Goals as goal
 
 pub act_at-requires : goal.act_at-requires
@@ -67,20 +65,23 @@ has c =
     c.act_at.ensures.market
 
 have : (c : goal.After-cells-2-1) → (default : MarketCellState)
-    → HaveActed c.args.row.now c.seen_by-seen.result
+    → HaveActed (row_of c.args.row.now) c.seen_by-seen.result
     (step_on c.args.row.now c.seen_by-seen.result (get_or (before c).markets c.place_of-place.result default)).transfers (before c).wallets c.act_at.new.wallets
 have c default =
     let row = c.args.row.now in
     let seen : Seen = c.seen_by-seen.result in
-    subst (λ (ms : List MarketCellState). HaveActed row seen (step_on row seen (get_or ms c.place_of-place.result default)).transfers (before c).wallets c.act_at.new.wallets)
+    subst (λ (ms : List MarketCellState). HaveActed (row_of row) seen (step_on row seen (get_or ms c.place_of-place.result default)).transfers (before c).wallets c.act_at.new.wallets)
     c.deref_mut.ensures.value
     (subst (λ (ws : List CellState).
-    HaveActed row seen (step_on row seen (get_or c.deref_mut.result.now c.place_of-place.result default)).transfers ws c.act_at.new.wallets) c.deref_mut-2.ensures.value
+    HaveActed (row_of row) seen (step_on row seen (get_or c.deref_mut.result.now c.place_of-place.result default)).transfers ws c.act_at.new.wallets) c.deref_mut-2.ensures.value
     (c.act_at.ensures.wallets default))
+
+became : (c : goal.After-cells-2-1) → HasBecomeAt (row_of c.args.row.now) c.seen_by-seen.result c.place_of-place.result (before c).markets c.act_at.new.markets
+became c = acted-became c.args.row.now c.seen_by-seen.result c.place_of-place.result (before c).markets c.act_at.new.markets (has c)
 
 cells-after : (c : goal.After-cells-2-1) → AreCells (after c)
 cells-after c =
-    stepped-cells c.args.row.now c.seen_by-seen.result c.place_of-place.result (before c) (seen-before c) (first c) c.act_at.new.markets c.act_at.new.wallets (has c) (have c)
+    stepped-cells (row_of c.args.row.now) c.seen_by-seen.result c.place_of-place.result (before c) (seen-before c) (first c) c.act_at.new.markets c.act_at.new.wallets (became c) (have c)
     c.cells.invariant
 
 pub invariant_of-cells : goal.invariant_of-cells
@@ -93,13 +94,13 @@ pub returns-clause-acted : goal.returns-clause-acted
 returns-clause-acted c =
     ap world_of (left-is c)
     ∙ subst (λ (cs : CellsState). world_of (after c) ≡ act (row_of c.args.row.now) (world_of cs)) c.cells.view_is
-    (stepped-acted c.args.row.now c.seen_by-seen.result c.place_of-place.result (before c) (seen-before c) (first c) c.act_at.new.markets c.act_at.new.wallets (has c) (have c))
+    (stepped-acted (row_of c.args.row.now) c.seen_by-seen.result c.place_of-place.result (before c) (seen-before c) (first c) c.act_at.new.markets c.act_at.new.wallets (became c) (have c))
 
 pub returns-clause-kept : goal.returns-clause-kept
 returns-clause-kept c =
     ap opened_of (left-is c)
     ∙ subst (λ (cs : CellsState). opened_of (after c) ≡ opened_of cs) c.cells.view_is
-    (stepped-opened c.args.row.now c.seen_by-seen.result c.place_of-place.result (before c) (seen-before c) (first c) c.act_at.new.markets c.act_at.new.wallets (has c) (have c))
+    (stepped-opened (row_of c.args.row.now) c.seen_by-seen.result c.place_of-place.result (before c) (seen-before c) (first c) c.act_at.new.markets c.act_at.new.wallets (became c) (have c))
 
 pub returns-clause-reply : goal.returns-clause-reply
 returns-clause-reply c =
@@ -107,7 +108,7 @@ returns-clause-reply c =
     let seen : Seen = c.seen_by-seen.result in
     subst (λ (cs : CellsState). (m : Market) → market_at row.market (world_of cs).markets ≡ Some m
     → c.act_at.result ≡ (row_step (row_of row) (seen_by (row_of row) (world_of cs)) m).reply) c.cells.view_is
-    (stepped-reply row seen c.place_of-place.result (before c) (seen-before c) (first c) c.act_at.new.markets c.act_at.new.wallets (has c) (have c) c.act_at.result
+    (stepped-reply (row_of row) seen c.place_of-place.result (before c) (seen-before c) (first c) c.act_at.new.markets c.act_at.new.wallets (became c) (have c) c.act_at.result
     (λ default.
     subst (λ (ms : List MarketCellState). c.act_at.result ≡ (step_on row seen (get_or ms c.place_of-place.result default)).reply) c.deref_mut.ensures.value
     (c.act_at.ensures.reply default)))
@@ -120,21 +121,21 @@ returns-clause-others c =
     (others-stay address (before c).markets c.place_of-place.result (has c).cell (first c)))
 
 -- a market that refuses the row stays but for its journal
-refused : (c : goal.After-cells-2-1) (why : Refusal) → c.act_at.result ≡ Refused why
+refused : (c : goal.After-cells-2-1) → is_refusal c.act_at.result ≡ true
     → c.act_at.new.markets
     ≡ set (before c).markets c.place_of-place.result
     (refused_on c.args.row.now c.seen_by-seen.result (get_or (before c).markets c.place_of-place.result (has c).cell))
-refused c why is =
+refused c is =
     subst (λ (ms : List MarketCellState).
     c.act_at.new.markets
     ≡ set ms c.place_of-place.result (refused_on c.args.row.now c.seen_by-seen.result (get_or ms c.place_of-place.result (has c).cell))) c.deref_mut.ensures.value
-    (c.act_at.ensures.refused why (has c).cell is)
+    (c.act_at.ensures.refused is (has c).cell)
 
 pub returns-clause-refused : goal.returns-clause-refused
-returns-clause-refused c = λ why is.
+returns-clause-refused c = λ is.
     let place = c.place_of-place.result in
     let market : MarketCellState = get_or (before c).markets place (has c).cell in
     subst (λ (cs : CellsState). accounts_in (left c).markets ≡ accounts_in cs.markets) c.cells.view_is
     (ap (λ (cs : CellsState). accounts_in cs.markets) (left-is c)
-    ∙ ap accounts_in (refused c why is)
+    ∙ ap accounts_in (refused c is)
     ∙ accounts-stay (before c).markets place (refused_on c.args.row.now c.seen_by-seen.result market) (has c).cell refl)

@@ -1,5 +1,5 @@
 use Rattle.std.proofs.Common.{sym, subst}
-use Rattle.dex_histories.specs.Runs.{IsRunOf}
+use Rattle.dex_replay.specs.Runs.{IsRunOf}
 use Rattle.dex_run.proofs.closing.what_closes_is_a_run.Goals as goal
 
 pub returns : goal.returns

@@ -1,6 +1,6 @@
 use Rattle.std.proofs.Common.{◌≡◌, length, map, take}
 use Rattle.dex_types.specs.Rows.{row_of}
-use Rattle.dex_journals.specs.Made.{rows_of_lane}
+use Rattle.dex_fold.specs.Items.{rows_of_lane}
 use Rattle.dex_run.specs.Seats.{IsSeatOf}
 use Rattle.dex_run.proofs.lane.submit_all.Given as goal
 

@@ -7,14 +7,14 @@ use Rattle.dex_types.specs.Side.{Coin, Pc}
 use Rattle.dex_types.specs.Steps.{Step}
 use Rattle.dex_types.specs.Transfers.{Transfers}
 use Rattle.dex_history.specs.Balances.{mint_of}
-use Rattle.dex_history.specs.Journal.{Call, asked_of, request_of}
+use Rattle.dex_history.specs.Journal.{Call, asked_of, is_refusal, request_of}
 use Rattle.dex_history.proofs.StepMoves.{row-moves}
 use Rattle.dex_movements.specs.Entries.{entry_by}
 use Rattle.dex_movements.specs.Amounts.{CanMoveEach, transfers_of}
 use Rattle.dex_step.specs.Acting.{HasStepped}
 use Rattle.dex_wallet.specs.TokenAmount.{held_in}
 use Rattle.dex_cell.specs.CellInside.{call_of, cell_inside}
-use Rattle.dex_cell.specs.CellState.{HasActed, HasSpare, IsDone, IsFor, IsMarketCell, MarketCellState, answer_on, call_on, market_at, step_on}
+use Rattle.dex_cell.specs.CellState.{HasActed, HasSpare, IsFor, IsMarketCell, MarketCellState, answer_on, call_on, market_at, step_on}
 use Rattle.dex_cell.specs.Paying.{CanMoveShare, moved_share, paid_in, paid_out, parcel_of}
 use Rattle.dex_cell.proofs.CallLaws.{called}
 use Rattle.dex_cell.proofs.InsideLaws.{calls-grow, entries-grow}
@@ -144,6 +144,6 @@ returns-clause-cell c = kept c
 
 pub returns-clause-done : goal.returns-clause-done
 returns-clause-done c =
-    subst IsDone (sym c.apply-reply.ensures.reply)
-    (planned-done c.args.plan (request_of (row_of c.args.row.now)) c.args.seen.now (market_at (before c))
-    (subst (λ (cell : MarketCellState). Ok c.args.plan ≡ answer_on c.args.row.now c.args.seen.now cell) (sym c.self.view_is) c.requires.decided))
+    ap (λ (reply : Reply). is_refusal reply) c.apply-reply.ensures.reply
+    ∙ planned-done c.args.plan (request_of (row_of c.args.row.now)) c.args.seen.now (market_at (before c))
+    (subst (λ (cell : MarketCellState). Ok c.args.plan ≡ answer_on c.args.row.now c.args.seen.now cell) (sym c.self.view_is) c.requires.decided)

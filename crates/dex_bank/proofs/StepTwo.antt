@@ -1,0 +1,169 @@
+-- Two rows that share nothing, one behind the other.
+use Rattle.std.proofs.Common.{◌≡◌, ℕ, ◌<◌, Bool, true, false, cond, List, [], ◌∷◌, length, map, is_some, Option, Some, None, refl, sym, ap, ◌∙◌, subst, ⊎_elim}
+use Rattle.std.specs.List.{All}
+use Rattle.std.proofs.lemmas.List.Elements.{All-nil, All-cons, All-head, All-tail}
+use Rattle.std.proofs.lemmas.Bool.{cases_Bool, false≢true}
+use Rattle.dex_types.specs.declared.addresses.Address.{Address}
+use Rattle.dex_types.specs.declared.movements.WalletEntry.{WalletEntry}
+use Rattle.dex_types.specs.declared.refusals.Refusal.{Refusal}
+use Rattle.dex_types.specs.declared.replies.Reply.{Reply}
+use Rattle.dex_types.specs.declared.rows.Seen.{Seen}
+use Rattle.dex_types.specs.Addresses.{is_same}
+use Rattle.dex_types.specs.Accounts.{PlainMarketAccounts}
+use Rattle.dex_types.specs.Market.{Market}
+use Rattle.dex_types.specs.Rows.{PlainRow}
+use Rattle.dex_types.specs.Transfers.{Transfers}
+use Rattle.dex_types.specs.Wallets.{movement_of, row_wallets}
+use Rattle.dex_laws.proofs.TraderLaws.{is_same-refl, is_same-true}
+use Rattle.dex_instruction.specs.Reading.{decoded}
+use Rattle.dex_history.specs.Journal.{is_refusal, is_take, request_of, row_step}
+use Rattle.dex_history.proofs.RefusalLaws.{step-refused}
+use Rattle.dex_cell.specs.CellState as market
+use Rattle.dex_cell.specs.CellState.{IsMarketCell, MarketCellState}
+use Rattle.dex_wallet.specs.CellState as wallet
+use Rattle.dex_wallet.specs.CellState.{CellState}
+use Rattle.dex_fold.specs.Fold.{act, acted, names, wallet_acted, wallet_moved}
+use Rattle.dex_fold.specs.Items.{ShareNothing, idle_row, why_in, why_on}
+use Rattle.dex_fold.specs.World.{WalletState, World, market_at, seen_by}
+use Rattle.dex_fold.proofs.FarLaws.{why-far}
+use Rattle.dex_act.specs.Wallets.{is_among, made_of, wallet_state_of}
+use Rattle.dex_bank.specs.Cells.{AreCells, CanAct, CanWait, CellsState, IsTakeOrRefused, OthersStay, is_market, opened_of, world_of}
+use Rattle.dex_bank.proofs.StepWorld.{opened_market, same-markets, same-wallets}
+
+-- a leg that is not refused can wait
+pub can-wait : (row : PlainRow) (cells : CellsState) → IsTakeOrRefused row cells → is_some (why_in (world_of cells) row) ≡ false → CanWait row cells
+can-wait row cells take spared = record {
+  take = ⊎_elim (λ is. is) (λ isnt. absurd (false≢true (sym spared ∙ take isnt))) (cases_Bool (is_take (decoded row.bytes)));
+  spared = nothing (why_in (world_of cells) row) spared;
+}
+  where
+    nothing : (found : Option Refusal) → is_some found ≡ false → found ≡ None
+    nothing None is = refl
+    nothing (Some why) is = absurd (false≢true (sym is))
+
+-- a row that is refused is answered so
+pub refused-reply : (row : PlainRow) (world : World) (reply : Reply)
+    → ((m : Market) → market_at row.market world.markets ≡ Some m → reply ≡ (row_step row (seen_by row world) m).reply)
+    → is_some (why_in world row) ≡ true → is_refusal reply ≡ true
+refused-reply row world reply told refused = on (market_at row.market world.markets) refl refused
+  where
+    on : (found : Option Market) → market_at row.market world.markets ≡ found → is_some (why_on row (seen_by row world) found) ≡ true
+        → is_refusal reply ≡ true
+    on None at some = absurd (false≢true some)
+    on (Some m) at some = ap (λ (r : Reply). is_refusal r) (told m at) ∙ step-refused (request_of row) (seen_by row world) m ∙ some
+
+-- ---- behind a row that shares nothing with it
+
+-- a change of wallets that leaves those that a row does not name
+abbrev pub LeavesOthers : PlainRow → (WalletState → WalletState) → Type 0
+LeavesOthers one change = (state : WalletState) → names one state.seen.address ≡ false → change state ≡ state
+
+module _ (one other : PlainRow) (share : ShareNothing one other) where
+  -- a market of the other row has the room that it had
+  abbrev Free : MarketCellState → Type 0
+  Free cell = is_same other.market cell.accounts.address ≡ true → market.HasSpare cell
+
+  free-still : (old new : MarketCellState) → IsMarketCell old → IsMarketCell new → opened_market new ≡ opened_market old
+      → (is_same one.market old.accounts.address ≡ false → new ≡ old) → Free old → Free new
+  free-still old new was is alike stays free here = ⊎_elim touched (λ apart. subst market.HasSpare (sym (stays apart)) (free (sym (ap (is_same other.market) address) ∙ here))) (cases_Bool (is_same one.market old.accounts.address))
+    where
+      address : new.accounts.address ≡ old.accounts.address
+      address = is.one_market.address ∙ ap (λ (cell : MarketCellState). cell.start.address) alike ∙ sym was.one_market.address
+      touched : is_same one.market old.accounts.address ≡ true → market.HasSpare new
+      touched same =
+          let both : one.market ≡ other.market =
+          is_same-true one.market old.accounts.address same ∙ sym address ∙ sym (is_same-true other.market new.accounts.address here) in
+          absurd (false≢true (sym share.markets ∙ ap (is_same one.market) (sym both) ∙ is_same-refl one.market))
+
+  markets-free : (before after : List MarketCellState) → OthersStay one.market before after → All IsMarketCell before → All IsMarketCell after
+      → map opened_market after ≡ map opened_market before → All Free before → All Free after
+  markets-free [] [] others was are alike free = All-nil Free
+  markets-free [] (new ∷ after) others was are alike free = absurd others
+  markets-free (old ∷ before) [] others was are alike free = absurd others
+  markets-free (old ∷ before) (new ∷ after) others was are alike free =
+      let here : opened_market new ≡ opened_market old = (cc) in
+      let rest : map opened_market after ≡ map opened_market before = (cc) in
+      All-cons Free new after
+      (free-still old new (All-head IsMarketCell old before was) (All-head IsMarketCell new after are) here others.0 (All-head Free old before free))
+      (markets-free before after others.1 (All-tail IsMarketCell old before was) (All-tail IsMarketCell new after are) rest (All-tail Free old before free))
+
+  -- and so has a wallet of it
+  abbrev Spare : CellState → Type 0
+  Spare cell = names other cell.address ≡ true → wallet.HasSpare cell
+
+  spare-still : (change : WalletState → WalletState) → LeavesOthers one change → (old new : CellState) → wallet_state_of new ≡ change (wallet_state_of old)
+      → made_of new ≡ made_of old → Spare old → Spare new
+  spare-still change leaves old new is alike spare named =
+      let address : new.address ≡ old.address = ap (λ (cell : CellState). cell.address) alike in
+      let room : new.room ≡ old.room = ap (λ (cell : CellState). cell.room) alike in
+      let before : names other old.address ≡ true = sym (ap (names other) address) ∙ named in
+      let same : wallet_state_of new ≡ wallet_state_of old = is ∙ leaves (wallet_state_of old) (share.wallets old.address before) in
+      let entries : new.entries ≡ old.entries = ap (λ (state : WalletState). state.entries) same in
+      subst (λ (n : ℕ). length new.entries < n) (sym room) (subst (λ (all : List WalletEntry). length all < old.room) (sym entries) (spare before))
+
+  wallets-spare : (change : WalletState → WalletState) → LeavesOthers one change → (before after : List CellState)
+      → map wallet_state_of after ≡ map change (map wallet_state_of before) → map made_of after ≡ map made_of before → All Spare before → All Spare after
+  wallets-spare change leaves [] [] is alike spare = All-nil Spare
+  wallets-spare change leaves [] (new ∷ after) is alike spare = absurd (cc)
+  wallets-spare change leaves (old ∷ before) [] is alike spare = absurd (cc)
+  wallets-spare change leaves (old ∷ before) (new ∷ after) is alike spare =
+      let here : wallet_state_of new ≡ change (wallet_state_of old) = (cc) in
+      let rest : map wallet_state_of after ≡ map change (map wallet_state_of before) = (cc) in
+      let made : made_of new ≡ made_of old = (cc) in
+      let others : map made_of after ≡ map made_of before = (cc) in
+      All-cons Spare new after (spare-still change leaves old new here made (All-head Spare old before spare))
+      (wallets-spare change leaves before after rest others (All-tail Spare old before spare))
+
+  row-leaves : (seen : Seen) (t : Transfers) → LeavesOthers one (wallet_acted one seen t)
+  row-leaves seen t state away = ap (λ (b : Bool). cond b (wallet_moved one (movement_of seen t state.seen.address) state) state) away
+
+  acted-spare : (found : Option Market) (world : World) (before after : List CellState) → world.wallets ≡ map wallet_state_of before
+      → map wallet_state_of after ≡ (acted one found world).wallets → map made_of after ≡ map made_of before → All Spare before → All Spare after
+  acted-spare None world before after was is alike spare =
+      wallets-spare (λ (state : WalletState). state) (λ state away. refl) before after (is ∙ was ∙ sym (map-same (map wallet_state_of before))) alike spare
+    where
+      map-same : (states : List WalletState) → map (λ (state : WalletState). state) states ≡ states
+      map-same [] = refl
+      map-same (state ∷ states) = ap (λ (all : List WalletState). state ∷ all) (map-same states)
+  acted-spare (Some m) world before after was is alike spare =
+      let seen : Seen = seen_by one world in
+      let t : Transfers = (row_step one seen m).transfers in
+      wallets-spare (wallet_acted one seen t) (row-leaves seen t) before after (is ∙ ap (map (wallet_acted one seen t)) was) alike spare
+
+  module _ (before after : CellsState) (were : AreCells before) (are : AreCells after) (kept : opened_of after ≡ opened_of before)
+      (others : OthersStay one.market before.markets after.markets) (acts : world_of after ≡ act one (world_of before)) where
+    -- so it can act there where it could before
+    pub act-behind : CanAct other before → CanAct other after
+    act-behind can = record {
+      market = same-markets other.market after before are.markets were.markets kept ∙ can.market;
+      wallets =
+          subst (λ (Has : Address → Bool). All (λ (address : Address). Has address ≡ true) (row_wallets other))
+          (sym (λ i address. same-wallets address after before kept i)) can.wallets;
+      market_spare =
+          markets-free before.markets after.markets others were.markets are.markets (ap (λ (cells : CellsState). cells.markets) kept) can.market_spare;
+      wallet_spare =
+          acted-spare (market_at one.market (world_of before).markets) (world_of before) before.wallets after.wallets refl
+          (ap (λ (world : World). world.wallets) acts) (ap (λ (cells : CellsState). cells.wallets) kept) can.wallet_spare;
+    }
+
+    -- and is refused where it was
+    pub why-behind : why_in (world_of after) other ≡ why_in (world_of before) other
+    why-behind = ap (λ (world : World). why_in world other) acts ∙ why-far one other share (world_of before)
+
+-- ---- whether the first acts or waits
+
+abbrev pub doing_of : Bool → PlainRow → PlainRow
+doing_of waits row = cond waits (idle_row row) row
+
+module _ (one other : PlainRow) (share : ShareNothing one other) (before after : CellsState) (were : AreCells before) (are : AreCells after)
+    (kept : opened_of after ≡ opened_of before) (others : OthersStay one.market before.markets after.markets) where
+  idle-share : ShareNothing (idle_row one) other
+  idle-share = record { markets = share.markets; wallets = share.wallets }
+
+  pub can-behind : (waits : Bool) → world_of after ≡ act (doing_of waits one) (world_of before) → CanAct other before → CanAct other after
+  can-behind true acts = act-behind (idle_row one) other idle-share before after were are kept others acts
+  can-behind false acts = act-behind one other share before after were are kept others acts
+
+  pub why-still : (waits : Bool) → world_of after ≡ act (doing_of waits one) (world_of before) → why_in (world_of after) other ≡ why_in (world_of before) other
+  why-still true acts = why-behind (idle_row one) other idle-share before after were are kept others acts
+  why-still false acts = why-behind one other share before after were are kept others acts

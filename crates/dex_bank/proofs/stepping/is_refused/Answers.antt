@@ -1,0 +1,46 @@
+use Rattle.std.proofs.Common.{◌≡◌, ℕ, ◌<◌, List, [], ◌∷◌, length, get_or, is_some, arith, Option, sym, ap, ◌∙◌, subst}
+use Rattle.dex_types.specs.declared.refusals.Refusal.{Refusal}
+use Rattle.dex_types.specs.declared.rows.Seen.{Seen}
+use Rattle.dex_types.specs.Rows.{row_of}
+use Rattle.dex_types.specs.Why.{why}
+use Rattle.dex_history.specs.Journal.{request_of}
+use Rattle.dex_cell.specs.CellState.{IsFor, MarketCellState, market_at}
+use Rattle.dex_fold.specs.Items.{why_in}
+use Rattle.dex_fold.specs.World.{seen_by}
+use Rattle.dex_bank.specs.Cells.{CanAct, CellsState, world_of}
+use Rattle.dex_bank.specs.CellsInside.{cells_inside}
+use Rattle.dex_bank.specs.Stepping.{IsFirstAt}
+use Rattle.dex_bank.proofs.StepCells.{can-act-at, refused-here}
+use Rattle.dex_bank.proofs.stepping.is_refused.Goals as goal
+
+pub is_refused_at-requires-clause-row : goal.is_refused_at-requires-clause-row
+is_refused_at-requires-clause-row c = λ default.
+    let cells : CellsState = cells_inside c.cells.inside in
+    let row = c.args.row.now in
+    let seen : Seen = c.seen_by-seen.result in
+    let place = c.place_of-place.result in
+    subst (λ (ms : List MarketCellState). IsFor row seen (get_or ms place default)) (sym c.deref-2.ensures.value)
+    ((can-act-at row seen place cells
+    (subst (λ (cs : CellsState). seen ≡ seen_by (row_of row) (world_of cs)) (sym c.cells.view_is) c.seen_by-seen.ensures.seen)
+    (subst (λ (ms : List MarketCellState). IsFirstAt row.market ms place) c.deref.ensures.value c.place_of-place.ensures)
+    c.cells.invariant (subst (CanAct (row_of row)) (sym c.cells.view_is) c.requires) c.seen_by-seen.ensures.fits).for default)
+
+-- one of some cells
+some-of : (cells : List MarketCellState) (place : ℕ) → place < length cells → MarketCellState
+some-of [] place within = absurd (omega (arith, within))
+some-of (cell ∷ cells) place within = cell
+
+pub returns-clause-refused : goal.returns-clause-refused
+returns-clause-refused c =
+    let cells : CellsState = cells_inside c.cells.inside in
+    let row = c.args.row.now in
+    let seen : Seen = c.seen_by-seen.result in
+    let place = c.place_of-place.result in
+    let default : MarketCellState = some-of c.deref.result.now place c.place_of-place.ensures.within in
+    subst (λ (cs : CellsState). c.is_refused_at.result ≡ is_some (why_in (world_of cs) (row_of row))) c.cells.view_is
+    (subst (λ (ms : List MarketCellState). c.is_refused_at.result ≡ is_some (why (request_of (row_of row)) seen (market_at (get_or ms place default)))) c.deref-2.ensures.value
+    (c.is_refused_at.ensures default)
+    ∙ ap (λ (found : Option Refusal). is_some found)
+    (refused-here row seen place cells
+    (subst (λ (cs : CellsState). seen ≡ seen_by (row_of row) (world_of cs)) (sym c.cells.view_is) c.seen_by-seen.ensures.seen)
+    (subst (λ (ms : List MarketCellState). IsFirstAt row.market ms place) c.deref.ensures.value c.place_of-place.ensures) default))
