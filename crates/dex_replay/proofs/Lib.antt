@@ -1,10 +1,3 @@
-mod Counting
-pub mod Ends
-pub mod LastAccounts
-mod Lawfulness
-pub mod MappedLists
-mod Numbers
-pub mod Room
-mod RunSteps
-mod Runs
-pub mod Starts
+mod Holdings
+mod Sights
+mod Moving
