@@ -1,3 +1,13 @@
+mod Counting
+pub mod Ends
+mod Groups
 mod Holdings
-mod Sights
+pub mod LastAccounts
+pub mod MappedLists
 mod Moving
+mod Orders
+pub mod Room
+mod RunSteps
+mod Runs
+mod Sights
+pub mod Starts
