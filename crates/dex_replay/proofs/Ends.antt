@@ -63,4 +63,7 @@ module _ (script : PlainScript) (cells : CellsState) (own : AreOfScript script c
         amounts = amounts-of cells.wallets kept.wallets
             ∙ ap (λ (accounts : List PlainAccount). with_amounts accounts (map wallet_state_of cells.wallets)) own.wallets
             ∙ ap (λ (states : List WalletState). with_amounts script.start.wallets states) end_wallets;
+        balances = map-map account_in (λ (account : PlainAccount). balance_of account.bytes) cells.wallets
+            ∙ sym (map-map wallet_state_of (λ (state : WalletState). state.seen.balance) cells.wallets)
+            ∙ ap (λ (states : List WalletState). map (λ (state : WalletState). state.seen.balance) states) end_wallets;
       }

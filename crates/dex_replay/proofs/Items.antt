@@ -26,7 +26,7 @@ use Rattle.dex_fold.proofs.GroupLaws.{EachTwo}
 use Rattle.dex_fold.proofs.ItemLaws.{idle-step}
 use Rattle.dex_script.specs.Drafts.{PlainScript}
 use Rattle.dex_script.specs.Facts.{AreLegs, IsLeg, IsRowOf, IsStart}
-use Rattle.dex_replay.proofs.MappedLists.{list_any-map, map-agree}
+use Rattle.dex_replay.proofs.MappedLists.{list_any-agree, list_any-map, map-agree}
 use Rattle.dex_replay.proofs.Orders.{IsItemIn, legs-apart}
 use Rattle.dex_replay.proofs.RunSteps.{Does, act-run, does-nothing, does-own, doing, found-market}
 use Rattle.dex_replay.proofs.Runs.{IsRun, Told}
@@ -134,11 +134,6 @@ module _ (script : PlainScript) (start : IsStart script.start) (before : World) 
 
 -- ---- an item
 
-any-agree : {A : Type 0} (p q : A → Bool) (xs : List A) → All (λ x. p x ≡ q x) xs → list_any p xs ≡ list_any q xs
-any-agree p q [] same = refl
-any-agree p q (x ∷ xs) same =
-    ap (λ (b : Bool). b || list_any p xs) (All-head (λ y. p y ≡ q y) x xs same) ∙ ap (λ (b : Bool). q x || b) (any-agree p q xs (All-tail (λ y. p y ≡ q y) x xs same))
-
 abbrev is_refused_in : World → PlainRow → Bool
 is_refused_in world row = is_some (why_in world row)
 
@@ -203,7 +198,7 @@ module _ (script : PlainScript) (start : IsStart script.start) (done : List Told
       let have : HaveRun script world any (members item) done world =
       rows-run script start world any (members item) done world run (legs-apart (members item) is.legs) is.fits (λ k d within. refl) (can-wait (members item) is.fits is.legs) in
       let same : list_any is_refused_told have.told ≡ any =
-      any-agree is_refused_told (λ (told : Told). is_refused_in world told.row) have.told
+      list_any-agree is_refused_told (λ (told : Told). is_refused_in world told.row) have.told
       (All-weaker (IsReplied world any) (λ (told : Told). is_refused_told told ≡ is_refused_in world told.row) (λ told replied. replied.refused) have.told have.replied)
       ∙ sym (list_any-map (is_refused_in world) row_told have.told)
       ∙ ap (list_any (is_refused_in world)) have.are in

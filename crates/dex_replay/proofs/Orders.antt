@@ -133,7 +133,7 @@ module _ (script : PlainScript) (rows : AreRows script) (order : List Item) (lan
       ∙ grouped-flat number_of (rows_of_lane lane script.rows)
 
   -- what holds of the script's rows holds of the order's
-  order-each : (P : PlainRow → Type 0) → All P script.rows → All P all_rows
+  pub order-each : (P : PlainRow → Type 0) → All P script.rows → All P all_rows
   order-each P all k d within =
       let lane : ℕ = (get_or all_rows k d).lane in
       unfilter P (λ (row : PlainRow). eqb row.lane lane) all_rows

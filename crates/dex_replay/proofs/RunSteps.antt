@@ -49,7 +49,7 @@ use Rattle.dex_script.specs.Known.{has_market}
 use Rattle.dex_replay.specs.Lawful.{IsSight, Origin, origin_of_entry, origin_of_row}
 use Rattle.dex_replay.specs.Replays.{market_state, start_world, wallet_state}
 use Rattle.dex_replay.proofs.LastAccounts.{listing-in, market_after-listing}
-use Rattle.dex_replay.proofs.MappedLists.{Any-map, filter-push_no, filter-push_yes}
+use Rattle.dex_replay.proofs.MappedLists.{Any-map, filter-push_no, filter-push_yes, zip-map}
 use Rattle.dex_replay.proofs.Holdings.{markets-hold}
 use Rattle.dex_replay.proofs.Moving.{CanMoveIt, IsThere, before-movement, wallets-hold}
 use Rattle.dex_replay.proofs.Runs.{AllStandIn, IsHistory, IsMoved, IsRun, StandIn, StandsIn, Told, naming, on, origin_of, row-sees, row-sight, said, said_of, still-there}
@@ -102,7 +102,7 @@ pub history-sound : (script : PlainScript) (done : List Told) (first : PlainMark
     → IsSound state.market
 history-sound script done first state sound is = subst IsSound (sym is.end_is) (calls-sound is.calls (market_in first) sound.sound is.legal)
 
-history-address : (script : PlainScript) (done : List Told) (first : PlainMarketAccounts) (state : MarketState) → IsHistory script done first state
+pub history-address : (script : PlainScript) (done : List Told) (first : PlainMarketAccounts) (state : MarketState) → IsHistory script done first state
     → state.market.listing.address ≡ first.address
 history-address script done first state is =
     ap (λ (m : Market). m.listing.address) is.end_is
@@ -406,17 +406,13 @@ module _ (row : PlainRow) (seen : Seen) (m : Market) (wallets : List WalletState
 -- ---- the world
 
 module _ (script : PlainScript) (start : IsStart script.start) (done : List Told) (world : World) (run : IsRun script done world) where
-  -- no wallet stands twice
-  addresses-kept : (firsts : List PlainAccount) (states : List WalletState) → AllZip (IsMoved done) firsts states → map address_in states ≡ map address_of firsts
-  addresses-kept [] [] are = refl
-  addresses-kept [] (state ∷ states) are = absurd are
-  addresses-kept (first ∷ firsts) [] are = absurd are
-  addresses-kept (first ∷ firsts) (state ∷ states) are =
-      ap (λ (a : Address). a ∷ map address_in states) are.0.address ∙ ap (λ (rest : List Address). first.address ∷ rest) (addresses-kept firsts states are.1)
+  -- wallets have their addresses, and none stands twice
+  pub addresses-kept : map address_in world.wallets ≡ map address_of script.start.wallets
+  addresses-kept = zip-map (IsMoved done) address_of address_in (λ first state is. is.address) script.start.wallets world.wallets run.wallets
 
   states-once : AreOnce world.wallets
   states-once address =
-      subst (λ (all : List Address). times address all ≤ 1) (sym (addresses-kept script.start.wallets world.wallets run.wallets))
+      subst (λ (all : List Address). times address all ≤ 1) (sym addresses-kept)
       (wallet-once script.start address (start.accepted.once address))
 
   -- each market is sound
