@@ -14,7 +14,11 @@ use Rattle.dex_accounts.proofs.Decoded.{AreSound-of}
 use Rattle.dex_accounts.proofs.Decoded as decoded
 use Rattle.dex_audit.specs.Audited.{IsConserved}
 use Rattle.dex_audit.specs.Supplies.{amount_of, held_of, in_vaults, in_wallets}
-use Rattle.dex_fold.specs.Items.{Item}
+use Rattle.dex_bank.specs.Cells.{AreCells, CellsState, opened_of, world_of}
+use Rattle.dex_bank.specs.Closed.{closed}
+use Rattle.dex_bank.specs.Opened.{opened}
+use Rattle.dex_fold.specs.Fold.{fold}
+use Rattle.dex_fold.specs.Items.{Item, items_of}
 use Rattle.dex_fold.specs.World.{MarketState, WalletState, World}
 use Rattle.dex_market.specs.MarketAccount.{market_words}
 use Rattle.dex_report.specs.Outcomes.{PlainOutcome}
@@ -23,13 +27,17 @@ use Rattle.dex_script.specs.Facts.{IsScript}
 use Rattle.dex_token.specs.TokenAccount.{WalletWords, wallet_words, with_amount}
 use Rattle.dex_token.proofs.AmountWrites.{wallet_words-with_amount}
 use Rattle.dex_wallet.specs.CellState.{balance_of}
-use Rattle.dex_replay.specs.Replays.{IsLeftBy, market_state, start_world, wallet_state, with_amounts, world_after}
+use Rattle.dex_replay.specs.Replays.{IsLeftBy, IsReplayOf, market_state, start_world, wallet_state, with_amounts, world_after}
 use Rattle.dex_replay.specs.Runs.{IsOneOrder, IsRunOf, KeepsLanes}
+use Rattle.dex_replay.proofs.Ends.{is-left}
 use Rattle.dex_replay.proofs.Holdings.{held_in, in_market, in_wallet}
 use Rattle.dex_replay.proofs.Lawfulness.{is-lawful, order-run, told}
 use Rattle.dex_replay.proofs.MappedLists.{head-same, tail-same}
+use Rattle.dex_replay.proofs.Orders.{own-order}
 use Rattle.dex_replay.proofs.RunSteps.{history-sound}
 use Rattle.dex_replay.proofs.Runs.{IsHistory, IsMoved, IsRun, Told}
+use Rattle.dex_replay.proofs.Singles.{script-acts}
+use Rattle.dex_replay.proofs.Starts.{are-of-script}
 
 -- ---- what accounts hold is what their world holds
 
@@ -125,3 +133,16 @@ module _ (script : PlainScript) (is : IsScript script) (order : List Item) (lane
 
 pub order-is-run : (script : PlainScript) (outcome : PlainOutcome) → IsScript script → IsOneOrder script outcome → IsRunOf script outcome
 order-is-run script outcome is one = left-run script is one.order one.lanes outcome one.replay
+
+-- a replay is in the order of the script's items
+pub replay-in-order : (script : PlainScript) (outcome : PlainOutcome) → IsScript script → IsReplayOf script outcome → IsOneOrder script outcome
+replay-in-order script outcome is replay = record { order = items_of script.rows; lanes = own-order script is.rows; replay = replay }
+
+pub replay-is-run : (script : PlainScript) (outcome : PlainOutcome) → IsScript script → IsReplayOf script outcome → IsRunOf script outcome
+replay-is-run script outcome is replay = order-is-run script outcome is (replay-in-order script outcome is replay)
+
+-- cells on which all rows of their script acted, of which no two have one number, leave its replay
+pub rows-replay : (script : PlainScript) (cells : CellsState) → IsScript script → opened_of cells ≡ opened script → AreCells cells
+    → world_of cells ≡ fold script.rows (start_world script) → IsReplayOf script (closed cells)
+rows-replay script cells is same kept ended =
+    is-left script cells (are-of-script script cells same) kept (items_of script.rows) is.start.accepted (ended ∙ sym (script-acts script is.rows.single))

@@ -2,8 +2,8 @@
 
 ghost use Rattle.std.specs.Prelude.{IfOk};
 ghost use Rattle.dex_report.specs.Outcomes.{outcome_of};
-ghost use Rattle.dex_replay.specs.Lawful.{IsLawful};
 ghost use Rattle.dex_replay.specs.Replays.{IsReplayOf};
+ghost use Rattle.dex_replay.specs.Runs.{IsRunOf};
 
 use dex_bank::Cells;
 use dex_report::Outcome;
@@ -15,7 +15,7 @@ use std::alloc::Global;
 /// each wallet. The script's accounts themselves go into the outcome: none is copied.
 pub fn replay(alloc: Global, script: Script) -> Result<Outcome, NoMemory>
     ensures outcome { IfOk result (λ outcome. IsReplayOf script (outcome_of outcome)) }
-    ensures lawful { IfOk result (λ outcome. IsLawful script (outcome_of outcome)) }
+    ensures run { IfOk result (λ outcome. IsRunOf script (outcome_of outcome)) }
 {
     let (mut cells, rows) = Cells::of_script(alloc, script)?;
     for row in &rows {
