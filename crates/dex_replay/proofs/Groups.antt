@@ -1,8 +1,8 @@
 -- Groups of neighbours of one number, and what holds of their elements.
-use Rattle.std.proofs.Common.{◌≡◌, ℕ, ◌<◌, ◌≤◌, suc, zero, Bool, true, false, cond, eqb, List, [], ◌∷◌, ◌++◌, length, get_or, map, refl, sym, ap, ◌∙◌, subst, arith, ⊎_elim}
-use Rattle.std.specs.List.{All, AllPairs, filter, flat_map}
-use Rattle.std.proofs.lemmas.Bool.{cases_Bool, cond-false, cond-true, cond_both, eq-eqb, eqb-true, eqb-false, false≢true, ne_eqb}
-use Rattle.std.proofs.lemmas.List.Elements.{All-append, All-cons, All-filter, All-head, All-map, All-nil, All-tail, All-weaker, filter-append}
+use Rattle.std.proofs.Common.{◌≡◌, ℕ, ◌<◌, ◌≤◌, suc, zero, Bool, true, false, cond, eqb, List, [], ◌∷◌, get_or, map, refl, sym, ap, ◌∙◌, subst, arith}
+use Rattle.std.specs.List.{All, AllPairs, filter}
+use Rattle.std.proofs.lemmas.Bool.{cond-false, cond-true, cond_both, eq-eqb, eqb-true, eqb-false, false≢true, ne_eqb}
+use Rattle.std.proofs.lemmas.List.Elements.{All-cons, All-filter, All-head, All-nil, All-tail, All-weaker}
 use Rattle.dex_fold.specs.Groups.{Group, alone, grouped, joined, members}
 use Rattle.dex_fold.proofs.GroupLaws.{EachTwo, FirstStamp, Goes, Rise, grouped-firsts, grouped-rise}
 

@@ -1,6 +1,6 @@
 -- What all wallets and vaults of a world hold of a mint, and that a step on a market keeps it.
-use Rattle.std.proofs.Common.{ℕ, ◌+◌, ◌≡◌, Bool, true, false, cond, List, [], ◌∷◌, Option, Some, sym, ap, subst, ◌∙◌, refl, arith, ⊎_elim}
-use Rattle.std.proofs.lemmas.Bool.{both_ways, cases_Bool, cond-false, cond-true, cond_both}
+use Rattle.std.proofs.Common.{ℕ, ◌+◌, ◌≡◌, Bool, true, false, cond, List, [], ◌∷◌, Some, sym, ap, subst, ◌∙◌, refl, arith}
+use Rattle.std.proofs.lemmas.Bool.{both_ways, cond-false, cond-true, cond_both}
 use Rattle.dex_types.specs.declared.addresses.Address.{Address}
 use Rattle.dex_types.specs.declared.movements.Movement.{Movement}
 use Rattle.dex_types.specs.declared.rows.Seen.{Seen}
@@ -16,7 +16,7 @@ use Rattle.dex_types.specs.Wallets.{movements}
 use Rattle.dex_laws.proofs.TraderLaws.{is_same-true}
 use Rattle.dex_sound.proofs.KeepLaws.{step-keeps}
 use Rattle.dex_history.specs.Balances.{mint_of}
-use Rattle.dex_history.specs.Journal.{Asked, Sees, asked_of, asked_step, request_of, row_step}
+use Rattle.dex_history.specs.Journal.{Asked, Sees, asked_of, asked_step, row_step}
 use Rattle.dex_history.specs.Mints.{MeetVaults, all_credited, all_debited}
 use Rattle.dex_history.proofs.StepConserves.{row-conserves}
 use Rattle.dex_history.proofs.StepMints.{row-meets}

@@ -1,7 +1,7 @@
 -- Items that act one after the other leave a run of their rows, of which those of one item all acted, or none did.
 use Rattle.std.proofs.Common.{◌≡◌, ℕ, ◌&&◌, ◌||◌, not, Bool, true, false, cond, List, [], ◌∷◌, ◌++◌, get_or, map, Option, Some, None, Result, Ok, Err, is_some, refl, sym, ap, ◌∙◌, subst}
 use Rattle.std.specs.List.{All, Contains, flat_map, list_any}
-use Rattle.std.proofs.lemmas.Bool.{false≢true, or_parts}
+use Rattle.std.proofs.lemmas.Bool.{false≢true}
 use Rattle.std.proofs.lemmas.List.{append-nil, append_assoc, map-append, map-id}
 use Rattle.std.proofs.lemmas.List.Elements.{All-cons, All-contains_itself, All-head, All-nil, All-tail, All-weaker, Contains-append_left, Contains-append_right}
 use Rattle.dex_types.specs.declared.instructions.BadData.{BadData}
@@ -20,7 +20,7 @@ use Rattle.dex_history.proofs.RefusalLaws.{step-refused}
 use Rattle.dex_fold.specs.Fold.{act, fold}
 use Rattle.dex_fold.specs.Groups.{members}
 use Rattle.dex_fold.specs.Items.{EachApart, Item, ShareNothing, act_item, chosen, fold_items, held_in, idle_row, nothing_to_do, why_in, why_on}
-use Rattle.dex_fold.specs.World.{World, market_at, seen_by}
+use Rattle.dex_fold.specs.World.{World, seen_by}
 use Rattle.dex_fold.proofs.FarLaws.{why-far}
 use Rattle.dex_fold.proofs.GroupLaws.{EachTwo}
 use Rattle.dex_fold.proofs.ItemLaws.{idle-step}
@@ -28,7 +28,8 @@ use Rattle.dex_script.specs.Drafts.{PlainScript}
 use Rattle.dex_script.specs.Facts.{AreLegs, IsLeg, IsRowOf, IsStart}
 use Rattle.dex_replay.proofs.MappedLists.{list_any-agree, list_any-map, map-agree}
 use Rattle.dex_replay.proofs.Orders.{IsItemIn, legs-apart}
-use Rattle.dex_replay.proofs.RunSteps.{Does, act-run, does-nothing, does-own, doing, found-market}
+use Rattle.dex_replay.proofs.Doing.{Does, does-nothing, does-own, doing}
+use Rattle.dex_replay.proofs.RunSteps.{act-run, found-market}
 use Rattle.dex_replay.proofs.Runs.{IsRun, Told}
 
 abbrev pub row_told : Told → PlainRow

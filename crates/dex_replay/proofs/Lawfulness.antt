@@ -1,7 +1,7 @@
 -- What a run of all rows of a script leaves is lawful.
-use Rattle.std.proofs.Common.{◌≡◌, ℕ, ◌==◌, Bool, true, List, [], ◌∷◌, get_or, map, refl, sym, ap, ◌∙◌, subst}
-use Rattle.std.specs.List.{All, AllZip, Any, Contains, filter, flat_map}
-use Rattle.std.proofs.lemmas.List.Elements.{All-cons, All-filter, All-head, All-nil, All-tail, All-weaker}
+use Rattle.std.proofs.Common.{◌≡◌, ℕ, ◌==◌, Bool, true, List, [], ◌∷◌, get_or, map, sym, ap, ◌∙◌, subst}
+use Rattle.std.specs.List.{All, AllZip, Contains, filter, flat_map}
+use Rattle.std.proofs.lemmas.List.Elements.{All-filter, All-weaker}
 use Rattle.dex_types.specs.declared.addresses.Address.{Address}
 use Rattle.dex_types.specs.declared.movements.Entry.{Entry}
 use Rattle.dex_types.specs.declared.movements.Movement.{Movement}
@@ -10,13 +10,11 @@ use Rattle.dex_types.specs.declared.replies.Reply.{Reply}
 use Rattle.dex_types.specs.Accounts.{PlainAccount, PlainMarketAccounts}
 use Rattle.dex_types.specs.Addresses.{is_same}
 use Rattle.dex_types.specs.Rows.{PlainRow}
-use Rattle.dex_types.specs.WalletJournal.{IsWalletLegal, balance_after}
 use Rattle.dex_accounts.specs.StandsFor.{StandsFor}
-use Rattle.dex_history.specs.Journal.{Asked, Call, asked_of, front, wallet_entry_of}
-use Rattle.dex_dump.specs.Accepted.{address_of}
+use Rattle.dex_history.specs.Journal.{Call, asked_of, front, wallet_entry_of}
 use Rattle.dex_fold.specs.Fold.{names}
 use Rattle.dex_fold.specs.Groups.{members}
-use Rattle.dex_fold.specs.Items.{Item, items_of_lane, rows_of_lane}
+use Rattle.dex_fold.specs.Items.{Item, rows_of_lane}
 use Rattle.dex_fold.proofs.GroupLaws.{EachTwo}
 use Rattle.dex_fold.specs.World.{MarketState, WalletState, World}
 use Rattle.dex_report.specs.Outcomes.{PlainMarketJournal, PlainOutcome, PlainWalletJournal}
@@ -24,7 +22,6 @@ use Rattle.dex_script.specs.Drafts.{PlainScript}
 use Rattle.dex_script.specs.Facts.{IsRowOf, IsScript}
 use Rattle.dex_script.specs.Known.{has_market}
 use Rattle.dex_token.specs.TokenAccount.{with_amount}
-use Rattle.dex_wallet.specs.CellState.{balance_of}
 use Rattle.dex_replay.specs.Lawful.{AllThree, AreTold, IsAllOrNone, IsLawful, IsLawfulMarket, IsLawfulWallet, IsTold, Origin, is_answered, origin_of_entry, origin_of_row}
 use Rattle.dex_replay.specs.Replays.{IsLeftBy, start_world, with_amounts, world_after}
 use Rattle.dex_replay.specs.Runs.{KeepsLanes}
@@ -33,7 +30,7 @@ use Rattle.dex_replay.proofs.Items.{HaveAllRun, IsSettled, items-run, row_told}
 use Rattle.dex_replay.proofs.MappedLists.{All-across, All-unmap, Any-across, both-same, filter-across, filter-of, filter-swap, head-same, map-map, tail-same, zip-map}
 use Rattle.dex_replay.proofs.Orders.{OnApart, order-apart, order-each, order-items, order-lanes}
 use Rattle.dex_replay.proofs.RunSteps.{addresses-kept, history-address, start-run}
-use Rattle.dex_replay.proofs.Runs.{AllStandIn, IsHistory, IsMoved, IsRun, StandIn, StandsIn, Told, naming, on, origin_of, said, said_of}
+use Rattle.dex_replay.proofs.Runs.{AllStandIn, IsHistory, IsMoved, IsRun, StandsIn, Told, naming, on, origin_of, said, said_of}
 
 -- ---- rows lane by lane
 

@@ -1,7 +1,8 @@
 mod AllOrNone
 mod Counting
+mod Doing
 pub mod Ends
-mod Groups
+pub mod Groups
 mod Holdings
 mod Items
 pub mod LastAccounts
@@ -9,7 +10,8 @@ mod Lawfulness
 pub mod MappedLists
 mod Moving
 mod Numbers
-mod Orders
+pub mod Once
+pub mod Orders
 pub mod Room
 mod RunOf
 mod RunSteps

@@ -2,7 +2,7 @@
 use Rattle.std.proofs.Common.{nat_lt, ℕ, ◌+◌, ◌*◌, ◌≤◌, ◌≡◌, Bool, true, false, ◌||◌, cond, List, [], ◌∷◌, get_or, map, Option, Some, None, refl, sym, ap, ◌∙◌, subst, arith, ⊎_elim}
 use Rattle.std.specs.List.{All, list_any}
 use Rattle.std.proofs.lemmas.Bool.{cases_Bool, cond-false, cond-true, cond_both}
-use Rattle.std.proofs.lemmas.List.Elements.{All-head, All-tail, All-weaker}
+use Rattle.std.proofs.lemmas.List.Elements.{All-head, All-tail}
 use Rattle.std.proofs.lemmas.List.Sums.{sum_by-cons}
 use Rattle.dex_types.specs.declared.addresses.Address.{Address}
 use Rattle.dex_types.specs.declared.movements.MoveKind.{MoveKind}
@@ -14,9 +14,9 @@ use Rattle.dex_types.specs.Rows.{PlainRow}
 use Rattle.dex_types.specs.Totals.{total, weighed_where}
 use Rattle.dex_types.specs.Transfers.{Transfers}
 use Rattle.dex_types.specs.WalletJournal.{CanMove, moved_balance}
-use Rattle.dex_types.specs.Wallets.{balance_seen, brought_to, movement_of, movements, row_wallets, seen_wallets, taken_from, with_address, with_role}
+use Rattle.dex_types.specs.Wallets.{balance_seen, brought_to, movement_of, movements, row_wallets, seen_wallets, taken_from, with_role}
 use Rattle.dex_laws.proofs.TotalLaws.{total-agree, total-map, total-plus}
-use Rattle.dex_laws.proofs.TraderLaws.{is_same-refl, is_same-sym, is_same-true}
+use Rattle.dex_laws.proofs.TraderLaws.{is_same-sym, is_same-true}
 use Rattle.dex_history.specs.Journal.{Sees, asked_of}
 use Rattle.dex_history.specs.Mints.{all_credited, all_debited, credited, credited_as, debited, debited_as, is_of_mint}
 use Rattle.dex_history.proofs.AddressOrder as order
@@ -24,7 +24,7 @@ use Rattle.dex_history.proofs.AddressOrder.{AreRising, with_address-rising, with
 use Rattle.dex_history.proofs.WalletLaws.{wallet-movement_by}
 use Rattle.dex_movements.proofs.PlaceLaws.{seen-wallets}
 use Rattle.dex_dump.specs.Accepted.{times}
-use Rattle.dex_fold.specs.Fold.{names, wallet_acted, wallet_moved}
+use Rattle.dex_fold.specs.Fold.{names, wallet_acted}
 use Rattle.dex_fold.specs.World.{WalletState, World, seen_by}
 use Rattle.dex_replay.proofs.Holdings.{in_wallet}
 use Rattle.dex_replay.proofs.Sights.{AreOnce, SeesWallet, address_in, sees-wallets}

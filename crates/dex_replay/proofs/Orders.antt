@@ -1,13 +1,11 @@
 -- Orders of a script's items that keep each lane: whose rows they are, and that no market has two of one number.
-use Rattle.std.proofs.Common.{◌≡◌, ℕ, ◌<◌, ◌≤◌, true, false, eqb, List, [], ◌∷◌, ◌++◌, get_or, refl, sym, ap, ◌∙◌, subst, arith, ⊎_elim}
-use Rattle.std.specs.List.{All, filter, flat_map}
-use Rattle.std.proofs.lemmas.Bool.{both_ways, cases_Bool, cond-false, cond-true, eq-eqb, eqb-true}
-use Rattle.std.proofs.lemmas.List.Elements.{All-append, All-cons, All-filter, All-head, All-nil, All-tail, All-weaker, filter-append, filter_passes}
-use Rattle.dex_types.specs.declared.addresses.Address.{Address}
+use Rattle.std.proofs.Common.{◌≡◌, ℕ, ◌≤◌, true, false, eqb, List, [], ◌∷◌, ◌++◌, get_or, refl, sym, ap, ◌∙◌, subst, ⊎_elim}
+use Rattle.std.specs.List.{All, flat_map}
+use Rattle.std.proofs.lemmas.Bool.{cases_Bool, cond-false, cond-true, eq-eqb, eqb-true}
+use Rattle.std.proofs.lemmas.List.Elements.{All-filter, All-head, All-tail, All-weaker, filter-append, filter_passes}
 use Rattle.dex_types.specs.Addresses.{is_same}
 use Rattle.dex_types.specs.Rows.{PlainRow}
-use Rattle.dex_laws.proofs.TraderLaws.{is_same-true, is_same-sym}
-use Rattle.dex_fold.specs.Groups.{Group, grouped, members}
+use Rattle.dex_fold.specs.Groups.{members}
 use Rattle.dex_fold.specs.Items.{EachApart, Item, ShareNothing, items_of, items_of_lane, rows_of_lane}
 use Rattle.dex_fold.proofs.GroupLaws.{EachTwo, grouped-flat}
 use Rattle.dex_script.specs.Drafts.{PlainScript}
@@ -80,6 +78,11 @@ items-in script rows lane =
 pub legs-apart : (rows : List PlainRow) → EachTwo AreLegs rows → EachApart rows
 legs-apart [] legs = tt
 legs-apart (row ∷ rows) legs = (All-weaker (AreLegs row) (ShareNothing row) (λ other are. are.apart) rows legs.0, legs-apart rows legs.1)
+
+-- so do the rows of each item
+pub items-apart : (script : PlainScript) → AreRows script → (lane : ℕ) → All (λ (item : Item). EachApart (members item)) (items_of (rows_of_lane lane script.rows))
+items-apart script rows lane =
+    All-weaker (IsItemIn script lane) (λ (item : Item). EachApart (members item)) (λ item is. legs-apart (members item) is.legs) (items_of (rows_of_lane lane script.rows)) (items-in script rows lane)
 
 -- ---- an order
 

@@ -3,9 +3,8 @@ use Rattle.std.proofs.Common.{◌≡◌, ℕ, ◌+◌, cond, List, [], ◌∷◌
 use Rattle.std.specs.List.{All, AllZip}
 use Rattle.std.proofs.lemmas.List.Elements.{All-cons, All-head, All-nil, All-tail, All-weaker}
 use Rattle.dex_types.specs.declared.addresses.Address.{Address}
-use Rattle.dex_types.specs.Accounts.{PlainAccount, PlainAccounts, PlainMarketAccounts}
+use Rattle.dex_types.specs.Accounts.{PlainAccount, PlainMarketAccounts}
 use Rattle.dex_types.specs.Addresses.{is_same}
-use Rattle.dex_types.specs.Market.{Market}
 use Rattle.dex_types.specs.Totals.{total}
 use Rattle.dex_accounts.specs.Accepted.{IsAccepted}
 use Rattle.dex_accounts.specs.Decoded.{AreSound, market_in}
@@ -30,7 +29,7 @@ use Rattle.dex_wallet.specs.CellState.{balance_of}
 use Rattle.dex_replay.specs.Replays.{IsLeftBy, IsReplayOf, market_state, start_world, wallet_state, with_amounts, world_after}
 use Rattle.dex_replay.specs.Runs.{IsOneOrder, IsRunOf, KeepsLanes}
 use Rattle.dex_replay.proofs.Ends.{is-left}
-use Rattle.dex_replay.proofs.Holdings.{held_in, in_market, in_wallet}
+use Rattle.dex_replay.proofs.Holdings.{in_market, in_wallet}
 use Rattle.dex_replay.proofs.Lawfulness.{is-lawful, order-run, told}
 use Rattle.dex_replay.proofs.MappedLists.{head-same, tail-same}
 use Rattle.dex_replay.proofs.Orders.{own-order}

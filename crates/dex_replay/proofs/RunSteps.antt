@@ -1,18 +1,18 @@
 -- One row more leaves a run of rows with that row.
-use Rattle.std.proofs.Common.{◌≡◌, ℕ, ◌≤◌, ◌<◌, ◌&&◌, ⊎_elim, length, Bool, true, false, ◌||◌, cond, List, [], ◌∷◌, ◌++◌, map, get_or, Option, Some, None, refl, sym, ap, ◌∙◌, subst, arith}
-use Rattle.std.specs.List.{All, AllZip, Contains, flat_map, list_any}
+use Rattle.std.proofs.Common.{◌≡◌, ℕ, ◌≤◌, ◌<◌, ⊎_elim, length, Bool, true, false, ◌||◌, cond, List, [], ◌∷◌, ◌++◌, map, get_or, Option, Some, refl, sym, ap, ◌∙◌, subst, arith}
+use Rattle.std.specs.List.{All, AllZip, Contains, list_any}
 use Rattle.std.proofs.lemmas.Bool.{cases_Bool, cond-true, cond-false, cond_both, false≢true}
-use Rattle.std.proofs.lemmas.List.{append-nil, append_assoc, map_push}
+use Rattle.std.proofs.lemmas.List.{map_push}
 use Rattle.std.proofs.lemmas.List.Elements.{All-nil, All-cons, All-head, All-tail, All-map, All-push, All-weaker, Contains-append_left, Contains-push}
 use Rattle.std.proofs.lemmas.List.Folds.{Any-from_list_any, list_any_at}
-use Rattle.std.proofs.lemmas.List.Sums.{sum_by-append, sum_by-cons}
+use Rattle.std.proofs.lemmas.List.Sums.{sum_by-cons}
 use Rattle.dex_types.specs.declared.addresses.Address.{Address}
 use Rattle.dex_types.specs.declared.movements.Entry.{Entry}
 use Rattle.dex_types.specs.declared.movements.Movement.{Movement}
 use Rattle.dex_types.specs.declared.movements.WalletEntry.{WalletEntry}
 use Rattle.dex_types.specs.declared.replies.Reply.{Reply}
 use Rattle.dex_types.specs.declared.rows.Seen.{Seen}
-use Rattle.dex_types.specs.Accounts.{PlainAccount, PlainAccounts, PlainMarketAccounts}
+use Rattle.dex_types.specs.Accounts.{PlainAccount, PlainMarketAccounts}
 use Rattle.dex_types.specs.Addresses.{is_same}
 use Rattle.dex_types.specs.Market.{Listing, Market}
 use Rattle.dex_types.specs.Rows.{PlainRow}
@@ -21,27 +21,19 @@ use Rattle.dex_types.specs.Transfers.{Transfers}
 use Rattle.dex_types.specs.Soundness.{IsSound}
 use Rattle.dex_types.specs.WalletJournal.{CanMove, moved_balance}
 use Rattle.dex_types.specs.Wallets.{balance_seen, brought_to, movement_of, row_wallets, seen_wallets, taken_from}
-use Rattle.dex_types.specs.Why.{why}
 use Rattle.dex_laws.proofs.TraderLaws.{is_same-true, is_same-refl}
 use Rattle.dex_accounts.specs.Decoded.{AreSound, market_in}
-use Rattle.dex_instruction.specs.Reading.{decoded}
-use Rattle.dex_history.specs.Journal as history
-use Rattle.dex_history.specs.Journal.{Asked, Call, Sees, Stands, asked_of, front, is_done, is_held, is_take, market_after, request_of, row_step, step_of, wallet_entry_of}
-use Rattle.dex_history.proofs.HeldLaws.{held-stands, held-step, own-stands, own-step}
+use Rattle.dex_history.specs.Journal.{Asked, Call, Sees, Stands, asked_of, front, market_after, request_of, row_step, wallet_entry_of}
 use Rattle.dex_history.proofs.HistoryLaws.{IsLegal-one, IsWalletLegal-one, balance_after-append, market_after-one}
-use Rattle.dex_history.proofs.PriceLaws.{calls-sound, decoded-priced}
+use Rattle.dex_history.proofs.PriceLaws.{calls-sound}
 use Rattle.dex_history.proofs.StepMoves.{row-moves}
 use Rattle.dex_history.proofs.WalletLaws.{places-movements, wallet-movement_by}
 use Rattle.dex_movements.specs.Entries.{entry_by, wallet_entry_by}
 use Rattle.dex_movements.proofs.PlaceLaws.{seen-wallets}
 use Rattle.dex_sound.proofs.KeepLaws.{step-keeps}
-use Rattle.dex_market.specs.MarketAccount.{market_words}
-use Rattle.dex_dump.specs.Accepted.{address_of, addresses_of, all_of_market, times}
-use Rattle.dex_dump.specs.Reading.{parts_of}
-use Rattle.dex_fold.specs.Fold.{act, acted, fold, market_acted, markets_acted, names, wallet_acted, wallet_moved}
-use Rattle.dex_fold.specs.Items.{nothing_to_do}
+use Rattle.dex_dump.specs.Accepted.{address_of, times}
+use Rattle.dex_fold.specs.Fold.{act, acted, market_acted, markets_acted, names, wallet_acted, wallet_moved}
 use Rattle.dex_fold.specs.World.{MarketState, WalletState, World, market_at, seen_by}
-use Rattle.dex_fold.proofs.ItemLaws.{idle-step}
 use Rattle.dex_wallet.specs.CellState.{balance_of}
 use Rattle.dex_script.specs.Drafts.{PlainScript}
 use Rattle.dex_script.specs.Facts.{IsRowOf, IsStart}
@@ -55,47 +47,8 @@ use Rattle.dex_replay.proofs.Moving.{CanMoveIt, IsThere, before-movement, wallet
 use Rattle.dex_replay.proofs.Runs.{AllStandIn, IsHistory, IsMoved, IsRun, StandIn, StandsIn, Told, naming, on, origin_of, row-sees, row-sight, said, said_of, still-there}
 use Rattle.dex_replay.proofs.Sights.{AreOnce, address_in, sees-wallets}
 use Rattle.dex_replay.proofs.Room.{roles-all}
-
--- ---- markets
-
--- one address is not more often among the markets than among all accounts
-times-markets : (address : Address) (markets : List PlainMarketAccounts)
-    → times address (map (λ (accounts : PlainMarketAccounts). accounts.address) markets) ≤ times address (flat_map all_of_market markets)
-times-markets address [] = omega arith
-times-markets address (first ∷ markets) =
-    let one : Address → ℕ = λ (a : Address). cond (is_same address a) 1 0 in
-    omega (
-      arith,
-      sum_by-cons one first.address (map (λ (accounts : PlainMarketAccounts). accounts.address) markets),
-      sum_by-append one (all_of_market first) (flat_map all_of_market markets),
-      first-of first,
-      times-markets address markets,
-    )
-  where
-    first-of : (accounts : PlainMarketAccounts) → cond (is_same address accounts.address) 1 0 ≤ times address (all_of_market accounts)
-    first-of accounts = omega (arith, sum_by-cons (λ (a : Address). cond (is_same address a) 1 0) accounts.address (parts_of (market_words accounts.market).terms ++ map address_of accounts.orders))
-
-pub market-once : (accounts : PlainAccounts) (address : Address) → times address (addresses_of accounts) ≤ 1
-    → times address (map (λ (market : PlainMarketAccounts). market.address) accounts.markets) ≤ 1
-market-once accounts address once =
-    let one : Address → ℕ = λ (a : Address). cond (is_same address a) 1 0 in
-    omega (
-      arith,
-      once,
-      times-markets address accounts.markets,
-      sum_by-append one (map address_of accounts.mints) (map address_of accounts.wallets ++ flat_map all_of_market accounts.markets),
-      sum_by-append one (map address_of accounts.wallets) (flat_map all_of_market accounts.markets),
-    )
-
-wallet-once : (accounts : PlainAccounts) (address : Address) → times address (addresses_of accounts) ≤ 1 → times address (map address_of accounts.wallets) ≤ 1
-wallet-once accounts address once =
-    let one : Address → ℕ = λ (a : Address). cond (is_same address a) 1 0 in
-    omega (
-      arith,
-      once,
-      sum_by-append one (map address_of accounts.mints) (map address_of accounts.wallets ++ flat_map all_of_market accounts.markets),
-      sum_by-append one (map address_of accounts.wallets) (flat_map all_of_market accounts.markets),
-    )
+use Rattle.dex_replay.proofs.Doing.{Does, doing, made, sees-doing}
+use Rattle.dex_replay.proofs.Once.{market-once, wallet-once}
 
 -- a market at the end of its calls is sound
 pub history-sound : (script : PlainScript) (done : List Told) (first : PlainMarketAccounts) (state : MarketState) → AreSound first → IsHistory script done first state
@@ -131,57 +84,6 @@ found address (state ∷ states) known = either (is_same address state.market.li
     either false apart later =
         let rest : (m : Market) × (market_at address states ≡ Some m) = later (sym (ap (λ (b : Bool). b || list_any (λ (one : MarketState). is_same address one.market.listing.address) states) apart) ∙ known) in
         (rest.0, cond-false (is_same address state.market.listing.address) (Some state.market) (market_at address states) apart ∙ rest.1)
-
--- ---- what a row does where it acts, and where it is held back
-
--- a row with other bytes: what it asks, or nothing
-abbrev pub doing : PlainRow → List ℕ → PlainRow
-doing row bytes = record row { bytes = bytes }
-
--- the call of a row that does this
-abbrev pub made : PlainRow → List ℕ → Seen → Market → Call
-made row bytes seen m =
-    let s = row_step (doing row bytes) seen m in
-    record { asked = asked_of row; seen = seen; entry = entry_by row seen s.reply s.transfers }
-
--- it stands there, and its step is that of what it does
-pub record Does (row : PlainRow) (bytes : List ℕ) (seen : Seen) (m : Market) : Type 0 where
-  pub stands : row.market ≡ m.listing.address → Sees (asked_of row) seen → Stands (made row bytes seen m) m
-  pub step : (n : Market) → step_of (made row bytes seen m) n ≡ row_step (doing row bytes) seen n
-
-pub does-own : (row : PlainRow) (seen : Seen) (m : Market) → Does row row.bytes seen m
-does-own row seen m =
-    let call : Call = made row row.bytes seen m in
-    record {
-      stands = λ own sees. own-stands call m own (decoded-priced row.bytes) sees refl;
-      step = λ n. own-step call m n refl;
-    }
-
-pub does-nothing : (row : PlainRow) (seen : Seen) (m : Market) → is_take (decoded row.bytes) ≡ true → why (request_of row) seen m ≡ None
-    → Does row nothing_to_do seen m
-does-nothing row seen m take spared =
-    let call : Call = made row nothing_to_do seen m in
-    let is : call.entry ≡ history.entry_by call (done m) = ap (history.entry_by call) (idle-step row seen m) in
-    let held : is_held call ≡ true = ap (λ (b : Bool). b && is_done call.entry.reply) take ∙ ap (λ (s : Step). is_done s.reply) (idle-step row seen m) in
-    record {
-      stands = λ own sees. held-stands call m own (decoded-priced row.bytes) sees take spared is;
-      step = λ n. held-step call n held ∙ sym (idle-step row seen n);
-    }
-
--- it sees the wallets that the row names
-sees-doing : (row : PlainRow) (bytes : List ℕ) (seen : Seen) → Sees (asked_of row) seen → Sees (asked_of (doing row bytes)) seen
-sees-doing row bytes seen sees = record {
-  coin = sees.coin;
-  pc = sees.pc;
-  discount = sees.discount;
-  referrer = sees.referrer;
-  coin_pc = sees.coin_pc;
-  coin_discount = sees.coin_discount;
-  coin_referrer = sees.coin_referrer;
-  pc_discount = sees.pc_discount;
-  pc_referrer = sees.pc_referrer;
-  discount_referrer = sees.discount_referrer;
-}
 
 -- ---- markets
 

@@ -1,6 +1,6 @@
 -- Scripts without swaps: each item is a row, so items act as rows one by one.
-use Rattle.std.proofs.Common.{◌≡◌, ℕ, ◌<◌, true, eqb, List, [], ◌∷◌, ◌++◌, get_or, map, refl, sym, ap, ◌∙◌, subst}
-use Rattle.std.specs.List.{All, AllZip, filter, flat_map}
+use Rattle.std.proofs.Common.{◌≡◌, ℕ, ◌<◌, true, eqb, List, [], ◌∷◌, ◌++◌, map, refl, sym, ap, ◌∙◌, subst}
+use Rattle.std.specs.List.{All, AllZip, flat_map}
 use Rattle.std.proofs.lemmas.List.Elements.{All-cons, All-head, All-map, All-nil, All-tail, All-weaker, filter_passes}
 use Rattle.std.proofs.lemmas.Bool.{eqb-true}
 use Rattle.dex_types.specs.Accounts.{PlainMarketAccounts}
@@ -8,7 +8,7 @@ use Rattle.dex_types.specs.Rows.{PlainRow}
 use Rattle.dex_accounts.specs.StandsFor.{StandsFor}
 use Rattle.dex_fold.specs.Fold.{act, fold}
 use Rattle.dex_fold.specs.Groups.{alone, members}
-use Rattle.dex_fold.specs.Items.{Item, act_item, fold_items, items_of, items_of_lane, rows_of_lane}
+use Rattle.dex_fold.specs.Items.{Item, fold_items, items_of, rows_of_lane}
 use Rattle.dex_fold.specs.World.{MarketState, WalletState, World}
 use Rattle.dex_fold.proofs.GroupLaws.{EachTwo, grouped-flat}
 use Rattle.dex_fold.proofs.ItemLaws.{alone-acts}
