@@ -1,5 +1,5 @@
 mod AllOrNone
-mod Counting
+pub mod Counting
 mod Doing
 pub mod Ends
 pub mod Groups

@@ -10,7 +10,7 @@ use Rattle.dex_replay.specs.Runs.{IsRunOf}
 use Rattle.dex_replay.proofs.Room.{AreOf, all-acted, can-act, row-of-script, rows-more, rows-split}
 use Rattle.dex_replay.proofs.RunOf.{replay-is-run, rows-replay}
 use Rattle.dex_replay.proofs.Starts.{are-of-script, its-address, opened-address, opened-opened, opened-world}
-use Rattle.dex_replay.proofs.replaying.replay.Goals as goal
+use Rattle.dex_replay.proofs.replaying.replay_with_rows.Goals as goal
 
 pub step-requires : goal.step-requires
 step-requires c =
