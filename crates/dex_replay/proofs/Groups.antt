@@ -15,12 +15,6 @@ each-two R (x ∷ xs) pairs = (
   each-two R xs (λ i j d less within. pairs (suc i) (suc j) d (omega (arith, less)) (omega (arith, within))),
 )
 
-pub each-two-pairs : {A : Type 0} (R : A → A → Type 0) (xs : List A) → EachTwo R xs → AllPairs R xs
-each-two-pairs R [] each i j d less within = absurd (omega (arith, within))
-each-two-pairs R (x ∷ xs) each i zero d less within = absurd (omega (arith, less))
-each-two-pairs R (x ∷ xs) each zero (suc j) d less within = each.0 j d (omega (arith, within))
-each-two-pairs R (x ∷ xs) each (suc i) (suc j) d less within = each-two-pairs R xs each.1 i j d (omega (arith, less)) (omega (arith, within))
-
 pub each-two-weaker : {A : Type 0} (R S : A → A → Type 0) → ((x y : A) → R x y → S x y) → (xs : List A) → EachTwo R xs → EachTwo S xs
 each-two-weaker R S weaker [] each = tt
 each-two-weaker R S weaker (x ∷ xs) each = (All-weaker (R x) (S x) (weaker x) xs each.0, each-two-weaker R S weaker xs each.1)
@@ -129,7 +123,8 @@ module _ {A : Type 0} (key : A → ℕ) where
   grouped-single [] each = refl
   grouped-single (x ∷ xs) each =
       joined-alone x (grouped key xs)
-      (grouped-firsts key (λ y. eqb (key x) (key y) ≡ false) xs (All-weaker (λ y. key x < key y) (λ y. eqb (key x) (key y) ≡ false) (λ y less. ne_eqb (key x) (key y) (λ same. absurd (omega (arith, less, same)))) xs each.0))
+      (grouped-firsts key (λ y. eqb (key x) (key y) ≡ false) xs
+      (All-weaker (λ y. key x < key y) (λ y. eqb (key x) (key y) ≡ false) (λ y less. ne_eqb (key x) (key y) (λ same. absurd (omega (arith, less, same)))) xs each.0))
       ∙ ap (λ (some : List (Group A)). alone x ∷ some) (grouped-single xs each.1)
 
   -- a test that those of one number pass together picks groups as it picks elements, where the numbers never fall
