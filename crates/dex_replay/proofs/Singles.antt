@@ -1,31 +1,35 @@
 -- Scripts without swaps: each item is a row, so items act as rows one by one.
-use Rattle.std.proofs.Common.{◌≡◌, ℕ, ◌<◌, true, eqb, List, [], ◌∷◌, ◌++◌, map, refl, sym, ap, ◌∙◌, subst}
+use Rattle.std.proofs.Common.{◌≡◌, ℕ, ◌<◌, ◌&&◌, ◌||◌, not, Bool, true, false, eqb, get_or, List, [], ◌∷◌, ◌++◌, map, refl, sym, ap, ◌∙◌, subst, arith}
 use Rattle.std.specs.List.{All, AllZip, flat_map}
 use Rattle.std.proofs.lemmas.List.Elements.{All-cons, All-head, All-map, All-nil, All-tail, All-weaker, filter_passes}
-use Rattle.std.proofs.lemmas.Bool.{eqb-true}
-use Rattle.dex_types.specs.Accounts.{PlainMarketAccounts}
+use Rattle.std.proofs.lemmas.Bool.{eq-eqb, eqb-true}
 use Rattle.dex_types.specs.Rows.{PlainRow}
-use Rattle.dex_accounts.specs.StandsFor.{StandsFor}
+use Rattle.dex_history.specs.Journal.{is_refusal}
 use Rattle.dex_fold.specs.Fold.{act, fold}
 use Rattle.dex_fold.specs.Groups.{alone, members}
 use Rattle.dex_fold.specs.Items.{Item, fold_items, items_of, rows_of_lane}
-use Rattle.dex_fold.specs.World.{MarketState, WalletState, World}
+use Rattle.dex_fold.specs.World.{World}
 use Rattle.dex_fold.proofs.GroupLaws.{EachTwo, grouped-flat}
 use Rattle.dex_fold.proofs.ItemLaws.{alone-acts}
 use Rattle.dex_report.specs.Outcomes.{PlainOutcome}
 use Rattle.dex_script.specs.Drafts.{PlainScript}
 use Rattle.dex_script.specs.Facts.{HasNoSwap}
-use Rattle.dex_replay.specs.Replays.{IsLeftBy, IsLeftByRows, IsReplayOf, start_world, with_amounts, world_after}
+use Rattle.dex_replay.specs.Lawful.{IsAllOrNone, IsLawful, is_answered, was_held}
+use Rattle.dex_replay.specs.Replays.{IsLeftByRows, IsLeftIn, IsReplayOf, start_world, world_after}
 use Rattle.dex_replay.specs.Runs.{IsOneOrder, IsOneOrderOfRows, KeepsLanes}
-use Rattle.dex_replay.proofs.Groups.{each-two, each-two-filter, grouped-single}
+use Rattle.dex_replay.proofs.Groups.{each-two, each-two-filter, grouped-single, unfilter}
+use Rattle.dex_replay.proofs.MappedLists.{All-unmap}
 use Rattle.dex_replay.proofs.Orders.{each-item, lane-rows}
 
 -- rows under rising numbers
 abbrev Rises : PlainRow → PlainRow → Type 0
 Rises one other = one.number < other.number
 
-pub single-items : (rows : List PlainRow) → EachTwo Rises rows → items_of rows ≡ map alone rows
+single-items : (rows : List PlainRow) → EachTwo Rises rows → items_of rows ≡ map alone rows
 single-items rows rises = grouped-single (λ (row : PlainRow). row.number) rows rises
+
+pub rows-single : (rows : List PlainRow) → HasNoSwap rows → items_of rows ≡ map alone rows
+rows-single rows single = single-items rows (each-two Rises rows single)
 
 pub singles-act : (rows : List PlainRow) (world : World) → fold_items (map alone rows) world ≡ fold rows world
 singles-act [] world = refl
@@ -34,7 +38,11 @@ singles-act (row ∷ rows) world = ap (fold_items (map alone rows)) (alone-acts 
 -- the items of a script without swaps act as its rows
 pub script-acts : (script : PlainScript) → HasNoSwap script.rows → world_after script (items_of script.rows) ≡ fold script.rows (start_world script)
 script-acts script single =
-    ap (λ (items : List Item). world_after script items) (single-items script.rows (each-two Rises script.rows single)) ∙ singles-act script.rows (start_world script)
+    ap (λ (items : List Item). world_after script items) (rows-single script.rows single) ∙ singles-act script.rows (start_world script)
+
+lane-single : (script : PlainScript) → HasNoSwap script.rows → (lane : ℕ) → items_of (rows_of_lane lane script.rows) ≡ map alone (rows_of_lane lane script.rows)
+lane-single script single lane =
+    single-items (rows_of_lane lane script.rows) (each-two-filter Rises (λ (row : PlainRow). eqb row.lane lane) script.rows (each-two Rises script.rows single))
 
 -- an item that is a row of its lane
 record IsSingle (lane : ℕ) (item : Item) : Type 0 where
@@ -51,7 +59,7 @@ order-singles script single order lanes =
     each-item order IsSingle
     (λ lane.
     let rows : List PlainRow = rows_of_lane lane script.rows in
-    subst (All (IsSingle lane)) (sym (lanes lane ∙ single-items rows (each-two-filter Rises (λ (row : PlainRow). eqb row.lane lane) script.rows (each-two Rises script.rows single))))
+    subst (All (IsSingle lane)) (sym (lanes lane ∙ lane-single script single lane))
     (lane-singles lane rows (filter_passes (λ (row : PlainRow). eqb row.lane lane) script.rows)))
 
 -- items that are rows are the rows of them
@@ -66,21 +74,8 @@ flat-singles (item ∷ order) are =
 
 -- ---- the outcomes
 
-pub left-by-rows : (script : PlainScript) (items : List Item) (rows : List PlainRow) (outcome : PlainOutcome) → world_after script items ≡ fold rows (start_world script)
-    → IsLeftBy script items outcome → IsLeftByRows script rows outcome
-left-by-rows script items rows outcome same left =
-    record {
-      start = left.start;
-      accepted = left.accepted;
-      markets = left.markets ∙ ap (λ (world : World). map (λ (state : MarketState). state.entries) world.markets) same;
-      wallets = left.wallets ∙ ap (λ (world : World). map (λ (state : WalletState). state.entries) world.wallets) same;
-      stand = subst (λ (world : World). AllZip (λ (accounts : PlainMarketAccounts) (state : MarketState). StandsFor accounts state.market) outcome.accounts.markets world.markets) same left.stand;
-      amounts = left.amounts ∙ ap (λ (world : World). with_amounts script.start.wallets world.wallets) same;
-      balances = left.balances ∙ ap (λ (world : World). map (λ (state : WalletState). state.seen.balance) world.wallets) same;
-    }
-
 pub replay-by-rows : (script : PlainScript) (outcome : PlainOutcome) → HasNoSwap script.rows → IsReplayOf script outcome → IsLeftByRows script script.rows outcome
-replay-by-rows script outcome single replay = left-by-rows script (items_of script.rows) script.rows outcome (script-acts script single) replay
+replay-by-rows script outcome single replay = subst (λ (world : World). IsLeftIn script world outcome) (script-acts script single) replay
 
 pub order-by-rows : (script : PlainScript) (outcome : PlainOutcome) → HasNoSwap script.rows → IsOneOrder script outcome → IsOneOrderOfRows script outcome
 order-by-rows script outcome single one =
@@ -94,6 +89,23 @@ order-by-rows script outcome single one =
           (All-cons (λ (row : PlainRow). row.lane ≡ item.first.lane) item.first [] refl (All-nil _))) one.order are) lane
           ∙ ap (flat_map members) (one.lanes lane)
           ∙ grouped-flat (λ (row : PlainRow). row.number) (rows_of_lane lane script.rows);
-      replay = left-by-rows script one.order rows outcome
+      replay = subst (λ (world : World). IsLeftIn script world outcome)
           (ap (λ (items : List Item). world_after script items) (sym (flat-singles one.order are)) ∙ singles-act rows (start_world script)) one.replay;
     }
+
+-- no row was held back
+pub never-held : (script : PlainScript) (outcome : PlainOutcome) → HasNoSwap script.rows → IsLawful script outcome
+    → All (λ (row : PlainRow). was_held outcome.markets row ≡ false) script.rows
+never-held script outcome single lawful k d within =
+    let Own : PlainRow → Type 0 = λ (row : PlainRow). was_held outcome.markets row ≡ false in
+    let lane : ℕ = (get_or script.rows k d).lane in
+    let rows : List PlainRow = rows_of_lane lane script.rows in
+    let alone_so : All (λ (row : PlainRow). IsAllOrNone outcome.markets (alone row)) rows =
+    All-unmap (IsAllOrNone outcome.markets) alone rows (subst (All (IsAllOrNone outcome.markets)) (lane-single script single lane) (lawful.items lane)) in
+    unfilter Own (λ (row : PlainRow). eqb row.lane lane) script.rows
+    (All-weaker (λ (row : PlainRow). IsAllOrNone outcome.markets (alone row)) Own
+    (λ row is. is 0 row (omega arith) ∙ none (is_answered is_refusal outcome.markets row)) rows alone_so) k d within (eq-eqb lane lane refl)
+  where
+    none : (b : Bool) → ((b || false) && not b) ≡ false
+    none true = refl
+    none false = refl
