@@ -27,14 +27,14 @@ use Rattle.dex_act.proofs.Sights.{named-hit}
 use Rattle.dex_fold.specs.Fold.{fold, names}
 use Rattle.dex_fold.specs.Groups.{Group, map_group, members}
 use Rattle.dex_fold.specs.Items as item
-use Rattle.dex_fold.specs.Items.{act_item, chosen, fold_items, held_in, idle_row, why_in, why_on}
+use Rattle.dex_fold.specs.Items.{EachApart, ShareNothing, act_item, chosen, fold_items, held_in, idle_row, why_in, why_on}
 use Rattle.dex_fold.specs.World.{MarketState, WalletState, World, market_at, role_at, seen_by, wallet_at}
 use Rattle.dex_script.specs.Drafts.{PlainScript}
 use Rattle.dex_script.specs.Known.{has_market}
 use Rattle.dex_stamps.specs.Stamped.{Stamped, items_of}
 use Rattle.dex_journals.specs.Made.{calls_on, entries_in, entries_on, entry_made}
 use Rattle.dex_replay.proofs.MappedLists.{All-unmap, list_any-map, map-agree, map-map}
-use Rattle.dex_histories.specs.Lanes.{AreApart, EachApart, IsAsOthers, MovesEach}
+use Rattle.dex_order.specs.Lanes.{IsAsOthers, MovesEach}
 use Rattle.dex_order.proofs.Fronts.{calls_at, calls_at-append, entries_at, entries_at-append, market_front, market_with, wallet_front, wallet_with, world_front}
 use Rattle.dex_order.proofs.Gathered.{filter-none}
 use Rattle.dex_order.proofs.Items.{Item, call_in, row_in}
@@ -73,7 +73,7 @@ module _ (row : PlainRow) (seen : Seen) (sees : Sees (asked_of row) seen) where
 module _ (script : PlainScript) (row : PlainRow) where
   -- calls of such rows
   abbrev IsFar : Item script → Type 0
-  IsFar one = AreApart one.row row
+  IsFar one = ShareNothing one.row row
 
   no-call : (address : Address) → is_same row.market address ≡ true → (one : Item script) → IsFar one → calls_on address (one.call ∷ []) ≡ []
   no-call address here one far =
@@ -229,9 +229,9 @@ module _ (script : PlainScript) (made : List (Stamped Call)) (once : AreOnce scr
       (told-right earlier rest one (subst (AreLegal script) split legal) (All-head Far one items far))
       (all-right (earlier ++ one ∷ []) items later
       (subst (λ (some : List (Item script)). AreLegal script (made ++ (map call_in some ++ later))) shift legal) apart.1
-      (both items (All-tail Far one items far) (All-unmap (AreApart one.row) row_in items apart.0)))
+      (both items (All-tail Far one items far) (All-unmap (ShareNothing one.row) row_in items apart.0)))
     where
-      both : (some : List (Item script)) → All (λ (x : Item script). All (IsFar script x.row) earlier) some → All (λ (x : Item script). AreApart one.row x.row) some
+      both : (some : List (Item script)) → All (λ (x : Item script). All (IsFar script x.row) earlier) some → All (λ (x : Item script). ShareNothing one.row x.row) some
           → All (λ (x : Item script). All (IsFar script x.row) (earlier ++ one ∷ [])) some
       both some first second k d within =
           All-append (IsFar script (get_or some k d).row) earlier (one ∷ []) (first k d within)

@@ -12,7 +12,7 @@ use Rattle.dex_stamps.specs.Stamped.{Stamped}
 use Rattle.dex_fold.specs.Items.{rows_of_lane}
 use Rattle.dex_replay.specs.Lawful.{IsSight}
 use Rattle.dex_replay.proofs.MappedLists.{All-unmap}
-use Rattle.dex_histories.specs.Lanes.{IsLaneDone, Lane, MovesEach}
+use Rattle.dex_order.specs.Lanes.{IsLaneDone, Lane, MovesEach}
 use Rattle.dex_order.proofs.Sorted.{Rises, rises-from_pairs}
 use Rattle.dex_order.proofs.Gathered.{filter-all, filter-none}
 

@@ -1,6 +1,6 @@
 -- The calls of all lanes, sorted by their stamps, are on each market its journal, and in each wallet's journal its entries.
 use Rattle.std.proofs.Common.{◌≡◌, ℕ, ◌<◌, Bool, true, false, cond, eqb, List, [], ◌∷◌, ◌++◌, length, map, get_or, refl, sym, ap, ◌∙◌, subst, arith}
-use Rattle.std.specs.List.{All, AllZip, filter, flat_map, range_with_len}
+use Rattle.std.specs.List.{All, filter, flat_map, range_with_len}
 use Rattle.std.proofs.lemmas.List.{length-map}
 use Rattle.std.proofs.lemmas.List.Concat.{flat_map-append, flat_map_single}
 use Rattle.std.proofs.lemmas.List.Elements.{All-cons, All-map, All-nil, All-weaker, filter-append}
@@ -20,14 +20,15 @@ use Rattle.dex_stamps.specs.Stamped.{Stamped, items_of, stamped}
 use Rattle.dex_journals.specs.Journals.{BankMarketState, BankWalletState, MarketOrigin, WalletOrigin, market_calls, wallet_entries}
 use Rattle.dex_journals.specs.Made.{calls_on, entries_in, entries_on, entry_made}
 use Rattle.dex_replay.proofs.MappedLists.{flat_map-agree}
-use Rattle.dex_histories.specs.Lanes.{Lane}
-use Rattle.dex_histories.specs.Merged.{AreMerged, Histories, IsMarketMerged, IsWalletMerged}
+use Rattle.dex_order.specs.Lanes.{Lane}
+use Rattle.dex_order.specs.Merged.{AreMerged, Histories, IsMarketMerged, IsWalletMerged}
 use Rattle.dex_order.proofs.Fronts.{calls_at, entries_at}
 use Rattle.dex_order.proofs.Gathered.{gathered}
 use Rattle.dex_order.proofs.Items.{Item, all_items, call_in, calls-all, stamp_in}
 use Rattle.dex_order.proofs.Sorted.{Rises, picked-sorted, rises-from_pairs, sorted}
 use Rattle.dex_order.proofs.Steps.{AreLegal, IsMarketLegalAt}
 use Rattle.dex_order.proofs.Seeing.{IsWalletLegalAt}
+use Rattle.dex_order.proofs.Zipped.{zip-first}
 
 -- ---- lists
 
@@ -64,13 +65,6 @@ filter-flat_map p f (x ∷ xs) = filter-append p (f x) (flat_map f xs) ∙ ap (�
 flat_map-flat_map : {A B C : Type 0} (g : B → List C) (f : A → List B) (xs : List A) → flat_map g (flat_map f xs) ≡ flat_map (λ x. flat_map g (f x)) xs
 flat_map-flat_map g f [] = refl
 flat_map-flat_map g f (x ∷ xs) = flat_map-append g (f x) (flat_map f xs) ∙ ap (λ ys. flat_map g (f x) ++ ys) (flat_map-flat_map g f xs)
-
--- what holds of each pair of places holds of the first list's elements
-zip-first : {A B : Type 0} (R : A → B → Type 0) (P : A → Type 0) → ((x : A) (y : B) → R x y → P x) → (xs : List A) (ys : List B) → AllZip R xs ys → All P xs
-zip-first R P each [] [] all = All-nil P
-zip-first R P each [] (y ∷ ys) all = absurd all
-zip-first R P each (x ∷ xs) [] all = absurd all
-zip-first R P each (x ∷ xs) (y ∷ ys) all = All-cons P x xs (each x y all.0) (zip-first R P each xs ys all.1)
 
 -- items that got a stamp each are as they were
 pub items-stamped : {A : Type 0} (items : List A) (stamps : List ℕ) → length stamps ≡ length items → items_of (stamped items stamps) ≡ items

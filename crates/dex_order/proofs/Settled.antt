@@ -33,7 +33,7 @@ use Rattle.dex_wallet.specs.CellState.{balance_of}
 use Rattle.dex_stamps.specs.Stamped.{Stamped, items_of}
 use Rattle.dex_journals.specs.Made.{calls_on, entries_in, entries_on}
 use Rattle.dex_replay.proofs.MappedLists.{filter-of, map-agree, map-map}
-use Rattle.dex_histories.specs.Lanes.{MovesEach}
+use Rattle.dex_order.specs.Lanes.{MovesEach}
 use Rattle.dex_order.proofs.Fronts.{calls_at, entries_at, market_front, market_with, wallet_front, wallet_with, world_front}
 use Rattle.dex_order.proofs.Items.{Item, call_in, row_in}
 use Rattle.dex_order.proofs.Seeing.{IsWalletLegalAt}

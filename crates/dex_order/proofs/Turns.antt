@@ -10,15 +10,16 @@ use Rattle.dex_types.specs.Rows.{PlainRow}
 use Rattle.dex_history.specs.Journal.{Asked, Call, asked_of}
 use Rattle.dex_fold.specs.Groups.{Group, grouped, map_group, members}
 use Rattle.dex_fold.specs.Items as item
-use Rattle.dex_fold.specs.Items.{items_of, rows_of_lane}
+use Rattle.dex_fold.specs.Items.{EachApart, items_of, rows_of_lane}
 use Rattle.dex_fold.proofs.GroupLaws.{EachTwo, Goes, IsOneStamp, Rise, grouped-agree, grouped-flat, grouped-map, grouped-rise, grouped-stamps}
 use Rattle.dex_script.specs.Drafts.{PlainScript}
-use Rattle.dex_script.specs.Facts.{IsRowOf}
+use Rattle.dex_script.specs.Facts.{AreRows}
 use Rattle.dex_stamps.specs.Stamped.{Stamped}
 use Rattle.dex_replay.proofs.MappedLists.{All-unmap, map-map}
-use Rattle.dex_histories.specs.Lanes.{AreAllOrNone, EachApart, IsAsOthers, IsBefore, IsLaneDone, Lane, number_in}
+use Rattle.dex_order.specs.Lanes.{AreAllOrNone, IsAsOthers, IsBefore, IsLaneDone, Lane, number_in}
 use Rattle.dex_order.proofs.Gathered.{filter-all, filter-none, none-before}
 use Rattle.dex_order.proofs.Items.{Item, all_items, call_in, first-same, lane-calls, lane-rows, lane_items, rest-same, row_in, rows_in, stamp_in}
+use Rattle.dex_order.proofs.Legs.{each-two, legs-apart, two-weaker}
 use Rattle.dex_order.proofs.Sorted.{Rises}
 
 -- ---- one of them
@@ -78,26 +79,13 @@ module _ (script : PlainScript) where
           (turned some (All-tail (IsTurn script) one some facts)) (All-head Less one some less)
           (lower some (All-tail (IsTurn script) one some facts) (All-tail Less one some less))
 
--- what holds of each two of a list
-each-two : {A : Type 0} (R : A → A → Type 0) (xs : List A) → AllPairs R xs → EachTwo R xs
-each-two R [] pairs = tt
-each-two R (x ∷ xs) pairs = (
-  λ k d within. pairs 0 (suc k) d (omega arith) (omega (arith, within)),
-  each-two R xs (λ i j d before within. pairs (suc i) (suc j) d (omega (arith, before)) (omega (arith, within))),
-)
-
 two-unmap : {A B : Type 0} (R : B → B → Type 0) (f : A → B) (xs : List A) → EachTwo R (map f xs) → EachTwo (λ x y. R (f x) (f y)) xs
 two-unmap R f [] each = tt
 two-unmap R f (x ∷ xs) each = (All-unmap (R (f x)) f xs each.0, two-unmap R f xs each.1)
 
-two-weaker : {A : Type 0} (R S : A → A → Type 0) → ((x y : A) → R x y → S x y) → (xs : List A) → EachTwo R xs → EachTwo S xs
-two-weaker R S weaker [] each = tt
-two-weaker R S weaker (x ∷ xs) each = (All-weaker (R x) (S x) (weaker x) xs each.0, two-weaker R S weaker xs each.1)
-
 -- ---- the items of a lane
 
-module _ (script : PlainScript) (fit : All (IsRowOf script.start) script.rows)
-    (legs : (lane : ℕ) → All (λ (one : item.Item). EachApart (members one)) (items_of (rows_of_lane lane script.rows))) where
+module _ (script : PlainScript) (facts : AreRows script) where
   abbrev number_of : Item script → ℕ
   number_of one = number_in one.call
 
@@ -109,7 +97,7 @@ module _ (script : PlainScript) (fit : All (IsRowOf script.start) script.rows)
 
   module _ (lane : Lane) (done : IsLaneDone script lane) where
     abbrev own : List (Item script)
-    own = lane_items script fit lane done
+    own = lane_items script facts.each lane done
 
     abbrev groups : List (Group (Item script))
     groups = grouped number_of own
@@ -118,7 +106,7 @@ module _ (script : PlainScript) (fit : All (IsRowOf script.start) script.rows)
     goes =
         two-weaker (λ (x y : Item script). IsBefore x.call y.call) (Goes number_of stamp_in) (λ x y is. record { together = is.together; later = is.later }) own
         (two-unmap IsBefore call_in own
-        (subst (EachTwo IsBefore) (sym (lane-calls script fit lane done)) (each-two IsBefore lane.calls done.calls.rising)))
+        (subst (EachTwo IsBefore) (sym (lane-calls script facts.each lane done)) (each-two IsBefore lane.calls done.calls.rising)))
 
     pub choices : All (λ (group : Group (Item script)). All (λ (one : Item script). IsAsOthers (map call_in (members group)) one.call) (members group)) groups
     choices =
@@ -126,19 +114,19 @@ module _ (script : PlainScript) (fit : All (IsRowOf script.start) script.rows)
         (λ (group : Group (Item script)). All (λ (one : Item script). IsAsOthers (map call_in (members group)) one.call) (members group))
         (λ group all. All-unmap (IsAsOthers (map call_in (members group))) call_in (members group) all) groups
         (All-unmap AreAllOrNone (map_group call_in) groups
-        (subst (All AreAllOrNone) (ap (grouped number_in) (sym (lane-calls script fit lane done)) ∙ grouped-map number_in call_in own) done.calls.items))
+        (subst (All AreAllOrNone) (ap (grouped number_in) (sym (lane-calls script facts.each lane done)) ∙ grouped-map number_in call_in own) done.calls.items))
 
     -- their rows are the items of the lane's rows
     rows-grouped : map (map_group row_in) groups ≡ items_of (rows_of_lane lane.number script.rows)
     rows-grouped =
         ap (map (map_group row_in)) (grouped-agree number_of (λ (one : Item script). one.row.number) same-number own)
         ∙ sym (grouped-map row_number row_in own)
-        ∙ ap (grouped row_number) (lane-rows script fit lane done)
+        ∙ ap (grouped row_number) (lane-rows script facts.each lane done)
 
     pub apart : All (λ (group : Group (Item script)). EachApart (map row_in (members group))) groups
     apart =
         All-unmap (λ (one : item.Item). EachApart (members one)) (map_group row_in) groups
-        (subst (All (λ (one : item.Item). EachApart (members one))) (sym rows-grouped) (legs lane.number))
+        (subst (All (λ (one : item.Item). EachApart (members one))) (sym rows-grouped) (legs-apart script facts lane.number))
 
     pub all-turns : (some : List (Group (Item script))) → All (IsOneStamp number_of stamp_in) some
         → All (λ (group : Group (Item script)). All (λ (one : Item script). IsAsOthers (map call_in (members group)) one.call) (members group)) some
@@ -148,7 +136,7 @@ module _ (script : PlainScript) (fit : All (IsRowOf script.start) script.rows)
     abbrev pub lane_turns : List (Turn script)
     lane_turns = turned script groups (all-turns groups (grouped-stamps number_of stamp_in own goes) choices apart)
 
-    pub lane-flat : flat_map items_in lane_turns ≡ lane_items script fit lane done
+    pub lane-flat : flat_map items_in lane_turns ≡ lane_items script facts.each lane done
     lane-flat =
         turned-items script groups (all-turns groups (grouped-stamps number_of stamp_in own goes) choices apart) ∙ grouped-flat number_of own
 
@@ -179,7 +167,7 @@ module _ (script : PlainScript) (fit : All (IsRowOf script.start) script.rows)
     lane-numbers =
         firsts-of lane_turns own lane-flat
         (All-unmap (λ (row : PlainRow). eqb row.lane lane.number ≡ true) row_in own
-        (subst (All (λ (row : PlainRow). eqb row.lane lane.number ≡ true)) (sym (lane-rows script fit lane done))
+        (subst (All (λ (row : PlainRow). eqb row.lane lane.number ≡ true)) (sym (lane-rows script facts.each lane done))
         (filter_passes (λ (row : PlainRow). eqb row.lane lane.number) script.rows)))
 
   -- ---- of all lanes
@@ -189,14 +177,14 @@ module _ (script : PlainScript) (fit : All (IsRowOf script.start) script.rows)
   all_turns (lane ∷ lanes) done =
       lane_turns lane (All-head (IsLaneDone script) lane lanes done) ++ all_turns lanes (All-tail (IsLaneDone script) lane lanes done)
 
-  pub all-flat : (lanes : List Lane) (done : All (IsLaneDone script) lanes) → flat_map items_in (all_turns lanes done) ≡ all_items script fit lanes done
+  pub all-flat : (lanes : List Lane) (done : All (IsLaneDone script) lanes) → flat_map items_in (all_turns lanes done) ≡ all_items script facts.each lanes done
   all-flat [] done = refl
   all-flat (lane ∷ lanes) done =
       let here : IsLaneDone script lane = All-head (IsLaneDone script) lane lanes done in
       let rest : All (IsLaneDone script) lanes = All-tail (IsLaneDone script) lane lanes done in
       flat_map-append items_in (lane_turns lane here) (all_turns lanes rest)
       ∙ ap (λ (some : List (Item script)). some ++ flat_map items_in (all_turns lanes rest)) (lane-flat lane here)
-      ∙ ap (λ (some : List (Item script)). lane_items script fit lane here ++ some) (all-flat lanes rest)
+      ∙ ap (λ (some : List (Item script)). lane_items script facts.each lane here ++ some) (all-flat lanes rest)
 
   abbrev pub IsOf : ℕ → Turn script → Bool
   IsOf number turn = eqb turn.group.first.row.lane number

@@ -25,7 +25,7 @@ use Rattle.dex_stamps.specs.Stamped.{Stamped}
 use Rattle.dex_journals.specs.Journals.{MarketOrigin}
 use Rattle.dex_journals.specs.Made.{calls_on, entries_in, entries_on}
 use Rattle.dex_fold.specs.Items.{rows_of_lane}
-use Rattle.dex_histories.specs.Lanes.{IsLane, MovesEach}
+use Rattle.dex_order.specs.Lanes.{IsLane, MovesEach}
 use Rattle.dex_run.specs.Bank.{BankState, IsBank, IsMarketGate, market_addresses}
 use Rattle.dex_run.specs.Seats.{IsMarketPass, IsSeat, IsSeatOf, IsWalletPass, SeatState}
 use Rattle.dex_run.specs.Submitted.{HasCalled, HasMoved, HasSubmitted, IsNext, MarketGrows, WalletGrows, Where}
@@ -33,7 +33,9 @@ use Rattle.dex_run.specs.Turns.{AreReady, HaveGrown, IsDue, IsTold, MayDraw, May
 use Rattle.dex_run.proofs.Counts.{entries-one}
 use Rattle.dex_run.proofs.Distinct.{markets-differ}
 use Rattle.dex_run.proofs.Entering.{MarketPass}
+use Rattle.dex_order.proofs.LaneGrowth.{lane-more}
 use Rattle.dex_run.proofs.Growing.{Differ, WalletPass, gates-grown, set-three}
+use Rattle.dex_run.proofs.RowMore.{row-more}
 use Rattle.dex_run.proofs.Taking.{all-midst, same-get, zip-at, zip-long}
 
 -- ---- before
@@ -284,32 +286,6 @@ module _ (row : PlainRow) (call : Stamped Call) (asked : call.item.asked ≡ ask
                 ∙ append-nil (entries_on start.address calls));
           })
 
-  -- the lane has one row more done
-  pub lane-more : (script : PlainScript) (lane last : ℕ) (calls : List (Stamped Call)) (later : List PlainRow) → IsLane script lane calls
-      → rows_of_lane lane script.rows ≡ take (length calls) (rows_of_lane lane script.rows) ++ row ∷ later → All (λ (c : Stamped Call). c.stamp ≤ last) calls
-      → IsTold script last call → IsLane script lane (calls ++ call ∷ [])
-  lane-more script lane last calls later is next below told =
-      let rows : List PlainRow = rows_of_lane lane script.rows in
-      let done : List PlainRow = take (length calls) rows in
-      let long : length done ≡ length calls =
-      sym (length-map done asked_of) ∙ sym (ap length is.asks) ∙ length-map calls (λ (c : Stamped Call). c.item.asked) in
-      let count : length (calls ++ call ∷ []) ≡ length done + 1 = omega (arith, length-append calls (call ∷ []), long) in
-      let all : take (length (calls ++ call ∷ [])) rows ≡ done ++ row ∷ [] =
-      ap (λ (n : ℕ). take n rows) count ∙ ap (take (length done + 1)) next ∙ take-append-add done (row ∷ later) 1 in
-      record {
-        asks =
-            map-append (λ (c : Stamped Call). c.item.asked) calls (call ∷ [])
-            ∙ ap (λ (l : List Asked). l ++ call.item.asked ∷ []) is.asks
-            ∙ ap (λ (a : Asked). map asked_of done ++ a ∷ []) asked
-            ∙ sym (map-append asked_of done (row ∷ []))
-            ∙ ap (map asked_of) (sym all);
-        sees = All-push (λ (c : Stamped Call). IsSight script c.item.seen) calls call is.sees told.sees;
-        moves = All-push (λ (c : Stamped Call). MovesEach c.item) calls call is.moves told.moves;
-        rising =
-            all_pairs_push (λ (one other : Stamped Call). one.stamp < other.stamp) calls call is.rising
-            (λ k d within_calls. omega (arith, below k d within_calls, told.later));
-      }
-
   pub below-more : (script : PlainScript) (last : ℕ) (calls : List (Stamped Call)) → All (λ (c : Stamped Call). c.stamp ≤ last) calls → IsTold script last call
       → All (λ (c : Stamped Call). c.stamp ≤ call.stamp) (calls ++ call ∷ [])
   below-more script last calls below told =
@@ -349,6 +325,7 @@ module _ (bank : BankState) (row : PlainRow) (before : SeatState) (next : IsNext
     call = call;
     asked = asked;
     answered = refl;
+    own = told.own;
     sees = subst (λ (s : PlainScript). IsSight s call.item.seen) (sym of.script) told.sees;
     moves = told.moves;
     lane = refl;
@@ -370,7 +347,10 @@ module _ (bank : BankState) (row : PlainRow) (before : SeatState) (next : IsNext
   seat-kept =
       let told_here : IsTold before.script before.last call = subst (λ (s : PlainScript). IsTold s before.last call) (sym of.script) told in
       record {
-        calls = lane-more row call asked before.script before.lane before.last before.calls next.later kept.calls next.is kept.below told_here;
+        calls =
+            lane-more before.script before.lane before.calls (row ∷ []) call [] kept.calls
+            (row-more row call asked before.script before.lane before.last before.calls next.later (script-kept bank row before next bank_kept of).rows.single kept.calls next.is
+            kept.below told_here);
         below = below-more row call asked before.script before.last before.calls kept.below told_here;
         markets =
             market-passes row call asked before.lane before.calls before.script.start.markets before.markets (set before.markets place left) kept.markets

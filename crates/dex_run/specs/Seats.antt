@@ -12,7 +12,7 @@ use Rattle.dex_stamps.specs.Stamped.{Stamped}
 use Rattle.dex_journals.specs.Journals.{MarketOrigin, WalletOrigin}
 use Rattle.dex_journals.specs.Made.{calls_on, entries_on}
 use Rattle.dex_fold.specs.Items.{rows_of_lane}
-use Rattle.dex_histories.specs.Lanes.{IsLane, Lane}
+use Rattle.dex_order.specs.Lanes.{IsLane, Lane}
 use Rattle.dex_run.specs.Bank.{BankState}
 
 -- a lane of a script, the calls that it made so far and the last stamp of them (0 where there is none), and its pass for each

@@ -10,14 +10,14 @@ use Rattle.dex_accounts.specs.Decoded.{market_in}
 use Rattle.dex_fold.specs.Fold.{names}
 use Rattle.dex_gate.specs.History.{Extends}
 use Rattle.dex_gate.specs.PassView.{PassView}
-use Rattle.dex_history.specs.Journal.{Call, IsLegal, asked_of}
+use Rattle.dex_history.specs.Journal.{Call, IsLegal, asked_of, is_held}
 use Rattle.dex_wallet.specs.CellState.{balance_of}
 use Rattle.dex_replay.specs.Lawful.{AllThree, IsSight}
 use Rattle.dex_stamps.specs.Stamped.{Stamped, items_of}
 use Rattle.dex_journals.specs.Journals.{MarketOrigin, WalletOrigin}
 use Rattle.dex_journals.specs.Made.{entries_in}
 use Rattle.dex_fold.specs.Items.{rows_of_lane}
-use Rattle.dex_histories.specs.Lanes.{MovesEach}
+use Rattle.dex_order.specs.Lanes.{MovesEach}
 use Rattle.dex_run.specs.Seats.{SeatState}
 
 -- a pass with a longer history, and with these entries made
@@ -65,12 +65,13 @@ pub record IsNext (row : PlainRow) (seat : SeatState) : Type 0 where
   pub is : rows_of_lane seat.lane seat.script.rows
       ≡ take (length seat.calls) (rows_of_lane seat.lane seat.script.rows) ++ row ∷ later
 
--- a row was submitted at a seat: its lane has one call more, which is this row's, has this reply, saw the script's wallets, and moves each
--- wallet that the row names once; and the passes of its market and of these wallets have grown by it, and no others
+-- a row was submitted at a seat: its lane has one call more, which is this row's, has this reply, was not held back, saw the script's wallets,
+-- and moves each wallet that the row names once; and the passes of its market and of these wallets have grown by it, and no others
 pub record HasSubmitted (row : PlainRow) (reply : Reply) (before after : SeatState) : Type 0 where
   pub call : Stamped Call
   pub asked : call.item.asked ≡ asked_of row
   pub answered : call.item.entry.reply ≡ reply
+  pub own : is_held call.item ≡ false
   pub sees : IsSight before.script call.item.seen
   pub moves : MovesEach call.item
   pub lane : after.lane ≡ before.lane
