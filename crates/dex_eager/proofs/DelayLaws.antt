@@ -25,9 +25,9 @@ use Rattle.dex_sound.specs.Kept.{addresses}
 use Rattle.dex_history.proofs.HistoryLaws.{IsLegal-front}
 use Rattle.dex_history.proofs.HeldLaws.{acted-priced}
 use Rattle.dex_history.proofs.PriceLaws.{asked-sound}
-use Rattle.dex_history.specs.Journal.{Call, IsLegal, acted_of, step_of, entry_on, market_after}
+use Rattle.dex_history.specs.Journal.{Call, IsLegal, acted_of, is_refusal, step_of, entry_on, market_after}
 use Rattle.dex_eager.specs.Eager.{Eager, EagerStep, eager_at, worth_at, unchanged, by_account, eager_order, eager_take, eager_act, eager_decoded, eager_step}
-use Rattle.dex_eager.specs.Histories.{IsPaidAs, Fill, Trade, is_refusal, is_crank, counts, counted, trade_of, trades, eager_call, eager_after, eager_start, eager_end, eager_fills, fills_by, fills_of, appended, moves_after, moves_of}
+use Rattle.dex_eager.specs.Histories.{IsPaidAs, Fill, Trade, is_crank, counts, counted, trade_of, trades, eager_call, eager_after, eager_start, eager_end, eager_fills, fills_by, fills_of, appended, moves_after, moves_of}
 use Rattle.dex_eager.specs.Slots.{maker_fills}
 use Rattle.dex_eager.specs.Worth.{Worth, Ledger, no_moves, with_step, free_in, own_owed, worth_in, worth_of}
 use Rattle.dex_eager.proofs.HistorySteps.{Goes, step-goes}

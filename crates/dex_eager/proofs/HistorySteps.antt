@@ -1,60 +1,24 @@
 -- histories, call by call: the eager market goes along with the market
-use Rattle.std.proofs.Common.{◌≡◌, Bool, true, false, not, ◌&&◌, List, [], ◌∷◌, Option, Some, None, Result, Ok, Err, refl, sym, ap, subst}
+use Rattle.std.proofs.Common.{◌≡◌, ◌∙◌, is_some, Bool, true, false, not, ◌&&◌, List, [], ◌∷◌, Option, Some, None, Result, Ok, Err, refl, sym, ap, subst}
 use Rattle.std.proofs.Math.Seq.{drop-length}
 use Rattle.dex_types.specs.declared.addresses.Address.{Address}
 use Rattle.dex_types.specs.declared.instructions.BadData.{BadData}
-use Rattle.dex_types.specs.declared.instructions.Ix.{Ix}
-use Rattle.dex_types.specs.declared.instructions.Ix.TheVariants.{InitializeMarket, MatchOrders, ConsumeEvents, SettleFunds, DisableMarket, SweepFees, NewOrderV3, CancelOrderV2, CancelOrderByClientIdV2, SendTake, CloseOpenOrders, InitOpenOrders, Prune, CancelOrdersByClientIds}
+use Rattle.dex_types.specs.declared.instructions.Ix.TheVariants.{ConsumeEvents}
 use Rattle.dex_types.specs.declared.refusals.Refusal.{Refusal}
 use Rattle.dex_types.specs.declared.rows.Seen.{Seen}
 use Rattle.dex_types.specs.Market.{Market}
-use Rattle.dex_types.specs.Requests.{Request, Party, party_of}
+use Rattle.dex_types.specs.Requests.{Request}
 use Rattle.dex_types.specs.Soundness.{IsSound}
-use Rattle.dex_types.specs.Steps.{Step, step, refused, by_party, act_init, act, act_decoded, unless_refused}
+use Rattle.dex_types.specs.Steps.{Step, step, refused, act_decoded, unless_refused}
 use Rattle.dex_types.specs.Why.{why, why_decoded}
+use Rattle.dex_history.specs.Journal.{is_refusal}
+use Rattle.dex_history.proofs.RefusalLaws.{step-refused}
 use Rattle.dex_eager.specs.Eager.{Eager, eager_at, unchanged, eager_decoded, eager_step}
-use Rattle.dex_eager.specs.Histories.{IsPaidAs, is_refusal, is_crank}
+use Rattle.dex_eager.specs.Histories.{IsPaidAs, is_crank}
 use Rattle.dex_eager.specs.Slots.{maker_fills}
 use Rattle.dex_eager.specs.Worth.{Ledger}
 use Rattle.dex_eager.proofs.CancelSteps.{ledger-still}
 use Rattle.dex_eager.proofs.EachStep.{step-paid}
-
--- an instruction that is done is not answered by a refusal
-party-accepts : (acts : Party → Step) (m : Market) (found : Option Party) → ((party : Party) → is_refusal (acts party).reply ≡ false)
-    → is_refusal (by_party acts m found).reply ≡ false
-party-accepts acts m None each = refl
-party-accepts acts m (Some party) each = each party
-
-init-accepts : (named : List Address) (signer : Address) (m : Market) → is_refusal (act_init named signer m).reply ≡ false
-init-accepts [] signer m = refl
-init-accepts (address ∷ others) signer m = refl
-
-act-accepts : (ix : Ix) (request : Request) (seen : Seen) (m : Market) → is_refusal (act ix request seen m).reply ≡ false
-act-accepts (InitializeMarket coin_lot pc_lot fee_rate_bps nonce dust) request seen m = refl
-act-accepts (MatchOrders limit) request seen m = refl
-act-accepts (ConsumeEvents limit) request seen m = refl
-act-accepts SettleFunds request seen m = party-accepts _ m (party_of request.named m.traders) (λ party. refl)
-act-accepts DisableMarket request seen m = refl
-act-accepts SweepFees request seen m = refl
-act-accepts (NewOrderV3 side price lots max_pc self_trade order_type client limit latest) request seen m =
-    party-accepts _ m (party_of request.named m.traders) (λ party. refl)
-act-accepts (CancelOrderV2 side id) request seen m = party-accepts _ m (party_of request.named m.traders) (λ party. refl)
-act-accepts (CancelOrderByClientIdV2 client) request seen m = party-accepts _ m (party_of request.named m.traders) (λ party. refl)
-act-accepts (SendTake side price lots max_pc min_lots min_pc limit) request seen m = refl
-act-accepts CloseOpenOrders request seen m = party-accepts _ m (party_of request.named m.traders) (λ party. refl)
-act-accepts InitOpenOrders request seen m = init-accepts request.named request.signer m
-act-accepts (Prune limit) request seen m = party-accepts _ m (party_of request.named m.traders) (λ party. refl)
-act-accepts (CancelOrdersByClientIds ids) request seen m = party-accepts _ m (party_of request.named m.traders) (λ party. refl)
-
-decoded-accepts : (instruction : Result Ix BadData) (request : Request) (seen : Seen) (m : Market) → is_refusal (act_decoded instruction request seen m).reply ≡ false
-decoded-accepts (Err rule) request seen m = refl
-decoded-accepts (Ok ix) request seen m = act-accepts ix request seen m
-
--- a row is refused where there is a reason, and only there
-pub reply-accepts : (reason : Option Refusal) (request : Request) (seen : Seen) (m : Market) → reason ≡ None
-    → is_refusal (unless_refused reason m (act_decoded request.instruction request seen m)).reply ≡ false
-reply-accepts None request seen m none = decoded-accepts request.instruction request seen m
-reply-accepts (Some refusal) request seen m none = absurd cc
 
 -- a row that is refused changes nothing, and is answered so
 record IsRefused (m : Market) (ledger : Ledger) (named : List Address) (s : Step) : Type 0 where
@@ -109,7 +73,7 @@ pub record Goes (m : Market) (ledger : Ledger) (request : Request) (seen : Seen)
 goes-done : (m : Market) (ledger : Ledger) (request : Request) (seen : Seen) → IsSound m → why request seen m ≡ None → Goes m ledger request seen
 goes-done m ledger request seen sound none =
     let paid : IsPaidAs m ledger request.named (step request seen m) (eager_step request seen (eager_at m ledger)) = step-paid request seen m ledger sound none in
-    let accepted : is_refusal (step request seen m).reply ≡ false = reply-accepts (why request seen m) request seen m none in
+    let accepted : is_refusal (step request seen m).reply ≡ false = step-refused request seen m ∙ ap (λ (reason : Option Refusal). is_some reason) none in
     record {
       counted = λ does. paid;
       passed = λ not_counted.

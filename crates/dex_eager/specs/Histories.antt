@@ -4,23 +4,16 @@ use Rattle.dex_types.specs.declared.addresses.Address.{Address}
 use Rattle.dex_types.specs.declared.instructions.BadData.{BadData}
 use Rattle.dex_types.specs.declared.instructions.Ix.{Ix}
 use Rattle.dex_types.specs.declared.instructions.Ix.TheVariants.{ConsumeEvents}
-use Rattle.dex_types.specs.declared.replies.Reply.{Reply}
-use Rattle.dex_types.specs.declared.replies.Reply.TheVariants.{Refused}
 use Rattle.dex_types.specs.declared.terms.Program.{Program}
 use Rattle.dex_types.specs.declared.terms.Tier.{Tier}
 use Rattle.dex_types.specs.Market.{Market}
 use Rattle.dex_types.specs.QueuedEvent.{QueuedEvent}
 use Rattle.dex_types.specs.Steps.{Step}
 use Rattle.dex_types.specs.Terms.{tier_seen}
-use Rattle.dex_history.specs.Journal.{Asked, Call, acted_of, step_of}
+use Rattle.dex_history.specs.Journal.{Asked, Call, acted_of, is_refusal, step_of}
 use Rattle.dex_eager.specs.Eager.{Eager, EagerStep, eager_at, eager_step}
 use Rattle.dex_eager.specs.Slots.{maker_fills}
 use Rattle.dex_eager.specs.Worth.{Ledger, no_moves, with_step}
-
--- the answer is a refusal
-abbrev pub is_refusal : Reply → Bool
-is_refusal (Refused refusal) = true
-is_refusal reply = false
 
 -- the instruction is a crank
 abbrev pub is_crank : Result Ix BadData → Bool

@@ -1,7 +1,6 @@
 -- a row leaves what another sees and finds that shares nothing with it
-use Rattle.std.proofs.Common.{◌≡◌, Bool, true, false, ◌||◌, cond, List, [], ◌∷◌, map, Option, Some, None, refl, sym, ap, ◌∙◌, subst, ⊎_elim}
-use Rattle.std.specs.List.{list_any}
-use Rattle.std.proofs.lemmas.Bool.{cases_Bool, cond-false, cond-true, cond_both, or_left, or_right}
+use Rattle.std.proofs.Common.{◌≡◌, Bool, true, false, cond, List, [], ◌∷◌, map, Option, Some, None, refl, sym, ap, ◌∙◌}
+use Rattle.std.proofs.lemmas.Bool.{cond-false, cond_both}
 use Rattle.dex_types.specs.declared.addresses.Address.{Address}
 use Rattle.dex_types.specs.declared.rows.Seen.{Seen}
 use Rattle.dex_types.specs.declared.rows.WalletSeen.{WalletSeen}
@@ -9,56 +8,14 @@ use Rattle.dex_types.specs.Addresses.{is_same}
 use Rattle.dex_types.specs.Market.{Listing, Market}
 use Rattle.dex_types.specs.Rows.{PlainRow}
 use Rattle.dex_types.specs.Transfers.{Transfers}
-use Rattle.dex_types.specs.Wallets.{is_lower, movement_of, row_wallets, with_address, with_role}
-use Rattle.dex_laws.proofs.TraderLaws.{is_same-refl, is_same-sym, is_same-true}
+use Rattle.dex_types.specs.Wallets.{movement_of}
+use Rattle.dex_laws.proofs.TraderLaws.{is_same-sym, is_same-true}
 use Rattle.dex_sound.proofs.KeepLaws.{step-keeps}
 use Rattle.dex_history.specs.Journal.{request_of, row_step}
 use Rattle.dex_fold.specs.Fold.{act, acted, market_acted, markets_acted, names, wallet_acted, wallet_moved}
 use Rattle.dex_fold.specs.Items.{ShareNothing, why_in, why_on}
 use Rattle.dex_fold.specs.World.{MarketState, WalletState, World, market_at, role_at, seen_by, wallet_at}
-
--- ---- a row names the wallet of each role
-
-added-named : (address : Address) (addresses : List Address) → list_any (is_same address) (with_address address addresses) ≡ true
-added-named address [] = or_left (is_same address address) false (is_same-refl address)
-added-named address (first ∷ others) =
-    cond_both (is_same address first) (first ∷ others) (cond (is_lower address first) (address ∷ first ∷ others) (first ∷ with_address address others))
-    (λ (all : List Address). list_any (is_same address) all ≡ true)
-    (λ same. or_left (is_same address first) (list_any (is_same address) others) same)
-    (λ apart.
-    cond_both (is_lower address first) (address ∷ first ∷ others) (first ∷ with_address address others) (λ (all : List Address). list_any (is_same address) all ≡ true)
-    (λ lower. or_left (is_same address address) (list_any (is_same address) (first ∷ others)) (is_same-refl address))
-    (λ higher. or_right (is_same address first) (list_any (is_same address) (with_address address others)) (added-named address others)))
-
-still-named : (address wallet : Address) (addresses : List Address) → list_any (is_same wallet) addresses ≡ true
-    → list_any (is_same wallet) (with_address address addresses) ≡ true
-still-named address wallet [] named = absurd (cc)
-still-named address wallet (first ∷ others) named =
-    cond_both (is_same address first) (first ∷ others) (cond (is_lower address first) (address ∷ first ∷ others) (first ∷ with_address address others))
-    (λ (all : List Address). list_any (is_same wallet) all ≡ true)
-    (λ same. named)
-    (λ apart.
-    cond_both (is_lower address first) (address ∷ first ∷ others) (first ∷ with_address address others) (λ (all : List Address). list_any (is_same wallet) all ≡ true)
-    (λ lower. or_right (is_same wallet address) (list_any (is_same wallet) (first ∷ others)) named)
-    (λ higher. either (is_same wallet first) refl (λ later. still-named address wallet others later)))
-  where
-    either : (b : Bool) → is_same wallet first ≡ b → (list_any (is_same wallet) others ≡ true → list_any (is_same wallet) (with_address address others) ≡ true)
-        → list_any (is_same wallet) (first ∷ with_address address others) ≡ true
-    either true here rest = or_left (is_same wallet first) (list_any (is_same wallet) (with_address address others)) here
-    either false apart rest =
-        or_right (is_same wallet first) (list_any (is_same wallet) (with_address address others))
-        (rest (sym (ap (λ (b : Bool). b || list_any (is_same wallet) others) apart) ∙ named))
-
-role-still : (role : Option Address) (wallet : Address) (addresses : List Address) → list_any (is_same wallet) addresses ≡ true
-    → list_any (is_same wallet) (with_role role addresses) ≡ true
-role-still None wallet addresses named = named
-role-still (Some address) wallet addresses named = still-named address wallet addresses named
-
-role-named : (role : Option Address) (wallet : Address) (addresses : List Address) → role ≡ Some wallet → list_any (is_same wallet) (with_role role addresses) ≡ true
-role-named None wallet addresses is = absurd (cc)
-role-named (Some address) wallet addresses is =
-    let same : address ≡ wallet = (cc) in
-    subst (λ (a : Address). list_any (is_same wallet) (with_address a addresses) ≡ true) (sym same) (added-named wallet addresses)
+use Rattle.dex_fold.proofs.NameLaws.{coin-named, discount-named, pc-named, referrer-named}
 
 -- ---- its market
 
@@ -115,25 +72,6 @@ module _ (row other : PlainRow) (share : ShareNothing row other) where
   role-far seen t states None named = refl
   role-far seen t states (Some address) named = wallet-far seen t address (share.wallets address (named address refl)) states
 
-  coin-named : (address : Address) → other.coin ≡ Some address → names other address ≡ true
-  coin-named address is = role-named other.coin address (with_role other.pc (with_role other.discount (with_role other.referrer []))) is
-
-  pc-named : (address : Address) → other.pc ≡ Some address → names other address ≡ true
-  pc-named address is =
-      role-still other.coin address (with_role other.pc (with_role other.discount (with_role other.referrer [])))
-      (role-named other.pc address (with_role other.discount (with_role other.referrer [])) is)
-
-  discount-named : (address : Address) → other.discount ≡ Some address → names other address ≡ true
-  discount-named address is =
-      role-still other.coin address (with_role other.pc (with_role other.discount (with_role other.referrer [])))
-      (role-still other.pc address (with_role other.discount (with_role other.referrer [])) (role-named other.discount address (with_role other.referrer []) is))
-
-  referrer-named : (address : Address) → other.referrer ≡ Some address → names other address ≡ true
-  referrer-named address is =
-      role-still other.coin address (with_role other.pc (with_role other.discount (with_role other.referrer [])))
-      (role-still other.pc address (with_role other.discount (with_role other.referrer []))
-      (role-still other.discount address (with_role other.referrer []) (role-named other.referrer address [] is)))
-
   seen-with : (found : Option Market) (world : World) → seen_by other (acted row found world) ≡ seen_by other world
   seen-with None world = refl
   seen-with (Some m) world =
@@ -141,11 +79,11 @@ module _ (row other : PlainRow) (share : ShareNothing row other) where
       let t : Transfers = (row_step row seen m).transfers in
       let early : Seen = seen_by other world in
       let later : Seen = seen_by other (acted row (Some m) world) in
-      ap (λ (one : Option WalletSeen). record later { coin = one }) (role-far seen t world.wallets other.coin coin-named)
-      ∙ ap (λ (one : Option WalletSeen). record later { coin = early.coin; pc = one }) (role-far seen t world.wallets other.pc pc-named)
-      ∙ ap (λ (one : Option WalletSeen). record later { coin = early.coin; pc = early.pc; discount = one }) (role-far seen t world.wallets other.discount discount-named)
+      ap (λ (one : Option WalletSeen). record later { coin = one }) (role-far seen t world.wallets other.coin (coin-named other))
+      ∙ ap (λ (one : Option WalletSeen). record later { coin = early.coin; pc = one }) (role-far seen t world.wallets other.pc (pc-named other))
+      ∙ ap (λ (one : Option WalletSeen). record later { coin = early.coin; pc = early.pc; discount = one }) (role-far seen t world.wallets other.discount (discount-named other))
       ∙ ap (λ (one : Option WalletSeen). record later { coin = early.coin; pc = early.pc; discount = early.discount; referrer = one })
-      (role-far seen t world.wallets other.referrer referrer-named)
+      (role-far seen t world.wallets other.referrer (referrer-named other))
 
   pub seen-far : (world : World) → seen_by other (act row world) ≡ seen_by other world
   seen-far world = seen-with (market_at row.market world.markets) world

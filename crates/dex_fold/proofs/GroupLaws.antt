@@ -1,8 +1,8 @@
 -- lists in groups
-use Rattle.std.proofs.Common.{◌≡◌, ℕ, ◌<◌, Bool, true, false, cond, eqb, List, [], ◌∷◌, ◌++◌, map, refl, sym, ap, ◌∙◌, subst, arith}
+use Rattle.std.proofs.Common.{◌≡◌, ℕ, ◌+◌, ◌<◌, ◌≤◌, Bool, true, false, cond, eqb, List, [], ◌∷◌, ◌++◌, length, map, refl, sym, ap, ◌∙◌, arith}
 use Rattle.std.specs.List.{All, flat_map}
 use Rattle.std.proofs.lemmas.Bool.{cond-false, cond-true, cond_both, eq-eqb}
-use Rattle.std.proofs.lemmas.List.Elements.{All-nil, All-cons, All-head, All-tail, All-append, All-weaker}
+use Rattle.std.proofs.lemmas.List.Elements.{All-nil, All-cons, All-head, All-tail, All-weaker}
 use Rattle.dex_fold.specs.Groups.{Group, alone, grouped, joined, map_group, members}
 
 -- ---- one after the other, the groups are the list
@@ -17,6 +17,17 @@ module _ {A : Type 0} (key : A → ℕ) where
   pub grouped-flat : (xs : List A) → flat_map members (grouped key xs) ≡ xs
   grouped-flat [] = refl
   grouped-flat (x ∷ xs) = joined-flat x (grouped key xs) ∙ ap (λ (some : List A). x ∷ some) (grouped-flat xs)
+
+  -- there are no more groups than elements
+  joined-few : (x : A) (groups : List (Group A)) → length (joined key x groups) ≤ length groups + 1
+  joined-few x [] = omega arith
+  joined-few x (group ∷ groups) =
+      cond_both (eqb (key x) (key group.first)) (record { first = x; others = members group } ∷ groups) (alone x ∷ group ∷ groups)
+      (λ (some : List (Group A)). length some ≤ length (group ∷ groups) + 1) (λ same. omega arith) (λ apart. omega arith)
+
+  pub grouped-few : (xs : List A) → length (grouped key xs) ≤ length xs
+  grouped-few [] = omega arith
+  grouped-few (x ∷ xs) = omega (arith, joined-few x (grouped key xs), grouped-few xs)
 
   -- what holds of all holds of the first of each group
   joined-firsts : (P : A → Type 0) (x : A) (groups : List (Group A)) → P x → All (λ (group : Group A). P group.first) groups

@@ -1,19 +1,19 @@
 -- an item of one row acts as the row
-use Rattle.std.proofs.Common.{◌≡◌, ◌||◌, Bool, true, false, cond, List, [], ◌∷◌, is_some, Result, Ok, refl, sym, ap, ◌∙◌}
+use Rattle.std.proofs.Common.{◌≡◌, ◌||◌, Bool, true, false, cond, List, [], ◌∷◌, is_some, Result, Ok, refl, ap}
 use Rattle.dex_types.specs.declared.instructions.BadData.{BadData}
 use Rattle.dex_types.specs.declared.instructions.Ix.{Ix}
 use Rattle.dex_types.specs.declared.instructions.Ix.TheVariants.{MatchOrders}
 use Rattle.dex_types.specs.declared.rows.Seen.{Seen}
 use Rattle.dex_types.specs.Market.{Market}
 use Rattle.dex_types.specs.Rows.{PlainRow}
-use Rattle.dex_types.specs.Steps.{Step, done, step}
+use Rattle.dex_types.specs.Steps.{done, step}
 use Rattle.dex_instruction.specs.Numbers.{number_at}
 use Rattle.dex_instruction.specs.Reading.{decoded, instruction}
 use Rattle.dex_instruction.specs.Rules.{broken}
 use Rattle.dex_history.specs.Journal.{request_of, row_step}
 use Rattle.dex_fold.specs.Fold.{act, fold}
 use Rattle.dex_fold.specs.Groups.{alone}
-use Rattle.dex_fold.specs.Items.{act_item, chosen, held_in, idle_row, nothing_to_do, why_in}
+use Rattle.dex_fold.specs.Items.{act_item, chosen, idle_row, nothing_to_do, why_in}
 use Rattle.dex_fold.specs.World.{World}
 
 alone-chosen : (row : PlainRow) (world : World) → chosen world (row ∷ []) ≡ row ∷ []

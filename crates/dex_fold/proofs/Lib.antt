@@ -1,4 +1,5 @@
 pub mod FoldLaws
 pub mod GroupLaws
 pub mod ItemLaws
+pub mod NameLaws
 pub mod FarLaws

@@ -1,5 +1,5 @@
 -- Rows that act one after the other, each on its market and on the wallets that it names.
-use Rattle.std.specs.Prelude.{Bool, List, [], ◌∷◌, ◌++◌, Option, Some, None, map, if◌then◌else◌}
+use Rattle.std.specs.Prelude.{Bool, false, List, [], ◌∷◌, ◌++◌, Option, Some, None, map, if◌then◌else◌}
 use Rattle.std.specs.List.{list_any}
 use Rattle.dex_types.specs.declared.addresses.Address.{Address}
 use Rattle.dex_types.specs.declared.movements.Movement.{Movement}
@@ -28,6 +28,11 @@ wallet_moved row move state = record {
   seen = record state.seen { balance = moved_balance move.kind move.amount state.seen.balance };
   entries = state.entries ++ wallet_entry_by row move ∷ [];
 }
+
+-- a role is that of the wallet of an address
+abbrev pub is_role : Option Address → Address → Bool
+is_role None address = false
+is_role (Some wallet) address = is_same address wallet
 
 -- a row names a wallet under some role
 abbrev pub names : PlainRow → Address → Bool

@@ -1,6 +1,5 @@
 -- Lists in groups: neighbours of one number stand together.
 use Rattle.std.specs.Prelude.{ℕ, ◌==◌, List, [], ◌∷◌, map, if◌then◌else◌}
-use Rattle.std.specs.List.{flat_map}
 
 -- some elements, of which there is a first
 pub record Group (A : Type 0) : Type 0 where

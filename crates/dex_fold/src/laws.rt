@@ -1,6 +1,6 @@
 //! Laws of rows that act.
 
-ghost use Rattle.std.specs.Prelude.{◌≡◌, List, ◌++◌, ◌∷◌, []};
+ghost use Rattle.std.specs.Prelude.{◌≡◌, ◌≤◌, List, ◌++◌, ◌∷◌, [], length};
 ghost use Rattle.dex_types.specs.Rows.{PlainRow};
 ghost use Rattle.dex_fold.specs.Fold.{act, fold};
 ghost use Rattle.dex_fold.specs.Groups.{alone, members};
@@ -16,10 +16,11 @@ pub fn rows_act_one_after_the_other()
         → fold (rows ++ row ∷ []) world ≡ act row (fold rows world) }
 {}
 
-/// An item of one row acts as the row. The items of rows are these rows, one after the other.
+/// An item of one row acts as the row. The items of rows are these rows, one after the other, and no more than they.
 pub fn a_row_is_an_item()
     ensures alone { (row : PlainRow) (world : World) → act_item (alone row) world ≡ act row world }
     ensures flat { (rows : List PlainRow) → flat_map members (items_of rows) ≡ rows }
+    ensures few { (rows : List PlainRow) → length (items_of rows) ≤ length rows }
 {}
 
 /// A row leaves what another row sees and finds that shares no market and no wallet with it.

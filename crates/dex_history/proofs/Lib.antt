@@ -1,6 +1,7 @@
 mod JournalExamples
 pub mod HistoryLaws
 pub mod WalletLaws
+pub mod RefusalLaws
 pub mod HeldLaws
 pub mod PriceLaws
 pub mod BalanceLaws

@@ -1,5 +1,5 @@
 use Rattle.dex_types.specs.Rows.{PlainRow}
-use Rattle.dex_fold.proofs.GroupLaws.{grouped-flat}
+use Rattle.dex_fold.proofs.GroupLaws.{grouped-few, grouped-flat}
 use Rattle.dex_fold.proofs.ItemLaws.{alone-acts}
 use Rattle.dex_fold.proofs.laws.a_row_is_an_item.Goals as goal
 
@@ -8,3 +8,6 @@ returns-clause-alone c = alone-acts
 
 pub returns-clause-flat : goal.returns-clause-flat
 returns-clause-flat c = grouped-flat (λ (row : PlainRow). row.number)
+
+pub returns-clause-few : goal.returns-clause-few
+returns-clause-few c = grouped-few (λ (row : PlainRow). row.number)
