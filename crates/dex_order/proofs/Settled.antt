@@ -1,6 +1,6 @@
 -- Calls with what their markets did for them in place of what their rows asked: the same world. So a take that was held back is a row with
 -- nothing to do.
-use Rattle.std.proofs.Common.{◌≡◌, Bool, true, false, cond, List, [], ◌∷◌, ◌++◌, get_or, map, Result, Ok, refl, sym, ap, ◌∙◌, subst, lit≤, arith}
+use Rattle.std.proofs.Common.{◌≡◌, Bool, true, false, cond, List, [], ◌∷◌, ◌++◌, get_or, map, Result, refl, sym, ap, ◌∙◌, subst, lit≤, arith}
 use Rattle.std.specs.List.{All, filter}
 use Rattle.std.proofs.lemmas.Bool.{cond-false, cond-true, cond_both}
 use Rattle.std.proofs.lemmas.List.{map-append}
@@ -8,7 +8,6 @@ use Rattle.std.proofs.lemmas.List.Elements.{All-map, All-weaker, filter_agree}
 use Rattle.dex_types.specs.declared.addresses.Address.{Address}
 use Rattle.dex_types.specs.declared.instructions.BadData.{BadData}
 use Rattle.dex_types.specs.declared.instructions.Ix.{Ix}
-use Rattle.dex_types.specs.declared.instructions.Ix.TheVariants.{MatchOrders}
 use Rattle.dex_types.specs.declared.movements.Entry.{Entry}
 use Rattle.dex_types.specs.declared.movements.Movement.{Movement}
 use Rattle.dex_types.specs.declared.movements.WalletEntry.{WalletEntry}
@@ -19,14 +18,12 @@ use Rattle.dex_types.specs.Market.{Market}
 use Rattle.dex_types.specs.Rows.{PlainRow}
 use Rattle.dex_types.specs.WalletJournal.{IsWalletLegal}
 use Rattle.dex_accounts.specs.Decoded.{market_in}
-use Rattle.dex_instruction.specs.Numbers.{number_at}
-use Rattle.dex_instruction.specs.Reading.{decoded, instruction}
-use Rattle.dex_instruction.specs.Rules.{broken}
 use Rattle.dex_history.specs.Journal.{Asked, Call, IsLegal, acted_of, asked_of, asked_wallets, front, idle, is_held, market_after, wallet_entry_of}
 use Rattle.dex_history.proofs.HeldLaws.{acted-market, settled, settled-after, settled-legal, settled-not_held}
 use Rattle.dex_fold.specs.Fold.{fold}
-use Rattle.dex_fold.specs.Items.{idle_row, nothing_to_do}
+use Rattle.dex_fold.specs.Items.{idle_row}
 use Rattle.dex_fold.specs.World.{MarketState, WalletState, World, seen_by}
+use Rattle.dex_fold.proofs.ItemLaws.{nothing-decodes}
 use Rattle.dex_script.specs.Drafts.{PlainScript}
 use Rattle.dex_script.specs.Facts.{IsRowOf}
 use Rattle.dex_wallet.specs.CellState.{balance_of}
@@ -107,10 +104,6 @@ legal-settled script made legal = record {
 -- a row as it acted: with nothing to do where its call was held back
 abbrev pub acted_row : PlainRow → Call → PlainRow
 acted_row row call = cond (is_held call) (idle_row row) row
-
-nothing-decodes : decoded nothing_to_do ≡ Ok (MatchOrders 0)
-unfolding decoded instruction broken number_at
-nothing-decodes = refl
 
 idle-asked : (row : PlainRow) → asked_of (idle_row row) ≡ idle (asked_of row)
 idle-asked row = ap (λ (it : Result Ix BadData). record (asked_of row) { request = record (asked_of row).request { instruction = it } }) nothing-decodes
