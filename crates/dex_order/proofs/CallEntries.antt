@@ -14,7 +14,7 @@ use Rattle.dex_types.specs.Rows.{PlainRow}
 use Rattle.dex_types.specs.Transfers.{Transfers}
 use Rattle.dex_types.specs.Wallets.{balance_seen, brought_to, movement_of, movements, row_wallets, seen_wallets, taken_from, with_role}
 use Rattle.dex_laws.proofs.TraderLaws.{is_same-sym, is_same-true}
-use Rattle.dex_history.specs.Journal.{Asked, Call, Sees, Stands, asked_of, asked_step, entry_by, front, idle, is_held, row_step}
+use Rattle.dex_history.specs.Journal.{Asked, Call, Sees, Stands, asked_of, asked_step, asked_wallets, entry_by, front, idle, is_held, row_step}
 use Rattle.dex_history.proofs.AddressOrder.{AreRising, times, with_address-rising, with_address-times}
 use Rattle.dex_history.proofs.WalletLaws.{places-movements, wallet-movement_by}
 use Rattle.dex_movements.specs.Entries.{wallet_entry_by}
@@ -35,27 +35,23 @@ is-made row call m asks own stands =
 
 -- ---- no row names a wallet twice
 
-role-rising : (role : Option Address) (addresses : List Address) → AreRising addresses → AreRising (with_role role addresses)
-role-rising None addresses rising = rising
-role-rising (Some address) addresses rising = with_address-rising address addresses rising
+-- addresses that rise, each once
+abbrev AreOrdered : List Address → Type 0
+AreOrdered addresses = AreRising addresses × ((address : Address) → times address addresses ≤ 1)
 
-role-once : (wallet : Address) (role : Option Address) (addresses : List Address) → AreRising addresses → times wallet addresses ≤ 1
-    → times wallet (with_role role addresses) ≤ 1
-role-once wallet None addresses rising once = once
-role-once wallet (Some address) addresses rising once =
-    subst (λ (n : ℕ). n ≤ 1) (sym (with_address-times wallet address addresses rising))
-    (cond_both (is_same wallet address) 1 (times wallet addresses) (λ (n : ℕ). n ≤ 1) (λ same. omega arith) (λ apart. once))
+with-role : (role : Option Address) (addresses : List Address) → AreOrdered addresses → AreOrdered (with_role role addresses)
+with-role None addresses ordered = ordered
+with-role (Some other) addresses ordered = (
+  with_address-rising other addresses ordered.0,
+  λ address.
+      subst (λ (n : ℕ). n ≤ 1) (sym (with_address-times address other addresses ordered.0))
+      (cond_both (is_same address other) 1 (times address addresses) (λ (n : ℕ). n ≤ 1) (λ same. omega arith) (λ apart. ordered.1 address)),
+)
 
-named-once : (row : PlainRow) (wallet : Address) → times wallet (row_wallets row) ≤ 1
-named-once row wallet =
-    let referrer : AreRising (with_role row.referrer []) = role-rising row.referrer [] tt in
-    let discount : AreRising (with_role row.discount (with_role row.referrer [])) = role-rising row.discount (with_role row.referrer []) referrer in
-    let pc : AreRising (with_role row.pc (with_role row.discount (with_role row.referrer []))) =
-    role-rising row.pc (with_role row.discount (with_role row.referrer [])) discount in
-    role-once wallet row.coin (with_role row.pc (with_role row.discount (with_role row.referrer []))) pc
-    (role-once wallet row.pc (with_role row.discount (with_role row.referrer [])) discount
-    (role-once wallet row.discount (with_role row.referrer []) referrer
-    (role-once wallet row.referrer [] tt (omega arith))))
+pub asked-once : (asked : Asked) (address : Address) → times address (asked_wallets asked) ≤ 1
+asked-once asked =
+    let none : AreOrdered [] = (tt, λ address. omega arith) in
+    (with-role asked.coin _ (with-role asked.pc _ (with-role asked.discount _ (with-role asked.referrer [] none)))).1
 
 -- so what is kept of one wallet is that wallet, where it stands there
 none-kept : (wallet : Address) (addresses : List Address) → times wallet addresses ≤ 0
@@ -113,7 +109,7 @@ module _ (row : PlainRow) (seen : Seen) (m : Market) (stamp : ℕ) (sees : Sees 
       sym (filter-of moved of_wallet (seen_wallets seen))
       ∙ ap (map moved) (filter_agree (λ (address : Address). of_wallet (moved address)) (λ (address : Address). is_same address wallet) moved-wallet (seen_wallets seen))
       ∙ ap (λ (addresses : List Address). map moved (filter (λ (address : Address). is_same address wallet) addresses)) (seen-wallets row seen sees)
-      ∙ ap (map moved) (one-kept wallet (row_wallets row) (named-once row wallet))
+      ∙ ap (map moved) (one-kept wallet (row_wallets row) (asked-once (asked_of row) wallet))
       ∙ either (names row wallet)
     where
       either : (b : Bool) → map moved (cond b (wallet ∷ []) []) ≡ cond b (moved wallet ∷ []) []

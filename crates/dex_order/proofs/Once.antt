@@ -1,12 +1,12 @@
 -- Of accepted accounts each address is that of one market and of one wallet at most.
-use Rattle.std.proofs.Common.{ℕ, ◌≤◌, cond, List, [], ◌∷◌, ◌++◌, map, arith}
+use Rattle.std.proofs.Common.{◌≡◌, ℕ, ◌+◌, ◌≤◌, cond, List, [], ◌∷◌, ◌++◌, map, arith}
 use Rattle.std.specs.List.{flat_map}
 use Rattle.std.proofs.lemmas.List.Sums.{sum_by-append, sum_by-cons}
 use Rattle.dex_types.specs.declared.addresses.Address.{Address}
-use Rattle.dex_types.specs.Accounts.{PlainMarketAccounts}
+use Rattle.dex_types.specs.Accounts.{PlainAccounts, PlainMarketAccounts}
 use Rattle.dex_types.specs.Addresses.{is_same}
 use Rattle.dex_market.specs.MarketAccount.{market_words}
-use Rattle.dex_dump.specs.Accepted.{AreAccepted, address_of, all_of_market, times}
+use Rattle.dex_dump.specs.Accepted.{AreAccepted, addresses_of, address_of, all_of_market, times}
 use Rattle.dex_dump.specs.Reading.{parts_of}
 use Rattle.dex_script.specs.Drafts.{PlainScript}
 use Rattle.dex_order.proofs.Steps.{AreOnce}
@@ -31,28 +31,23 @@ module _ (address : Address) where
         market-times markets,
       )
 
-  markets-once : (script : PlainScript) → AreAccepted script.start
-      → times address (map (λ (accounts : PlainMarketAccounts). accounts.address) script.start.markets) ≤ 1
-  markets-once script accepted =
+  -- the addresses of mints, of wallets and of markets are all
+  three-times : (accounts : PlainAccounts) → times address (addresses_of accounts)
+      ≡ times address (map address_of accounts.mints) + (times address (map address_of accounts.wallets) + times address (flat_map all_of_market accounts.markets))
+  three-times accounts =
       omega (
         arith,
-        accepted.once address,
-        market-times script.start.markets,
-        sum_by-append one (map address_of script.start.mints) (map address_of script.start.wallets ++ flat_map all_of_market script.start.markets),
-        sum_by-append one (map address_of script.start.wallets) (flat_map all_of_market script.start.markets),
+        sum_by-append one (map address_of accounts.mints) (map address_of accounts.wallets ++ flat_map all_of_market accounts.markets),
+        sum_by-append one (map address_of accounts.wallets) (flat_map all_of_market accounts.markets),
       )
 
-  wallets-once : (script : PlainScript) → AreAccepted script.start → times address (map address_of script.start.wallets) ≤ 1
-  wallets-once script accepted =
-      omega (
-        arith,
-        accepted.once address,
-        sum_by-append one (map address_of script.start.mints) (map address_of script.start.wallets ++ flat_map all_of_market script.start.markets),
-        sum_by-append one (map address_of script.start.wallets) (flat_map all_of_market script.start.markets),
-      )
+pub markets-once : (accounts : PlainAccounts) → AreAccepted accounts → (address : Address)
+    → times address (map (λ (market : PlainMarketAccounts). market.address) accounts.markets) ≤ 1
+markets-once accounts accepted address =
+    omega (arith, accepted.once address, market-times address accounts.markets, three-times address accounts)
+
+pub wallets-once : (accounts : PlainAccounts) → AreAccepted accounts → (address : Address) → times address (map address_of accounts.wallets) ≤ 1
+wallets-once accounts accepted address = omega (arith, accepted.once address, three-times address accounts)
 
 pub are-once : (script : PlainScript) → AreAccepted script.start → AreOnce script
-are-once script accepted = record {
-  markets = λ address. markets-once address script accepted;
-  wallets = λ address. wallets-once address script accepted;
-}
+are-once script accepted = record { markets = markets-once script.start accepted; wallets = wallets-once script.start accepted }

@@ -18,8 +18,9 @@ use Rattle.dex_stamps.specs.Stamped.{Stamped, stamped}
 use Rattle.dex_journals.specs.Made.{calls_on, entries_in, entries_on, entry_made}
 use Rattle.dex_fold.specs.Items.{rows_of_lane}
 use Rattle.dex_order.specs.Lanes.{MovesEach}
+use Rattle.dex_order.proofs.CallEntries.{asked-once}
 use Rattle.dex_run.specs.Turns.{IsDue}
-use Rattle.dex_run.proofs.Once.{asked-once, some-any}
+use Rattle.dex_run.proofs.Once.{some-any}
 
 -- ---- filters
 
