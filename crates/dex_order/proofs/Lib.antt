@@ -1,14 +1,14 @@
 mod Acting
-mod CallEntries
+pub mod CallEntries
 mod Ends
 mod Fronts
 mod Gathered
 mod Items
 mod Journals
-mod LaneGrowth
-mod LastCells
-mod Legs
-mod Once
+pub mod LaneGrowth
+pub mod LastCells
+pub mod Legs
+pub mod Once
 mod Orders
 mod Seeing
 mod Settled
