@@ -34,7 +34,7 @@ use Rattle.dex_run.proofs.Counts.{entries-one}
 use Rattle.dex_run.proofs.Distinct.{markets-differ}
 use Rattle.dex_run.proofs.Entering.{MarketPass}
 use Rattle.dex_order.proofs.LaneGrowth.{lane-more}
-use Rattle.dex_run.proofs.Growing.{Differ, WalletPass, gates-grown, set-three}
+use Rattle.dex_run.proofs.Growing.{Differ, WalletPass, gates-grown, passes-grown, set-three}
 use Rattle.dex_run.proofs.RowMore.{row-more}
 use Rattle.dex_run.proofs.Taking.{all-midst, same-get, zip-at, zip-long}
 
@@ -193,50 +193,11 @@ module _ (row : PlainRow) (call : Stamped Call) (asked : call.item.asked ≡ ask
 
   pub market-passes : (lane : ℕ) (calls : List (Stamped Call)) (starts : List PlainMarketAccounts) (before after : List MarketPass) → AllZip (IsMarketPass lane calls) starts before
       → AllThree (MarketGrows row call) starts before after → AllZip (IsMarketPass lane (calls ++ call ∷ [])) starts after
-  market-passes lane calls [] [] [] are grown = tt
-  market-passes lane calls [] [] (q ∷ after) are grown = absurd grown
-  market-passes lane calls [] (p ∷ before) after are grown = absurd are
-  market-passes lane calls (start ∷ starts) [] after are grown = absurd are
-  market-passes lane calls (start ∷ starts) (p ∷ before) [] are grown = absurd grown
-  market-passes lane calls (start ∷ starts) (p ∷ before) (q ∷ after) are grown =
-      (one (is_same row.market start.address) refl grown.0, market-passes lane calls starts before after are.1 grown.1)
-    where
-      one : (b : Bool) → is_same row.market start.address ≡ b → Where b (HasCalled call start p q) (q ≡ p) → IsMarketPass lane (calls ++ call ∷ []) start q
-      one true on has = record {
-        number = ap (λ (x : MarketPass). x.number) has.pass ∙ are.0.number;
-        none_left = subst (λ (x : MarketPass). x.until ≤ x.next) (sym has.pass) are.0.none_left;
-        idle = ap (λ (x : MarketPass). x.stage) has.pass ∙ are.0.idle;
-        mine =
-            ap (λ (x : MarketPass). x.mine) has.pass
-            ∙ ap (λ (l : List (Stamped Call)). l ++ call ∷ []) are.0.mine
-            ∙ sym (calls-more start.address calls true on);
-      }
-      one false off same =
-          subst (IsMarketPass lane (calls ++ call ∷ []) start) (sym same)
-          (record {
-            number = are.0.number;
-            none_left = are.0.none_left;
-            idle = are.0.idle;
-            mine = are.0.mine ∙ sym (calls-more start.address calls false off ∙ append-nil (calls_on start.address calls));
-          })
-
-  pub market-gates : (starts : List PlainMarketAccounts) (gates : List _) (before after : List MarketPass) → AllThree (MarketGrows row call) starts before after
-      → AllZip IsAtMarket gates before → AllZip IsAtMarket gates after
-  market-gates [] [] [] [] grown are = tt
-  market-gates [] gates [] (q ∷ after) grown are = absurd grown
-  market-gates [] gates (p ∷ before) [] grown are = absurd grown
-  market-gates [] gates (p ∷ before) (q ∷ after) grown are = absurd grown
-  market-gates [] (g ∷ gates) [] [] grown are = absurd are
-  market-gates (start ∷ starts) gates [] [] grown are = absurd grown
-  market-gates (start ∷ starts) gates [] (q ∷ after) grown are = absurd grown
-  market-gates (start ∷ starts) gates (p ∷ before) [] grown are = absurd grown
-  market-gates (start ∷ starts) [] (p ∷ before) (q ∷ after) grown are = absurd are
-  market-gates (start ∷ starts) (g ∷ gates) (p ∷ before) (q ∷ after) grown are =
-      (one (is_same row.market start.address) grown.0, market-gates starts gates before after grown.1 are.1)
-    where
-      one : (b : Bool) → Where b (HasCalled call start p q) (q ≡ p) → q.gate ≡ Some g
-      one true has = ap (λ (x : MarketPass). x.gate) has.pass ∙ are.0
-      one false same = ap (λ (x : MarketPass). x.gate) same ∙ are.0
+  market-passes lane calls =
+      passes-grown (λ (start : PlainMarketAccounts). is_same row.market start.address) (λ (start : PlainMarketAccounts). call ∷ [])
+      (λ (start : PlainMarketAccounts) (seen : List (Stamped Call)). IsLegal (market_in start) (items_of seen)) lane (λ (start : PlainMarketAccounts). calls_on start.address calls)
+      (λ (start : PlainMarketAccounts). calls_on start.address (calls ++ call ∷ [])) (λ start on. calls-more start.address calls true on)
+      (λ start off. calls-more start.address calls false off ∙ append-nil (calls_on start.address calls))
 
   entries-more : (address : Address) (calls : List (Stamped Call)) → entries_on address (calls ++ call ∷ []) ≡ entries_on address calls ++ entries_in address call
   entries-more address [] = append-nil (entries_in address call)
@@ -255,36 +216,15 @@ module _ (row : PlainRow) (call : Stamped Call) (asked : call.item.asked ≡ ask
 
   pub wallet-passes : (lane : ℕ) (calls : List (Stamped Call)) (starts : List PlainAccount) (before after : List WalletPass) → MovesEach call.item
       → AllZip (IsWalletPass lane calls) starts before → AllThree (WalletGrows row call) starts before after → AllZip (IsWalletPass lane (calls ++ call ∷ [])) starts after
-  wallet-passes lane calls [] [] [] moves are grown = tt
-  wallet-passes lane calls [] [] (q ∷ after) moves are grown = absurd grown
-  wallet-passes lane calls [] (p ∷ before) after moves are grown = absurd are
-  wallet-passes lane calls (start ∷ starts) [] after moves are grown = absurd are
-  wallet-passes lane calls (start ∷ starts) (p ∷ before) [] moves are grown = absurd grown
-  wallet-passes lane calls (start ∷ starts) (p ∷ before) (q ∷ after) moves are grown =
-      (one (names row start.address) refl grown.0, wallet-passes lane calls starts before after moves are.1 grown.1)
-    where
-      one : (b : Bool) → names row start.address ≡ b → Where b (HasMoved call start p q) (q ≡ p) → IsWalletPass lane (calls ++ call ∷ []) start q
-      one true on has = record {
-        number = ap (λ (x : WalletPass). x.number) has.pass ∙ are.0.number;
-        none_left = subst (λ (x : WalletPass). x.until ≤ x.next) (sym has.pass) are.0.none_left;
-        idle = ap (λ (x : WalletPass). x.stage) has.pass ∙ are.0.idle;
-        mine =
-            ap (λ (x : WalletPass). x.mine) has.pass
-            ∙ ap (λ (l : List (Stamped WalletEntry)). l ++ entries_in start.address call) are.0.mine
-            ∙ sym (entries-more start.address calls);
-      }
-      one false off same =
-          subst (IsWalletPass lane (calls ++ call ∷ []) start) (sym same)
-          (record {
-            number = are.0.number;
-            none_left = are.0.none_left;
-            idle = are.0.idle;
-            mine =
-                are.0.mine
-                ∙ sym (entries-more start.address calls
-                ∙ ap (λ (l : List (Stamped WalletEntry)). entries_on start.address calls ++ l) (none-in start.address moves off)
-                ∙ append-nil (entries_on start.address calls));
-          })
+  wallet-passes lane calls starts before after moves =
+      passes-grown (λ (start : PlainAccount). names row start.address) (λ (start : PlainAccount). entries_in start.address call)
+      (λ (start : PlainAccount) (seen : List (Stamped WalletEntry)). IsWalletLegal (balance_of start.bytes) (items_of seen)) lane
+      (λ (start : PlainAccount). entries_on start.address calls) (λ (start : PlainAccount). entries_on start.address (calls ++ call ∷ [])) (λ start on. entries-more start.address calls)
+      (λ start off.
+      entries-more start.address calls
+      ∙ ap (λ (l : List (Stamped WalletEntry)). entries_on start.address calls ++ l) (none-in start.address moves off)
+      ∙ append-nil (entries_on start.address calls))
+      starts before after
 
   pub below-more : (script : PlainScript) (last : ℕ) (calls : List (Stamped Call)) → All (λ (c : Stamped Call). c.stamp ≤ last) calls → IsTold script last call
       → All (λ (c : Stamped Call). c.stamp ≤ call.stamp) (calls ++ call ∷ [])
@@ -338,8 +278,14 @@ module _ (bank : BankState) (row : PlainRow) (before : SeatState) (next : IsNext
   pub seat-of : IsSeatOf bank seat_after
   seat-of = record {
     script = of.script;
-    markets = market-gates row call asked bank.script.start.markets bank.markets before.markets (set before.markets place left) markets-grown of.markets;
-    wallets = gates-grown (row_wallets row) call bank.script.start.wallets bank.wallets before.wallets wallets grown of.wallets;
+    markets =
+        gates-grown (λ (start : PlainMarketAccounts). is_same row.market start.address) (λ (start : PlainMarketAccounts). call ∷ [])
+        (λ (start : PlainMarketAccounts) (seen : List (Stamped Call)). IsLegal (market_in start) (items_of seen)) bank.script.start.markets bank.markets before.markets
+        (set before.markets place left) markets-grown of.markets;
+    wallets =
+        gates-grown (λ (start : PlainAccount). names row start.address) (λ (start : PlainAccount). entries_in start.address call)
+        (λ (start : PlainAccount) (seen : List (Stamped WalletEntry)). IsWalletLegal (balance_of start.bytes) (items_of seen)) bank.script.start.wallets bank.wallets
+        before.wallets wallets grown of.wallets;
   }
 
   pub seat-kept : IsSeat seat_after
