@@ -1,7 +1,6 @@
 -- What all lanes leave is what the items leave in the order of their stamps.
-use Rattle.std.proofs.Common.{◌≡◌, ℕ, List, [], map, refl, sym, ap, ◌∙◌, subst}
+use Rattle.std.proofs.Common.{◌≡◌, ℕ, List, [], map, sym, ap, ◌∙◌, subst}
 use Rattle.std.specs.List.{flat_map}
-use Rattle.dex_types.specs.declared.addresses.Address.{Address}
 use Rattle.dex_types.specs.Accounts.{PlainAccount, PlainMarketAccounts}
 use Rattle.dex_types.specs.Market.{Market}
 use Rattle.dex_accounts.specs.Decoded.{market_in}
@@ -9,10 +8,10 @@ use Rattle.dex_history.specs.Journal.{market_after}
 use Rattle.dex_token.specs.TokenAccount.{WalletWords, wallet_words}
 use Rattle.dex_token.proofs.AmountWrites.{wallet_words-with_amount}
 use Rattle.dex_wallet.specs.CellState.{CellState, balance_of}
-use Rattle.dex_cell.specs.CellState.{MarketCellState, entries_of}
+use Rattle.dex_cell.specs.CellState.{entries_of}
 use Rattle.dex_act.specs.Wallets.{wallet_state_of}
 use Rattle.dex_bank.specs.Cells.{market_state_of, world_of}
-use Rattle.dex_fold.specs.World.{MarketState, WalletState, World}
+use Rattle.dex_fold.specs.World.{MarketState, WalletState}
 use Rattle.dex_script.specs.Drafts.{PlainScript}
 use Rattle.dex_journals.specs.Journals.{BankMarketState, BankWalletState}
 use Rattle.dex_replay.specs.Replays.{world_after}
@@ -24,7 +23,7 @@ use Rattle.dex_order.proofs.Acting.{turns-act}
 use Rattle.dex_order.proofs.Fronts.{market_front, market_with, wallet_front, wallet_with, world_front}
 use Rattle.dex_order.proofs.Items.{call_in}
 use Rattle.dex_order.proofs.Journals.{are-legal, made, market-journal, market-start, wallet-journal, wallet-start}
-use Rattle.dex_order.proofs.LastCells.{are-cells, are-of-script, last_cells, market_cells, wallet_cells}
+use Rattle.dex_order.proofs.LastCells.{are-cells, are-of-script, last_cells, wallet_cells}
 use Rattle.dex_order.proofs.Once.{are-once}
 use Rattle.dex_order.proofs.Orders.{lanes-kept, order_of, ordered_turns, turns-flat}
 use Rattle.dex_order.proofs.Steps.{AreLegal}

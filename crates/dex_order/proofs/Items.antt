@@ -1,9 +1,8 @@
 -- The calls of all lanes, each with its row.
-use Rattle.std.proofs.Common.{◌≡◌, ℕ, zero, suc, ◌+◌, ◌<◌, ◌≤◌, Bool, true, false, eqb, List, [], ◌∷◌, ◌++◌, length, map, refl, sym, ap, ◌∙◌, subst, arith, ⊎_elim}
-use Rattle.std.specs.List.{All, filter, flat_map, range_with_len}
-use Rattle.std.proofs.lemmas.Bool.{cases_Bool, eqb-false, eqb-true, ne_eqb}
-use Rattle.std.proofs.lemmas.List.{append-nil, map-append, take_all}
-use Rattle.std.proofs.lemmas.List.Elements.{All-filter, All-head, All-tail, All-weaker, filter-append, filter_passes}
+use Rattle.std.proofs.Common.{◌≡◌, ℕ, ◌+◌, ◌<◌, ◌≤◌, eqb, List, [], ◌∷◌, ◌++◌, length, map, refl, ap, ◌∙◌, arith}
+use Rattle.std.specs.List.{All, flat_map}
+use Rattle.std.proofs.lemmas.List.{map-append, take_all}
+use Rattle.std.proofs.lemmas.List.Elements.{All-filter, All-head, All-tail}
 use Rattle.dex_types.specs.Rows.{PlainRow}
 use Rattle.dex_history.specs.Journal.{Asked, Call, asked_of}
 use Rattle.dex_script.specs.Drafts.{PlainScript}
@@ -13,8 +12,7 @@ use Rattle.dex_fold.specs.Items.{rows_of_lane}
 use Rattle.dex_replay.specs.Lawful.{IsSight}
 use Rattle.dex_replay.proofs.MappedLists.{All-unmap}
 use Rattle.dex_order.specs.Lanes.{IsLaneDone, Lane, MovesEach}
-use Rattle.dex_order.proofs.Sorted.{Rises, rises-from_pairs}
-use Rattle.dex_order.proofs.Gathered.{filter-all, filter-none}
+use Rattle.dex_order.proofs.Sorted.{Rises}
 
 -- a call, and a row of the script that asked for it
 pub record Item (script : PlainScript) : Type 0 where

@@ -12,7 +12,7 @@ use Rattle.dex_replay.specs.Lawful.{IsSight}
 use Rattle.dex_script.specs.Drafts.{PlainScript}
 use Rattle.dex_stamps.specs.Stamped.{Stamped}
 use Rattle.dex_fold.specs.Items.{rows_of_lane}
-use Rattle.dex_fold.specs.Groups.{Group, grouped, members}
+use Rattle.dex_fold.specs.Groups.{Group, grouped}
 use Rattle.dex_fold.proofs.GroupLaws.{grouped-behind, grouped-one}
 use Rattle.dex_order.specs.Lanes.{AreAllOrNone, IsBefore, IsLane, MovesEach, number_in}
 

@@ -1,5 +1,5 @@
 -- The order of the items' stamps keeps the order of each lane.
-use Rattle.std.proofs.Common.{◌≡◌, ℕ, ◌<◌, Bool, true, false, ◌||◌, cond, eqb, List, [], ◌∷◌, map, sym, ap, ◌∙◌, subst, arith, ⊎_elim}
+use Rattle.std.proofs.Common.{◌≡◌, ℕ, ◌<◌, Bool, true, false, eqb, List, [], ◌∷◌, map, sym, ap, ◌∙◌, subst, arith, ⊎_elim}
 use Rattle.std.specs.List.{All, filter, flat_map, list_any, range_with_len}
 use Rattle.std.proofs.lemmas.Bool.{cases_Bool, cond-false, cond-true, eqb-true, false_from_ne_true}
 use Rattle.std.proofs.lemmas.List.Elements.{All-cons, All-nil, All-weaker}
@@ -8,12 +8,11 @@ use Rattle.dex_fold.specs.Items as item
 use Rattle.dex_fold.specs.Items.{items_of, items_of_lane, rows_of_lane}
 use Rattle.dex_script.specs.Drafts.{PlainScript}
 use Rattle.dex_script.specs.Facts.{lanes_of}
-use Rattle.dex_stamps.specs.Stamped.{Stamped}
 use Rattle.dex_replay.proofs.MappedLists.{filter-of}
 use Rattle.dex_order.specs.Merged.{AreMerged, Histories}
 use Rattle.dex_order.proofs.Gathered.{filter-none, one-within}
-use Rattle.dex_order.proofs.Items.{Item, all_items, call_in, stamp_in}
-use Rattle.dex_order.proofs.Journals.{filter-sorted, made, ordered}
+use Rattle.dex_order.proofs.Items.{Item, stamp_in}
+use Rattle.dex_order.proofs.Journals.{filter-sorted, ordered}
 use Rattle.dex_order.proofs.Sorted.{picked-sorted, sorted, sorted-rising}
 use Rattle.dex_order.proofs.Turns.{IsPart, Turn, all-flat, all_turns, item_in, items_in, part, stamp_of}
 

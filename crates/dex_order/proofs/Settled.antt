@@ -1,8 +1,8 @@
 -- Calls with what their markets did for them in place of what their rows asked: the same world. So a take that was held back is a row with
 -- nothing to do.
-use Rattle.std.proofs.Common.{◌≡◌, Bool, true, false, cond, List, [], ◌∷◌, ◌++◌, get_or, map, Result, refl, sym, ap, ◌∙◌, subst, lit≤, arith}
-use Rattle.std.specs.List.{All, filter}
-use Rattle.std.proofs.lemmas.Bool.{cond-false, cond-true, cond_both}
+use Rattle.std.proofs.Common.{◌≡◌, Bool, true, false, cond, List, [], ◌∷◌, ◌++◌, get_or, map, Result, refl, sym, ap, ◌∙◌, subst, lit≤}
+use Rattle.std.specs.List.{filter}
+use Rattle.std.proofs.lemmas.Bool.{cond_both}
 use Rattle.std.proofs.lemmas.List.{map-append}
 use Rattle.std.proofs.lemmas.List.Elements.{All-map, All-weaker, filter_agree}
 use Rattle.dex_types.specs.declared.addresses.Address.{Address}
@@ -11,7 +11,6 @@ use Rattle.dex_types.specs.declared.instructions.Ix.{Ix}
 use Rattle.dex_types.specs.declared.movements.Entry.{Entry}
 use Rattle.dex_types.specs.declared.movements.Movement.{Movement}
 use Rattle.dex_types.specs.declared.movements.WalletEntry.{WalletEntry}
-use Rattle.dex_types.specs.declared.rows.Seen.{Seen}
 use Rattle.dex_types.specs.Accounts.{PlainAccount, PlainMarketAccounts}
 use Rattle.dex_types.specs.Addresses.{is_same}
 use Rattle.dex_types.specs.Market.{Market}
@@ -31,7 +30,7 @@ use Rattle.dex_stamps.specs.Stamped.{Stamped, items_of}
 use Rattle.dex_journals.specs.Made.{calls_on, entries_in, entries_on}
 use Rattle.dex_replay.proofs.MappedLists.{filter-of, map-agree, map-map}
 use Rattle.dex_order.specs.Lanes.{MovesEach}
-use Rattle.dex_order.proofs.Fronts.{calls_at, entries_at, market_front, market_with, wallet_front, wallet_with, world_front}
+use Rattle.dex_order.proofs.Fronts.{calls_at, market_front, market_with, wallet_front, wallet_with, world_front}
 use Rattle.dex_order.proofs.Items.{Item, call_in, row_in}
 use Rattle.dex_order.proofs.Seeing.{IsWalletLegalAt}
 use Rattle.dex_order.proofs.Steps.{AreLegal, AreOnce, IsMarketLegalAt, items-replayed}

@@ -1,24 +1,22 @@
 -- The items of all lanes: calls of one number with their rows. Each has one stamp.
-use Rattle.std.proofs.Common.{◌≡◌, ℕ, zero, suc, ◌+◌, ◌<◌, ◌≤◌, Bool, true, false, ◌||◌, cond, eqb, List, [], ◌∷◌, ◌++◌, length, get_or, map, refl, sym, ap, ◌∙◌, subst, arith, ⊎_elim}
-use Rattle.std.specs.List.{All, AllPairs, filter, flat_map, list_any, range_with_len}
-use Rattle.std.proofs.lemmas.Bool.{cases_Bool, cond-false, cond-true, eqb-false, eqb-true, ne_eqb}
-use Rattle.std.proofs.lemmas.List.{append-nil, append_assoc, map-append}
+use Rattle.std.proofs.Common.{◌≡◌, ℕ, zero, suc, ◌+◌, ◌<◌, Bool, true, false, ◌||◌, cond, eqb, List, [], ◌∷◌, ◌++◌, map, refl, sym, ap, ◌∙◌, subst, arith, ⊎_elim}
+use Rattle.std.specs.List.{All, filter, flat_map, list_any, range_with_len}
+use Rattle.std.proofs.lemmas.Bool.{cases_Bool, eqb-false, eqb-true, ne_eqb}
+use Rattle.std.proofs.lemmas.List.{append-nil}
 use Rattle.std.proofs.lemmas.List.Concat.{flat_map-append}
 use Rattle.std.proofs.lemmas.List.Elements.{All-cons, All-nil, All-head, All-tail, All-weaker, filter-append, filter_passes}
-use Rattle.std.proofs.lemmas.List.Folds.{flat_map-map}
 use Rattle.dex_types.specs.Rows.{PlainRow}
-use Rattle.dex_history.specs.Journal.{Asked, Call, asked_of}
+use Rattle.dex_history.specs.Journal.{Asked}
 use Rattle.dex_fold.specs.Groups.{Group, grouped, map_group, members}
 use Rattle.dex_fold.specs.Items as item
 use Rattle.dex_fold.specs.Items.{EachApart, items_of, rows_of_lane}
 use Rattle.dex_fold.proofs.GroupLaws.{EachTwo, Goes, IsOneStamp, Rise, grouped-agree, grouped-flat, grouped-map, grouped-rise, grouped-stamps}
 use Rattle.dex_script.specs.Drafts.{PlainScript}
 use Rattle.dex_script.specs.Facts.{AreRows}
-use Rattle.dex_stamps.specs.Stamped.{Stamped}
-use Rattle.dex_replay.proofs.MappedLists.{All-unmap, map-map}
+use Rattle.dex_replay.proofs.MappedLists.{All-unmap}
 use Rattle.dex_order.specs.Lanes.{AreAllOrNone, IsAsOthers, IsBefore, IsLaneDone, Lane, number_in}
-use Rattle.dex_order.proofs.Gathered.{filter-all, filter-none, none-before}
-use Rattle.dex_order.proofs.Items.{Item, all_items, call_in, first-same, lane-calls, lane-rows, lane_items, rest-same, row_in, rows_in, stamp_in}
+use Rattle.dex_order.proofs.Gathered.{filter-all, filter-none}
+use Rattle.dex_order.proofs.Items.{Item, all_items, call_in, first-same, lane-calls, lane-rows, lane_items, rest-same, row_in, stamp_in}
 use Rattle.dex_order.proofs.Legs.{each-two, legs-apart, two-weaker}
 use Rattle.dex_order.proofs.Sorted.{Rises}
 

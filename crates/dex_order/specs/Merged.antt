@@ -1,5 +1,5 @@
 -- The journals of markets and wallets beside what the lanes made.
-use Rattle.std.specs.Prelude.{ℕ, ◌≡◌, ◌<◌, List, All, length, map}
+use Rattle.std.specs.Prelude.{◌≡◌, ◌<◌, List, All, length, map}
 use Rattle.std.specs.List.{AllZip, range_with_len}
 use Rattle.dex_types.specs.declared.movements.WalletEntry.{WalletEntry}
 use Rattle.dex_types.specs.Accounts.{PlainAccount, PlainMarketAccounts}

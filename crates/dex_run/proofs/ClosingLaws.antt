@@ -1,5 +1,5 @@
 -- What the gates give, when all seats are back, is what the lanes of the script made.
-use Rattle.std.proofs.Common.{◌≡◌, ℕ, zero, suc, ◌+◌, ◌<◌, ◌||◌, List, [], ◌∷◌, Option, Vec, drop, get_or, length, map, refl, sym, ap, ◌∙◌, subst, arith}
+use Rattle.std.proofs.Common.{◌≡◌, ℕ, zero, suc, ◌+◌, ◌<◌, List, Option, Vec, get_or, length, map, refl, sym, ap, ◌∙◌, subst}
 use Rattle.std.specs.List.{All, AllZip, range_with_len}
 use Rattle.std.proofs.lemmas.List.{length-map}
 use Rattle.std.proofs.lemmas.List.Elements.{All-map, All-weaker}
@@ -7,7 +7,6 @@ use Rattle.dex_types.specs.declared.addresses.Address.{Address}
 use Rattle.dex_types.specs.declared.movements.WalletEntry.{WalletEntry}
 use Rattle.dex_types.specs.declared.terms.Program.{Program}
 use Rattle.dex_types.specs.Accounts.{PlainAccount, PlainMarketAccounts}
-use Rattle.dex_types.specs.Addresses.{is_same}
 use Rattle.dex_cell.specs.CellState.{IsMarketCell, MarketCellState}
 use Rattle.dex_wallet.specs.CellState.{CellState, IsWalletCell}
 use Rattle.dex_act.specs.Wallets.{AreApart}
@@ -30,7 +29,7 @@ use Rattle.dex_order.proofs.LastCells.{wallets-kept}
 use Rattle.dex_run.specs.Bank.{BankState, IsBank, IsMarketGate, IsWalletGate}
 use Rattle.dex_run.specs.Closing.{AreMarketsClosed, AreWalletsClosed, ClosesAs, IsMarketClosed, IsMarketPassAt, IsWalletClosed, IsWalletPassAt, MarketColumns, WalletColumns}
 use Rattle.dex_run.specs.Seats.{IsDone, IsSeat, IsSeatOf, SeatState, lane_in}
-use Rattle.dex_run.proofs.ColumnLists.{All-across, AllThree-length, AllZip-last_of, map-across}
+use Rattle.dex_run.proofs.ColumnLists.{All-across, AllThree-length, AllZip-last_of}
 
 length-range : (first count : ℕ) → length (range_with_len first count) ≡ count
 length-range first zero = refl

@@ -2,10 +2,8 @@
 use Rattle.std.proofs.Common.{◌≡◌, ℕ, zero, suc, ◌+◌, ◌<◌, ◌≤◌, ◌==◌, Bool, true, false, ◌||◌, cond, List, [], ◌∷◌, ◌++◌, length, map, set, get_or, take, Some, refl, sym, ap, ◌∙◌, subst, arith}
 use Rattle.std.specs.List.{All, AllZip, list_any}
 use Rattle.std.proofs.lemmas.Bool.{eqb-true}
-use Rattle.std.proofs.lemmas.List.{append-nil, append_assoc, get_or-map, length-append, length-map, map-append}
+use Rattle.std.proofs.lemmas.List.{append-nil, append_assoc, get_or-map, length-map}
 use Rattle.std.proofs.lemmas.List.Elements.{All-filter, All-push, All-weaker, filter-append, filter_passes}
-use Rattle.std.proofs.lemmas.List.Quantifiers.{all_pairs_push}
-use Rattle.std.proofs.Math.Seq.{take-append-add}
 use Rattle.dex_types.specs.declared.addresses.Address.{Address}
 use Rattle.dex_types.specs.declared.movements.WalletEntry.{WalletEntry}
 use Rattle.dex_types.specs.Accounts.{PlainAccount, PlainMarketAccounts}
@@ -28,7 +26,7 @@ use Rattle.dex_fold.specs.Items.{rows_of_lane}
 use Rattle.dex_order.specs.Lanes.{IsLane, MovesEach}
 use Rattle.dex_run.specs.Bank.{BankState, IsBank, IsMarketGate, market_addresses}
 use Rattle.dex_run.specs.Seats.{IsMarketPass, IsSeat, IsSeatOf, IsWalletPass, SeatState}
-use Rattle.dex_run.specs.Submitted.{HasCalled, HasMoved, HasSubmitted, IsNext, MarketGrows, WalletGrows, Where}
+use Rattle.dex_run.specs.Submitted.{HasCalled, HasSubmitted, IsNext, MarketGrows, WalletGrows, Where}
 use Rattle.dex_run.specs.Turns.{AreReady, HaveGrown, IsDue, IsTold, MayDraw, MayEnter}
 use Rattle.dex_run.proofs.Counts.{entries-one}
 use Rattle.dex_run.proofs.Distinct.{markets-differ}
