@@ -19,7 +19,7 @@ use dex_bank::{Cells, Room};
 use dex_cell::MarketCell;
 use dex_gate::{Gate, Pass};
 use dex_journals::{BankMarket, BankWallet};
-use dex_order::laws::what_lanes_leave_is_in_one_order;
+use dex_order::laws::what_lanes_leave_is_a_replay;
 use dex_replay::laws::what_one_order_leaves_is_a_run;
 use dex_report::Outcome;
 use dex_wallet::WalletCell;
@@ -218,7 +218,7 @@ fn what_closes_is_in_one_order()
     ensures { (script : PlainScript) (seats : List SeatState) (outcome : PlainOutcome)
         → ClosesAs script seats outcome → IsOneOrder script outcome }
 {
-    what_lanes_leave_is_in_one_order();
+    what_lanes_leave_is_a_replay();
 }
 
 /// So it is a run of their script.

@@ -1,5 +1,5 @@
 use Rattle.dex_order.proofs.Ends.{one-order}
-use Rattle.dex_order.proofs.laws.what_lanes_leave_is_in_one_order.Goals as goal
+use Rattle.dex_order.proofs.laws.what_lanes_leave_is_a_replay.Goals as goal
 
 pub returns : goal.returns
 returns c = one-order
