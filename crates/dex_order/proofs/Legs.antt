@@ -86,8 +86,9 @@ legs-apart script facts lane =
       together = eqb-true one.number other.number;
       later = λ apart. let differ = eqb-false one.number other.number apart in omega (arith, less, differ);
     }) rows (each-two Rising rows (AllPairs-filter Rising of script.rows facts.rising)) in
-    let fits : EachTwo (λ one other. one.number ≡ other.number → ShareNothing one other) rows =
-    two-weaker Legs (λ one other. one.number ≡ other.number → ShareNothing one other) (λ one other legs same. (legs same).apart) rows
+    let Apart : PlainRow → PlainRow → Type 0 = λ one other. one.number ≡ other.number → ShareNothing one other in
+    let fits : EachTwo Apart rows =
+    two-weaker Legs Apart (λ one other legs same. (legs same).apart) rows
     (each-two Legs rows (AllPairs-filter Legs of script.rows facts.legs)) in
     All-weaker (λ (item : Item). EachTwo ShareNothing (members item)) (λ (item : Item). EachApart (members item)) (λ item two. each-apart (members item) two)
     (items_of rows) (grouped-two number ShareNothing rows goes fits)

@@ -39,22 +39,24 @@ module _ (row : PlainRow) (call : Stamped Call) (asked : call.item.asked ≡ ask
       (subst (EachTwo Lower) next (each-two Lower (rows_of_lane lane script.rows) (AllPairs-filter Lower (λ (r : PlainRow). eqb r.lane lane) script.rows single))))
 
   pub row-more : All (λ (c : Stamped Call). c.stamp ≤ last) calls → IsTold script last call → IsItemMore script lane calls (row ∷ []) call []
-  row-more below told = record {
-    later = later;
-    next = next;
-    asked = ap (λ (a : Asked). a ∷ []) asked;
-    sees = All-cons (λ (c : Stamped Call). IsSight script c.item.seen) call [] told.sees (All-nil (λ (c : Stamped Call). IsSight script c.item.seen));
-    moves = All-cons (λ (c : Stamped Call). MovesEach c.item) call [] told.moves (All-nil (λ (c : Stamped Call). MovesEach c.item));
-    one_number = All-nil (λ (c : Stamped Call). number_in c ≡ number_in call);
-    one_stamp = All-nil (λ (c : Stamped Call). c.stamp ≡ call.stamp);
-    fresh = All-weaker (λ (c : Stamped Call). number_in c < row.number) (λ (c : Stamped Call). All (λ (made : Stamped Call). eqb (number_in c) (number_in made) ≡ false) (call ∷ []))
-        (λ c less.
-        All-cons (λ (made : Stamped Call). eqb (number_in c) (number_in made) ≡ false) call []
-        (ne_eqb (number_in c) (number_in call) (λ same. omega (arith, less, same, ap (λ (a : Asked). a.number) asked)))
-        (All-nil (λ (made : Stamped Call). eqb (number_in c) (number_in made) ≡ false))) calls lower;
-    below = All-weaker (λ (c : Stamped Call). c.stamp ≤ last) (λ (c : Stamped Call). c.stamp < call.stamp) (λ c less. omega (arith, less, told.later)) calls below;
-    all_or_none = All-cons (IsAsOthers (call ∷ [])) call [] (told.own ∙ alone (is_refused call.item)) (All-nil (IsAsOthers (call ∷ [])));
-  }
+  row-more below told =
+      let number : number_in call ≡ row.number = ap (λ (a : Asked). a.number) asked in
+      record {
+        later = later;
+        next = next;
+        asked = ap (λ (a : Asked). a ∷ []) asked;
+        sees = All-cons (λ (c : Stamped Call). IsSight script c.item.seen) call [] told.sees (All-nil (λ (c : Stamped Call). IsSight script c.item.seen));
+        moves = All-cons (λ (c : Stamped Call). MovesEach c.item) call [] told.moves (All-nil (λ (c : Stamped Call). MovesEach c.item));
+        one_number = All-nil (λ (c : Stamped Call). number_in c ≡ number_in call);
+        one_stamp = All-nil (λ (c : Stamped Call). c.stamp ≡ call.stamp);
+        fresh = All-weaker (λ (c : Stamped Call). number_in c < row.number) (λ (c : Stamped Call). All (λ (made : Stamped Call). eqb (number_in c) (number_in made) ≡ false) (call ∷ []))
+            (λ c less.
+            All-cons (λ (made : Stamped Call). eqb (number_in c) (number_in made) ≡ false) call []
+            (ne_eqb (number_in c) (number_in call) (λ same. omega (arith, less, same, number)))
+            (All-nil (λ (made : Stamped Call). eqb (number_in c) (number_in made) ≡ false))) calls lower;
+        below = All-weaker (λ (c : Stamped Call). c.stamp ≤ last) (λ (c : Stamped Call). c.stamp < call.stamp) (λ c less. omega (arith, less, told.later)) calls below;
+        all_or_none = All-cons (IsAsOthers (call ∷ [])) call [] (told.own ∙ alone (is_refused call.item)) (All-nil (IsAsOthers (call ∷ [])));
+      }
     where
       alone : (b : Bool) → false ≡ ((b || false) && not b)
       alone true = refl

@@ -10,16 +10,19 @@ use Rattle.dex_types.specs.Accounts.{PlainAccount, PlainMarketAccounts}
 use Rattle.dex_types.specs.Addresses.{is_same}
 use Rattle.dex_types.specs.Rows.{PlainRow}
 use Rattle.dex_types.specs.Wallets.{row_wallets}
+use Rattle.dex_types.specs.WalletJournal.{IsWalletLegal}
 use Rattle.dex_laws.proofs.TraderLaws.{is_same-refl, is_same-sym}
 use Rattle.dex_gate.specs.GateView.{GateView}
-use Rattle.dex_history.specs.Journal.{Asked, Call, asked_of, asked_wallets}
+use Rattle.dex_accounts.specs.Decoded.{market_in}
+use Rattle.dex_history.specs.Journal.{Asked, Call, IsLegal, asked_of, asked_wallets}
 use Rattle.dex_fold.specs.Fold.{names}
 use Rattle.dex_places.specs.Places.{IsPlace}
 use Rattle.dex_script.specs.Drafts.{PlainScript}
 use Rattle.dex_script.specs.Facts.{IsRowOf, IsScript}
 use Rattle.dex_script.specs.Known.{has_market}
 use Rattle.dex_replay.specs.Lawful.{AllThree, IsSight}
-use Rattle.dex_stamps.specs.Stamped.{Stamped}
+use Rattle.dex_wallet.specs.CellState.{balance_of}
+use Rattle.dex_stamps.specs.Stamped.{Stamped, items_of}
 use Rattle.dex_journals.specs.Journals.{MarketOrigin}
 use Rattle.dex_journals.specs.Made.{calls_on, entries_in, entries_on}
 use Rattle.dex_fold.specs.Items.{rows_of_lane}
