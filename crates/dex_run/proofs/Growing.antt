@@ -1,5 +1,5 @@
 -- Passes in declared order, one of which takes a turn.
-use Rattle.std.proofs.Common.{◌≡◌, ℕ, zero, suc, ◌<◌, Bool, true, false, ◌||◌, List, [], ◌∷◌, ◌++◌, length, set, get_or, Some, refl, sym, ap, ◌∙◌, subst, arith}
+use Rattle.std.proofs.Common.{◌≡◌, ℕ, zero, suc, ◌<◌, ◌≤◌, Bool, true, false, ◌||◌, List, [], ◌∷◌, ◌++◌, length, set, get_or, Some, refl, sym, ap, ◌∙◌, subst, arith}
 use Rattle.std.specs.List.{AllZip, list_any}
 use Rattle.std.proofs.lemmas.Bool.{false≢true, or_parts, or_right}
 use Rattle.dex_types.specs.declared.addresses.Address.{Address}
@@ -151,22 +151,22 @@ module _ {S E O : Type 0} (test : S → Bool) (new : S → List E) (Legal : S �
       → ((start : S) → test start ≡ false → more start ≡ old start) → (starts : List S) (before after : List (PassView E O))
       → AllZip (λ (start : S) (pass : PassView E O). IsPass lane (old start) pass) starts before → AllThree Grows starts before after
       → AllZip (λ (start : S) (pass : PassView E O). IsPass lane (more start) pass) starts after
-  passes-grown lane old more yes no [] [] [] are grown = tt
-  passes-grown lane old more yes no [] [] (q ∷ after) are grown = absurd grown
-  passes-grown lane old more yes no [] (p ∷ before) after are grown = absurd are
-  passes-grown lane old more yes no (start ∷ starts) [] after are grown = absurd are
-  passes-grown lane old more yes no (start ∷ starts) (p ∷ before) [] are grown = absurd grown
-  passes-grown lane old more yes no (start ∷ starts) (p ∷ before) (q ∷ after) are grown =
-      (one (test start) refl grown.0, passes-grown lane old more yes no starts before after are.1 grown.1)
+  passes-grown lane old more longer still [] [] [] are grown = tt
+  passes-grown lane old more longer still [] [] (q ∷ after) are grown = absurd grown
+  passes-grown lane old more longer still [] (p ∷ before) after are grown = absurd are
+  passes-grown lane old more longer still (start ∷ starts) [] after are grown = absurd are
+  passes-grown lane old more longer still (start ∷ starts) (p ∷ before) [] are grown = absurd grown
+  passes-grown lane old more longer still (start ∷ starts) (p ∷ before) (q ∷ after) are grown =
+      (one (test start) refl grown.0, passes-grown lane old more longer still starts before after are.1 grown.1)
     where
       one : (b : Bool) → test start ≡ b → Where b (HasMade (new start) (Legal start) p q) (q ≡ p) → IsPass lane (more start) q
       one true on has = record {
         number = ap (λ (x : PassView E O). x.number) has.pass ∙ are.0.number;
         none_left = subst (λ (x : PassView E O). x.until ≤ x.next) (sym has.pass) are.0.none_left;
         idle = ap (λ (x : PassView E O). x.stage) has.pass ∙ are.0.idle;
-        mine = ap (λ (x : PassView E O). x.mine) has.pass ∙ ap (λ (l : List E). l ++ new start) are.0.mine ∙ sym (yes start on);
+        mine = ap (λ (x : PassView E O). x.mine) has.pass ∙ ap (λ (l : List E). l ++ new start) are.0.mine ∙ sym (longer start on);
       }
-      one false off same = subst (IsPass lane (more start)) (sym same) (subst (λ (l : List E). IsPass lane l p) (sym (no start off)) are.0)
+      one false off same = subst (IsPass lane (more start)) (sym same) (subst (λ (l : List E). IsPass lane l p) (sym (still start off)) are.0)
 
   -- each pass is of its gate
   pub gates-grown : (starts : List S) (gates : List (GateView E O)) (before after : List (PassView E O)) → AllThree Grows starts before after
