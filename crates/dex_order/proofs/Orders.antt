@@ -11,7 +11,7 @@ use Rattle.dex_script.specs.Facts.{lanes_of}
 use Rattle.dex_replay.proofs.MappedLists.{filter-of}
 use Rattle.dex_order.specs.Merged.{AreMerged, Histories}
 use Rattle.dex_order.proofs.Gathered.{filter-none, one-within}
-use Rattle.dex_order.proofs.Items.{Item, stamp_in}
+use Rattle.dex_order.proofs.Items.{stamp_in}
 use Rattle.dex_order.proofs.Journals.{filter-sorted, ordered}
 use Rattle.dex_order.proofs.Sorted.{picked-sorted, sorted, sorted-rising}
 use Rattle.dex_order.proofs.Turns.{IsPart, Turn, all-flat, all_turns, item_in, items_in, part, stamp_of}
