@@ -1,6 +1,7 @@
 mod Acting
 pub mod CallEntries
 mod Ends
+mod Examples
 mod Fronts
 mod Gathered
 mod Items
