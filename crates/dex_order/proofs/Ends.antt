@@ -17,18 +17,17 @@ use Rattle.dex_journals.specs.Journals.{BankMarketState, BankWalletState}
 use Rattle.dex_replay.specs.Replays.{world_after}
 use Rattle.dex_replay.specs.Runs.{IsOneOrder}
 use Rattle.dex_replay.proofs.Ends.{is-left}
-use Rattle.dex_replay.proofs.MappedLists.{map-map}
+use Rattle.dex_replay.proofs.Once.{market-once, wallet-once}
+use Rattle.dex_replay.proofs.MappedLists.{map-map, zip-map}
 use Rattle.dex_order.specs.Merged.{AreMerged, Histories, IsMarketMerged, IsWalletMerged, left}
 use Rattle.dex_order.proofs.Acting.{turns-act}
 use Rattle.dex_order.proofs.Fronts.{market_front, market_with, wallet_front, wallet_with, world_front}
 use Rattle.dex_order.proofs.Items.{call_in}
 use Rattle.dex_order.proofs.Journals.{are-legal, made, market-journal, market-start, wallet-journal, wallet-start}
 use Rattle.dex_order.proofs.LastCells.{are-cells, are-of-script, last_cells, wallet_cells}
-use Rattle.dex_order.proofs.Once.{are-once}
 use Rattle.dex_order.proofs.Orders.{lanes-kept, order_of, ordered_turns, turns-flat}
-use Rattle.dex_order.proofs.Steps.{AreLegal}
+use Rattle.dex_order.proofs.Steps.{AreLegal, AreOnce}
 use Rattle.dex_order.proofs.Turns.{items_in}
-use Rattle.dex_order.proofs.Zipped.{zip-same}
 
 module _ (script : PlainScript) (all : Histories) (merged : AreMerged script all) where
   -- a market at the end
@@ -65,7 +64,7 @@ module _ (script : PlainScript) (all : Histories) (merged : AreMerged script all
         program = script.program;
       })
       (map-map (λ (market : BankMarketState). market.cell) market_state_of all.markets
-      ∙ zip-same (IsMarketMerged script all.lanes) (market_front (made script all merged)) (λ (market : BankMarketState). market_state_of market.cell) market-end
+      ∙ zip-map (IsMarketMerged script all.lanes) (market_front (made script all merged)) (λ (market : BankMarketState). market_state_of market.cell) market-end
       script.start.markets all.markets merged.markets)
       ∙ ap (λ (states : List WalletState). record {
         markets = map (market_front (made script all merged)) script.start.markets;
@@ -75,13 +74,22 @@ module _ (script : PlainScript) (all : Histories) (merged : AreMerged script all
         program = script.program;
       })
       (map-map (λ (wallet : BankWalletState). wallet.cell) wallet_state_of all.wallets
-      ∙ zip-same (IsWalletMerged script all.lanes) (wallet_front (made script all merged)) (λ (wallet : BankWalletState). wallet_state_of wallet.cell) wallet-end
+      ∙ zip-map (IsWalletMerged script all.lanes) (wallet_front (made script all merged)) (λ (wallet : BankWalletState). wallet_state_of wallet.cell) wallet-end
       script.start.wallets all.wallets merged.wallets)
+
+  -- of accepted accounts each address is that of one market and of one wallet at most
+  once : AreOnce script
+  once =
+      let accepted = merged.facts.start.accepted in
+      record {
+        markets = λ address. market-once script.start address (accepted.once address);
+        wallets = λ address. wallet-once script.start address (accepted.once address);
+      }
 
   order-world : world_after script (order_of script all merged) ≡ world_front script (made script all merged)
   order-world =
       let same : map call_in (flat_map items_in (ordered_turns script all merged)) ≡ made script all merged = ap (map call_in) (turns-flat script all merged) in
-      turns-act script [] (ordered_turns script all merged) (are-once script merged.facts.start.accepted)
+      turns-act script [] (ordered_turns script all merged) once
       (subst (AreLegal script) (sym same) (are-legal script all merged))
       ∙ ap (world_front script) same
 

@@ -14,11 +14,11 @@ use Rattle.dex_bank.specs.Cells.{AreCells, CellsState}
 use Rattle.dex_bank.specs.Opened.{rows_naming, rows_on, wallet_opened}
 use Rattle.dex_bank.proofs.OpenCells.{wallets-apart}
 use Rattle.dex_journals.specs.Journals.{BankMarketState, BankWalletState, MarketOrigin, WalletOrigin}
-use Rattle.dex_replay.proofs.MappedLists.{map-map}
+use Rattle.dex_replay.proofs.MappedLists.{map-map, zip-map}
 use Rattle.dex_replay.proofs.Starts.{AreOfScript, start_account}
 use Rattle.dex_order.specs.Lanes.{Lane}
 use Rattle.dex_order.specs.Merged.{Histories, IsMarketMerged, IsWalletMerged}
-use Rattle.dex_order.proofs.Zipped.{zip-each, zip-map, zip-same}
+use Rattle.dex_order.proofs.Zipped.{zip-each, zip-told}
 
 -- the cells of markets
 abbrev pub market_cells : Histories → List MarketCellState
@@ -65,7 +65,7 @@ wallets-kept script lanes wallets accepted merged =
     apart-across (map (wallet_opened script.rows) script.start.wallets) (map (λ (wallet : BankWalletState). wallet.cell) wallets)
     (map-map (wallet_opened script.rows) (λ (cell : CellState). cell.address) script.start.wallets
     ∙ sym (map-map (λ (wallet : BankWalletState). wallet.cell) (λ (cell : CellState). cell.address) wallets
-    ∙ zip-same (IsWalletMerged script lanes) (λ (account : PlainAccount). account.address) (λ (wallet : BankWalletState). wallet.cell.address)
+    ∙ zip-map (IsWalletMerged script lanes) (λ (account : PlainAccount). account.address) (λ (wallet : BankWalletState). wallet.cell.address)
     (λ account wallet is. ap (λ (origin : WalletOrigin). origin.start.address) is.origin) script.start.wallets wallets merged))
     (wallets-apart script.rows script.start accepted)
 
@@ -92,13 +92,13 @@ module _ (script : PlainScript) (all : Histories) (markets : AllZip (IsMarketMer
     msrm = refl;
     program = refl;
     markets = map-map (λ (market : BankMarketState). market.cell) (λ (cell : MarketCellState). cell.start) all.markets
-        ∙ zip-map (IsMarketMerged script all.lanes) (λ (market : BankMarketState). market.cell.start) (λ first market is. ap (λ (origin : MarketOrigin). origin.start) is.origin)
+        ∙ zip-told (IsMarketMerged script all.lanes) (λ (market : BankMarketState). market.cell.start) (λ first market is. ap (λ (origin : MarketOrigin). origin.start) is.origin)
         script.start.markets all.markets markets;
     market_room = All-map (λ (cell : MarketCellState). cell.room ≡ rows_on cell.start.address script.rows) (λ (market : BankMarketState). market.cell) all.markets
         (zip-each (IsMarketMerged script all.lanes) (λ (market : BankMarketState). market.cell.room ≡ rows_on market.cell.start.address script.rows) market-room
         script.start.markets all.markets markets);
     wallets = map-map (λ (wallet : BankWalletState). wallet.cell) start_account all.wallets
-        ∙ zip-map (IsWalletMerged script all.lanes) (λ (wallet : BankWalletState). start_account wallet.cell) (λ first wallet is. ap (λ (origin : WalletOrigin). origin.start) is.origin)
+        ∙ zip-told (IsWalletMerged script all.lanes) (λ (wallet : BankWalletState). start_account wallet.cell) (λ first wallet is. ap (λ (origin : WalletOrigin). origin.start) is.origin)
         script.start.wallets all.wallets wallets;
     wallet_room = All-map (λ (cell : CellState). cell.room ≡ rows_naming cell.address script.rows) (λ (wallet : BankWalletState). wallet.cell) all.wallets
         (zip-each (IsWalletMerged script all.lanes) (λ (wallet : BankWalletState). wallet.cell.room ≡ rows_naming wallet.cell.address script.rows) wallet-room

@@ -8,8 +8,6 @@ mod Items
 mod Journals
 pub mod LaneGrowth
 pub mod LastCells
-pub mod Legs
-pub mod Once
 mod Orders
 mod Seeing
 mod Settled

@@ -9,8 +9,9 @@ use Rattle.dex_fold.specs.Items.{items_of, items_of_lane, rows_of_lane}
 use Rattle.dex_script.specs.Drafts.{PlainScript}
 use Rattle.dex_script.specs.Facts.{lanes_of}
 use Rattle.dex_replay.proofs.MappedLists.{filter-of}
+use Rattle.dex_replay.proofs.Groups.{filter-none}
 use Rattle.dex_order.specs.Merged.{AreMerged, Histories}
-use Rattle.dex_order.proofs.Gathered.{filter-none, one-within}
+use Rattle.dex_order.proofs.Gathered.{one-within}
 use Rattle.dex_order.proofs.Items.{stamp_in}
 use Rattle.dex_order.proofs.Journals.{filter-sorted, ordered}
 use Rattle.dex_order.proofs.Sorted.{picked-sorted, sorted, sorted-rising}

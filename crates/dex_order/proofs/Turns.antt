@@ -13,11 +13,11 @@ use Rattle.dex_fold.specs.Items.{EachApart, items_of, rows_of_lane}
 use Rattle.dex_fold.proofs.GroupLaws.{EachTwo, Goes, IsOneStamp, Rise, grouped-agree, grouped-flat, grouped-map, grouped-rise, grouped-stamps}
 use Rattle.dex_script.specs.Drafts.{PlainScript}
 use Rattle.dex_script.specs.Facts.{AreRows}
+use Rattle.dex_replay.proofs.Groups.{each-two, each-two-weaker, filter-all, filter-none}
 use Rattle.dex_replay.proofs.MappedLists.{All-unmap}
+use Rattle.dex_replay.proofs.Orders.{items-apart}
 use Rattle.dex_order.specs.Lanes.{AreAllOrNone, IsAsOthers, IsBefore, IsLaneDone, Lane, number_in}
-use Rattle.dex_order.proofs.Gathered.{filter-all, filter-none}
 use Rattle.dex_order.proofs.Items.{Item, all_items, call_in, first-same, lane-calls, lane-rows, lane_items, rest-same, row_in, stamp_in}
-use Rattle.dex_order.proofs.Legs.{each-two, legs-apart, two-weaker}
 use Rattle.dex_order.proofs.Sorted.{Rises}
 
 -- ---- one of them
@@ -102,7 +102,7 @@ module _ (script : PlainScript) (facts : AreRows script) where
 
     pub goes : EachTwo (Goes number_of stamp_in) own
     goes =
-        two-weaker (λ (x y : Item script). IsBefore x.call y.call) (Goes number_of stamp_in) (λ x y is. record { together = is.together; later = is.later }) own
+        each-two-weaker (λ (x y : Item script). IsBefore x.call y.call) (Goes number_of stamp_in) (λ x y is. record { together = is.together; later = is.later }) own
         (two-unmap IsBefore call_in own
         (subst (EachTwo IsBefore) (sym (lane-calls script facts.each lane done)) (each-two IsBefore lane.calls done.calls.rising)))
 
@@ -124,7 +124,7 @@ module _ (script : PlainScript) (facts : AreRows script) where
     pub apart : All (λ (group : Group (Item script)). EachApart (map row_in (members group))) groups
     apart =
         All-unmap (λ (one : item.Item). EachApart (members one)) (map_group row_in) groups
-        (subst (All (λ (one : item.Item). EachApart (members one))) (sym rows-grouped) (legs-apart script facts lane.number))
+        (subst (All (λ (one : item.Item). EachApart (members one))) (sym rows-grouped) (items-apart script facts lane.number))
 
     pub all-turns : (some : List (Group (Item script))) → All (IsOneStamp number_of stamp_in) some
         → All (λ (group : Group (Item script)). All (λ (one : Item script). IsAsOthers (map call_in (members group)) one.call) (members group)) some

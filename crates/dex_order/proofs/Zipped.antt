@@ -1,8 +1,9 @@
 -- Two lists place by place.
-use Rattle.std.proofs.Common.{◌≡◌, List, [], ◌∷◌, map, refl, ap, ◌∙◌}
+use Rattle.std.proofs.Common.{◌≡◌, List, [], ◌∷◌, map, ◌∙◌}
 use Rattle.std.specs.List.{All, AllZip}
 use Rattle.std.proofs.lemmas.List.{map-id}
 use Rattle.std.proofs.lemmas.List.Elements.{All-cons, All-nil}
+use Rattle.dex_replay.proofs.MappedLists.{zip-map}
 
 -- what holds of each pair of places holds of the first list's elements, and of the second's
 pub zip-first : {A B : Type 0} (R : A → B → Type 0) (P : A → Type 0) → ((x : A) (y : B) → R x y → P x) → (xs : List A) (ys : List B) → AllZip R xs ys → All P xs
@@ -17,13 +18,6 @@ zip-each R P each [] (y ∷ ys) all = absurd all
 zip-each R P each (x ∷ xs) [] all = absurd all
 zip-each R P each (x ∷ xs) (y ∷ ys) all = All-cons P y ys (each x y all.0) (zip-each R P each xs ys all.1)
 
--- where each pair makes the same, so do the lists
-pub zip-same : {A B C : Type 0} (R : A → B → Type 0) (f : A → C) (g : B → C) → ((x : A) (y : B) → R x y → g y ≡ f x)
-    → (xs : List A) (ys : List B) → AllZip R xs ys → map g ys ≡ map f xs
-zip-same R f g each [] [] all = refl
-zip-same R f g each [] (y ∷ ys) all = absurd all
-zip-same R f g each (x ∷ xs) [] all = absurd all
-zip-same R f g each (x ∷ xs) (y ∷ ys) all = ap (λ z. z ∷ map g ys) (each x y all.0) ∙ ap (λ zs. f x ∷ zs) (zip-same R f g each xs ys all.1)
-
-pub zip-map : {A B : Type 0} (R : A → B → Type 0) (f : B → A) → ((x : A) (y : B) → R x y → f y ≡ x) → (xs : List A) (ys : List B) → AllZip R xs ys → map f ys ≡ xs
-zip-map R f each xs ys all = zip-same R (λ x. x) f each xs ys all ∙ map-id xs
+-- where each of the second list tells its one of the first, the second list tells the first
+pub zip-told : {A B : Type 0} (R : A → B → Type 0) (f : B → A) → ((x : A) (y : B) → R x y → f y ≡ x) → (xs : List A) (ys : List B) → AllZip R xs ys → map f ys ≡ xs
+zip-told R f each xs ys all = zip-map R (λ x. x) f each xs ys all ∙ map-id xs

@@ -10,7 +10,7 @@ use Rattle.dex_types.specs.Addresses.{is_same}
 use Rattle.dex_laws.proofs.TraderLaws.{is_same-refl}
 use Rattle.dex_dump.specs.Accepted.{AreAccepted, times}
 use Rattle.dex_places.specs.Places.{AreDistinct}
-use Rattle.dex_order.proofs.Once.{markets-once, wallets-once}
+use Rattle.dex_replay.proofs.Once.{market-once, wallet-once}
 use Rattle.dex_run.proofs.Distinct.{one, times-cons}
 
 -- an address that stands nowhere among others is none of them
@@ -32,7 +32,7 @@ distinct (first ∷ others) once =
     (distinct others (λ address. omega (arith, once address, times-cons address first others)))
 
 pub markets-distinct : (accounts : PlainAccounts) → AreAccepted accounts → AreDistinct (map (λ (market : PlainMarketAccounts). market.address) accounts.markets)
-markets-distinct accounts accepted = distinct (map (λ (market : PlainMarketAccounts). market.address) accounts.markets) (markets-once accounts accepted)
+markets-distinct accounts accepted = distinct (map (λ (market : PlainMarketAccounts). market.address) accounts.markets) (λ address. market-once accounts address (accepted.once address))
 
 pub wallets-distinct : (accounts : PlainAccounts) → AreAccepted accounts → AreDistinct (map (λ (account : PlainAccount). account.address) accounts.wallets)
-wallets-distinct accounts accepted = distinct (map (λ (account : PlainAccount). account.address) accounts.wallets) (wallets-once accounts accepted)
+wallets-distinct accounts accepted = distinct (map (λ (account : PlainAccount). account.address) accounts.wallets) (λ address. wallet-once accounts address (accepted.once address))

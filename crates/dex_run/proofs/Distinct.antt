@@ -8,7 +8,7 @@ use Rattle.dex_types.specs.Accounts.{PlainAccount, PlainAccounts, PlainMarketAcc
 use Rattle.dex_types.specs.Addresses.{is_same}
 use Rattle.dex_laws.proofs.TraderLaws.{is_same-refl}
 use Rattle.dex_dump.specs.Accepted.{AreAccepted, times}
-use Rattle.dex_order.proofs.Once.{markets-once, wallets-once}
+use Rattle.dex_replay.proofs.Once.{market-once, wallet-once}
 use Rattle.dex_run.proofs.Growing.{Differ}
 
 abbrev pub one : Bool → ℕ
@@ -34,7 +34,7 @@ differ-once key (x ∷ xs) once = (
 )
 
 pub wallets-differ : (accounts : PlainAccounts) → AreAccepted accounts → Differ (λ (account : PlainAccount). account.address) accounts.wallets
-wallets-differ accounts accepted = differ-once (λ (account : PlainAccount). account.address) accounts.wallets (wallets-once accounts accepted)
+wallets-differ accounts accepted = differ-once (λ (account : PlainAccount). account.address) accounts.wallets (λ address. wallet-once accounts address (accepted.once address))
 
 pub markets-differ : (accounts : PlainAccounts) → AreAccepted accounts → Differ (λ (market : PlainMarketAccounts). market.address) accounts.markets
-markets-differ accounts accepted = differ-once (λ (market : PlainMarketAccounts). market.address) accounts.markets (markets-once accounts accepted)
+markets-differ accounts accepted = differ-once (λ (market : PlainMarketAccounts). market.address) accounts.markets (λ address. market-once accounts address (accepted.once address))

@@ -12,10 +12,10 @@ use Rattle.dex_script.specs.Drafts.{PlainScript}
 use Rattle.dex_script.specs.Facts.{HasNoSwap}
 use Rattle.dex_stamps.specs.Stamped.{Stamped}
 use Rattle.dex_replay.specs.Lawful.{IsSight}
+use Rattle.dex_replay.proofs.Groups.{each-two}
 use Rattle.dex_replay.proofs.MappedLists.{All-across}
 use Rattle.dex_order.specs.Lanes.{IsAsOthers, IsLane, MovesEach, number_in}
 use Rattle.dex_order.proofs.LaneGrowth.{IsItemMore}
-use Rattle.dex_order.proofs.Legs.{each-two}
 use Rattle.dex_run.specs.Turns.{IsTold}
 use Rattle.dex_run.proofs.Taking.{all-midst}
 
