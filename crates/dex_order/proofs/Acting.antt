@@ -1,30 +1,28 @@
 -- An item leaves the world after its calls: each of its rows is refused in the world before it just where its call was, so all act, or each
 -- that is not refused is held back.
-use Rattle.std.proofs.Common.{◌≡◌, ◌&&◌, ◌||◌, not, Bool, true, false, cond, List, [], ◌∷◌, ◌++◌, get_or, map, Option, Some, is_some, refl, sym, ap, ◌∙◌, subst, ⊎_elim}
+use Rattle.std.proofs.Common.{◌≡◌, ◌&&◌, ◌||◌, not, Bool, true, false, cond, List, [], ◌∷◌, ◌++◌, get_or, map, Option, is_some, refl, sym, ap, ◌∙◌, subst, ⊎_elim}
 use Rattle.std.specs.List.{All, flat_map, list_any}
 use Rattle.std.proofs.lemmas.Bool.{cases_Bool, cond-false, cond-true, cond_both}
 use Rattle.std.proofs.lemmas.List.{append-nil, append_assoc, map-append}
 use Rattle.std.proofs.lemmas.List.Elements.{All-append, All-cons, All-head, All-map, All-nil, All-tail}
-use Rattle.dex_types.specs.declared.addresses.Address.{Address}
 use Rattle.dex_types.specs.declared.rows.Seen.{Seen}
 use Rattle.dex_types.specs.Market.{Market}
 use Rattle.dex_types.specs.Rows.{PlainRow}
 use Rattle.dex_types.specs.Why.{why}
-use Rattle.dex_history.specs.Journal.{Asked, Call, Stands, is_held, is_refused}
-use Rattle.dex_history.proofs.HeldLaws.{refused-told, settled-not_held}
+use Rattle.dex_history.specs.Journal.{Asked, Call, is_held, is_refused}
+use Rattle.dex_history.proofs.HeldLaws.{refused-told}
 use Rattle.dex_fold.specs.Fold.{act, fold}
 use Rattle.dex_fold.specs.Items.{EachApart, ShareNothing, act_item, chosen, fold_items, held_in, idle_row, why_in, why_on}
-use Rattle.dex_fold.specs.World.{World, market_at, seen_by}
+use Rattle.dex_fold.specs.World.{World, market_at}
 use Rattle.dex_fold.proofs.FarLaws.{why-far}
 use Rattle.dex_script.specs.Drafts.{PlainScript}
-use Rattle.dex_script.specs.Known.{has_market}
 use Rattle.dex_stamps.specs.Stamped.{Stamped}
 use Rattle.dex_replay.proofs.MappedLists.{All-unmap, map-agree, map-map}
 use Rattle.dex_order.specs.Lanes.{IsAsOthers}
 use Rattle.dex_order.proofs.Fronts.{world_front}
 use Rattle.dex_order.proofs.Items.{Item, call_in, row_in}
-use Rattle.dex_order.proofs.Settled.{acted_in, acted_row, acted-sees, items-acted, legal-settled, settle, settle_item, world-settled}
-use Rattle.dex_order.proofs.Steps.{AreLegal, AreOnce, Finds, item-finds, legal-front, market-found}
+use Rattle.dex_order.proofs.Acts.{acted_row}
+use Rattle.dex_order.proofs.Steps.{AreLegal, AreOnce, Finds, acted_in, item-finds, items-acted, legal-front}
 use Rattle.dex_order.proofs.Turns.{Turn, item_in, items_in}
 
 -- ---- rows that share nothing with one
@@ -56,30 +54,16 @@ module _ (script : PlainScript) (made : List (Stamped Call)) (once : AreOnce scr
   told-right earlier later one legal far =
       let before : List (Stamped Call) = made ++ map call_in earlier in
       let row : PlainRow = one.row in
-      let whole : map settle before ++ settle one.call ∷ map settle later ≡ map settle (before ++ one.call ∷ later) =
-      sym (map-append settle before (one.call ∷ later)) in
-      let finds : Finds script (map settle before) (settle_item one) =
-      item-finds script (map settle before) (map settle later) (settle_item one) once
-      (subst (AreLegal script) (sym whole) (legal-settled script (before ++ one.call ∷ later) legal)) (settled-not_held one.call.item) in
-      let sees : seen_by row (world_front script before) ≡ one.call.item.seen =
-      sym (acted-sees row one.call.item (world_front script before))
-      ∙ ap (seen_by (acted_row row one.call.item)) (sym (world-settled script before)) ∙ finds.sees in
-      let market : one.call.item.asked.market ≡ row.market = ap (λ (asked : Asked). asked.market) one.asks in
-      let found = market-found before later one.call script.start.markets
-      (subst (λ (a : Address). has_market a script.start.markets ≡ true) (sym market) one.fits.market) legal.markets in
-      let m : Market = found.0 in
-      let stands : Stands one.call.item m = found.2 in
-      let at : market_at row.market (world_front script before).markets ≡ Some m =
-      subst (λ (a : Address). market_at a (world_front script before).markets ≡ Some m) market found.1 in
+      let finds : Finds script before one = item-finds script before later one once legal in
       let far_acted : All (IsFar row) (map acted_in earlier) =
       All-map (IsFar row) acted_in earlier (λ k d within. acted-far row (get_or earlier k d).row (get_or earlier k d).call.item (far k d within)) in
       ap is_some
       (sym (why-still row (map acted_in earlier) (world_front script made) far_acted)
       ∙ ap (λ (world : World). why_in world row) (items-acted script made earlier once (legal-front script before (one.call ∷ later) legal)))
-      ∙ ap (λ (s : Seen). is_some (why_on row s (market_at row.market (world_front script before).markets))) sees
-      ∙ ap (λ (o : Option Market). is_some (why_on row one.call.item.seen o)) at
-      ∙ ap (λ (asked : Asked). is_some (why asked.request one.call.item.seen m)) (sym one.asks)
-      ∙ sym (refused-told one.call.item m stands)
+      ∙ ap (λ (s : Seen). is_some (why_on row s (market_at row.market (world_front script before).markets))) finds.sees
+      ∙ ap (λ (o : Option Market). is_some (why_on row one.call.item.seen o)) finds.at
+      ∙ ap (λ (asked : Asked). is_some (why asked.request one.call.item.seen finds.m)) (sym one.asks)
+      ∙ sym (refused-told one.call.item finds.m finds.stands)
 
   all-right : (earlier items : List (Item script)) (later : List (Stamped Call)) → AreLegal script (made ++ (map call_in (earlier ++ items) ++ later))
       → EachApart (map row_in items) → All (λ (one : Item script). All (λ (other : Item script). IsFar one.row other.row) earlier) items → All IsToldRight items

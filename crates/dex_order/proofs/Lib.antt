@@ -1,4 +1,5 @@
 mod Acting
+mod Acts
 pub mod CallEntries
 mod Ends
 mod Examples
@@ -10,7 +11,6 @@ pub mod LaneGrowth
 pub mod LastCells
 mod Orders
 mod Seeing
-mod Settled
 mod Sorted
 mod Steps
 mod Turns
