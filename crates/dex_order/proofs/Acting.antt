@@ -62,7 +62,7 @@ module _ (script : PlainScript) (made : List (Stamped Call)) (once : AreOnce scr
       ∙ ap (λ (world : World). why_in world row) (items-acted script made earlier once (legal-front script before (one.call ∷ later) legal)))
       ∙ ap (λ (s : Seen). is_some (why_on row s (market_at row.market (world_front script before).markets))) finds.sees
       ∙ ap (λ (o : Option Market). is_some (why_on row one.call.item.seen o)) finds.at
-      ∙ ap (λ (asked : Asked). is_some (why asked.request one.call.item.seen finds.m)) (sym one.asks)
+      ∙ ap (λ (asked : Asked). is_some (why asked.request one.call.item.seen finds.m)) (sym one.is.asks)
       ∙ sym (refused-told one.call.item finds.m finds.stands)
 
   all-right : (earlier items : List (Item script)) (later : List (Stamped Call)) → AreLegal script (made ++ (map call_in (earlier ++ items) ++ later))

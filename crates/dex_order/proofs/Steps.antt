@@ -237,23 +237,23 @@ pub record Finds (script : PlainScript) (made : List (Stamped Call)) (item : Ite
 pub item-finds : (script : PlainScript) (made later : List (Stamped Call)) (item : Item script) → AreOnce script → AreLegal script (made ++ item.call ∷ later)
     → Finds script made item
 item-finds script made later item once legal =
-    let market : item.call.item.asked.market ≡ item.row.market = ap (λ (asked : Asked). asked.market) item.asks in
+    let market : item.call.item.asked.market ≡ item.row.market = ap (λ (asked : Asked). asked.market) item.is.asks in
     let found = market-found made later item.call script.start.markets
-    (subst (λ (a : Address). has_market a script.start.markets ≡ true) (sym market) item.fits.market) legal.markets in
-    let acts : Acts (acted_in item) item.call.item found.0 = stands-acts item.row item.call.item found.0 item.asks found.2 in
+    (subst (λ (a : Address). has_market a script.start.markets ≡ true) (sym market) item.is.fits.market) legal.markets in
+    let acts : Acts (acted_in item) item.call.item found.0 = stands-acts item.row item.call.item found.0 item.is.asks found.2 in
     record {
       m = found.0;
       at = subst (λ (a : Address). market_at a (world_front script made).markets ≡ Some found.0) market found.1;
       stands = found.2;
       sees = sym (acted_row-sees item.row item.call.item (world_front script made))
-          ∙ next-sees (acted_in item) item.call found.0 acts made later script legal.wallets once.wallets item.sight;
+          ∙ next-sees (acted_in item) item.call found.0 acts made later script legal.wallets once.wallets item.is.sight;
     }
 
 item-acts : (script : PlainScript) (made later : List (Stamped Call)) (item : Item script) → AreOnce script → AreLegal script (made ++ item.call ∷ later)
     → act (acted_in item) (world_front script made) ≡ world_front script (made ++ item.call ∷ [])
 item-acts script made later item once legal =
     let finds : Finds script made item = item-finds script made later item once legal in
-    next-acts (acted_in item) item.call finds.m (stands-acts item.row item.call.item finds.m item.asks finds.stands) made script
+    next-acts (acted_in item) item.call finds.m (stands-acts item.row item.call.item finds.m item.is.asks finds.stands) made script
     (ap (λ (a : Address). market_at a (world_front script made).markets) (acted_row-market item.row item.call.item) ∙ finds.at)
     (acted_row-sees item.row item.call.item (world_front script made) ∙ finds.sees) (once.markets (acted_in item).market)
 

@@ -91,7 +91,7 @@ module _ (script : PlainScript) (facts : AreRows script) where
   row_number row = row.number
 
   same-number : (one : Item script) → number_of one ≡ one.row.number
-  same-number one = ap (λ (asked : Asked). asked.number) one.asks
+  same-number one = ap (λ (asked : Asked). asked.number) one.is.asks
 
   module _ (lane : Lane) (done : IsLaneDone script lane) where
     abbrev own : List (Item script)
