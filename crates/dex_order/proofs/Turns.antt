@@ -10,7 +10,7 @@ use Rattle.dex_history.specs.Journal.{Asked}
 use Rattle.dex_fold.specs.Groups.{Group, grouped, map_group, members}
 use Rattle.dex_fold.specs.Items as item
 use Rattle.dex_fold.specs.Items.{EachApart, items_of, rows_of_lane}
-use Rattle.dex_fold.proofs.GroupLaws.{EachTwo, Goes, IsOneStamp, Rise, grouped-agree, grouped-flat, grouped-map, grouped-rise, grouped-stamps}
+use Rattle.dex_fold.proofs.GroupLaws.{EachTwo, Goes, IsOneStamp, Rise, grouped-agree, grouped-firsts, grouped-flat, grouped-map, grouped-rise, grouped-stamps}
 use Rattle.dex_script.specs.Drafts.{PlainScript}
 use Rattle.dex_script.specs.Facts.{AreRows}
 use Rattle.dex_replay.proofs.Groups.{each-two, each-two-weaker, filter-all, filter-none}
@@ -60,22 +60,20 @@ module _ (script : PlainScript) where
   turned-rows (group ∷ groups) all =
       ap (λ (some : List item.Item). map_group row_in group ∷ some) (turned-rows groups (All-tail (IsTurn script) group groups all))
 
+  turned-each : (P : Group (Item script) → Type 0) (groups : List (Group (Item script))) (all : All (IsTurn script) groups) → All P groups
+      → All (λ (turn : Turn script). P turn.group) (turned groups all)
+  turned-each P [] all each = All-nil (λ (turn : Turn script). P turn.group)
+  turned-each P (group ∷ groups) all each =
+      All-cons (λ (turn : Turn script). P turn.group) (record { group = group; is = All-head (IsTurn script) group groups all })
+      (turned groups (All-tail (IsTurn script) group groups all)) (All-head P group groups each)
+      (turned-each P groups (All-tail (IsTurn script) group groups all) (All-tail P group groups each))
+
   turned-rises : (groups : List (Group (Item script))) (all : All (IsTurn script) groups) → Rise (λ (group : Group (Item script)). stamp_in group.first) groups
       → Rises stamp_of (turned groups all)
   turned-rises [] all rise = tt
-  turned-rises (group ∷ groups) all rise = (
-    lower groups (All-tail (IsTurn script) group groups all) rise.0,
-    turned-rises groups (All-tail (IsTurn script) group groups all) rise.1,
-  )
-    where
-      lower : (some : List (Group (Item script))) (facts : All (IsTurn script) some) → All (λ (one : Group (Item script)). stamp_in group.first < stamp_in one.first) some
-          → All (λ (turn : Turn script). stamp_in group.first < stamp_of turn) (turned some facts)
-      lower [] facts less = All-nil (λ (turn : Turn script). stamp_in group.first < stamp_of turn)
-      lower (one ∷ some) facts less =
-          let Less : Group (Item script) → Type 0 = λ g. stamp_in group.first < stamp_in g.first in
-          All-cons (λ (turn : Turn script). stamp_in group.first < stamp_of turn) (record { group = one; is = All-head (IsTurn script) one some facts })
-          (turned some (All-tail (IsTurn script) one some facts)) (All-head Less one some less)
-          (lower some (All-tail (IsTurn script) one some facts) (All-tail Less one some less))
+  turned-rises (group ∷ groups) all rise =
+      let rest : All (IsTurn script) groups = All-tail (IsTurn script) group groups all in
+      (turned-each (λ (one : Group (Item script)). stamp_in group.first < stamp_in one.first) groups rest rise.0, turned-rises groups rest rise.1)
 
 two-unmap : {A B : Type 0} (R : B → B → Type 0) (f : A → B) (xs : List A) → EachTwo R (map f xs) → EachTwo (λ x y. R (f x) (f y)) xs
 two-unmap R f [] each = tt
@@ -146,27 +144,14 @@ module _ (script : PlainScript) (facts : AreRows script) where
         turned-rises script groups (all-turns groups (grouped-stamps number_of stamp_in own goes) choices apart) (grouped-rise number_of stamp_in own goes)
 
     -- each is of the lane
-    firsts-of : (some : List (Turn script)) (rest : List (Item script)) → flat_map items_in some ≡ rest → All (λ (one : Item script). eqb one.row.lane lane.number ≡ true) rest
-        → All (λ (turn : Turn script). eqb turn.group.first.row.lane lane.number ≡ true) some
-    firsts-of [] rest is all = All-nil (λ (turn : Turn script). eqb turn.group.first.row.lane lane.number ≡ true)
-    firsts-of (turn ∷ some) rest is all =
-        let Of : Item script → Type 0 = λ one. eqb one.row.lane lane.number ≡ true in
-        let whole : All Of (turn.group.first ∷ turn.group.others ++ flat_map items_in some) = subst (All Of) (sym is) all in
-        All-cons (λ (one : Turn script). eqb one.group.first.row.lane lane.number ≡ true) turn some
-        (All-head Of turn.group.first (turn.group.others ++ flat_map items_in some) whole)
-        (firsts-of some (flat_map items_in some) refl (behind turn.group.others (flat_map items_in some) (All-tail Of turn.group.first (turn.group.others ++ flat_map items_in some) whole)))
-      where
-        behind : (xs ys : List (Item script)) → All (λ (one : Item script). eqb one.row.lane lane.number ≡ true) (xs ++ ys)
-            → All (λ (one : Item script). eqb one.row.lane lane.number ≡ true) ys
-        behind [] ys all = all
-        behind (x ∷ xs) ys all = behind xs ys (All-tail (λ (one : Item script). eqb one.row.lane lane.number ≡ true) x (xs ++ ys) all)
-
-    pub lane-numbers : All (λ (turn : Turn script). eqb turn.group.first.row.lane lane.number ≡ true) lane_turns
+    lane-numbers : All (λ (turn : Turn script). eqb turn.group.first.row.lane lane.number ≡ true) lane_turns
     lane-numbers =
-        firsts-of lane_turns own lane-flat
+        turned-each script (λ (group : Group (Item script)). eqb group.first.row.lane lane.number ≡ true) groups
+        (all-turns groups (grouped-stamps number_of stamp_in own goes) choices apart)
+        (grouped-firsts number_of (λ (one : Item script). eqb one.row.lane lane.number ≡ true) own
         (All-unmap (λ (row : PlainRow). eqb row.lane lane.number ≡ true) row_in own
         (subst (All (λ (row : PlainRow). eqb row.lane lane.number ≡ true)) (sym (lane-rows script facts.each lane done))
-        (filter_passes (λ (row : PlainRow). eqb row.lane lane.number) script.rows)))
+        (filter_passes (λ (row : PlainRow). eqb row.lane lane.number) script.rows))))
 
   -- ---- of all lanes
 
