@@ -1,7 +1,8 @@
 -- Calls that no lane makes.
-use Rattle.std.proofs.Common.{◌≡◌, ◌<◌, ◌&&◌, ◌||◌, not, Bool, true, false, eqb, [], ◌∷◌, sym, ap, ◌∙◌, arith}
+use Rattle.std.proofs.Common.{◌≡◌, ◌<◌, ◌&&◌, ◌||◌, not, Bool, true, false, eqb, [], ◌∷◌, refl, sym, ap, ◌∙◌, arith}
 use Rattle.std.proofs.lemmas.Bool.{false≢true}
 use Rattle.dex_history.specs.Journal.{Call, is_held, is_refused}
+use Rattle.dex_fold.specs.Groups.{alone}
 use Rattle.dex_stamps.specs.Stamped.{Stamped}
 use Rattle.dex_order.specs.Lanes.{AreAllOrNone, IsBefore, number_in}
 
@@ -18,3 +19,11 @@ half-done one other refused spared acted all =
     ∙ all 1 other (omega arith)
     ∙ ap (λ (b : Bool). (b || (is_refused other.item || false)) && not (is_refused other.item)) refused
     ∙ ap (λ (b : Bool). true && not b) spared)
+
+-- a row alone that was held back
+held-alone : (call : Stamped Call) → is_held call.item ≡ true → AreAllOrNone (alone call) → ⊥
+held-alone call held all = false≢true (none (is_refused call.item) ∙ sym (all 0 call (omega arith)) ∙ held)
+  where
+    none : (b : Bool) → false ≡ ((b || false) && not b)
+    none true = refl
+    none false = refl
