@@ -1,4 +1,4 @@
--- What cells leave at the end is the replay of their script.
+-- What cells leave at the end is what items leave that made their world.
 use Rattle.std.proofs.Common.{◌≡◌, ℕ, List, [], ◌∷◌, map, refl, sym, ap, ◌∙◌, subst}
 use Rattle.std.specs.List.{All, AllZip}
 use Rattle.std.proofs.lemmas.List.Elements.{All-head, All-tail}
@@ -9,12 +9,13 @@ use Rattle.dex_token.specs.TokenAccount.{with_amount}
 use Rattle.dex_wallet.specs.CellState.{CellState, IsWalletCell, balance_of}
 use Rattle.dex_act.specs.Wallets.{wallet_state_of}
 use Rattle.dex_dump.specs.Accepted.{AreAccepted, address_of}
+use Rattle.dex_fold.specs.Items.{Item}
 use Rattle.dex_fold.specs.World.{MarketState, WalletState, World}
 use Rattle.dex_report.specs.Outcomes.{PlainMarketJournal, PlainWalletJournal}
 use Rattle.dex_script.specs.Drafts.{PlainScript}
 use Rattle.dex_bank.specs.Cells.{AreCells, CellsState, market_state_of, world_of}
 use Rattle.dex_bank.specs.Closed.{account_in, closed, market_journal_in, wallet_journal_in}
-use Rattle.dex_replay.specs.Replays.{IsOfStart, IsReplayOf, end_world, with_amounts}
+use Rattle.dex_replay.specs.Replays.{IsLeftBy, IsOfStart, with_amounts, world_after}
 use Rattle.dex_replay.proofs.LastAccounts.{last-accepted}
 use Rattle.dex_replay.proofs.MappedLists.{AllZip-maps, map-map}
 use Rattle.dex_replay.proofs.Starts.{AreOfScript, its-address, market-addresses, start_account, wallet-addresses}
@@ -41,10 +42,11 @@ module _ (script : PlainScript) (cells : CellsState) (own : AreOfScript script c
     wallet_journals = map-map wallet_journal_in (λ (journal : PlainWalletJournal). journal.address) cells.wallets ∙ wallet-addresses script cells own;
   }
 
-  pub is-replay : AreAccepted script.start → world_of cells ≡ end_world script → IsReplayOf script (closed cells)
-  is-replay accepted ended =
-      let end_markets : map market_state_of cells.markets ≡ (end_world script).markets = ap (λ (world : World). world.markets) ended in
-      let end_wallets : map wallet_state_of cells.wallets ≡ (end_world script).wallets = ap (λ (world : World). world.wallets) ended in
+  pub is-left : (items : List Item) → AreAccepted script.start → world_of cells ≡ world_after script items → IsLeftBy script items (closed cells)
+  is-left items accepted ended =
+      let last : World = world_after script items in
+      let end_markets : map market_state_of cells.markets ≡ last.markets = ap (λ (world : World). world.markets) ended in
+      let end_wallets : map wallet_state_of cells.wallets ≡ last.wallets = ap (λ (world : World). world.wallets) ended in
       record {
         start = of-start;
         accepted = last-accepted script cells own kept accepted;
@@ -61,4 +63,7 @@ module _ (script : PlainScript) (cells : CellsState) (own : AreOfScript script c
         amounts = amounts-of cells.wallets kept.wallets
             ∙ ap (λ (accounts : List PlainAccount). with_amounts accounts (map wallet_state_of cells.wallets)) own.wallets
             ∙ ap (λ (states : List WalletState). with_amounts script.start.wallets states) end_wallets;
+        balances = map-map account_in (λ (account : PlainAccount). balance_of account.bytes) cells.wallets
+            ∙ sym (map-map wallet_state_of (λ (state : WalletState). state.seen.balance) cells.wallets)
+            ∙ ap (λ (states : List WalletState). map (λ (state : WalletState). state.seen.balance) states) end_wallets;
       }

@@ -1,115 +1,195 @@
--- What cells leave at the end is lawful.
-use Rattle.std.proofs.Common.{◌≡◌, ◌==◌, ℕ, List, [], ◌∷◌, map, get_or, sym, ap, ◌∙◌, subst}
-use Rattle.std.specs.List.{All, AllZip, Contains}
-use Rattle.std.proofs.lemmas.List.Elements.{All-head, All-tail, All-map, All-weaker}
+-- What a run of all rows of a script leaves is lawful.
+use Rattle.std.proofs.Common.{◌≡◌, ℕ, ◌==◌, Bool, true, List, [], ◌∷◌, get_or, map, sym, ap, ◌∙◌, subst}
+use Rattle.std.specs.List.{All, AllZip, Contains, filter, flat_map}
+use Rattle.std.proofs.lemmas.List.Elements.{All-filter, All-weaker}
 use Rattle.dex_types.specs.declared.addresses.Address.{Address}
 use Rattle.dex_types.specs.declared.movements.Entry.{Entry}
 use Rattle.dex_types.specs.declared.movements.Movement.{Movement}
+use Rattle.dex_types.specs.declared.movements.WalletEntry.{WalletEntry}
+use Rattle.dex_types.specs.declared.replies.Reply.{Reply}
 use Rattle.dex_types.specs.Accounts.{PlainAccount, PlainMarketAccounts}
-use Rattle.dex_types.specs.Market.{Market}
-use Rattle.dex_accounts.specs.Decoded.{market_in}
+use Rattle.dex_types.specs.Addresses.{is_same}
+use Rattle.dex_types.specs.Rows.{PlainRow}
 use Rattle.dex_accounts.specs.StandsFor.{StandsFor}
-use Rattle.dex_history.specs.Journal.{Asked, Call, asked_of, front, wallet_entry_of}
-use Rattle.dex_token.specs.TokenAccount.{with_amount}
-use Rattle.dex_cell.specs.CellState.{IsMarketCell, MarketCellState}
-use Rattle.dex_wallet.specs.CellState.{CellState, IsWalletCell}
-use Rattle.dex_act.specs.Wallets.{wallet_state_of}
-use Rattle.dex_fold.specs.World.{WalletState, World}
-use Rattle.dex_report.specs.Outcomes.{PlainWalletJournal}
+use Rattle.dex_history.specs.Journal.{Call, asked_of, front, wallet_entry_of}
+use Rattle.dex_fold.specs.Fold.{names}
+use Rattle.dex_fold.specs.Groups.{members}
+use Rattle.dex_fold.specs.Items.{Item, rows_of_lane}
+use Rattle.dex_fold.proofs.GroupLaws.{EachTwo}
+use Rattle.dex_fold.specs.World.{MarketState, WalletState, World}
+use Rattle.dex_report.specs.Outcomes.{PlainMarketJournal, PlainOutcome, PlainWalletJournal}
 use Rattle.dex_script.specs.Drafts.{PlainScript}
-use Rattle.dex_script.specs.Facts.{AreRows, IsStart}
-use Rattle.dex_bank.specs.Cells.{AreCells, CellsState, market_state_of, opened_of, world_of}
-use Rattle.dex_bank.specs.Closed.{account_in, closed, market_journal_in, wallet_journal_in}
-use Rattle.dex_bank.specs.Opened.{opened}
-use Rattle.dex_replay.specs.Lawful.{AllThree, AreTold, IsLawful, IsLawfulMarket, IsLawfulWallet, IsTold, Origin, origin_of_entry, origin_of_row}
-use Rattle.dex_replay.specs.Replays.{IsReplayOf, end_world, start_world}
-use Rattle.dex_replay.proofs.Ends.{is-replay, of-start}
-use Rattle.dex_replay.proofs.MappedLists.{All-unmap, Any-across, filter-across}
-use Rattle.dex_replay.proofs.RunSteps.{fold-run, start-run}
-use Rattle.dex_replay.proofs.Runs.{AllStandIn, IsHistory, IsMoved, IsRun, StandIn, StandsIn, naming, on}
-use Rattle.dex_replay.proofs.Starts.{AreOfScript, are-of-script, start_account}
+use Rattle.dex_script.specs.Facts.{IsRowOf, IsScript}
+use Rattle.dex_script.specs.Known.{has_market}
+use Rattle.dex_token.specs.TokenAccount.{with_amount}
+use Rattle.dex_replay.specs.Lawful.{AllThree, AreTold, IsAllOrNone, IsLawful, IsLawfulMarket, IsLawfulWallet, IsTold, Origin, is_answered, origin_of_entry, origin_of_row}
+use Rattle.dex_replay.specs.Replays.{IsLeftBy, start_world, with_amounts, world_after}
+use Rattle.dex_replay.specs.Runs.{KeepsLanes}
+use Rattle.dex_replay.proofs.AllOrNone.{journal-says, settled-told, told-once}
+use Rattle.dex_replay.proofs.Items.{HaveAllRun, IsSettled, items-run, row_told}
+use Rattle.dex_replay.proofs.MappedLists.{All-across, All-unmap, Any-across, both-same, filter-across, filter-of, filter-swap, head-same, map-map, tail-same, zip-map}
+use Rattle.dex_replay.proofs.Orders.{OnApart, order-apart, order-each, order-items, order-lanes}
+use Rattle.dex_replay.proofs.RunSteps.{addresses-kept, history-address, start-run}
+use Rattle.dex_replay.proofs.Runs.{AllStandIn, IsHistory, IsMoved, IsRun, StandsIn, Told, naming, on, origin_of, said, said_of}
 
--- from what holds of what is made of each cell, to what is made of them place by place
-all-three : {A B C D E : Type 0} (R : A → B → Type 0) (P : E → Type 0) (S : A → C → D → Type 0) (first : E → A) (state : E → B) (one : E → C) (two : E → D)
-    → ((cell : E) → P cell → R (first cell) (state cell) → S (first cell) (one cell) (two cell))
-    → (cells : List E) → All P cells → AllZip R (map first cells) (map state cells) → AllThree S (map first cells) (map one cells) (map two cells)
-all-three R P S first state one two each [] kept are = tt
-all-three R P S first state one two each (cell ∷ cells) kept are =
-    (each cell (All-head P cell cells kept) are.0, all-three R P S first state one two each cells (All-tail P cell cells kept) are.1)
+-- ---- rows lane by lane
 
--- a market's cell whose history is of the script's rows is lawful
-lawful-market : (script : PlainScript) (cell : MarketCellState) → IsMarketCell cell
-    → IsHistory script script.rows cell.start (market_state_of cell) → IsLawfulMarket script cell.start cell.accounts (market_journal_in cell)
-lawful-market script cell is history = record {
-  calls = history.calls;
-  entries = history.entries;
-  legal = history.legal;
-  stands = subst (λ (m : Market). StandsFor cell.accounts m) history.end_is is.sound.stands;
-  rows = λ lane. filter-across (λ (call : Call). call.asked) asked_of (λ (asked : Asked). asked.lane == lane) history.calls (on cell.start.address script.rows) history.asked;
-  sees = history.sees;
-}
+-- what is told of a part of the rows, lane by lane, where the rows are the script's lane by lane
+lane-told : (script : PlainScript) (all : List Told) (test : PlainRow → Bool) (lane : ℕ)
+    → ((number : ℕ) → rows_of_lane number (map row_told all) ≡ rows_of_lane number script.rows)
+    → map row_told (filter (λ (told : Told). told.row.lane == lane) (filter (λ (told : Told). test told.row) all))
+    ≡ filter (λ (row : PlainRow). row.lane == lane) (filter test script.rows)
+lane-told script all test lane lanes =
+    filter-of row_told (λ (row : PlainRow). row.lane == lane) (filter (λ (told : Told). test told.row) all)
+    ∙ ap (rows_of_lane lane) (filter-of row_told test all)
+    ∙ filter-swap (λ (row : PlainRow). row.lane == lane) test (map row_told all)
+    ∙ ap (filter test) (lanes lane)
+    ∙ filter-swap test (λ (row : PlainRow). row.lane == lane) script.rows
 
--- and so is a wallet's
-lawful-wallet : (script : PlainScript) (cell : CellState) → IsWalletCell cell
-    → IsMoved script.rows (start_account cell) (wallet_state_of cell) → IsLawfulWallet script (start_account cell) (account_in cell) (wallet_journal_in cell)
-lawful-wallet script cell is moved = record {
-  legal = is.legal;
-  account = ap (λ (bytes : List ℕ). record (account_in cell) { bytes = bytes }) (is.others ∙ ap (λ (n : ℕ). with_amount cell.start n) is.balance);
-  rows = λ lane. filter-across origin_of_entry origin_of_row (λ (origin : Origin). origin.lane == lane) cell.entries (naming cell.address script.rows) moved.origins;
-}
+-- ---- a market, and a wallet
 
-module _ (script : PlainScript) (cells : CellsState) (own : AreOfScript script cells) (kept : AreCells cells) (run : IsRun script script.rows (world_of cells)) where
-  abbrev journals : List PlainWalletJournal
-  journals = (closed cells).wallets
+module _ (script : PlainScript) (all : List Told) (lanes : (number : ℕ) → rows_of_lane number (map row_told all) ≡ rows_of_lane number script.rows) where
+  lawful-market : (first last : PlainMarketAccounts) (journal : PlainMarketJournal) (state : MarketState) → IsHistory script all first state → StandsFor last state.market
+      → journal.entries ≡ state.entries → IsLawfulMarket script first last journal
+  lawful-market first last journal state is stands same = record {
+    calls = is.calls;
+    entries = same ∙ is.entries;
+    legal = is.legal;
+    stands = subst (StandsFor last) is.end_is stands;
+    rows = λ lane.
+        let in_lane : Told → Bool = λ (told : Told). told.row.lane == lane in
+        let some : List Told = on first.address all in
+        sym (map-map said (λ sign. sign.0) (filter (λ (call : Call). call.asked.lane == lane) is.calls))
+        ∙ ap (map (λ sign. sign.0)) (filter-across said said_of (λ sign. sign.0.lane == lane) is.calls some is.said)
+        ∙ map-map said_of (λ sign. sign.0) (filter in_lane some)
+        ∙ sym (map-map row_told asked_of (filter in_lane some))
+        ∙ ap (map asked_of) (lane-told script all (λ (row : PlainRow). is_same row.market first.address) lane lanes);
+    sees = is.sees;
+  }
 
-  -- a movement that stands in a wallet's state stands in its journal
-  told : (market : Address) (entry : Entry) (move : Movement) → StandsIn (world_of cells).wallets market entry move → IsTold journals market entry move
-  told market entry move stands =
-      Any-across (λ (state : WalletState). (state.seen.address ≡ move.wallet) × Contains state.entries (wallet_entry_of market entry move))
-      (λ (journal : PlainWalletJournal). (journal.address ≡ move.wallet) × Contains journal.entries (wallet_entry_of market entry move))
-      wallet_state_of wallet_journal_in (λ cell has. has) cells.wallets stands
+  lawful-wallet : (first : PlainAccount) (journal : PlainWalletJournal) (state : WalletState) → IsMoved all first state → journal.entries ≡ state.entries
+      → IsLawfulWallet script first (record first { bytes = with_amount first.bytes state.seen.balance }) journal
+  lawful-wallet first journal state is same =
+      subst (λ (entries : List WalletEntry). IsLawfulWallet script first (record first { bytes = with_amount first.bytes state.seen.balance }) (record journal { entries = entries })) (sym same)
+      (record {
+        legal = is.legal;
+        account = ap (λ (n : ℕ). record first { bytes = with_amount first.bytes n }) is.balance;
+        rows = λ lane.
+            let in_lane : Told → Bool = λ (told : Told). told.row.lane == lane in
+            let some : List Told = naming first.address all in
+            filter-across origin_of_entry origin_of (λ (origin : Origin). origin.lane == lane) state.entries some is.origins
+            ∙ sym (map-map row_told origin_of_row (filter in_lane some))
+            ∙ ap (map origin_of_row) (lane-told script all (λ (row : PlainRow). names row first.address) lane lanes);
+      })
 
-  all-told : (cell : MarketCellState) → IsMarketCell cell → AllStandIn (world_of cells).wallets (market_state_of cell) → AreTold journals (market_journal_in cell)
-  all-told cell is stand =
-      subst (λ (address : Address). All (λ (entry : Entry). All (λ (move : Movement). IsTold journals address entry move) (front entry.moves)) (market_journal_in cell).entries)
-      (sym is.sound.stands.address)
-      (All-weaker (StandIn (world_of cells).wallets (market_in cell.accounts).listing.address)
-      (λ (entry : Entry). All (λ (move : Movement). IsTold journals (market_in cell.accounts).listing.address entry move) (front entry.moves))
-      (λ entry all. All-weaker (StandsIn (world_of cells).wallets (market_in cell.accounts).listing.address entry)
-      (λ (move : Movement). IsTold journals (market_in cell.accounts).listing.address entry move)
-      (told (market_in cell.accounts).listing.address entry) (front entry.moves) all)
-      (market_journal_in cell).entries stand)
+  all-markets : (firsts lasts : List PlainMarketAccounts) (journals : List PlainMarketJournal) (states : List MarketState) → AllZip (IsHistory script all) firsts states
+      → AllZip (λ (accounts : PlainMarketAccounts) (state : MarketState). StandsFor accounts state.market) lasts states
+      → map (λ (journal : PlainMarketJournal). journal.entries) journals ≡ map (λ (state : MarketState). state.entries) states
+      → AllThree (IsLawfulMarket script) firsts lasts journals
+  all-markets [] [] [] [] are stand same = tt
+  all-markets (first ∷ firsts) (last ∷ lasts) (journal ∷ journals) (state ∷ states) are stand same = (
+    lawful-market first last journal state are.0 stand.0 (head-same same),
+    all-markets firsts lasts journals states are.1 stand.1 (tail-same same),
+  )
+  all-markets [] lasts journals (state ∷ states) are stand same = absurd are
+  all-markets (first ∷ firsts) lasts journals [] are stand same = absurd are
+  all-markets firsts [] journals (state ∷ states) are stand same = absurd stand
+  all-markets firsts (last ∷ lasts) journals [] are stand same = absurd stand
+  all-markets firsts lasts [] (state ∷ states) are stand same = absurd (cc)
+  all-markets firsts lasts (journal ∷ journals) [] are stand same = absurd (cc)
 
-  pub is-lawful : IsLawful script (closed cells)
-  is-lawful =
-      let accounts_of : MarketCellState → PlainMarketAccounts = λ cell. cell.accounts in
-      let start_of : MarketCellState → PlainMarketAccounts = λ cell. cell.start in
-      let stand = All-unmap (AllStandIn (world_of cells).wallets) market_state_of cells.markets run.stand in
-      record {
-        start = of-start script cells own kept;
-        markets = subst (λ (firsts : List PlainMarketAccounts). AllZip (IsHistory script script.rows) firsts (map market_state_of cells.markets)
-            → AllThree (IsLawfulMarket script) firsts (map accounts_of cells.markets) (map market_journal_in cells.markets)) own.markets
-            (all-three (IsHistory script script.rows) IsMarketCell (IsLawfulMarket script) start_of market_state_of accounts_of market_journal_in
-            (lawful-market script) cells.markets kept.markets)
-            run.markets;
-        wallets = subst (λ (firsts : List PlainAccount). AllZip (IsMoved script.rows) firsts (map wallet_state_of cells.wallets)
-            → AllThree (IsLawfulWallet script) firsts (map account_in cells.wallets) (map wallet_journal_in cells.wallets)) own.wallets
-            (all-three (IsMoved script.rows) IsWalletCell (IsLawfulWallet script) start_account wallet_state_of account_in wallet_journal_in
-            (lawful-wallet script) cells.wallets kept.wallets)
-            run.wallets;
-        told = All-map (AreTold journals) market_journal_in cells.markets
-            (λ k d within. all-told (get_or cells.markets k d) (kept.markets k d within) (stand k d within));
-      }
+  all-wallets : (firsts : List PlainAccount) (journals : List PlainWalletJournal) (states : List WalletState) → AllZip (IsMoved all) firsts states
+      → map (λ (journal : PlainWalletJournal). journal.entries) journals ≡ map (λ (state : WalletState). state.entries) states
+      → AllThree (IsLawfulWallet script) firsts (with_amounts firsts states) journals
+  all-wallets [] [] [] are same = tt
+  all-wallets (first ∷ firsts) (journal ∷ journals) (state ∷ states) are same =
+      (lawful-wallet first journal state are.0 (head-same same), all-wallets firsts journals states are.1 (tail-same same))
+  all-wallets [] journals (state ∷ states) are same = absurd are
+  all-wallets (first ∷ firsts) journals [] are same = absurd are
+  all-wallets firsts [] (state ∷ states) are same = absurd (cc)
+  all-wallets firsts (journal ∷ journals) [] are same = absurd (cc)
 
--- the world at the end of all rows is that of a run of them
-end-run : (script : PlainScript) → IsStart script.start → AreRows script → IsRun script script.rows (end_world script)
-end-run script start rows = fold-run script script.rows [] (start_world script) start.accepted.once rows.each (start-run script)
+-- ---- all of it
 
--- cells on which all rows of their script have acted leave its replay, and that is lawful
-pub at-end : (script : PlainScript) (cells : CellsState) → IsStart script.start → AreRows script → opened_of cells ≡ opened script → AreCells cells
-    → world_of cells ≡ end_world script → IsReplayOf script (closed cells) × IsLawful script (closed cells)
-at-end script cells start rows same kept ended =
-    let own : AreOfScript script cells = are-of-script script cells same in (
-      is-replay script cells own kept start.accepted ended,
-      is-lawful script cells own kept (subst (λ (world : World). IsRun script script.rows world) (sym ended) (end-run script start rows)),
-    )
+module _ (script : PlainScript) (is : IsScript script) (order : List Item) (lanes : KeepsLanes script order) where
+  all-run : HaveAllRun script order [] (start_world script)
+  all-run = items-run script is.start order [] (start_world script) (order-items script is.rows order lanes) (start-run script)
+
+  -- the rows, and what is told of them
+  pub told : List Told
+  told = all-run.told
+
+  pub order-run : IsRun script told (world_after script order)
+  unfolding told
+  order-run = all-run.run
+
+  rows-told : map row_told told ≡ flat_map members order
+  unfolding told
+  rows-told = all-run.rows
+
+  each-settled : All (IsSettled told) order
+  unfolding told
+  each-settled = all-run.settled
+
+  module _ (outcome : PlainOutcome) (left : IsLeftBy script order outcome) where
+    abbrev world : World
+    world = world_after script order
+
+    -- an entry's movements stand in the wallets' journals, as they stand in the wallets
+    abbrev InWallet : Address × List WalletEntry → Address → Entry → Movement → Type 0
+    InWallet wallet market entry move = (wallet.0 ≡ move.wallet) × Contains wallet.1 (wallet_entry_of market entry move)
+
+    wallets-alike : map {B = Address × List WalletEntry} (λ (state : WalletState). (state.seen.address, state.entries)) world.wallets
+        ≡ map (λ (journal : PlainWalletJournal). (journal.address, journal.entries)) outcome.wallets
+    wallets-alike =
+        both-same (λ (state : WalletState). state.seen.address) (λ (journal : PlainWalletJournal). journal.address) (λ (state : WalletState). state.entries)
+        (λ (journal : PlainWalletJournal). journal.entries) world.wallets outcome.wallets
+        (addresses-kept script is.start told world order-run ∙ sym left.start.wallet_journals) (sym left.wallets)
+
+    markets-alike : map {B = Address × List Entry} (λ (state : MarketState). (state.market.listing.address, state.entries)) world.markets
+        ≡ map (λ (journal : PlainMarketJournal). (journal.address, journal.entries)) outcome.markets
+    markets-alike =
+        both-same (λ (state : MarketState). state.market.listing.address) (λ (journal : PlainMarketJournal). journal.address) (λ (state : MarketState). state.entries)
+        (λ (journal : PlainMarketJournal). journal.entries) world.markets outcome.markets
+        (zip-map (IsHistory script told) (λ (first : PlainMarketAccounts). first.address) (λ (state : MarketState). state.market.listing.address) (history-address script told)
+        script.start.markets world.markets order-run.markets ∙ sym left.start.market_journals) (sym left.markets)
+
+    told-of : (market : Address) (entry : Entry) (move : Movement) → StandsIn world.wallets market entry move → IsTold outcome.wallets market entry move
+    told-of market entry move stands =
+        Any-across (λ wallet. InWallet wallet market entry move) (λ (state : WalletState). (state.seen.address, state.entries))
+        (λ (journal : PlainWalletJournal). (journal.address, journal.entries)) world.wallets outcome.wallets wallets-alike stands
+
+    all-told : All (AreTold outcome.wallets) outcome.markets
+    all-told =
+        All-across (λ market. All (λ (entry : Entry). All (IsTold outcome.wallets market.0 entry) (front entry.moves)) market.1)
+        (λ (journal : PlainMarketJournal). (journal.address, journal.entries)) (λ (state : MarketState). (state.market.listing.address, state.entries))
+        outcome.markets world.markets (sym markets-alike)
+        (All-weaker (AllStandIn world.wallets) (λ (state : MarketState). All (λ (entry : Entry). All (IsTold outcome.wallets state.market.listing.address entry) (front entry.moves)) state.entries)
+        (λ state stand k d within. All-weaker (StandsIn world.wallets state.market.listing.address (get_or state.entries k d)) (IsTold outcome.wallets state.market.listing.address (get_or state.entries k d))
+        (told-of state.market.listing.address (get_or state.entries k d)) (front (get_or state.entries k d).moves) (stand k d within)) world.markets order-run.stand)
+
+    -- each row's reply is in its market's journal
+    answered : (test : Reply → Bool) → All (λ (one : Told). is_answered test outcome.markets one.row ≡ test one.reply) told
+    answered test k d within =
+        let known : All (λ (row : PlainRow). has_market row.market script.start.markets ≡ true) (map row_told told) =
+        subst (All (λ (row : PlainRow). has_market row.market script.start.markets ≡ true)) (sym rows-told)
+        (order-each script is.rows order lanes (λ (row : PlainRow). has_market row.market script.start.markets ≡ true)
+        (All-weaker (IsRowOf script.start) (λ (row : PlainRow). has_market row.market script.start.markets ≡ true) (λ row fits. fits.market) script.rows is.rows.each)) in
+        journal-says script told test (get_or told k d) script.start.markets world.markets outcome.markets order-run.markets left.start.market_journals left.markets
+        (All-unmap (λ (row : PlainRow). has_market row.market script.start.markets ≡ true) row_told told known k d within)
+        ∙ told-once test told (subst (EachTwo OnApart) (sym rows-told) (order-apart script is.rows order lanes)) k d within
+
+    rows-kept : (lane : ℕ) → rows_of_lane lane (map row_told told) ≡ rows_of_lane lane script.rows
+    rows-kept lane = ap (rows_of_lane lane) rows-told ∙ order-lanes script is.rows order lanes lane
+
+    pub is-lawful : IsLawful script outcome
+    is-lawful = record {
+      start = left.start;
+      markets = all-markets script told rows-kept script.start.markets outcome.accounts.markets outcome.markets world.markets order-run.markets left.stand left.markets;
+      wallets = subst (λ (lasts : List PlainAccount). AllThree (IsLawfulWallet script) script.start.wallets lasts outcome.wallets) (sym left.amounts)
+          (all-wallets script told rows-kept script.start.wallets outcome.wallets world.wallets order-run.wallets left.wallets);
+      told = all-told;
+      items = λ lane. subst (All (IsAllOrNone outcome.markets)) (lanes lane)
+          (All-filter (λ (item : Item). item.first.lane == lane) (IsAllOrNone outcome.markets) order
+          (All-weaker (IsSettled told) (IsAllOrNone outcome.markets) (settled-told told outcome.markets answered) order each-settled));
+    }

@@ -1,10 +1,21 @@
-mod Counting
+mod AllOrNone
+pub mod Counting
+mod Doing
 pub mod Ends
+pub mod Groups
+mod Holdings
+mod Items
 pub mod LastAccounts
 mod Lawfulness
 pub mod MappedLists
+mod Moving
 mod Numbers
+pub mod Once
+pub mod Orders
 pub mod Room
+mod RunOf
 mod RunSteps
 mod Runs
+mod Sights
+mod Singles
 pub mod Starts

@@ -24,6 +24,12 @@ pub list_any-map : {A B : Type 0} (p : B → Bool) (f : A → B) (xs : List A) �
 list_any-map p f [] = refl
 list_any-map p f (x ∷ xs) = ap (λ b. p (f x) || b) (list_any-map p f xs)
 
+-- two tests that agree at each element
+pub list_any-agree : {A : Type 0} (p q : A → Bool) (xs : List A) → All (λ x. p x ≡ q x) xs → list_any p xs ≡ list_any q xs
+list_any-agree p q [] same = refl
+list_any-agree p q (x ∷ xs) same =
+    ap (λ (b : Bool). b || list_any p xs) (All-head (λ y. p y ≡ q y) x xs same) ∙ ap (λ (b : Bool). q x || b) (list_any-agree p q xs (All-tail (λ y. p y ≡ q y) x xs same))
+
 -- what holds of what is made of the elements holds of what is made of each
 pub All-unmap : {A B : Type 0} (P : B → Type 0) (f : A → B) (xs : List A) → All P (map f xs) → All (λ x. P (f x)) xs
 All-unmap P f [] all = All-nil (λ x. P (f x))
@@ -38,11 +44,32 @@ pub AllZip-maps : {A B C : Type 0} (R : B → C → Type 0) (f : A → B) (g : A
 AllZip-maps R f g [] all = tt
 AllZip-maps R f g (x ∷ xs) all = (All-head (λ x. R (f x) (g x)) x xs all, AllZip-maps R f g xs (All-tail (λ x. R (f x) (g x)) x xs all))
 
-pub AllZip-changed : {A B : Type 0} (R S : A → B → Type 0) (f : B → B) (xs : List A) (ys : List B) → AllZip R xs ys → ((x : A) (y : B) → R x y → S x (f y)) → AllZip S xs (map f ys)
-AllZip-changed R S f [] [] all each = tt
-AllZip-changed R S f [] (y ∷ ys) all each = absurd all
-AllZip-changed R S f (x ∷ xs) [] all each = absurd all
-AllZip-changed R S f (x ∷ xs) (y ∷ ys) all each = (each x y all.0, AllZip-changed R S f xs ys all.1 each)
+-- what is made of the second elements is what is made of the first
+pub zip-map : {A B C : Type 0} (R : A → B → Type 0) (f : A → C) (g : B → C) → ((x : A) (y : B) → R x y → g y ≡ f x) → (xs : List A) (ys : List B)
+    → AllZip R xs ys → map g ys ≡ map f xs
+zip-map R f g same [] [] all = refl
+zip-map R f g same [] (y ∷ ys) all = absurd all
+zip-map R f g same (x ∷ xs) [] all = absurd all
+zip-map R f g same (x ∷ xs) (y ∷ ys) all = ap (λ z. z ∷ map g ys) (same x y all.0) ∙ ap (λ zs. f x ∷ zs) (zip-map R f g same xs ys all.1)
+
+pub head-same : {A : Type 0} {x y : A} {xs ys : List A} → x ∷ xs ≡ y ∷ ys → x ≡ y
+head-same same = cc
+
+pub tail-same : {A : Type 0} {x y : A} {xs ys : List A} → x ∷ xs ≡ y ∷ ys → xs ≡ ys
+tail-same same = cc
+
+-- two things that are made of two lists alike
+pub both-same : {A B C D : Type 0} (f : A → C) (g : B → C) (h : A → D) (i : B → D) (xs : List A) (ys : List B) → map f xs ≡ map g ys → map h xs ≡ map i ys
+    → map {B = C × D} (λ x. (f x, h x)) xs ≡ map (λ y. (g y, i y)) ys
+both-same f g h i [] [] one other = refl
+both-same f g h i [] (y ∷ ys) one other = absurd (cc)
+both-same f g h i (x ∷ xs) [] one other = absurd (cc)
+both-same {A} {B} {C} {D} f g h i (x ∷ xs) (y ∷ ys) one other =
+    let first : f x ≡ g y = head-same one in
+    let second : h x ≡ i y = head-same other in
+    ap (λ (c : C). (c, h x) ∷ map (λ z. (f z, h z)) xs) first
+    ∙ ap (λ (d : D). (g y, d) ∷ map (λ z. (f z, h z)) xs) second
+    ∙ ap (λ (rest : List (C × D)). (g y, i y) ∷ rest) (both-same f g h i xs ys (tail-same one) (tail-same other))
 
 -- ---- one of a list
 
@@ -56,13 +83,16 @@ pub Any-map : {A B : Type 0} (P : A → Type 0) (Q : B → Type 0) (f : A → B)
 Any-map P Q f each xs any =
     (any.0, f any.1, subst (λ n. any.0 < n) (sym (length-map xs f)) any.2, get_or-map f xs any.0 any.1 (f any.1) any.2 ∙ ap f any.3, each any.1 any.4)
 
-pub Any-across : {A B C : Type 0} (P : B → Type 0) (Q : C → Type 0) (f : A → B) (g : A → C) → ((x : A) → P (f x) → Q (g x)) → (xs : List A) → Any P (map f xs) → Any Q (map g xs)
-Any-across P Q f g each xs any = at xs any.0 any.1 any.2 any.3 any.4
+-- one of two lists that are made into the same
+pub Any-across : {A B C : Type 0} (P : C → Type 0) (f : A → C) (g : B → C) (xs : List A) (ys : List B) → map f xs ≡ map g ys
+    → Any (λ x. P (f x)) xs → Any (λ y. P (g y)) ys
+Any-across P f g [] ys same any = absurd (omega (arith, any.2))
+Any-across P f g (x ∷ xs) [] same any = absurd (cc)
+Any-across {A} P f g (x ∷ xs) (y ∷ ys) same any = at (Any-across P f g xs ys (tail-same same)) any.0 any.1 any.2 any.3 any.4
   where
-    at : (ys : List _) (k : ℕ) (y : _) → k < length (map f ys) → get_or (map f ys) k y ≡ y → P y → Any Q (map g ys)
-    at [] k y within is holds = absurd (omega (arith, within))
-    at (x ∷ ys) zero y within is holds = any-here Q (g x) (map g ys) (each x (subst (λ z. P z) (sym is) holds))
-    at (x ∷ ys) (suc k) y within is holds = any-there Q (g x) (map g ys) (at ys k y (omega (arith, within)) is holds)
+    at : (Any (λ one. P (f one)) xs → Any (λ one. P (g one)) ys) → (k : ℕ) (z : A) → k < length (x ∷ xs) → get_or (x ∷ xs) k z ≡ z → P (f z) → Any (λ one. P (g one)) (y ∷ ys)
+    at rest zero z within is holds = any-here (λ one. P (g one)) y ys (subst P (ap f (sym is) ∙ head-same same) holds)
+    at rest (suc k) z within is holds = any-there (λ one. P (g one)) y ys (rest (k, z, omega (arith, within), is, holds))
 
 -- ---- what a filter keeps of one element more
 
@@ -71,6 +101,19 @@ filter-push_yes p xs x passes = filter-append p xs (x ∷ []) ∙ ap (λ ys. fil
 
 pub filter-push_no : {A : Type 0} (p : A → Bool) (xs : List A) (x : A) → p x ≡ false → filter p (xs ++ x ∷ []) ≡ filter p xs
 filter-push_no p xs x fails = filter-append p xs (x ∷ []) ∙ ap (λ ys. filter p xs ++ ys) (cond-false (p x) (x ∷ []) [] fails) ∙ append-nil (filter p xs)
+
+-- two tests, one after the other
+pub filter-swap : {A : Type 0} (p q : A → Bool) (xs : List A) → filter p (filter q xs) ≡ filter q (filter p xs)
+filter-swap p q [] = refl
+filter-swap {A} p q (x ∷ xs) = either (p x) (q x) refl refl (filter-swap p q xs)
+  where
+    either : (b c : Bool) → p x ≡ b → q x ≡ c → filter p (filter q xs) ≡ filter q (filter p xs)
+        → filter p (cond c (x ∷ filter q xs) (filter q xs)) ≡ filter q (cond b (x ∷ filter p xs) (filter p xs))
+    either true true is_p is_q rest =
+        cond-true (p x) (x ∷ filter p (filter q xs)) (filter p (filter q xs)) is_p ∙ ap (λ ys. x ∷ ys) rest ∙ sym (cond-true (q x) (x ∷ filter q (filter p xs)) (filter q (filter p xs)) is_q)
+    either true false is_p is_q rest = rest ∙ sym (cond-false (q x) (x ∷ filter q (filter p xs)) (filter q (filter p xs)) is_q)
+    either false true is_p is_q rest = cond-false (p x) (x ∷ filter p (filter q xs)) (filter p (filter q xs)) is_p ∙ rest
+    either false false is_p is_q rest = rest
 
 -- lists that are made into the same have the same where a test of what is made passes
 pub filter-of : {A B : Type 0} (f : A → B) (test : B → Bool) (xs : List A) → map f (filter (λ x. test (f x)) xs) ≡ filter test (map f xs)

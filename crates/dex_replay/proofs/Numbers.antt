@@ -1,6 +1,8 @@
 -- Lawful journals have one entry for each row.
-use Rattle.std.proofs.Common.{◌≡◌, ◌==◌, ◌<◌, ℕ, Bool, List, [], ◌∷◌, map, refl, sym, ap, ◌∙◌}
-use Rattle.std.specs.List.{AllPairs, filter}
+use Rattle.std.proofs.Common.{◌≡◌, ◌==◌, ◌<◌, ◌≤◌, ℕ, Bool, true, List, [], ◌∷◌, get_or, map, refl, sym, ap, ◌∙◌, arith}
+use Rattle.std.specs.List.{All, AllPairs, filter}
+use Rattle.std.proofs.lemmas.Bool.{false≢true}
+use Rattle.std.proofs.lemmas.List.Elements.{All-filter, filter_passes}
 use Rattle.std.proofs.lemmas.List.Kept.{AllPairs-filter}
 use Rattle.dex_types.specs.declared.addresses.Address.{Address}
 use Rattle.dex_types.specs.declared.movements.Entry.{Entry}
@@ -9,12 +11,13 @@ use Rattle.dex_types.specs.Accounts.{PlainAccount, PlainMarketAccounts}
 use Rattle.dex_types.specs.Addresses.{is_same}
 use Rattle.dex_types.specs.Market.{Market}
 use Rattle.dex_types.specs.Rows.{PlainRow}
+use Rattle.dex_laws.proofs.TraderLaws.{is_same-true}
 use Rattle.dex_accounts.specs.Decoded.{market_in}
 use Rattle.dex_history.specs.Journal.{Asked, Call, IsLegal, asked_of, step_of}
 use Rattle.dex_fold.specs.Fold.{names}
 use Rattle.dex_report.specs.Outcomes.{PlainMarketJournal, PlainWalletJournal}
 use Rattle.dex_script.specs.Drafts.{PlainScript}
-use Rattle.dex_script.specs.Facts.{AreRows}
+use Rattle.dex_script.specs.Facts.{AreLegs, AreRows}
 use Rattle.dex_replay.specs.Lawful.{IsLawfulMarket, IsLawfulWallet, Origin, origin_of_entry, origin_of_row, rows_of_market, rows_of_wallet}
 use Rattle.dex_replay.proofs.MappedLists.{filter-across, filter-of, map-map}
 
@@ -60,17 +63,36 @@ wallet-numbers script first last journal lane lawful =
     ∙ ap (λ (some : List Origin). map (λ (origin : Origin). origin.row) some) (lawful.rows lane)
     ∙ map-map origin_of_row (λ (origin : Origin). origin.row) (rows_of_wallet lane first.address script.rows)
 
--- a part of the rows has rising numbers, as all have
-abbrev Rises : List PlainRow → Type 0
-Rises rows = AllPairs (λ (one other : PlainRow). one.number < other.number) rows
+-- the rows of a part rise, where no two of one number are in it
+abbrev Rises : PlainRow → PlainRow → Type 0
+Rises one other = one.number < other.number
 
-part-rises : (lane : ℕ) (test : PlainRow → Bool) (rows : List PlainRow) → Rises rows → Rises (filter (λ (row : PlainRow). row.lane == lane) (filter test rows))
-part-rises lane test rows rises =
-    AllPairs-filter (λ (one other : PlainRow). one.number < other.number) (λ (row : PlainRow). row.lane == lane) (filter test rows)
-    (AllPairs-filter (λ (one other : PlainRow). one.number < other.number) test rows rises)
+module _ (script : PlainScript) (rows : AreRows script) (lane : ℕ) (test : PlainRow → Bool) where
+  abbrev part : List PlainRow
+  part = filter (λ (row : PlainRow). row.lane == lane) (filter test script.rows)
 
-pub market-rises : (script : PlainScript) (lane : ℕ) (address : Address) → AreRows script → Rises (rows_of_market lane address script.rows)
-market-rises script lane address rows = part-rises lane (λ (row : PlainRow). is_same row.market address) script.rows rows.rising
+  abbrev Both : PlainRow → PlainRow → Type 0
+  Both one other = (one.number ≤ other.number) × (one.number ≡ other.number → AreLegs one other)
 
-pub wallet-rises : (script : PlainScript) (lane : ℕ) (address : Address) → AreRows script → Rises (rows_of_wallet lane address script.rows)
-wallet-rises script lane address rows = part-rises lane (λ (row : PlainRow). names row address) script.rows rows.rising
+  pub part-rises : ((one other : PlainRow) → test one ≡ true → test other ≡ true → AreLegs one other → ⊥) → AllPairs Rises part
+  part-rises apart i j d less within =
+      let passes : All (λ (row : PlainRow). test row ≡ true) part =
+      All-filter (λ (row : PlainRow). row.lane == lane) (λ (row : PlainRow). test row ≡ true) (filter test script.rows) (filter_passes test script.rows) in
+      let both : AllPairs Both part =
+      AllPairs-filter Both (λ (row : PlainRow). row.lane == lane) (filter test script.rows)
+      (AllPairs-filter Both test script.rows (λ a b e below inside. (rows.rising a b e below inside, rows.legs a b e below inside))) in
+      let is : Both (get_or part i d) (get_or part j d) = both i j d less within in
+      let differ : (get_or part i d).number ≡ (get_or part j d).number → ⊥ =
+      λ same. apart (get_or part i d) (get_or part j d) (passes i d (omega (arith, less, within))) (passes j d within) (is.1 same) in
+      omega (arith, is.0, differ)
+
+pub market-rises : (script : PlainScript) (lane : ℕ) (address : Address) → AreRows script → AllPairs Rises (rows_of_market lane address script.rows)
+market-rises script lane address rows =
+    part-rises script rows lane (λ (row : PlainRow). is_same row.market address)
+    (λ one other here there legs.
+    false≢true (sym legs.apart.markets ∙ ap (is_same one.market) (is_same-true other.market address there) ∙ here))
+
+pub wallet-rises : (script : PlainScript) (lane : ℕ) (address : Address) → AreRows script → AllPairs Rises (rows_of_wallet lane address script.rows)
+wallet-rises script lane address rows =
+    part-rises script rows lane (λ (row : PlainRow). names row address)
+    (λ one other here there legs. false≢true (sym (legs.apart.wallets address there) ∙ here))

@@ -26,7 +26,7 @@ use Rattle.dex_script.specs.Facts.{IsRowOf}
 use Rattle.dex_script.specs.Known.{has_account, is_known_role}
 use Rattle.dex_bank.specs.Cells.{CanAct, CellsState, is_market, market_state_of, world_of}
 use Rattle.dex_bank.specs.Opened.{rows_naming, rows_on}
-use Rattle.dex_replay.specs.Replays.{end_world, start_world}
+use Rattle.dex_replay.specs.Replays.{start_world}
 use Rattle.dex_replay.proofs.Counting.{HasFew, HasFewMoves, IsCounted, rows-counted}
 use Rattle.dex_replay.proofs.LastAccounts.{listing-in}
 use Rattle.dex_replay.proofs.MappedLists.{All-unmap, list_any-map}
@@ -162,7 +162,7 @@ module _ (script : PlainScript) (rows : List Row) (are : AreOf script rows) (pla
 
 -- behind the last row all have acted
 pub all-acted : (script : PlainScript) (rows : List Row) → AreOf script rows → (place : ℕ) → length rows ≤ place → (world : World)
-    → world ≡ fold (take place script.rows) (start_world script) → world ≡ end_world script
+    → world ≡ fold (take place script.rows) (start_world script) → world ≡ fold script.rows (start_world script)
 all-acted script rows are place past world acted =
     acted ∙ ap (λ (done : List PlainRow). fold done (start_world script))
     (take_all place script.rows (subst (λ (all : List PlainRow). length all ≤ place) (sym are) (subst (λ (n : ℕ). n ≤ place) (sym (length-map rows row_of)) past)))

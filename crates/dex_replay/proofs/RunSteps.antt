@@ -1,82 +1,61 @@
 -- One row more leaves a run of rows with that row.
-use Rattle.std.proofs.Common.{◌≡◌, ℕ, ◌≤◌, Bool, true, false, ◌||◌, cond, List, [], ◌∷◌, ◌++◌, map, get_or, Option, Some, refl, sym, ap, ◌∙◌, subst, arith}
-use Rattle.std.specs.List.{All, AllZip, Contains, flat_map, list_any}
-use Rattle.std.proofs.lemmas.Bool.{cond-true, cond-false, cond_both, false≢true}
-use Rattle.std.proofs.lemmas.List.{append-nil, append_assoc, map_push}
+use Rattle.std.proofs.Common.{◌≡◌, ℕ, ◌≤◌, ◌<◌, ⊎_elim, length, Bool, true, false, ◌||◌, cond, List, [], ◌∷◌, ◌++◌, map, get_or, Option, Some, refl, sym, ap, ◌∙◌, subst, arith}
+use Rattle.std.specs.List.{All, AllZip, Contains, list_any}
+use Rattle.std.proofs.lemmas.Bool.{cases_Bool, cond-true, cond-false, cond_both, false≢true}
+use Rattle.std.proofs.lemmas.List.{map_push}
 use Rattle.std.proofs.lemmas.List.Elements.{All-nil, All-cons, All-head, All-tail, All-map, All-push, All-weaker, Contains-append_left, Contains-push}
 use Rattle.std.proofs.lemmas.List.Folds.{Any-from_list_any, list_any_at}
-use Rattle.std.proofs.lemmas.List.Sums.{sum_by-append, sum_by-cons}
+use Rattle.std.proofs.lemmas.List.Sums.{sum_by-cons}
 use Rattle.dex_types.specs.declared.addresses.Address.{Address}
 use Rattle.dex_types.specs.declared.movements.Entry.{Entry}
 use Rattle.dex_types.specs.declared.movements.Movement.{Movement}
 use Rattle.dex_types.specs.declared.movements.WalletEntry.{WalletEntry}
 use Rattle.dex_types.specs.declared.replies.Reply.{Reply}
 use Rattle.dex_types.specs.declared.rows.Seen.{Seen}
-use Rattle.dex_types.specs.Accounts.{PlainAccount, PlainAccounts, PlainMarketAccounts}
+use Rattle.dex_types.specs.Accounts.{PlainAccount, PlainMarketAccounts}
 use Rattle.dex_types.specs.Addresses.{is_same}
 use Rattle.dex_types.specs.Market.{Listing, Market}
 use Rattle.dex_types.specs.Rows.{PlainRow}
-use Rattle.dex_types.specs.Steps.{Step}
+use Rattle.dex_types.specs.Steps.{Step, done}
 use Rattle.dex_types.specs.Transfers.{Transfers}
+use Rattle.dex_types.specs.Soundness.{IsSound}
+use Rattle.dex_types.specs.WalletJournal.{CanMove, moved_balance}
 use Rattle.dex_types.specs.Wallets.{balance_seen, brought_to, movement_of, row_wallets, seen_wallets, taken_from}
 use Rattle.dex_laws.proofs.TraderLaws.{is_same-true, is_same-refl}
-use Rattle.dex_accounts.specs.Decoded.{market_in}
+use Rattle.dex_accounts.specs.Decoded.{AreSound, market_in}
 use Rattle.dex_history.specs.Journal.{Asked, Call, Sees, Stands, asked_of, front, market_after, request_of, row_step, wallet_entry_of}
-use Rattle.dex_history.proofs.HeldLaws.{own-stands, own-step}
-use Rattle.dex_history.proofs.HistoryLaws.{IsLegal-one, market_after-one}
-use Rattle.dex_history.proofs.PriceLaws.{decoded-priced}
+use Rattle.dex_history.proofs.HistoryLaws.{IsLegal-one, IsWalletLegal-one, balance_after-append, market_after-one}
+use Rattle.dex_history.proofs.PriceLaws.{calls-sound}
+use Rattle.dex_history.proofs.StepMoves.{row-moves}
 use Rattle.dex_history.proofs.WalletLaws.{places-movements, wallet-movement_by}
 use Rattle.dex_movements.specs.Entries.{entry_by, wallet_entry_by}
 use Rattle.dex_movements.proofs.PlaceLaws.{seen-wallets}
 use Rattle.dex_sound.proofs.KeepLaws.{step-keeps}
-use Rattle.dex_cell.specs.CellState.{call_made}
-use Rattle.dex_market.specs.MarketAccount.{market_words}
-use Rattle.dex_dump.specs.Accepted.{address_of, addresses_of, all_of_market, times}
-use Rattle.dex_dump.specs.Reading.{parts_of}
-use Rattle.dex_fold.specs.Fold.{act, acted, fold, market_acted, markets_acted, names, wallet_acted, wallet_moved}
+use Rattle.dex_dump.specs.Accepted.{address_of, times}
+use Rattle.dex_fold.specs.Fold.{act, acted, market_acted, markets_acted, names, wallet_acted, wallet_moved}
 use Rattle.dex_fold.specs.World.{MarketState, WalletState, World, market_at, seen_by}
+use Rattle.dex_wallet.specs.CellState.{balance_of}
 use Rattle.dex_script.specs.Drafts.{PlainScript}
-use Rattle.dex_script.specs.Facts.{IsRowOf}
+use Rattle.dex_script.specs.Facts.{IsRowOf, IsStart}
 use Rattle.dex_script.specs.Known.{has_market}
-use Rattle.dex_replay.specs.Lawful.{IsSight, origin_of_entry, origin_of_row}
+use Rattle.dex_replay.specs.Lawful.{IsSight, Origin, origin_of_entry, origin_of_row}
 use Rattle.dex_replay.specs.Replays.{market_state, start_world, wallet_state}
 use Rattle.dex_replay.proofs.LastAccounts.{listing-in, market_after-listing}
-use Rattle.dex_replay.proofs.MappedLists.{AllZip-changed, Any-map, filter-push_no, filter-push_yes}
-use Rattle.dex_replay.proofs.Runs.{AllStandIn, IsHistory, IsMoved, IsRun, StandIn, StandsIn, naming, on, row-sees, row-sight, still-there}
+use Rattle.dex_replay.proofs.MappedLists.{Any-map, filter-push_no, filter-push_yes, zip-map}
+use Rattle.dex_replay.proofs.Holdings.{markets-hold}
+use Rattle.dex_replay.proofs.Moving.{CanMoveIt, IsThere, before-movement, wallets-hold}
+use Rattle.dex_replay.proofs.Runs.{AllStandIn, IsHistory, IsMoved, IsRun, StandIn, StandsIn, Told, naming, on, origin_of, row-sees, row-sight, said, said_of, still-there}
+use Rattle.dex_replay.proofs.Sights.{AreOnce, address_in, sees-wallets}
 use Rattle.dex_replay.proofs.Room.{roles-all}
+use Rattle.dex_replay.proofs.Doing.{Does, doing, made, sees-doing}
+use Rattle.dex_replay.proofs.Once.{market-once, wallet-once}
 
--- ---- markets
+-- a market at the end of its calls is sound
+pub history-sound : (script : PlainScript) (done : List Told) (first : PlainMarketAccounts) (state : MarketState) → AreSound first → IsHistory script done first state
+    → IsSound state.market
+history-sound script done first state sound is = subst IsSound (sym is.end_is) (calls-sound is.calls (market_in first) sound.sound is.legal)
 
--- one address is not more often among the markets than among all accounts
-times-markets : (address : Address) (markets : List PlainMarketAccounts)
-    → times address (map (λ (accounts : PlainMarketAccounts). accounts.address) markets) ≤ times address (flat_map all_of_market markets)
-times-markets address [] = omega arith
-times-markets address (first ∷ markets) =
-    let one : Address → ℕ = λ (a : Address). cond (is_same address a) 1 0 in
-    omega (
-      arith,
-      sum_by-cons one first.address (map (λ (accounts : PlainMarketAccounts). accounts.address) markets),
-      sum_by-append one (all_of_market first) (flat_map all_of_market markets),
-      first-of first,
-      times-markets address markets,
-    )
-  where
-    first-of : (accounts : PlainMarketAccounts) → cond (is_same address accounts.address) 1 0 ≤ times address (all_of_market accounts)
-    first-of accounts = omega (arith, sum_by-cons (λ (a : Address). cond (is_same address a) 1 0) accounts.address (parts_of (market_words accounts.market).terms ++ map address_of accounts.orders))
-
-pub market-once : (accounts : PlainAccounts) (address : Address) → times address (addresses_of accounts) ≤ 1
-    → times address (map (λ (market : PlainMarketAccounts). market.address) accounts.markets) ≤ 1
-market-once accounts address once =
-    let one : Address → ℕ = λ (a : Address). cond (is_same address a) 1 0 in
-    omega (
-      arith,
-      once,
-      times-markets address accounts.markets,
-      sum_by-append one (map address_of accounts.mints) (map address_of accounts.wallets ++ flat_map all_of_market accounts.markets),
-      sum_by-append one (map address_of accounts.wallets) (flat_map all_of_market accounts.markets),
-    )
-
-history-address : (script : PlainScript) (done : List PlainRow) (first : PlainMarketAccounts) (state : MarketState) → IsHistory script done first state
+pub history-address : (script : PlainScript) (done : List Told) (first : PlainMarketAccounts) (state : MarketState) → IsHistory script done first state
     → state.market.listing.address ≡ first.address
 history-address script done first state is =
     ap (λ (m : Market). m.listing.address) is.end_is
@@ -84,7 +63,7 @@ history-address script done first state is =
     ∙ ap (λ (listing : Listing). listing.address) (listing-in first)
 
 -- a market of the start is still there
-market-there : (script : PlainScript) (done : List PlainRow) (address : Address) (firsts : List PlainMarketAccounts) (states : List MarketState)
+market-there : (script : PlainScript) (done : List Told) (address : Address) (firsts : List PlainMarketAccounts) (states : List MarketState)
     → AllZip (IsHistory script done) firsts states
     → list_any (λ (state : MarketState). is_same address state.market.listing.address) states ≡ has_market address firsts
 market-there script done address [] [] are = refl
@@ -106,42 +85,50 @@ found address (state ∷ states) known = either (is_same address state.market.li
         let rest : (m : Market) × (market_at address states ≡ Some m) = later (sym (ap (λ (b : Bool). b || list_any (λ (one : MarketState). is_same address one.market.listing.address) states) apart) ∙ known) in
         (rest.0, cond-false (is_same address state.market.listing.address) (Some state.market) (market_at address states) apart ∙ rest.1)
 
-module _ (script : PlainScript) (done : List PlainRow) (row : PlainRow) (seen : Seen) (sees : Sees (asked_of row) seen) (sight : IsSight script seen) where
+-- ---- markets
+
+module _ (script : PlainScript) (done : List Told) (row : PlainRow) (bytes : List ℕ) (seen : Seen) (m : Market) (sees : Sees (asked_of row) seen)
+    (sight : IsSight script seen) (does : Does row bytes seen m) where
+  abbrev new : Told
+  new = record { row = row; reply = (row_step (doing row bytes) seen m).reply }
+
   -- a row of another market leaves a history
   idle : (first : PlainMarketAccounts) (state : MarketState) → is_same row.market first.address ≡ false → IsHistory script done first state
-      → IsHistory script (done ++ row ∷ []) first state
+      → IsHistory script (done ++ new ∷ []) first state
   idle first state apart is = record {
     calls = is.calls;
     entries = is.entries;
     legal = is.legal;
     end_is = is.end_is;
-    asked = is.asked ∙ sym (ap (λ (rows : List PlainRow). map asked_of rows) (filter-push_no (λ (one : PlainRow). is_same one.market first.address) done row apart));
+    said = is.said ∙ sym (ap (map said_of) (filter-push_no (λ (one : Told). is_same one.row.market first.address) done new apart));
     sees = is.sees;
   }
 
   -- and one of this market makes it longer by a call
-  acts : (first : PlainMarketAccounts) (state : MarketState) → is_same row.market first.address ≡ true → IsHistory script done first state
-      → IsHistory script (done ++ row ∷ []) first (market_acted row seen state)
-  acts first state same is =
-      let call : Call = call_made row seen state.market in
+  acts : (first : PlainMarketAccounts) (state : MarketState) → is_same row.market first.address ≡ true → m ≡ state.market → IsHistory script done first state
+      → IsHistory script (done ++ new ∷ []) first (market_acted (doing row bytes) seen state)
+  acts first state same here is =
+      let call : Call = made row bytes seen state.market in
+      let it : Does row bytes seen state.market = subst (Does row bytes seen) here does in
       let own : row.market ≡ state.market.listing.address = is_same-true row.market first.address same ∙ sym (history-address script done first state is) in
-      let stands : Stands call state.market = own-stands call state.market own (decoded-priced row.bytes) sees refl in
+      let stands : Stands call state.market = it.stands own sees in
       record {
         calls = is.calls ++ call ∷ [];
         entries = ap (λ (entries : List Entry). entries ++ call.entry ∷ []) is.entries ∙ sym (map_push (λ (one : Call). one.entry) is.calls call);
-        legal = (IsLegal-one is.calls call (market_in first)).1 (is.legal, subst (λ (m : Market). Stands call m) is.end_is stands);
-        end_is = ap (λ (m : Market). (row_step row seen m).market) is.end_is
-            ∙ sym (ap (λ (s : Step). s.market) (own-step call state.market (market_after (market_in first) is.calls) refl))
+        legal = (IsLegal-one is.calls call (market_in first)).1 (is.legal, subst (λ (one : Market). Stands call one) is.end_is stands);
+        end_is = ap (λ (one : Market). (row_step (doing row bytes) seen one).market) is.end_is
+            ∙ sym (ap (λ (s : Step). s.market) (it.step (market_after (market_in first) is.calls)))
             ∙ sym (market_after-one is.calls call (market_in first));
-        asked = map_push (λ (one : Call). one.asked) is.calls call
-            ∙ ap (λ (asked : List Asked). asked ++ asked_of row ∷ []) is.asked
-            ∙ sym (map_push asked_of (on first.address done) row)
-            ∙ sym (ap (λ (rows : List PlainRow). map asked_of rows) (filter-push_yes (λ (one : PlainRow). is_same one.market first.address) done row same));
+        said = map_push said is.calls call
+            ∙ ap (λ (all : List (Asked × Reply)). all ++ said call ∷ []) is.said
+            ∙ ap (λ (one : Market). map said_of (on first.address done) ++ (asked_of row, (row_step (doing row bytes) seen one).reply) ∷ []) (sym here)
+            ∙ sym (map_push said_of (on first.address done) new)
+            ∙ sym (ap (map said_of) (filter-push_yes (λ (one : Told). is_same one.row.market first.address) done new same));
         sees = All-push (λ (one : Call). IsSight script one.seen) is.calls call is.sees sight;
       }
 
   all-idle : (firsts : List PlainMarketAccounts) (states : List MarketState) → AllZip (IsHistory script done) firsts states
-      → times row.market (map (λ (accounts : PlainMarketAccounts). accounts.address) firsts) ≤ 0 → AllZip (IsHistory script (done ++ row ∷ [])) firsts states
+      → times row.market (map (λ (accounts : PlainMarketAccounts). accounts.address) firsts) ≤ 0 → AllZip (IsHistory script (done ++ new ∷ [])) firsts states
   all-idle [] [] are none = tt
   all-idle [] (state ∷ states) are none = absurd are
   all-idle (first ∷ firsts) [] are none = absurd are
@@ -155,49 +142,75 @@ module _ (script : PlainScript) (done : List PlainRow) (row : PlainRow) (seen : 
       no false none = refl
 
   pub markets-run : (firsts : List PlainMarketAccounts) (states : List MarketState) → AllZip (IsHistory script done) firsts states
-      → times row.market (map (λ (accounts : PlainMarketAccounts). accounts.address) firsts) ≤ 1 → AllZip (IsHistory script (done ++ row ∷ [])) firsts (markets_acted row seen states)
-  markets-run [] [] are once = tt
-  markets-run [] (state ∷ states) are once = absurd are
-  markets-run (first ∷ firsts) [] are once = absurd are
-  markets-run (first ∷ firsts) (state ∷ states) are once =
+      → times row.market (map (λ (accounts : PlainMarketAccounts). accounts.address) firsts) ≤ 1 → market_at row.market states ≡ Some m
+      → AllZip (IsHistory script (done ++ new ∷ [])) firsts (markets_acted (doing row bytes) seen states)
+  markets-run [] [] are once at = tt
+  markets-run [] (state ∷ states) are once at = absurd are
+  markets-run (first ∷ firsts) [] are once at = absurd are
+  markets-run (first ∷ firsts) (state ∷ states) are once at =
       let one : Address → ℕ = λ (a : Address). cond (is_same row.market a) 1 0 in
       let sum = sum_by-cons one first.address (map (λ (accounts : PlainMarketAccounts). accounts.address) firsts) in
       let here : is_same row.market state.market.listing.address ≡ is_same row.market first.address =
       ap (λ (a : Address). is_same row.market a) (history-address script done first state are.0) in
-      cond_both (is_same row.market state.market.listing.address) (market_acted row seen state ∷ states) (state ∷ markets_acted row seen states)
-      (λ (all : List MarketState). AllZip (IsHistory script (done ++ row ∷ [])) (first ∷ firsts) all)
+      cond_both (is_same row.market state.market.listing.address) (market_acted (doing row bytes) seen state ∷ states) (state ∷ markets_acted (doing row bytes) seen states)
+      (λ (all : List MarketState). AllZip (IsHistory script (done ++ new ∷ [])) (first ∷ firsts) all)
       (λ same.
       let counted : ◌≡◌ {A = ℕ} (cond (is_same row.market first.address) 1 0) 1 = ap (λ (b : Bool). cond b 1 0) (sym here ∙ same) in
-      (acts first state (sym here ∙ same) are.0, all-idle firsts states are.1 (omega (arith, once, sum, counted))))
-      (λ apart. (idle first state (sym here ∙ apart) are.0, markets-run firsts states are.1 (omega (arith, once, sum))))
+      let it : Some state.market ≡ Some m =
+      sym (cond-true (is_same row.market state.market.listing.address) (Some state.market) (market_at row.market states) same) ∙ at in
+      let own : m ≡ state.market = cc in
+      (acts first state (sym here ∙ same) own are.0, all-idle firsts states are.1 (omega (arith, once, sum, counted))))
+      (λ apart. (
+        idle first state (sym here ∙ apart) are.0,
+        markets-run firsts states are.1 (omega (arith, once, sum))
+            (sym (cond-false (is_same row.market state.market.listing.address) (Some state.market) (market_at row.market states) apart) ∙ at),
+      ))
 
   -- ---- wallets
 
-  wallet-run : (t : Transfers) (first : PlainAccount) (state : WalletState) → IsMoved done first state → IsMoved (done ++ row ∷ []) first (wallet_acted row seen t state)
-  wallet-run t first state is =
-      let move = movement_of seen t state.seen.address in
+  -- the balance that the row saw of a wallet is the wallet's, and its movement is possible there
+  abbrev FitsIn : Transfers → WalletState → Type 0
+  FitsIn t state = (names row state.seen.address ≡ true → balance_seen seen state.seen.address ≡ state.seen.balance) × CanMoveIt row seen t state
+
+  wallet-run : (t : Transfers) (first : PlainAccount) (state : WalletState) → FitsIn t state → IsMoved done first state
+      → IsMoved (done ++ new ∷ []) first (wallet_acted row seen t state)
+  wallet-run t first state can is =
+      let move : Movement = movement_of seen t state.seen.address in
+      let entry : WalletEntry = wallet_entry_by row move in
       let here : names row state.seen.address ≡ names row first.address = ap (λ (a : Address). names row a) is.address in
-      cond_both (names row state.seen.address) (wallet_moved row move state) state (IsMoved (done ++ row ∷ []) first)
-      (λ named. record {
+      cond_both (names row state.seen.address) (wallet_moved row move state) state (IsMoved (done ++ new ∷ []) first)
+      (λ named.
+      let at : move.before ≡ state.seen.balance = before-movement seen t state.seen.address ∙ can.0 named in
+      record {
         address = is.address;
         mint = is.mint;
         owner = is.owner;
-        origins = map_push origin_of_entry state.entries (wallet_entry_by row move)
-            ∙ ap (λ origins. origins ++ origin_of_row row ∷ []) is.origins
-            ∙ sym (map_push origin_of_row (naming first.address done) row)
-            ∙ sym (ap (λ (rows : List PlainRow). map origin_of_row rows) (filter-push_yes (λ (one : PlainRow). names one first.address) done row (sym here ∙ named)));
+        legal = IsWalletLegal-one state.entries entry (balance_of first.bytes) is.legal (at ∙ is.balance)
+            (subst (CanMove move.kind move.amount) (sym at) (can.1 named));
+        balance = ap (moved_balance move.kind move.amount) is.balance ∙ sym (balance_after-append state.entries (entry ∷ []) (balance_of first.bytes));
+        origins = map_push origin_of_entry state.entries entry
+            ∙ ap (λ (origins : List Origin). origins ++ origin_of_row row ∷ []) is.origins
+            ∙ sym (map_push origin_of (naming first.address done) new)
+            ∙ sym (ap (map origin_of) (filter-push_yes (λ (one : Told). names one.row first.address) done new (sym here ∙ named)));
       })
       (λ apart. record {
         address = is.address;
         mint = is.mint;
         owner = is.owner;
-        origins = is.origins
-            ∙ sym (ap (λ (rows : List PlainRow). map origin_of_row rows) (filter-push_no (λ (one : PlainRow). names one first.address) done row (sym here ∙ apart)));
+        legal = is.legal;
+        balance = is.balance;
+        origins = is.origins ∙ sym (ap (map origin_of) (filter-push_no (λ (one : Told). names one.row first.address) done new (sym here ∙ apart)));
       })
 
-  pub wallets-run : (t : Transfers) (firsts : List PlainAccount) (states : List WalletState) → AllZip (IsMoved done) firsts states
-      → AllZip (IsMoved (done ++ row ∷ [])) firsts (map (wallet_acted row seen t) states)
-  wallets-run t firsts states are = AllZip-changed (IsMoved done) (IsMoved (done ++ row ∷ [])) (wallet_acted row seen t) firsts states are (wallet-run t)
+  pub wallets-run : (t : Transfers) (firsts : List PlainAccount) (states : List WalletState) → AllZip (IsMoved done) firsts states → All (FitsIn t) states
+      → AllZip (IsMoved (done ++ new ∷ [])) firsts (map (wallet_acted row seen t) states)
+  wallets-run t [] [] are can = tt
+  wallets-run t [] (state ∷ states) are can = absurd are
+  wallets-run t (first ∷ firsts) [] are can = absurd are
+  wallets-run t (first ∷ firsts) (state ∷ states) are can = (
+    wallet-run t first state (All-head (FitsIn t) state states can) are.0,
+    wallets-run t firsts states are.1 (All-tail (FitsIn t) state states can),
+  )
 
 -- ---- movements
 
@@ -294,48 +307,91 @@ module _ (row : PlainRow) (seen : Seen) (m : Market) (wallets : List WalletState
 
 -- ---- the world
 
-pub act-run : (script : PlainScript) (done : List PlainRow) (row : PlainRow) (world : World)
-    → ((address : Address) → times address (addresses_of script.start) ≤ 1) → IsRowOf script.start row → IsRun script done world
-    → IsRun script (done ++ row ∷ []) (act row world)
-act-run script done row world once fits run =
-    let at = found row.market world.markets (market-there script done row.market script.start.markets world.markets run.markets ∙ fits.market) in
-    let seen : Seen = seen_by row world in
-    let sees : Sees (asked_of row) seen = row-sees script done world run row fits in
-    let t : Transfers = (row_step row seen at.0).transfers in
-    let known = roles-all (λ (address : Address). list_any (λ (state : WalletState). is_same address state.seen.address) world.wallets ≡ true) script.start
-    (λ address has. still-there script done address script.start.wallets world.wallets run.wallets ∙ has) row fits in
-    let next : IsRun script (done ++ row ∷ []) (acted row (Some at.0) world) = record {
-      srm = run.srm;
-      msrm = run.msrm;
-      program = run.program;
-      markets = markets-run script done row seen sees (row-sight script done world run row) script.start.markets world.markets run.markets
-          (market-once script.start row.market (once row.market));
-      wallets = wallets-run script done row seen sees (row-sight script done world run row) t script.start.wallets world.wallets run.wallets;
-      stand = stand-run row seen at.0 world.wallets sees known world.markets at.1 run.stand;
-    } in
-    subst (λ (one : Option Market). IsRun script (done ++ row ∷ []) (acted row one world)) (sym at.1) next
+module _ (script : PlainScript) (start : IsStart script.start) (done : List Told) (world : World) (run : IsRun script done world) where
+  -- wallets have their addresses, and none stands twice
+  pub addresses-kept : map address_in world.wallets ≡ map address_of script.start.wallets
+  addresses-kept = zip-map (IsMoved done) address_of address_in (λ first state is. is.address) script.start.wallets world.wallets run.wallets
 
-pub fold-run : (script : PlainScript) (rows done : List PlainRow) (world : World)
-    → ((address : Address) → times address (addresses_of script.start) ≤ 1) → All (IsRowOf script.start) rows → IsRun script done world
-    → IsRun script (done ++ rows) (fold rows world)
-fold-run script [] done world once all run = subst (λ (rows : List PlainRow). IsRun script rows world) (sym (append-nil done)) run
-fold-run script (row ∷ rows) done world once all run =
-    subst (λ (some : List PlainRow). IsRun script some (fold rows (act row world))) (append_assoc done (row ∷ []) rows)
-    (fold-run script rows (done ++ row ∷ []) (act row world) once (All-tail (IsRowOf script.start) row rows all)
-    (act-run script done row world once (All-head (IsRowOf script.start) row rows all) run))
+  states-once : AreOnce world.wallets
+  states-once address =
+      subst (λ (all : List Address). times address all ≤ 1) (sym addresses-kept)
+      (wallet-once script.start address (start.accepted.once address))
+
+  -- each market is sound
+  sound-at : (address : Address) (m : Market) (firsts : List PlainMarketAccounts) (states : List MarketState) → AllZip (IsHistory script done) firsts states
+      → All AreSound firsts → market_at address states ≡ Some m → IsSound m
+  sound-at address m [] [] are sound at = absurd (cc)
+  sound-at address m [] (state ∷ states) are sound at = absurd are
+  sound-at address m (first ∷ firsts) [] are sound at = absurd are
+  sound-at address m (first ∷ firsts) (state ∷ states) are sound at =
+      ⊎_elim
+      (λ (same : is_same address state.market.listing.address ≡ true).
+      let here : Some state.market ≡ Some m = sym (cond-true (is_same address state.market.listing.address) (Some state.market) (market_at address states) same) ∙ at in
+      let own : state.market ≡ m = cc in
+      subst IsSound own (history-sound script done first state (All-head AreSound first firsts sound) are.0))
+      (λ (apart : is_same address state.market.listing.address ≡ false).
+      sound-at address m firsts states are.1 (All-tail AreSound first firsts sound)
+      (sym (cond-false (is_same address state.market.listing.address) (Some state.market) (market_at address states) apart) ∙ at))
+      (cases_Bool (is_same address state.market.listing.address))
+
+  module _ (row : PlainRow) (fits : IsRowOf script.start row) where
+    -- the row's market, and what it sees
+    pub found-market : (m : Market) × (market_at row.market world.markets ≡ Some m)
+    found-market = found row.market world.markets (market-there script done row.market script.start.markets world.markets run.markets ∙ fits.market)
+
+    abbrev seen : Seen
+    seen = seen_by row world
+
+    pub act-run : (bytes : List ℕ) (m : Market) → market_at row.market world.markets ≡ Some m → Does row bytes seen m
+        → IsRun script (done ++ record { row = row; reply = (row_step (doing row bytes) seen m).reply } ∷ []) (act (doing row bytes) world)
+    act-run bytes m at does =
+        let sees : Sees (asked_of row) seen = row-sees script done world run row fits in
+        let sight : IsSight script seen = row-sight script done world run row in
+        let own : Sees (asked_of (doing row bytes)) seen = sees-doing row bytes seen sees in
+        let sound : IsSound m = sound-at row.market m script.start.markets world.markets run.markets start.sound at in
+        let t : Transfers = (row_step (doing row bytes) seen m).transfers in
+        let known : All (IsThere world.wallets) (row_wallets row) = roles-all (IsThere world.wallets) script.start
+        (λ address has. still-there script done address script.start.wallets world.wallets run.wallets ∙ has) row fits in
+        let balance = λ (k : ℕ) (d : WalletState) (within : k < length world.wallets). (sees-wallets row world states-once k d within).balance in
+        let can : All (CanMoveIt row seen t) world.wallets = λ k d within named.
+        let address : Address = (get_or world.wallets k d).seen.address in
+        let move : Movement = movement_of seen t address in
+        subst (CanMove move.kind move.amount) (before-movement seen t address ∙ balance k d within named)
+        (row-moves (asked_of (doing row bytes)) seen m address sound own).possible in
+        let after : World = record world {
+          markets = markets_acted (doing row bytes) seen world.markets;
+          wallets = map (wallet_acted row seen t) world.wallets;
+        } in
+        let next : IsRun script (done ++ record { row = row; reply = (row_step (doing row bytes) seen m).reply } ∷ []) after = record {
+          srm = run.srm;
+          msrm = run.msrm;
+          program = run.program;
+          markets = markets-run script done row bytes seen m sees sight does script.start.markets world.markets run.markets
+              (market-once script.start row.market (start.accepted.once row.market)) at;
+          wallets = wallets-run script done row bytes seen m sees sight does t script.start.wallets world.wallets run.wallets
+              (λ k d within. (balance k d within, can k d within));
+          stand = stand-run (doing row bytes) seen m world.wallets own known world.markets at run.stand;
+          holds = λ mint. omega (
+            arith,
+            run.holds mint,
+            markets-hold mint (doing row bytes) seen m sound own world.markets at,
+            wallets-hold row world t sees states-once known mint can,
+          );
+        } in
+        subst (λ (one : Option Market). IsRun script (done ++ record { row = row; reply = (row_step (doing row bytes) seen m).reply } ∷ []) (acted (doing row bytes) one world)) (sym at) next
 
 -- ---- the start
 
 start-markets : (script : PlainScript) (markets : List PlainMarketAccounts) → AllZip (IsHistory script []) markets (map market_state markets)
 start-markets script [] = tt
 start-markets script (first ∷ markets) = (
-  record { calls = []; entries = refl; legal = tt; end_is = refl; asked = refl; sees = All-nil (λ (call : Call). IsSight script call.seen) },
+  record { calls = []; entries = refl; legal = tt; end_is = refl; said = refl; sees = All-nil (λ (call : Call). IsSight script call.seen) },
   start-markets script markets,
 )
 
 start-wallets : (wallets : List PlainAccount) → AllZip (IsMoved []) wallets (map wallet_state wallets)
 start-wallets [] = tt
-start-wallets (first ∷ wallets) = (record { address = refl; mint = refl; owner = refl; origins = refl }, start-wallets wallets)
+start-wallets (first ∷ wallets) = (record { address = refl; mint = refl; owner = refl; legal = tt; balance = refl; origins = refl }, start-wallets wallets)
 
 pub start-run : (script : PlainScript) → IsRun script [] (start_world script)
 start-run script = record {
@@ -346,4 +402,5 @@ start-run script = record {
   wallets = start-wallets script.start.wallets;
   stand = All-map (AllStandIn (start_world script).wallets) market_state script.start.markets
       (λ k d within. All-nil (StandIn (start_world script).wallets (market_in (get_or script.start.markets k d)).listing.address));
+  holds = λ mint. refl;
 }

@@ -5,47 +5,69 @@ use Rattle.std.proofs.lemmas.Bool.{cases_Bool, cond-true, cond-false, cond_both,
 use Rattle.dex_types.specs.declared.addresses.Address.{Address}
 use Rattle.dex_types.specs.declared.movements.Entry.{Entry}
 use Rattle.dex_types.specs.declared.movements.Movement.{Movement}
+use Rattle.dex_types.specs.declared.replies.Reply.{Reply}
 use Rattle.dex_types.specs.declared.rows.WalletSeen.{WalletSeen}
 use Rattle.dex_types.specs.Accounts.{PlainAccount, PlainMarketAccounts}
 use Rattle.dex_types.specs.Addresses.{is_same}
 use Rattle.dex_types.specs.Rows.{PlainRow}
+use Rattle.dex_types.specs.WalletJournal.{IsWalletLegal, balance_after}
 use Rattle.dex_types.specs.Wallets.{address_seen}
 use Rattle.dex_laws.proofs.TraderLaws.{is_same-true}
 use Rattle.dex_accounts.specs.Decoded.{market_in}
-use Rattle.dex_history.specs.Journal.{Agree, Call, IsLegal, Sees, asked_of, front, market_after, wallet_entry_of}
+use Rattle.dex_history.specs.Journal.{Agree, Asked, Call, IsLegal, Sees, asked_of, front, market_after, wallet_entry_of}
 use Rattle.dex_fold.specs.Fold.{names}
 use Rattle.dex_fold.specs.World.{MarketState, WalletState, World, role_at, seen_by, wallet_at}
 use Rattle.dex_script.specs.Drafts.{PlainScript}
 use Rattle.dex_script.specs.Facts.{IsRowOf}
 use Rattle.dex_script.specs.Known.{has_account, is_known_role}
 use Rattle.dex_token.specs.TokenAccount.{wallet_words}
-use Rattle.dex_replay.specs.Lawful.{IsSight, IsWalletSeen, origin_of_entry, origin_of_row}
+use Rattle.dex_wallet.specs.CellState.{balance_of}
+use Rattle.dex_replay.specs.Lawful.{IsSight, IsWalletSeen, Origin, origin_of_entry, origin_of_row}
+use Rattle.dex_replay.specs.Replays.{start_world}
+use Rattle.dex_replay.proofs.Holdings.{held_in}
 use Rattle.dex_replay.proofs.MappedLists.{any-here, any-there}
 
 -- ---- what a run of rows leaves
 
--- the rows on the market of an address, and those that name the wallet of one
-abbrev pub on : Address → List PlainRow → List PlainRow
-on address rows = filter (λ (row : PlainRow). is_same row.market address) rows
+-- a row of the script that acted, or was held back, and its reply
+pub record Told : Type 0 where
+  pub row : PlainRow
+  pub reply : Reply
 
-abbrev pub naming : Address → List PlainRow → List PlainRow
-naming address rows = filter (λ (row : PlainRow). names row address) rows
+-- the rows on the market of an address, and those that name the wallet of one
+abbrev pub on : Address → List Told → List Told
+on address done = filter (λ (told : Told). is_same told.row.market address) done
+
+abbrev pub naming : Address → List Told → List Told
+naming address done = filter (λ (told : Told). names told.row address) done
+
+-- what a call asked and was answered, and a row
+abbrev pub said : Call → Asked × Reply
+said call = (call.asked, call.entry.reply)
+
+abbrev pub said_of : Told → Asked × Reply
+said_of told = (asked_of told.row, told.reply)
+
+abbrev pub origin_of : Told → Origin
+origin_of told = origin_of_row told.row
 
 -- a market of a script after some rows: its calls are those of the rows on it
-pub record IsHistory (script : PlainScript) (done : List PlainRow) (first : PlainMarketAccounts) (state : MarketState) : Type 0 where
+pub record IsHistory (script : PlainScript) (done : List Told) (first : PlainMarketAccounts) (state : MarketState) : Type 0 where
   pub calls : List Call
   pub entries : state.entries ≡ map (λ (call : Call). call.entry) calls
   pub legal : IsLegal (market_in first) calls
   pub end_is : state.market ≡ market_after (market_in first) calls
-  pub asked : map (λ (call : Call). call.asked) calls ≡ map asked_of (on first.address done)
+  pub said : map said calls ≡ map said_of (on first.address done)
   pub sees : All (λ (call : Call). IsSight script call.seen) calls
 
--- a wallet after them: its entries are of those that name it
-pub record IsMoved (done : List PlainRow) (first : PlainAccount) (state : WalletState) : Type 0 where
+-- a wallet after them: its entries are of those that name it, and follow from its first balance
+pub record IsMoved (done : List Told) (first : PlainAccount) (state : WalletState) : Type 0 where
   pub address : state.seen.address ≡ first.address
   pub mint : state.seen.mint ≡ (wallet_words first.bytes).mint
   pub owner : state.seen.owner ≡ (wallet_words first.bytes).owner
-  pub origins : map origin_of_entry state.entries ≡ map origin_of_row (naming first.address done)
+  pub legal : IsWalletLegal (balance_of first.bytes) state.entries
+  pub balance : state.seen.balance ≡ balance_after (balance_of first.bytes) state.entries
+  pub origins : map origin_of_entry state.entries ≡ map origin_of (naming first.address done)
 
 -- a movement stands in its wallet's journal
 abbrev pub StandsIn : List WalletState → Address → Entry → Movement → Type 0
@@ -59,13 +81,14 @@ StandIn wallets market entry = All (StandsIn wallets market entry) (front entry.
 abbrev pub AllStandIn : List WalletState → MarketState → Type 0
 AllStandIn wallets state = All (StandIn wallets state.market.listing.address) state.entries
 
-pub record IsRun (script : PlainScript) (done : List PlainRow) (world : World) : Type 0 where
+pub record IsRun (script : PlainScript) (done : List Told) (world : World) : Type 0 where
   pub srm : world.srm ≡ script.start.srm
   pub msrm : world.msrm ≡ script.start.msrm
   pub program : world.program ≡ script.program
   pub markets : AllZip (IsHistory script done) script.start.markets world.markets
   pub wallets : AllZip (IsMoved done) script.start.wallets world.wallets
   pub stand : All (AllStandIn world.wallets) world.markets
+  pub holds : (mint : Address) → held_in mint world ≡ held_in mint (start_world script)
 
 -- ---- what a row sees
 
@@ -90,7 +113,7 @@ agree wallets address other None two is is_two at at_two = tt
 agree wallets address other (Some wallet) None is is_two at at_two = tt
 agree wallets address other (Some wallet) (Some second) is is_two at at_two = λ same. cc
 
-module _ (script : PlainScript) (done : List PlainRow) where
+module _ (script : PlainScript) (done : List Told) where
   -- an account of the start is still there
   pub still-there : (address : Address) (firsts : List PlainAccount) (states : List WalletState) → AllZip (IsMoved done) firsts states
       → list_any (λ (state : WalletState). is_same address state.seen.address) states ≡ has_account address firsts

@@ -1,16 +1,46 @@
 //! Laws of what runs of scripts leave.
 
-ghost use Rattle.std.specs.Prelude.{◌≡◌, ◌==◌, ◌<◌, ℕ, map};
-ghost use Rattle.std.specs.List.{AllPairs, filter};
+ghost use Rattle.std.specs.Prelude.{◌≡◌, ◌==◌, ◌<◌, ℕ, List, false, map};
+ghost use Rattle.std.specs.List.{All, AllPairs, filter};
 ghost use Rattle.dex_types.specs.declared.addresses.Address.{Address};
 ghost use Rattle.dex_types.specs.declared.movements.Entry.{Entry};
 ghost use Rattle.dex_types.specs.declared.movements.WalletEntry.{WalletEntry};
 ghost use Rattle.dex_types.specs.Accounts.{PlainAccount, PlainMarketAccounts};
 ghost use Rattle.dex_types.specs.Rows.{PlainRow};
-ghost use Rattle.dex_report.specs.Outcomes.{PlainMarketJournal, PlainWalletJournal};
+ghost use Rattle.dex_fold.specs.Groups.{alone};
+ghost use Rattle.dex_fold.specs.Items.{items_of};
+ghost use Rattle.dex_report.specs.Outcomes.{PlainMarketJournal, PlainOutcome, PlainWalletJournal};
 ghost use Rattle.dex_script.specs.Drafts.{PlainScript};
-ghost use Rattle.dex_script.specs.Facts.{AreRows};
-ghost use Rattle.dex_replay.specs.Lawful.{IsLawfulMarket, IsLawfulWallet, rows_of_market, rows_of_wallet};
+ghost use Rattle.dex_script.specs.Facts.{AreRows, HasNoSwap, IsScript};
+ghost use Rattle.dex_replay.specs.Lawful.{IsLawful, IsLawfulMarket, IsLawfulWallet, rows_of_market, rows_of_wallet, was_held};
+ghost use Rattle.dex_replay.specs.Replays.{IsLeftByRows, IsReplayOf};
+ghost use Rattle.dex_replay.specs.Runs.{IsOneOrder, IsOneOrderOfRows, IsRunOf};
+
+/// What is left when a script's items act one after the other, in an order that keeps each lane's, is lawful, its
+/// accounts are accepted and those of sound markets, and wallets and vaults hold each mint's supply. So whoever shows that
+/// his way to run a script is one order of its items has all of that.
+pub fn what_one_order_leaves_is_a_run()
+    ensures { (script : PlainScript) (outcome : PlainOutcome) → IsScript script → IsOneOrder script outcome
+        → IsRunOf script outcome }
+{}
+
+/// A replay is in one order: the script's own, which keeps that of each lane.
+pub fn a_replay_is_in_one_order()
+    ensures { (script : PlainScript) (outcome : PlainOutcome) → IsScript script → IsReplayOf script outcome
+        → IsOneOrder script outcome }
+{}
+
+/// In a script of which no two rows have one number each item is a row: a replay is what its rows leave one after the
+/// other, an order of its items is one of its rows, and no row is held back.
+pub fn without_swaps_rows_act_one_by_one()
+    ensures items { (rows : List PlainRow) → HasNoSwap rows → items_of rows ≡ map alone rows }
+    ensures replay { (script : PlainScript) (outcome : PlainOutcome) → HasNoSwap script.rows
+        → IsReplayOf script outcome → IsLeftByRows script script.rows outcome }
+    ensures order { (script : PlainScript) (outcome : PlainOutcome) → HasNoSwap script.rows
+        → IsOneOrder script outcome → IsOneOrderOfRows script outcome }
+    ensures own { (script : PlainScript) (outcome : PlainOutcome) → HasNoSwap script.rows → IsLawful script outcome
+        → All (λ (row : PlainRow). was_held outcome.markets row ≡ false) script.rows }
+{}
 
 /// In a lawful journal the entries of each lane have the numbers of the script's rows of that lane on the market, or
 /// that name the wallet, in their order; and these numbers rise, so none stands twice.

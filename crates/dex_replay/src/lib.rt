@@ -4,4 +4,4 @@
 pub mod laws;
 mod replaying;
 
-pub use replaying::replay;
+pub use replaying::{replay, replay_with_rows};

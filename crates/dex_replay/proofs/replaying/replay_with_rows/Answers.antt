@@ -4,13 +4,12 @@ use Rattle.dex_fold.specs.Fold.{act, fold}
 use Rattle.dex_fold.proofs.FoldLaws.{fold-append}
 use Rattle.dex_fold.specs.World.{World}
 use Rattle.dex_bank.specs.Cells.{world_of}
-use Rattle.dex_report.specs.Outcomes.{PlainOutcome}
-use Rattle.dex_replay.specs.Lawful.{IsLawful}
+use Rattle.dex_report.specs.Outcomes.{outcome_of}
 use Rattle.dex_replay.specs.Replays.{IsReplayOf, start_world}
-use Rattle.dex_replay.proofs.Lawfulness.{at-end}
 use Rattle.dex_replay.proofs.Room.{AreOf, all-acted, can-act, row-of-script, rows-more, rows-split}
+use Rattle.dex_replay.proofs.RunOf.{replay-is-run, rows-replay}
 use Rattle.dex_replay.proofs.Starts.{are-of-script, its-address, opened-address, opened-opened, opened-world}
-use Rattle.dex_replay.proofs.replaying.replay.Goals as goal
+use Rattle.dex_replay.proofs.replaying.replay_with_rows.Goals as goal
 
 pub step-requires : goal.step-requires
 step-requires c =
@@ -56,15 +55,8 @@ returns-in-Ok-clause-outcome c =
     let rows = c.deref-row-items.result.now in
     let are : AreOf script rows = sym c.in_ok-cells.ensures.rows ∙ ap (λ some. map row_of some) (sym c.deref-row-items.ensures.value) in
     let ended = all-acted script rows are c.loop-row.row-index c.loop-row-test.false (world_of c.loop-row.cells) c.loop-row.invariant.acted in
-    let both = at-end script c.loop-row.cells is.start is.rows c.loop-row.invariant.opened c.in-Ok.ensures.cells ended in
-    subst (λ (outcome : PlainOutcome). IsReplayOf script outcome) (sym c.in-Ok.ensures.outcome) both.0
+    subst (IsReplayOf script) (sym c.in-Ok.ensures.outcome)
+    (rows-replay script c.loop-row.cells is c.loop-row.invariant.opened c.in-Ok.ensures.cells ended)
 
-pub returns-in-Ok-clause-lawful : goal.returns-in-Ok-clause-lawful
-returns-in-Ok-clause-lawful c =
-    let script = c.args.script in
-    let is = c.in_ok-cells.ensures.script in
-    let rows = c.deref-row-items.result.now in
-    let are : AreOf script rows = sym c.in_ok-cells.ensures.rows ∙ ap (λ some. map row_of some) (sym c.deref-row-items.ensures.value) in
-    let ended = all-acted script rows are c.loop-row.row-index c.loop-row-test.false (world_of c.loop-row.cells) c.loop-row.invariant.acted in
-    let both = at-end script c.loop-row.cells is.start is.rows c.loop-row.invariant.opened c.in-Ok.ensures.cells ended in
-    subst (λ (outcome : PlainOutcome). IsLawful script outcome) (sym c.in-Ok.ensures.outcome) both.1
+pub returns-in-Ok-clause-run : goal.returns-in-Ok-clause-run
+returns-in-Ok-clause-run c = replay-is-run c.args.script (outcome_of c.in-Ok.outcome) c.in_ok-cells.ensures.script (returns-in-Ok-clause-outcome c)

@@ -4,7 +4,7 @@ use Rattle.dex_bank.specs.Cells.{opened_of, world_of}
 use Rattle.dex_bank.specs.Opened.{opened}
 use Rattle.dex_replay.specs.Replays.{start_world}
 use Rattle.dex_replay.proofs.Starts.{HasItsAddress}
-use Rattle.dex_replay.proofs.replaying.replay.Given as goal
+use Rattle.dex_replay.proofs.replaying.replay_with_rows.Given as goal
 
 -- the rows so far have acted, and the cells are those that were opened
 abbrev pub invariant-loop-row : goal.invariant-loop-row
