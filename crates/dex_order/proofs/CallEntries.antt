@@ -14,48 +14,36 @@ use Rattle.dex_types.specs.Rows.{PlainRow}
 use Rattle.dex_types.specs.Transfers.{Transfers}
 use Rattle.dex_types.specs.Wallets.{balance_seen, brought_to, movement_of, movements, row_wallets, seen_wallets, taken_from, with_role}
 use Rattle.dex_laws.proofs.TraderLaws.{is_same-sym, is_same-true}
-use Rattle.dex_history.specs.Journal.{Asked, Call, Sees, Stands, asked_of, asked_step, entry_by, front, idle, is_held, row_step}
+use Rattle.dex_history.specs.Journal.{Asked, Call, asked_of, asked_wallets, front, row_step, wallet_entry_of}
 use Rattle.dex_history.proofs.AddressOrder.{AreRising, times, with_address-rising, with_address-times}
 use Rattle.dex_history.proofs.WalletLaws.{places-movements, wallet-movement_by}
 use Rattle.dex_movements.specs.Entries.{wallet_entry_by}
 use Rattle.dex_movements.proofs.PlaceLaws.{seen-wallets}
 use Rattle.dex_fold.specs.Fold.{names}
-use Rattle.dex_cell.specs.CellState.{call_made}
 use Rattle.dex_stamps.specs.Stamped.{Stamped, items_of}
 use Rattle.dex_journals.specs.Made.{entries_in, entry_made}
 use Rattle.dex_replay.proofs.MappedLists.{filter-of, map-map}
-
--- a call that stands on a market and was not held back is the one that its row makes there
-pub is-made : (row : PlainRow) (call : Call) (m : Market) → call.asked ≡ asked_of row → is_held call ≡ false → Stands call m → call ≡ call_made row call.seen m
-is-made row call m asks own stands =
-    ap (λ (entry : Entry). record call { entry = entry })
-    (stands.entry ∙ ap (λ (asked : Asked). entry_by call (asked_step asked call.seen m)) (cond-false (is_held call) (idle call.asked) call.asked own))
-    ∙ ap (λ (asked : Asked).
-    record { asked = asked; seen = call.seen; entry = entry_by (record { asked = asked; seen = call.seen; entry = call.entry }) (asked_step asked call.seen m) }) asks
+use Rattle.dex_order.proofs.Acts.{Acts}
 
 -- ---- no row names a wallet twice
 
-role-rising : (role : Option Address) (addresses : List Address) → AreRising addresses → AreRising (with_role role addresses)
-role-rising None addresses rising = rising
-role-rising (Some address) addresses rising = with_address-rising address addresses rising
+-- addresses that rise, each once
+abbrev AreOrdered : List Address → Type 0
+AreOrdered addresses = AreRising addresses × ((address : Address) → times address addresses ≤ 1)
 
-role-once : (wallet : Address) (role : Option Address) (addresses : List Address) → AreRising addresses → times wallet addresses ≤ 1
-    → times wallet (with_role role addresses) ≤ 1
-role-once wallet None addresses rising once = once
-role-once wallet (Some address) addresses rising once =
-    subst (λ (n : ℕ). n ≤ 1) (sym (with_address-times wallet address addresses rising))
-    (cond_both (is_same wallet address) 1 (times wallet addresses) (λ (n : ℕ). n ≤ 1) (λ same. omega arith) (λ apart. once))
+with-role : (role : Option Address) (addresses : List Address) → AreOrdered addresses → AreOrdered (with_role role addresses)
+with-role None addresses ordered = ordered
+with-role (Some other) addresses ordered = (
+  with_address-rising other addresses ordered.0,
+  λ address.
+      subst (λ (n : ℕ). n ≤ 1) (sym (with_address-times address other addresses ordered.0))
+      (cond_both (is_same address other) 1 (times address addresses) (λ (n : ℕ). n ≤ 1) (λ same. omega arith) (λ apart. ordered.1 address)),
+)
 
-named-once : (row : PlainRow) (wallet : Address) → times wallet (row_wallets row) ≤ 1
-named-once row wallet =
-    let referrer : AreRising (with_role row.referrer []) = role-rising row.referrer [] tt in
-    let discount : AreRising (with_role row.discount (with_role row.referrer [])) = role-rising row.discount (with_role row.referrer []) referrer in
-    let pc : AreRising (with_role row.pc (with_role row.discount (with_role row.referrer []))) =
-    role-rising row.pc (with_role row.discount (with_role row.referrer [])) discount in
-    role-once wallet row.coin (with_role row.pc (with_role row.discount (with_role row.referrer []))) pc
-    (role-once wallet row.pc (with_role row.discount (with_role row.referrer [])) discount
-    (role-once wallet row.discount (with_role row.referrer []) referrer
-    (role-once wallet row.referrer [] tt (omega arith))))
+pub asked-once : (asked : Asked) (address : Address) → times address (asked_wallets asked) ≤ 1
+asked-once asked =
+    let none : AreOrdered [] = (tt, λ address. omega arith) in
+    (with-role asked.coin _ (with-role asked.pc _ (with-role asked.discount _ (with-role asked.referrer [] none)))).1
 
 -- so what is kept of one wallet is that wallet, where it stands there
 none-kept : (wallet : Address) (addresses : List Address) → times wallet addresses ≤ 0
@@ -96,7 +84,10 @@ one-kept wallet (address ∷ addresses) once =
 
 -- ---- the entries of a row's call
 
-module _ (row : PlainRow) (seen : Seen) (m : Market) (stamp : ℕ) (sees : Sees (asked_of row) seen) (wallet : Address) where
+module _ (row : PlainRow) (call : Stamped Call) (m : Market) (acts : Acts row call.item m) (wallet : Address) where
+  abbrev seen : Seen
+  seen = call.item.seen
+
   abbrev moved : Address → Movement
   moved address = movement_of seen (row_step row seen m).transfers address
 
@@ -112,21 +103,20 @@ module _ (row : PlainRow) (seen : Seen) (m : Market) (stamp : ℕ) (sees : Sees 
   moves-kept =
       sym (filter-of moved of_wallet (seen_wallets seen))
       ∙ ap (map moved) (filter_agree (λ (address : Address). of_wallet (moved address)) (λ (address : Address). is_same address wallet) moved-wallet (seen_wallets seen))
-      ∙ ap (λ (addresses : List Address). map moved (filter (λ (address : Address). is_same address wallet) addresses)) (seen-wallets row seen sees)
-      ∙ ap (map moved) (one-kept wallet (row_wallets row) (named-once row wallet))
+      ∙ ap (λ (addresses : List Address). map moved (filter (λ (address : Address). is_same address wallet) addresses)) (seen-wallets row seen acts.sees)
+      ∙ ap (map moved) (one-kept wallet (row_wallets row) (asked-once (asked_of row) wallet))
       ∙ either (names row wallet)
     where
       either : (b : Bool) → map moved (cond b (wallet ∷ []) []) ≡ cond b (moved wallet ∷ []) []
       either true = refl
       either false = refl
 
-  abbrev call_of_row : Stamped Call
-  call_of_row = record { item = call_made row seen m; stamp = stamp }
-
-  pub entries-made : items_of (entries_in wallet (record { item = call_made row seen m; stamp = stamp }))
-      ≡ cond (names row wallet) (wallet_entry_by row (movement_of seen (row_step row seen m).transfers wallet) ∷ []) []
+  pub entries-made : items_of (entries_in wallet call)
+      ≡ cond (names row wallet) (wallet_entry_by row (movement_of call.item.seen (row_step row call.item.seen m).transfers wallet) ∷ []) []
   entries-made =
-      map-map (entry_made call_of_row) (λ (made : Stamped WalletEntry). made.item) (filter of_wallet (front (call_made row seen m).entry.moves))
+      map-map (entry_made call) (λ (made : Stamped WalletEntry). made.item) (filter of_wallet (front call.item.entry.moves))
+      ∙ ap (λ (market : Address). map (wallet_entry_of market call.item.entry) (filter of_wallet (front call.item.entry.moves))) acts.market
+      ∙ ap (λ (entry : Entry). map (wallet_entry_of row.market entry) (filter of_wallet (front entry.moves))) acts.entry
       ∙ ap (λ (moves : List Movement). map (wallet_entry_by row) (filter of_wallet moves)) (places-movements seen (row_step row seen m).transfers)
       ∙ ap (map (wallet_entry_by row)) moves-kept
       ∙ either (names row wallet)

@@ -1,6 +1,6 @@
 -- The calls of all lanes, sorted by their stamps, are on each market its journal, and in each wallet's journal its entries.
-use Rattle.std.proofs.Common.{◌≡◌, ℕ, ◌<◌, Bool, true, false, cond, eqb, List, [], ◌∷◌, ◌++◌, length, map, get_or, refl, sym, ap, ◌∙◌, subst, arith}
-use Rattle.std.specs.List.{All, AllZip, filter, flat_map, range_with_len}
+use Rattle.std.proofs.Common.{◌≡◌, ℕ, ◌<◌, Bool, true, false, cond, eqb, List, [], ◌∷◌, ◌++◌, length, map, get_or, refl, sym, ap, ◌∙◌, subst}
+use Rattle.std.specs.List.{All, filter, flat_map, range_with_len}
 use Rattle.std.proofs.lemmas.List.{length-map}
 use Rattle.std.proofs.lemmas.List.Concat.{flat_map-append, flat_map_single}
 use Rattle.std.proofs.lemmas.List.Elements.{All-cons, All-map, All-nil, All-weaker, filter-append}
@@ -16,18 +16,20 @@ use Rattle.dex_accounts.specs.Decoded.{market_in}
 use Rattle.dex_history.specs.Journal.{Call, IsLegal, front}
 use Rattle.dex_script.specs.Drafts.{PlainScript}
 use Rattle.dex_wallet.specs.CellState.{balance_of}
-use Rattle.dex_stamps.specs.Stamped.{Stamped, items_of, stamped}
+use Rattle.dex_stamps.specs.Stamped.{Stamped, items_of}
 use Rattle.dex_journals.specs.Journals.{BankMarketState, BankWalletState, MarketOrigin, WalletOrigin, market_calls, wallet_entries}
 use Rattle.dex_journals.specs.Made.{calls_on, entries_in, entries_on, entry_made}
+use Rattle.dex_journals.proofs.StampedLists.{items_of-stamped}
 use Rattle.dex_replay.proofs.MappedLists.{flat_map-agree}
-use Rattle.dex_histories.specs.Lanes.{Lane}
-use Rattle.dex_histories.specs.Merged.{AreMerged, Histories, IsMarketMerged, IsWalletMerged}
+use Rattle.dex_order.specs.Lanes.{Lane}
+use Rattle.dex_order.specs.Merged.{AreMerged, Histories, IsMarketMerged, IsWalletMerged}
 use Rattle.dex_order.proofs.Fronts.{calls_at, entries_at}
 use Rattle.dex_order.proofs.Gathered.{gathered}
 use Rattle.dex_order.proofs.Items.{Item, all_items, call_in, calls-all, stamp_in}
 use Rattle.dex_order.proofs.Sorted.{Rises, picked-sorted, rises-from_pairs, sorted}
 use Rattle.dex_order.proofs.Steps.{AreLegal, IsMarketLegalAt}
 use Rattle.dex_order.proofs.Seeing.{IsWalletLegalAt}
+use Rattle.dex_order.proofs.Zipped.{zip-first}
 
 -- ---- lists
 
@@ -64,20 +66,6 @@ filter-flat_map p f (x ∷ xs) = filter-append p (f x) (flat_map f xs) ∙ ap (�
 flat_map-flat_map : {A B C : Type 0} (g : B → List C) (f : A → List B) (xs : List A) → flat_map g (flat_map f xs) ≡ flat_map (λ x. flat_map g (f x)) xs
 flat_map-flat_map g f [] = refl
 flat_map-flat_map g f (x ∷ xs) = flat_map-append g (f x) (flat_map f xs) ∙ ap (λ ys. flat_map g (f x) ++ ys) (flat_map-flat_map g f xs)
-
--- what holds of each pair of places holds of the first list's elements
-zip-first : {A B : Type 0} (R : A → B → Type 0) (P : A → Type 0) → ((x : A) (y : B) → R x y → P x) → (xs : List A) (ys : List B) → AllZip R xs ys → All P xs
-zip-first R P each [] [] all = All-nil P
-zip-first R P each [] (y ∷ ys) all = absurd all
-zip-first R P each (x ∷ xs) [] all = absurd all
-zip-first R P each (x ∷ xs) (y ∷ ys) all = All-cons P x xs (each x y all.0) (zip-first R P each xs ys all.1)
-
--- items that got a stamp each are as they were
-pub items-stamped : {A : Type 0} (items : List A) (stamps : List ℕ) → length stamps ≡ length items → items_of (stamped items stamps) ≡ items
-items-stamped [] [] same = refl
-items-stamped [] (stamp ∷ stamps) same = refl
-items-stamped (item ∷ items) [] same = absurd (omega (arith, same))
-items-stamped (item ∷ items) (stamp ∷ stamps) same = ap (λ rest. item ∷ rest) (items-stamped items stamps (omega (arith, same)))
 
 -- ---- a journal is what its lanes made, sorted
 
@@ -134,7 +122,7 @@ module _ (script : PlainScript) (all : Histories) (merged : AreMerged script all
       (calls-on start.address
       ∙ journal-made call_stamp (λ (call : Stamped Call). call.item.asked.lane) (λ (lane : Lane). calls_on start.address lane.calls) all.lanes script.lanes
       (market_calls market) merged.numbers (rises-from_pairs call_stamp (market_calls market) is.kept.rising) is.of_lanes is.each)
-      ∙ items-stamped market.cell.calls market.stamps is.kept.counted
+      ∙ items_of-stamped market.cell.calls market.stamps is.kept.counted
 
   pub market-start : (start : PlainMarketAccounts) (market : BankMarketState) → IsMarketMerged script all.lanes start market → market.cell.start ≡ start
   market-start start market is = ap (λ (origin : MarketOrigin). origin.start) is.origin
@@ -169,7 +157,7 @@ module _ (script : PlainScript) (all : Histories) (merged : AreMerged script all
       (entries-on start.address
       ∙ journal-made entry_stamp (λ (entry : Stamped WalletEntry). entry.item.lane) (λ (lane : Lane). entries_on start.address lane.calls) all.lanes script.lanes
       (wallet_entries wallet) merged.numbers (rises-from_pairs entry_stamp (wallet_entries wallet) is.kept.rising) is.of_lanes is.each)
-      ∙ items-stamped wallet.cell.entries wallet.stamps is.kept.counted
+      ∙ items_of-stamped wallet.cell.entries wallet.stamps is.kept.counted
 
   pub wallet-start : (start : PlainAccount) (wallet : BankWalletState) → IsWalletMerged script all.lanes start wallet
       → record { address = wallet.cell.address; bytes = wallet.cell.start } ≡ start

@@ -1,14 +1,17 @@
-mod CallEntries
+mod Acting
+mod Acts
+pub mod CallEntries
 mod Ends
+mod Examples
 mod Fronts
 mod Gathered
 mod Items
 mod Journals
-mod Once
+pub mod LaneGrowth
+pub mod LastCells
 mod Orders
 mod Seeing
 mod Sorted
 mod Steps
-mod Acting
-mod Settled
 mod Turns
+mod Zipped

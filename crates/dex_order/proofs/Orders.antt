@@ -1,5 +1,5 @@
 -- The order of the items' stamps keeps the order of each lane.
-use Rattle.std.proofs.Common.{◌≡◌, ℕ, ◌<◌, Bool, true, false, ◌||◌, cond, eqb, List, [], ◌∷◌, map, sym, ap, ◌∙◌, subst, arith, ⊎_elim}
+use Rattle.std.proofs.Common.{◌≡◌, ℕ, ◌<◌, Bool, true, false, eqb, List, [], ◌∷◌, map, sym, ap, ◌∙◌, subst, arith, ⊎_elim}
 use Rattle.std.specs.List.{All, filter, flat_map, list_any, range_with_len}
 use Rattle.std.proofs.lemmas.Bool.{cases_Bool, cond-false, cond-true, eqb-true, false_from_ne_true}
 use Rattle.std.proofs.lemmas.List.Elements.{All-cons, All-nil, All-weaker}
@@ -8,12 +8,12 @@ use Rattle.dex_fold.specs.Items as item
 use Rattle.dex_fold.specs.Items.{items_of, items_of_lane, rows_of_lane}
 use Rattle.dex_script.specs.Drafts.{PlainScript}
 use Rattle.dex_script.specs.Facts.{lanes_of}
-use Rattle.dex_stamps.specs.Stamped.{Stamped}
 use Rattle.dex_replay.proofs.MappedLists.{filter-of}
-use Rattle.dex_histories.specs.Merged.{AreMerged, Histories}
-use Rattle.dex_order.proofs.Gathered.{filter-none, one-within}
-use Rattle.dex_order.proofs.Items.{Item, all_items, call_in, stamp_in}
-use Rattle.dex_order.proofs.Journals.{filter-sorted, made, ordered}
+use Rattle.dex_replay.proofs.Groups.{filter-none}
+use Rattle.dex_order.specs.Merged.{AreMerged, Histories}
+use Rattle.dex_order.proofs.Gathered.{one-within}
+use Rattle.dex_order.proofs.Items.{stamp_in}
+use Rattle.dex_order.proofs.Journals.{filter-sorted, ordered}
 use Rattle.dex_order.proofs.Sorted.{picked-sorted, sorted, sorted-rising}
 use Rattle.dex_order.proofs.Turns.{IsPart, Turn, all-flat, all_turns, item_in, items_in, part, stamp_of}
 
@@ -26,7 +26,7 @@ lanes-below (row ∷ rows) =
 
 module _ (script : PlainScript) (all : Histories) (merged : AreMerged script all) where
   abbrev turns : List (Turn script)
-  turns = all_turns script merged.facts.rows.each merged.legs all.lanes merged.lanes
+  turns = all_turns script merged.facts.rows all.lanes merged.lanes
 
   -- by the stamps of their calls
   abbrev pub ordered_turns : List (Turn script)
@@ -39,7 +39,7 @@ module _ (script : PlainScript) (all : Histories) (merged : AreMerged script all
   pub turns-flat : flat_map items_in ordered_turns ≡ ordered script all merged
   turns-flat =
       picked-sorted stamp_of stamp_in items_in (λ turn. turn.is.stamps) turns
-      ∙ ap (sorted stamp_in) (all-flat script merged.facts.rows.each merged.legs all.lanes merged.lanes)
+      ∙ ap (sorted stamp_in) (all-flat script merged.facts.rows all.lanes merged.lanes)
 
   abbrev is_of : ℕ → Turn script → Bool
   is_of number turn = eqb turn.group.first.row.lane number
@@ -47,8 +47,8 @@ module _ (script : PlainScript) (all : Histories) (merged : AreMerged script all
   pub lanes-kept : (number : ℕ) → items_of_lane number order_of ≡ items_of (rows_of_lane number script.rows)
   lanes-kept number =
       let there : Bool = list_any (eqb number) (range_with_len 0 script.lanes) in
-      let own : IsPart script merged.facts.rows.each merged.legs number (filter (is_of number) turns) there =
-      part script merged.facts.rows.each merged.legs number 0 script.lanes all.lanes merged.lanes merged.numbers in
+      let own : IsPart script merged.facts.rows number (filter (is_of number) turns) there =
+      part script merged.facts.rows number 0 script.lanes all.lanes merged.lanes merged.numbers in
       let below : All (λ (row : PlainRow). row.lane < script.lanes) script.rows =
       subst (λ (count : ℕ). All (λ (row : PlainRow). row.lane < count) script.rows) (sym merged.facts.rows.lanes) (lanes-below script.rows) in
       sym (filter-of item_in (λ (one : item.Item). eqb one.first.lane number) ordered_turns)

@@ -26,7 +26,6 @@ use Rattle.dex_fold.specs.Fold.{names}
 use Rattle.dex_fold.specs.World.{WalletState, role_at, seen_by, wallet_at}
 use Rattle.dex_act.specs.Wallets.{any_hit, hits, roles_of}
 use Rattle.dex_act.proofs.Sights.{named-hit}
-use Rattle.dex_cell.specs.CellState.{call_made}
 use Rattle.dex_dump.specs.Accepted.{address_of, times}
 use Rattle.dex_script.specs.Drafts.{PlainScript}
 use Rattle.dex_token.specs.TokenAccount.{wallet_words}
@@ -34,6 +33,7 @@ use Rattle.dex_wallet.specs.CellState.{balance_of}
 use Rattle.dex_stamps.specs.Stamped.{Stamped, items_of}
 use Rattle.dex_journals.specs.Made.{entries_in}
 use Rattle.dex_replay.specs.Lawful.{IsSight, IsWalletSeen}
+use Rattle.dex_order.proofs.Acts.{Acts}
 use Rattle.dex_order.proofs.CallEntries.{entries-made}
 use Rattle.dex_order.proofs.Fronts.{entries_at, entries_at-append, entries_at-first, wallet_front, world_front}
 
@@ -136,23 +136,23 @@ stands-once seen (account ∷ accounts) any =
 abbrev pub IsWalletLegalAt : List (Stamped Call) → PlainAccount → Type 0
 IsWalletLegalAt made account = IsWalletLegal (balance_of account.bytes) (entries_at account.address made)
 
-module _ (row : PlainRow) (seen : Seen) (m : Market) (stamp : ℕ) (sees : Sees (asked_of row) seen) (made later : List (Stamped Call)) where
-  abbrev next : Stamped Call
-  next = record { item = call_made row seen m; stamp = stamp }
+module _ (row : PlainRow) (call : Stamped Call) (m : Market) (acts : Acts row call.item m) (made later : List (Stamped Call)) where
+  abbrev seen : Seen
+  seen = call.item.seen
 
   -- a wallet that it names has the balance that it saw
-  balance-before : (account : PlainAccount) → IsWalletLegalAt (made ++ next ∷ later) account → names row account.address ≡ true
+  balance-before : (account : PlainAccount) → IsWalletLegalAt (made ++ call ∷ later) account → names row account.address ≡ true
       → (wallet_front made account).seen.balance ≡ balance_seen seen account.address
   balance-before account legal named =
       let t : Transfers = (row_step row seen m).transfers in
       let address : Address = account.address in
       let front : List WalletEntry = entries_at address made in
       let entry : WalletEntry = wallet_entry_by row (movement_of seen t address) in
-      let here : items_of (entries_in address next) ≡ entry ∷ [] =
-      entries-made row seen m stamp sees address ∙ cond-true (names row address) (entry ∷ []) [] named in
-      let split : entries_at address (made ++ next ∷ later) ≡ front ++ entry ∷ entries_at address later =
-      entries_at-append address made (next ∷ later)
-      ∙ ap (λ (rest : List WalletEntry). front ++ rest) (entries_at-first address next later)
+      let here : items_of (entries_in address call) ≡ entry ∷ [] =
+      entries-made row call m acts address ∙ cond-true (names row address) (entry ∷ []) [] named in
+      let split : entries_at address (made ++ call ∷ later) ≡ front ++ entry ∷ entries_at address later =
+      entries_at-append address made (call ∷ later)
+      ∙ ap (λ (rest : List WalletEntry). front ++ rest) (entries_at-first address call later)
       ∙ ap (λ (rest : List WalletEntry). front ++ (rest ++ entries_at address later)) here in
       let whole : IsWalletLegal (balance_of account.bytes) (front ++ entry ∷ entries_at address later) =
       subst (λ (entries : List WalletEntry). IsWalletLegal (balance_of account.bytes) entries) split legal in
@@ -163,9 +163,9 @@ module _ (row : PlainRow) (seen : Seen) (m : Market) (stamp : ℕ) (sees : Sees 
   module _ (wallet : WalletSeen) (role : IsRole seen wallet) where
     here-named : (account : PlainAccount) → wallet.address ≡ account.address → names row account.address ≡ true
     here-named account same =
-        ap (names row) (sym same) ∙ named-hit row seen wallet.address sees ∙ hit-in wallet (roles_of seen) role.there
+        ap (names row) (sym same) ∙ named-hit row seen wallet.address acts.sees ∙ hit-in wallet (roles_of seen) role.there
 
-    here-seen : (account : PlainAccount) → IsWalletLegalAt (made ++ next ∷ later) account → IsSeenOf wallet account
+    here-seen : (account : PlainAccount) → IsWalletLegalAt (made ++ call ∷ later) account → IsSeenOf wallet account
         → (wallet_front made account).seen ≡ wallet
     here-seen account legal is =
         let same : wallet.address ≡ account.address = ap (λ (w : WalletSeen). w.address) is in
@@ -174,7 +174,7 @@ module _ (row : PlainRow) (seen : Seen) (m : Market) (stamp : ℕ) (sees : Sees 
         ∙ ap (balance_seen seen) (sym same) ∙ balance-in wallet (roles_of seen) role.one role.there in
         ap (λ (n : ℕ). record (wallet_front made account).seen { balance = n }) balance ∙ sym is
 
-    wallet-found : (accounts : List PlainAccount) → All (IsWalletLegalAt (made ++ next ∷ later)) accounts
+    wallet-found : (accounts : List PlainAccount) → All (IsWalletLegalAt (made ++ call ∷ later)) accounts
         → times wallet.address (map address_of accounts) ≤ 1 → Any (IsSeenOf wallet) accounts
         → wallet_at wallet.address (map (wallet_front made) accounts) ≡ Some wallet
     wallet-found [] legal once any = absurd (omega (arith, any.2))
@@ -190,7 +190,7 @@ module _ (row : PlainRow) (seen : Seen) (m : Market) (stamp : ℕ) (sees : Sees 
         (λ (other : Any (IsSeenOf wallet) accounts). absurd (omega (arith, once, counted, one, stands-once wallet accounts other)))
         (first-or-later (IsSeenOf wallet) account accounts any) in
         cond-true (is_same wallet.address account.address) (Some first) rest same
-        ∙ ap (λ (w : WalletSeen). Some w) (here-seen account (All-head (IsWalletLegalAt (made ++ next ∷ later)) account accounts legal) is))
+        ∙ ap (λ (w : WalletSeen). Some w) (here-seen account (All-head (IsWalletLegalAt (made ++ call ∷ later)) account accounts legal) is))
         (λ (apart : is_same wallet.address account.address ≡ false).
         let other : Any (IsSeenOf wallet) accounts =
         ⊎_elim
@@ -200,10 +200,10 @@ module _ (row : PlainRow) (seen : Seen) (m : Market) (stamp : ℕ) (sees : Sees 
         (λ (later : Any (IsSeenOf wallet) accounts). later)
         (first-or-later (IsSeenOf wallet) account accounts any) in
         cond-false (is_same wallet.address account.address) (Some first) rest apart
-        ∙ wallet-found accounts (All-tail (IsWalletLegalAt (made ++ next ∷ later)) account accounts legal) (omega (arith, once, counted)) other)
+        ∙ wallet-found accounts (All-tail (IsWalletLegalAt (made ++ call ∷ later)) account accounts legal) (omega (arith, once, counted)) other)
         (cases_Bool (is_same wallet.address account.address))
 
-  module _ (accounts : List PlainAccount) (legal : All (IsWalletLegalAt (made ++ next ∷ later)) accounts)
+  module _ (accounts : List PlainAccount) (legal : All (IsWalletLegalAt (made ++ call ∷ later)) accounts)
       (once : (address : Address) → times address (map address_of accounts) ≤ 1) where
     role-found : (role : Option Address) (one : Option WalletSeen) → address_seen one ≡ role → IsWalletSeen accounts one
         → ((wallet : WalletSeen) → one ≡ Some wallet → IsRole seen wallet) → role_at role (map (wallet_front made) accounts) ≡ one
@@ -216,16 +216,16 @@ module _ (row : PlainRow) (seen : Seen) (m : Market) (stamp : ℕ) (sees : Sees 
         ∙ wallet-found wallet (each wallet refl) accounts legal (once wallet.address) is
 
   -- all that it saw
-  pub next-sees : (script : PlainScript) → All (IsWalletLegalAt (made ++ next ∷ later)) script.start.wallets
+  pub next-sees : (script : PlainScript) → All (IsWalletLegalAt (made ++ call ∷ later)) script.start.wallets
       → ((address : Address) → times address (map address_of script.start.wallets) ≤ 1) → IsSight script seen
       → seen_by row (world_front script made) ≡ seen
   next-sees script legal once sight =
       let wallets : List WalletState = map (wallet_front made) script.start.wallets in
       let found = role-found script.start.wallets legal once in
-      let coin : role_at row.coin wallets ≡ seen.coin = found row.coin seen.coin sees.coin sight.coin (coin-role row seen sees) in
-      let pc : role_at row.pc wallets ≡ seen.pc = found row.pc seen.pc sees.pc sight.pc (pc-role row seen sees) in
-      let discount : role_at row.discount wallets ≡ seen.discount = found row.discount seen.discount sees.discount sight.discount (discount-role row seen sees) in
-      let referrer : role_at row.referrer wallets ≡ seen.referrer = found row.referrer seen.referrer sees.referrer sight.referrer (referrer-role row seen sees) in
+      let coin : role_at row.coin wallets ≡ seen.coin = found row.coin seen.coin acts.sees.coin sight.coin (coin-role row seen acts.sees) in
+      let pc : role_at row.pc wallets ≡ seen.pc = found row.pc seen.pc acts.sees.pc sight.pc (pc-role row seen acts.sees) in
+      let discount : role_at row.discount wallets ≡ seen.discount = found row.discount seen.discount acts.sees.discount sight.discount (discount-role row seen acts.sees) in
+      let referrer : role_at row.referrer wallets ≡ seen.referrer = found row.referrer seen.referrer acts.sees.referrer sight.referrer (referrer-role row seen acts.sees) in
       ap (λ (one : Option WalletSeen). record (seen_by row (world_front script made)) { coin = one }) coin
       ∙ ap (λ (one : Option WalletSeen). record (seen_by row (world_front script made)) { coin = seen.coin; pc = one }) pc
       ∙ ap (λ (one : Option WalletSeen). record (seen_by row (world_front script made)) { coin = seen.coin; pc = seen.pc; discount = one }) discount

@@ -16,13 +16,11 @@ use Rattle.dex_types.specs.Rows.{PlainRow}
 use Rattle.dex_types.specs.Steps.{Step}
 use Rattle.dex_types.specs.Wallets.{movement_of}
 use Rattle.dex_accounts.specs.Decoded.{market_in}
-use Rattle.dex_history.specs.Journal.{Asked, Call, IsLegal, Sees, Stands, asked_of, is_held, market_after, row_step}
-use Rattle.dex_history.proofs.HeldLaws.{own-step}
+use Rattle.dex_history.specs.Journal.{Asked, Call, IsLegal, Stands, market_after, row_step}
 use Rattle.dex_history.proofs.HistoryLaws.{IsLegal-append, IsWalletLegal-append, balance_after-append, market_after-one}
 use Rattle.dex_movements.specs.Entries.{entry_by, wallet_entry_by}
 use Rattle.dex_fold.specs.Fold.{act, acted, fold, market_acted, markets_acted, names, wallet_acted, wallet_moved}
 use Rattle.dex_fold.specs.World.{MarketState, WalletState, World, market_at, seen_by}
-use Rattle.dex_cell.specs.CellState.{call_made}
 use Rattle.dex_dump.specs.Accepted.{address_of, times}
 use Rattle.dex_script.specs.Drafts.{PlainScript}
 use Rattle.dex_script.specs.Known.{has_market}
@@ -32,9 +30,10 @@ use Rattle.dex_types.specs.WalletJournal.{IsWalletLegal}
 use Rattle.dex_stamps.specs.Stamped.{Stamped, items_of}
 use Rattle.dex_replay.proofs.LastAccounts.{listing-in, market_after-listing}
 use Rattle.dex_replay.proofs.MappedLists.{map-agree, map-map}
-use Rattle.dex_order.proofs.CallEntries.{entries-made, is-made}
+use Rattle.dex_order.proofs.Acts.{Acts, acted_row, acted_row-market, acted_row-sees, stands-acts}
+use Rattle.dex_order.proofs.CallEntries.{entries-made}
 use Rattle.dex_order.proofs.Fronts.{calls_at, calls_at-append, calls_at-elsewhere, calls_at-here, entries_at, entries_at-append, entries_at-one, market_front, market_with, wallet_front, wallet_with, world_front}
-use Rattle.dex_order.proofs.Items.{Item, call_in, row_in}
+use Rattle.dex_order.proofs.Items.{Item, call_in}
 use Rattle.dex_order.proofs.Seeing.{IsWalletLegalAt, next-sees}
 
 abbrev market_address : PlainMarketAccounts → Address
@@ -48,12 +47,15 @@ front-address made accounts =
 
 -- ---- one row
 
-module _ (row : PlainRow) (seen : Seen) (m : Market) (stamp : ℕ) (sees : Sees (asked_of row) seen) (made : List (Stamped Call)) where
-  abbrev next : Stamped Call
-  next = record { item = call_made row seen m; stamp = stamp }
+module _ (row : PlainRow) (call : Stamped Call) (m : Market) (acts : Acts row call.item m) (made : List (Stamped Call)) where
+  abbrev seen : Seen
+  seen = call.item.seen
 
   abbrev then : List (Stamped Call)
-  then = made ++ record { item = call_made row seen m; stamp = stamp } ∷ []
+  then = made ++ call ∷ []
+
+  on-market : (b : Bool) (accounts : PlainMarketAccounts) → is_same row.market accounts.address ≡ b → is_same call.item.asked.market accounts.address ≡ b
+  on-market b accounts is = ap (λ (a : Address). is_same a accounts.address) acts.market ∙ is
 
   -- its market
   market-acts : (accounts : PlainMarketAccounts) → is_same row.market accounts.address ≡ true → (market_front made accounts).market ≡ m
@@ -64,17 +66,17 @@ module _ (row : PlainRow) (seen : Seen) (m : Market) (stamp : ℕ) (sees : Sees 
       let after : Market = (row_step row seen before).market in
       let entry_at : Market → Entry = λ (market : Market). let s = row_step row seen market in entry_by row seen s.reply s.transfers in
       let with : List Entry → MarketState = λ (entries : List Entry). record { market = after; entries = entries } in
-      let entries : List Entry = map (λ (call : Call). call.entry) calls in
+      let entries : List Entry = map (λ (one : Call). one.entry) calls in
       ap (λ (market : Market). with (entries ++ entry_at market ∷ [])) own
-      ∙ ap with (sym (map_push (λ (call : Call). call.entry) calls (call_made row seen m)))
-      ∙ ap (λ (s : Step). record { market = s.market; entries = map (λ (call : Call). call.entry) (calls ++ call_made row seen m ∷ []) })
-      (sym (own-step (call_made row seen m) m before refl))
-      ∙ ap (λ (market : Market). record { market = market; entries = map (λ (call : Call). call.entry) (calls ++ call_made row seen m ∷ []) })
-      (sym (market_after-one calls (call_made row seen m) (market_in accounts)))
-      ∙ ap (market_with accounts) (sym (calls_at-here accounts.address made next here))
+      ∙ ap (λ (entry : Entry). with (entries ++ entry ∷ [])) (sym acts.entry)
+      ∙ ap with (sym (map_push (λ (one : Call). one.entry) calls call.item))
+      ∙ ap (λ (s : Step). record { market = s.market; entries = map (λ (one : Call). one.entry) (calls ++ call.item ∷ []) }) (sym (acts.step before))
+      ∙ ap (λ (market : Market). record { market = market; entries = map (λ (one : Call). one.entry) (calls ++ call.item ∷ []) })
+      (sym (market_after-one calls call.item (market_in accounts)))
+      ∙ ap (market_with accounts) (sym (calls_at-here accounts.address made call (on-market true accounts here)))
 
   market-stays : (accounts : PlainMarketAccounts) → is_same row.market accounts.address ≡ false → market_front made accounts ≡ market_front then accounts
-  market-stays accounts elsewhere = ap (market_with accounts) (sym (calls_at-elsewhere accounts.address made next elsewhere))
+  market-stays accounts elsewhere = ap (market_with accounts) (sym (calls_at-elsewhere accounts.address made call (on-market false accounts elsewhere)))
 
   markets-stay : (all : List PlainMarketAccounts) → times row.market (map market_address all) ≤ 0 → map (market_front made) all ≡ map (market_front then) all
   markets-stay [] none = refl
@@ -117,8 +119,8 @@ module _ (row : PlainRow) (seen : Seen) (m : Market) (stamp : ℕ) (sees : Sees 
       → wallet_acted row seen (row_step row seen m).transfers (wallet_front made account) ≡ wallet_front then account
   wallet-acts account =
       either (names row account.address)
-      ∙ ap (λ (entries : List WalletEntry). wallet_with account (entries_at account.address made ++ entries)) (sym (entries-made row seen m stamp sees account.address))
-      ∙ ap (wallet_with account) (sym (entries_at-one account.address made next))
+      ∙ ap (λ (entries : List WalletEntry). wallet_with account (entries_at account.address made ++ entries)) (sym (entries-made row call m acts account.address))
+      ∙ ap (wallet_with account) (sym (entries_at-one account.address made call))
     where
       either : (b : Bool) → cond b (wallet_moved row (movement_of seen (row_step row seen m).transfers account.address) (wallet_front made account)) (wallet_front made account)
           ≡ wallet_with account (entries_at account.address made
@@ -221,6 +223,10 @@ legal-front script made later legal = record {
       script.start.wallets legal.wallets;
 }
 
+-- a row of an item, as it acted
+abbrev pub acted_in : {script : PlainScript} → Item script → PlainRow
+acted_in item = acted_row item.row item.call.item
+
 -- what the next row finds: its market, on which its call stands, and what the call saw
 pub record Finds (script : PlainScript) (made : List (Stamped Call)) (item : Item script) : Type 0 where
   pub m : Market
@@ -229,44 +235,35 @@ pub record Finds (script : PlainScript) (made : List (Stamped Call)) (item : Ite
   pub sees : seen_by item.row (world_front script made) ≡ item.call.item.seen
 
 pub item-finds : (script : PlainScript) (made later : List (Stamped Call)) (item : Item script) → AreOnce script → AreLegal script (made ++ item.call ∷ later)
-    → is_held item.call.item ≡ false → Finds script made item
-item-finds script made later item once legal own =
-    let row : PlainRow = item.row in
-    let seen : Seen = item.call.item.seen in
-    let market : item.call.item.asked.market ≡ row.market = ap (λ (asked : Asked). asked.market) item.asks in
+    → Finds script made item
+item-finds script made later item once legal =
+    let market : item.call.item.asked.market ≡ item.row.market = ap (λ (asked : Asked). asked.market) item.is.asks in
     let found = market-found made later item.call script.start.markets
-    (subst (λ (a : Address). has_market a script.start.markets ≡ true) (sym market) item.fits.market) legal.markets in
-    let m : Market = found.0 in
-    let sees : Sees (asked_of row) seen = subst (λ (asked : Asked). Sees asked seen) item.asks found.2.sees in
-    let same : item.call ≡ record { item = call_made row seen m; stamp = item.call.stamp } =
-    ap (λ (call : Call). record { item = call; stamp = item.call.stamp }) (is-made row item.call.item m item.asks own found.2) in
-    let wallets : All (IsWalletLegalAt (made ++ record { item = call_made row seen m; stamp = item.call.stamp } ∷ later)) script.start.wallets =
-    subst (λ (call : Stamped Call). All (IsWalletLegalAt (made ++ call ∷ later)) script.start.wallets) same legal.wallets in
+    (subst (λ (a : Address). has_market a script.start.markets ≡ true) (sym market) item.is.fits.market) legal.markets in
+    let acts : Acts (acted_in item) item.call.item found.0 = stands-acts item.row item.call.item found.0 item.is.asks found.2 in
     record {
-      m = m;
-      at = subst (λ (a : Address). market_at a (world_front script made).markets ≡ Some m) market found.1;
+      m = found.0;
+      at = subst (λ (a : Address). market_at a (world_front script made).markets ≡ Some found.0) market found.1;
       stands = found.2;
-      sees = next-sees row seen m item.call.stamp sees made later script wallets once.wallets item.sight;
+      sees = sym (acted_row-sees item.row item.call.item (world_front script made))
+          ∙ next-sees (acted_in item) item.call found.0 acts made later script legal.wallets once.wallets item.is.sight;
     }
 
 item-acts : (script : PlainScript) (made later : List (Stamped Call)) (item : Item script) → AreOnce script → AreLegal script (made ++ item.call ∷ later)
-    → is_held item.call.item ≡ false → act item.row (world_front script made) ≡ world_front script (made ++ item.call ∷ [])
-item-acts script made later item once legal own =
-    let row : PlainRow = item.row in
-    let seen : Seen = item.call.item.seen in
-    let finds : Finds script made item = item-finds script made later item once legal own in
-    let sees : Sees (asked_of row) seen = subst (λ (asked : Asked). Sees asked seen) item.asks finds.stands.sees in
-    next-acts row seen finds.m item.call.stamp sees made script finds.at finds.sees (once.markets row.market)
-    ∙ ap (λ (call : Stamped Call). world_front script (made ++ call ∷ []))
-    (sym (ap (λ (call : Call). record { item = call; stamp = item.call.stamp }) (is-made row item.call.item finds.m item.asks own finds.stands)))
+    → act (acted_in item) (world_front script made) ≡ world_front script (made ++ item.call ∷ [])
+item-acts script made later item once legal =
+    let finds : Finds script made item = item-finds script made later item once legal in
+    next-acts (acted_in item) item.call finds.m (stands-acts item.row item.call.item finds.m item.is.asks finds.stands) made script
+    (ap (λ (a : Address). market_at a (world_front script made).markets) (acted_row-market item.row item.call.item) ∙ finds.at)
+    (acted_row-sees item.row item.call.item (world_front script made) ∙ finds.sees) (once.markets (acted_in item).market)
 
-pub items-replayed : (script : PlainScript) (made : List (Stamped Call)) (items : List (Item script)) → AreOnce script
-    → AreLegal script (made ++ map call_in items) → All (λ (item : Item script). is_held item.call.item ≡ false) items → fold (map row_in items) (world_front script made) ≡ world_front script (made ++ map call_in items)
-items-replayed script made [] once legal own = ap (world_front script) (sym (append-nil made))
-items-replayed script made (item ∷ items) once legal own =
+-- the rows as they acted, one after the other
+pub items-acted : (script : PlainScript) (made : List (Stamped Call)) (items : List (Item script)) → AreOnce script
+    → AreLegal script (made ++ map call_in items) → fold (map acted_in items) (world_front script made) ≡ world_front script (made ++ map call_in items)
+items-acted script made [] once legal = ap (world_front script) (sym (append-nil made))
+items-acted script made (item ∷ items) once legal =
     let later : List (Stamped Call) = map call_in items in
     let again : (made ++ item.call ∷ []) ++ later ≡ made ++ item.call ∷ later = append_assoc made (item.call ∷ []) later in
-    ap (fold (map row_in items)) (item-acts script made later item once legal (All-head (λ (one : Item script). is_held one.call.item ≡ false) item items own))
-    ∙ items-replayed script (made ++ item.call ∷ []) items once (subst (AreLegal script) (sym again) legal)
-    (All-tail (λ (one : Item script). is_held one.call.item ≡ false) item items own)
+    ap (fold (map acted_in items)) (item-acts script made later item once legal)
+    ∙ items-acted script (made ++ item.call ∷ []) items once (subst (AreLegal script) (sym again) legal)
     ∙ ap (world_front script) again

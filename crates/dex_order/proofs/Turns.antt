@@ -1,24 +1,23 @@
 -- The items of all lanes: calls of one number with their rows. Each has one stamp.
-use Rattle.std.proofs.Common.{◌≡◌, ℕ, zero, suc, ◌+◌, ◌<◌, ◌≤◌, Bool, true, false, ◌||◌, cond, eqb, List, [], ◌∷◌, ◌++◌, length, get_or, map, refl, sym, ap, ◌∙◌, subst, arith, ⊎_elim}
-use Rattle.std.specs.List.{All, AllPairs, filter, flat_map, list_any, range_with_len}
-use Rattle.std.proofs.lemmas.Bool.{cases_Bool, cond-false, cond-true, eqb-false, eqb-true, ne_eqb}
-use Rattle.std.proofs.lemmas.List.{append-nil, append_assoc, map-append}
+use Rattle.std.proofs.Common.{◌≡◌, ℕ, zero, suc, ◌+◌, ◌<◌, Bool, true, false, ◌||◌, cond, eqb, List, [], ◌∷◌, ◌++◌, map, refl, sym, ap, ◌∙◌, subst, arith, ⊎_elim}
+use Rattle.std.specs.List.{All, filter, flat_map, list_any, range_with_len}
+use Rattle.std.proofs.lemmas.Bool.{cases_Bool, eqb-false, eqb-true, ne_eqb}
+use Rattle.std.proofs.lemmas.List.{append-nil}
 use Rattle.std.proofs.lemmas.List.Concat.{flat_map-append}
 use Rattle.std.proofs.lemmas.List.Elements.{All-cons, All-nil, All-head, All-tail, All-weaker, filter-append, filter_passes}
-use Rattle.std.proofs.lemmas.List.Folds.{flat_map-map}
 use Rattle.dex_types.specs.Rows.{PlainRow}
-use Rattle.dex_history.specs.Journal.{Asked, Call, asked_of}
+use Rattle.dex_history.specs.Journal.{Asked}
 use Rattle.dex_fold.specs.Groups.{Group, grouped, map_group, members}
 use Rattle.dex_fold.specs.Items as item
-use Rattle.dex_fold.specs.Items.{items_of, rows_of_lane}
-use Rattle.dex_fold.proofs.GroupLaws.{EachTwo, Goes, IsOneStamp, Rise, grouped-agree, grouped-flat, grouped-map, grouped-rise, grouped-stamps}
+use Rattle.dex_fold.specs.Items.{EachApart, items_of, rows_of_lane}
+use Rattle.dex_fold.proofs.GroupLaws.{EachTwo, Goes, IsOneStamp, Rise, grouped-agree, grouped-firsts, grouped-flat, grouped-map, grouped-rise, grouped-stamps}
 use Rattle.dex_script.specs.Drafts.{PlainScript}
-use Rattle.dex_script.specs.Facts.{IsRowOf}
-use Rattle.dex_stamps.specs.Stamped.{Stamped}
-use Rattle.dex_replay.proofs.MappedLists.{All-unmap, map-map}
-use Rattle.dex_histories.specs.Lanes.{AreAllOrNone, EachApart, IsAsOthers, IsBefore, IsLaneDone, Lane, number_in}
-use Rattle.dex_order.proofs.Gathered.{filter-all, filter-none, none-before}
-use Rattle.dex_order.proofs.Items.{Item, all_items, call_in, first-same, lane-calls, lane-rows, lane_items, rest-same, row_in, rows_in, stamp_in}
+use Rattle.dex_script.specs.Facts.{AreRows}
+use Rattle.dex_replay.proofs.Groups.{each-two, each-two-weaker, filter-all, filter-none}
+use Rattle.dex_replay.proofs.MappedLists.{All-unmap}
+use Rattle.dex_replay.proofs.Orders.{items-apart}
+use Rattle.dex_order.specs.Lanes.{AreAllOrNone, IsAsOthers, IsBefore, IsLaneDone, Lane, number_in}
+use Rattle.dex_order.proofs.Items.{Item, all_items, call_in, first-same, lane-calls, lane-rows, lane_items, rest-same, row_in, stamp_in}
 use Rattle.dex_order.proofs.Sorted.{Rises}
 
 -- ---- one of them
@@ -61,43 +60,28 @@ module _ (script : PlainScript) where
   turned-rows (group ∷ groups) all =
       ap (λ (some : List item.Item). map_group row_in group ∷ some) (turned-rows groups (All-tail (IsTurn script) group groups all))
 
+  turned-each : (P : Group (Item script) → Type 0) (groups : List (Group (Item script))) (all : All (IsTurn script) groups) → All P groups
+      → All (λ (turn : Turn script). P turn.group) (turned groups all)
+  turned-each P [] all each = All-nil (λ (turn : Turn script). P turn.group)
+  turned-each P (group ∷ groups) all each =
+      All-cons (λ (turn : Turn script). P turn.group) (record { group = group; is = All-head (IsTurn script) group groups all })
+      (turned groups (All-tail (IsTurn script) group groups all)) (All-head P group groups each)
+      (turned-each P groups (All-tail (IsTurn script) group groups all) (All-tail P group groups each))
+
   turned-rises : (groups : List (Group (Item script))) (all : All (IsTurn script) groups) → Rise (λ (group : Group (Item script)). stamp_in group.first) groups
       → Rises stamp_of (turned groups all)
   turned-rises [] all rise = tt
-  turned-rises (group ∷ groups) all rise = (
-    lower groups (All-tail (IsTurn script) group groups all) rise.0,
-    turned-rises groups (All-tail (IsTurn script) group groups all) rise.1,
-  )
-    where
-      lower : (some : List (Group (Item script))) (facts : All (IsTurn script) some) → All (λ (one : Group (Item script)). stamp_in group.first < stamp_in one.first) some
-          → All (λ (turn : Turn script). stamp_in group.first < stamp_of turn) (turned some facts)
-      lower [] facts less = All-nil (λ (turn : Turn script). stamp_in group.first < stamp_of turn)
-      lower (one ∷ some) facts less =
-          let Less : Group (Item script) → Type 0 = λ g. stamp_in group.first < stamp_in g.first in
-          All-cons (λ (turn : Turn script). stamp_in group.first < stamp_of turn) (record { group = one; is = All-head (IsTurn script) one some facts })
-          (turned some (All-tail (IsTurn script) one some facts)) (All-head Less one some less)
-          (lower some (All-tail (IsTurn script) one some facts) (All-tail Less one some less))
-
--- what holds of each two of a list
-each-two : {A : Type 0} (R : A → A → Type 0) (xs : List A) → AllPairs R xs → EachTwo R xs
-each-two R [] pairs = tt
-each-two R (x ∷ xs) pairs = (
-  λ k d within. pairs 0 (suc k) d (omega arith) (omega (arith, within)),
-  each-two R xs (λ i j d before within. pairs (suc i) (suc j) d (omega (arith, before)) (omega (arith, within))),
-)
+  turned-rises (group ∷ groups) all rise =
+      let rest : All (IsTurn script) groups = All-tail (IsTurn script) group groups all in
+      (turned-each (λ (one : Group (Item script)). stamp_in group.first < stamp_in one.first) groups rest rise.0, turned-rises groups rest rise.1)
 
 two-unmap : {A B : Type 0} (R : B → B → Type 0) (f : A → B) (xs : List A) → EachTwo R (map f xs) → EachTwo (λ x y. R (f x) (f y)) xs
 two-unmap R f [] each = tt
 two-unmap R f (x ∷ xs) each = (All-unmap (R (f x)) f xs each.0, two-unmap R f xs each.1)
 
-two-weaker : {A : Type 0} (R S : A → A → Type 0) → ((x y : A) → R x y → S x y) → (xs : List A) → EachTwo R xs → EachTwo S xs
-two-weaker R S weaker [] each = tt
-two-weaker R S weaker (x ∷ xs) each = (All-weaker (R x) (S x) (weaker x) xs each.0, two-weaker R S weaker xs each.1)
-
 -- ---- the items of a lane
 
-module _ (script : PlainScript) (fit : All (IsRowOf script.start) script.rows)
-    (legs : (lane : ℕ) → All (λ (one : item.Item). EachApart (members one)) (items_of (rows_of_lane lane script.rows))) where
+module _ (script : PlainScript) (facts : AreRows script) where
   abbrev number_of : Item script → ℕ
   number_of one = number_in one.call
 
@@ -105,20 +89,20 @@ module _ (script : PlainScript) (fit : All (IsRowOf script.start) script.rows)
   row_number row = row.number
 
   same-number : (one : Item script) → number_of one ≡ one.row.number
-  same-number one = ap (λ (asked : Asked). asked.number) one.asks
+  same-number one = ap (λ (asked : Asked). asked.number) one.is.asks
 
   module _ (lane : Lane) (done : IsLaneDone script lane) where
     abbrev own : List (Item script)
-    own = lane_items script fit lane done
+    own = lane_items script facts.each lane done
 
     abbrev groups : List (Group (Item script))
     groups = grouped number_of own
 
     pub goes : EachTwo (Goes number_of stamp_in) own
     goes =
-        two-weaker (λ (x y : Item script). IsBefore x.call y.call) (Goes number_of stamp_in) (λ x y is. record { together = is.together; later = is.later }) own
+        each-two-weaker (λ (x y : Item script). IsBefore x.call y.call) (Goes number_of stamp_in) (λ x y is. record { together = is.together; later = is.later }) own
         (two-unmap IsBefore call_in own
-        (subst (EachTwo IsBefore) (sym (lane-calls script fit lane done)) (each-two IsBefore lane.calls done.calls.rising)))
+        (subst (EachTwo IsBefore) (sym (lane-calls script facts.each lane done)) (each-two IsBefore lane.calls done.calls.rising)))
 
     pub choices : All (λ (group : Group (Item script)). All (λ (one : Item script). IsAsOthers (map call_in (members group)) one.call) (members group)) groups
     choices =
@@ -126,19 +110,19 @@ module _ (script : PlainScript) (fit : All (IsRowOf script.start) script.rows)
         (λ (group : Group (Item script)). All (λ (one : Item script). IsAsOthers (map call_in (members group)) one.call) (members group))
         (λ group all. All-unmap (IsAsOthers (map call_in (members group))) call_in (members group) all) groups
         (All-unmap AreAllOrNone (map_group call_in) groups
-        (subst (All AreAllOrNone) (ap (grouped number_in) (sym (lane-calls script fit lane done)) ∙ grouped-map number_in call_in own) done.calls.items))
+        (subst (All AreAllOrNone) (ap (grouped number_in) (sym (lane-calls script facts.each lane done)) ∙ grouped-map number_in call_in own) done.calls.items))
 
     -- their rows are the items of the lane's rows
     rows-grouped : map (map_group row_in) groups ≡ items_of (rows_of_lane lane.number script.rows)
     rows-grouped =
         ap (map (map_group row_in)) (grouped-agree number_of (λ (one : Item script). one.row.number) same-number own)
         ∙ sym (grouped-map row_number row_in own)
-        ∙ ap (grouped row_number) (lane-rows script fit lane done)
+        ∙ ap (grouped row_number) (lane-rows script facts.each lane done)
 
     pub apart : All (λ (group : Group (Item script)). EachApart (map row_in (members group))) groups
     apart =
         All-unmap (λ (one : item.Item). EachApart (members one)) (map_group row_in) groups
-        (subst (All (λ (one : item.Item). EachApart (members one))) (sym rows-grouped) (legs lane.number))
+        (subst (All (λ (one : item.Item). EachApart (members one))) (sym rows-grouped) (items-apart script facts lane.number))
 
     pub all-turns : (some : List (Group (Item script))) → All (IsOneStamp number_of stamp_in) some
         → All (λ (group : Group (Item script)). All (λ (one : Item script). IsAsOthers (map call_in (members group)) one.call) (members group)) some
@@ -148,7 +132,7 @@ module _ (script : PlainScript) (fit : All (IsRowOf script.start) script.rows)
     abbrev pub lane_turns : List (Turn script)
     lane_turns = turned script groups (all-turns groups (grouped-stamps number_of stamp_in own goes) choices apart)
 
-    pub lane-flat : flat_map items_in lane_turns ≡ lane_items script fit lane done
+    pub lane-flat : flat_map items_in lane_turns ≡ lane_items script facts.each lane done
     lane-flat =
         turned-items script groups (all-turns groups (grouped-stamps number_of stamp_in own goes) choices apart) ∙ grouped-flat number_of own
 
@@ -160,27 +144,14 @@ module _ (script : PlainScript) (fit : All (IsRowOf script.start) script.rows)
         turned-rises script groups (all-turns groups (grouped-stamps number_of stamp_in own goes) choices apart) (grouped-rise number_of stamp_in own goes)
 
     -- each is of the lane
-    firsts-of : (some : List (Turn script)) (rest : List (Item script)) → flat_map items_in some ≡ rest → All (λ (one : Item script). eqb one.row.lane lane.number ≡ true) rest
-        → All (λ (turn : Turn script). eqb turn.group.first.row.lane lane.number ≡ true) some
-    firsts-of [] rest is all = All-nil (λ (turn : Turn script). eqb turn.group.first.row.lane lane.number ≡ true)
-    firsts-of (turn ∷ some) rest is all =
-        let Of : Item script → Type 0 = λ one. eqb one.row.lane lane.number ≡ true in
-        let whole : All Of (turn.group.first ∷ turn.group.others ++ flat_map items_in some) = subst (All Of) (sym is) all in
-        All-cons (λ (one : Turn script). eqb one.group.first.row.lane lane.number ≡ true) turn some
-        (All-head Of turn.group.first (turn.group.others ++ flat_map items_in some) whole)
-        (firsts-of some (flat_map items_in some) refl (behind turn.group.others (flat_map items_in some) (All-tail Of turn.group.first (turn.group.others ++ flat_map items_in some) whole)))
-      where
-        behind : (xs ys : List (Item script)) → All (λ (one : Item script). eqb one.row.lane lane.number ≡ true) (xs ++ ys)
-            → All (λ (one : Item script). eqb one.row.lane lane.number ≡ true) ys
-        behind [] ys all = all
-        behind (x ∷ xs) ys all = behind xs ys (All-tail (λ (one : Item script). eqb one.row.lane lane.number ≡ true) x (xs ++ ys) all)
-
-    pub lane-numbers : All (λ (turn : Turn script). eqb turn.group.first.row.lane lane.number ≡ true) lane_turns
+    lane-numbers : All (λ (turn : Turn script). eqb turn.group.first.row.lane lane.number ≡ true) lane_turns
     lane-numbers =
-        firsts-of lane_turns own lane-flat
+        turned-each script (λ (group : Group (Item script)). eqb group.first.row.lane lane.number ≡ true) groups
+        (all-turns groups (grouped-stamps number_of stamp_in own goes) choices apart)
+        (grouped-firsts number_of (λ (one : Item script). eqb one.row.lane lane.number ≡ true) own
         (All-unmap (λ (row : PlainRow). eqb row.lane lane.number ≡ true) row_in own
-        (subst (All (λ (row : PlainRow). eqb row.lane lane.number ≡ true)) (sym (lane-rows script fit lane done))
-        (filter_passes (λ (row : PlainRow). eqb row.lane lane.number) script.rows)))
+        (subst (All (λ (row : PlainRow). eqb row.lane lane.number ≡ true)) (sym (lane-rows script facts.each lane done))
+        (filter_passes (λ (row : PlainRow). eqb row.lane lane.number) script.rows))))
 
   -- ---- of all lanes
 
@@ -189,14 +160,14 @@ module _ (script : PlainScript) (fit : All (IsRowOf script.start) script.rows)
   all_turns (lane ∷ lanes) done =
       lane_turns lane (All-head (IsLaneDone script) lane lanes done) ++ all_turns lanes (All-tail (IsLaneDone script) lane lanes done)
 
-  pub all-flat : (lanes : List Lane) (done : All (IsLaneDone script) lanes) → flat_map items_in (all_turns lanes done) ≡ all_items script fit lanes done
+  pub all-flat : (lanes : List Lane) (done : All (IsLaneDone script) lanes) → flat_map items_in (all_turns lanes done) ≡ all_items script facts.each lanes done
   all-flat [] done = refl
   all-flat (lane ∷ lanes) done =
       let here : IsLaneDone script lane = All-head (IsLaneDone script) lane lanes done in
       let rest : All (IsLaneDone script) lanes = All-tail (IsLaneDone script) lane lanes done in
       flat_map-append items_in (lane_turns lane here) (all_turns lanes rest)
       ∙ ap (λ (some : List (Item script)). some ++ flat_map items_in (all_turns lanes rest)) (lane-flat lane here)
-      ∙ ap (λ (some : List (Item script)). lane_items script fit lane here ++ some) (all-flat lanes rest)
+      ∙ ap (λ (some : List (Item script)). lane_items script facts.each lane here ++ some) (all-flat lanes rest)
 
   abbrev pub IsOf : ℕ → Turn script → Bool
   IsOf number turn = eqb turn.group.first.row.lane number

@@ -6,14 +6,15 @@ use Rattle.dex_types.specs.declared.rows.Row.{Row}
 use Rattle.dex_types.specs.declared.rows.Seen.{Seen}
 use Rattle.dex_types.specs.Rows.{row_of}
 use Rattle.dex_history.specs.Journal.{Call, Sees, asked_of}
-use Rattle.dex_cell.specs.CellState.{MarketCellState, call_on, step_on}
+use Rattle.dex_history.proofs.HeldLaws.{own-not_held}
+use Rattle.dex_cell.specs.CellState.{MarketCellState, call_on, market_at, step_on}
 use Rattle.dex_wallet.specs.CellState.{CellState, IsWalletCell}
 use Rattle.dex_fold.specs.World.{seen_by}
 use Rattle.dex_act.specs.Wallets.{Fits, SeesCells, made_of, roles_of, states_acted, wallet_state_of}
 use Rattle.dex_script.specs.Drafts.{PlainScript}
 use Rattle.dex_replay.specs.Lawful.{IsSight}
 use Rattle.dex_stamps.specs.Stamped.{Stamped}
-use Rattle.dex_histories.specs.Lanes.{MovesEach}
+use Rattle.dex_order.specs.Lanes.{MovesEach}
 use Rattle.dex_run.specs.Turns.{AreInHand, HasEntry, IsTold, world_in}
 use Rattle.dex_run.proofs.InHand.{call_by, cells-named, have-entries, moves-each, sees-asked, sees-hand, sight}
 
@@ -39,6 +40,7 @@ module _ (script : PlainScript) (row : Row) (cells lent : List CellState) (seen 
 
     pub is-told : next ≡ stamp + 1 → IsTold script stamp call
     is-told later = record {
+      own = own-not_held (record { asked = asked_of (row_of row); seen = seen; entry = entry }) (market_at market) told;
       sees = subst (IsSight script) (sym seen-is) (sight script (row_of row) cells hand);
       moves =
           subst (λ (c : Stamped Call). MovesEach c.item) (sym call-is)

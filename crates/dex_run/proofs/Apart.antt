@@ -1,26 +1,17 @@
 -- The addresses of a script's markets, and those of its wallets, are apart.
-use Rattle.std.proofs.Common.{◌≡◌, ℕ, ◌+◌, ◌≤◌, Bool, true, false, cond, List, [], ◌∷◌, ◌++◌, drop, map, ap, ◌∙◌, arith, ⊎_elim}
-use Rattle.std.specs.List.{All, flat_map}
+use Rattle.std.proofs.Common.{◌≡◌, ◌≤◌, true, false, List, [], ◌∷◌, map, ap, arith, ⊎_elim}
+use Rattle.std.specs.List.{All}
 use Rattle.std.proofs.lemmas.Bool.{cases_Bool}
 use Rattle.std.proofs.lemmas.List.Elements.{All-cons, All-nil}
 use Rattle.std.proofs.lemmas.List.Kept.{AllPairs-cons}
-use Rattle.std.proofs.lemmas.List.Sums.{sum_by-append, sum_by-cons}
 use Rattle.dex_types.specs.declared.addresses.Address.{Address}
 use Rattle.dex_types.specs.Accounts.{PlainAccount, PlainAccounts, PlainMarketAccounts}
 use Rattle.dex_types.specs.Addresses.{is_same}
 use Rattle.dex_laws.proofs.TraderLaws.{is_same-refl}
-use Rattle.dex_dump.specs.Accepted.{addresses_of, address_of, all_of_market, times}
+use Rattle.dex_dump.specs.Accepted.{AreAccepted, times}
 use Rattle.dex_places.specs.Places.{AreDistinct}
-
--- one where it is so
-abbrev one : Bool → ℕ
-one b = cond b 1 0
-
-times-cons : (address x : Address) (xs : List Address) → times address (x ∷ xs) ≡ one (is_same address x) + times address xs
-times-cons address x xs = sum_by-cons (λ (y : Address). one (is_same address y)) x xs
-
-times-append : (address : Address) (xs ys : List Address) → times address (xs ++ ys) ≡ times address xs + times address ys
-times-append address xs ys = sum_by-append (λ (y : Address). one (is_same address y)) xs ys
+use Rattle.dex_replay.proofs.Once.{market-once, wallet-once}
+use Rattle.dex_run.proofs.Distinct.{one, times-cons}
 
 -- an address that stands nowhere among others is none of them
 none-of : (address : Address) (others : List Address) → times address others ≡ 0 → All (λ (other : Address). is_same address other ≡ false) others
@@ -40,38 +31,8 @@ distinct (first ∷ others) once =
     (none-of first others (omega (arith, once first, times-cons first first others, ap one (is_same-refl first))))
     (distinct others (λ address. omega (arith, once address, times-cons address first others)))
 
-front-of : (address first : Address) (others : List Address) → one (is_same address first) ≤ times address (first ∷ others)
-front-of address first others = omega (arith, times-cons address first others)
+pub markets-distinct : (accounts : PlainAccounts) → AreAccepted accounts → AreDistinct (map (λ (market : PlainMarketAccounts). market.address) accounts.markets)
+markets-distinct accounts accepted = distinct (map (λ (market : PlainMarketAccounts). market.address) accounts.markets) (λ address. market-once accounts address (accepted.once address))
 
--- the addresses of markets stand among all that markets have
-among-all : (address : Address) (markets : List PlainMarketAccounts)
-    → times address (map (λ (accounts : PlainMarketAccounts). accounts.address) markets) ≤ times address (flat_map all_of_market markets)
-among-all address [] = omega arith
-among-all address (first ∷ others) =
-    omega (
-      arith,
-      times-cons address first.address (map (λ (accounts : PlainMarketAccounts). accounts.address) others),
-      times-append address (all_of_market first) (flat_map all_of_market others),
-      first-of address first,
-      among-all address others,
-    )
-  where
-    first-of : (address : Address) (accounts : PlainMarketAccounts) → one (is_same address accounts.address) ≤ times address (all_of_market accounts)
-    first-of address accounts = front-of address accounts.address (drop 1 (all_of_market accounts))
-
-parts : (address : Address) (accounts : PlainAccounts) → times address (addresses_of accounts)
-    ≡ times address (map address_of accounts.mints) + (times address (map address_of accounts.wallets) + times address (flat_map all_of_market accounts.markets))
-parts address accounts =
-    times-append address (map address_of accounts.mints) (map address_of accounts.wallets ++ flat_map all_of_market accounts.markets)
-    ∙ ap (λ (n : ℕ). times address (map address_of accounts.mints) + n) (times-append address (map address_of accounts.wallets) (flat_map all_of_market accounts.markets))
-
-pub markets-distinct : (accounts : PlainAccounts) → ((address : Address) → times address (addresses_of accounts) ≤ 1)
-    → AreDistinct (map (λ (market : PlainMarketAccounts). market.address) accounts.markets)
-markets-distinct accounts once =
-    distinct (map (λ (market : PlainMarketAccounts). market.address) accounts.markets)
-    (λ address. omega (arith, once address, parts address accounts, among-all address accounts.markets))
-
-pub wallets-distinct : (accounts : PlainAccounts) → ((address : Address) → times address (addresses_of accounts) ≤ 1)
-    → AreDistinct (map (λ (account : PlainAccount). account.address) accounts.wallets)
-wallets-distinct accounts once =
-    distinct (map (λ (account : PlainAccount). account.address) accounts.wallets) (λ address. omega (arith, once address, parts address accounts))
+pub wallets-distinct : (accounts : PlainAccounts) → AreAccepted accounts → AreDistinct (map (λ (account : PlainAccount). account.address) accounts.wallets)
+wallets-distinct accounts accepted = distinct (map (λ (account : PlainAccount). account.address) accounts.wallets) (λ address. wallet-once accounts address (accepted.once address))

@@ -1,5 +1,5 @@
 -- What the gates give, when all seats are back, is what the lanes of the script made.
-use Rattle.std.proofs.Common.{◌≡◌, ℕ, zero, suc, ◌+◌, ◌<◌, ◌||◌, List, [], ◌∷◌, Option, Vec, drop, get_or, length, map, refl, sym, ap, ◌∙◌, subst, arith}
+use Rattle.std.proofs.Common.{◌≡◌, ℕ, zero, suc, ◌+◌, ◌<◌, List, Option, Vec, get_or, length, map, refl, sym, ap, ◌∙◌, subst}
 use Rattle.std.specs.List.{All, AllZip, range_with_len}
 use Rattle.std.proofs.lemmas.List.{length-map}
 use Rattle.std.proofs.lemmas.List.Elements.{All-map, All-weaker}
@@ -7,14 +7,11 @@ use Rattle.dex_types.specs.declared.addresses.Address.{Address}
 use Rattle.dex_types.specs.declared.movements.WalletEntry.{WalletEntry}
 use Rattle.dex_types.specs.declared.terms.Program.{Program}
 use Rattle.dex_types.specs.Accounts.{PlainAccount, PlainMarketAccounts}
-use Rattle.dex_types.specs.Addresses.{is_same}
 use Rattle.dex_cell.specs.CellState.{IsMarketCell, MarketCellState}
 use Rattle.dex_wallet.specs.CellState.{CellState, IsWalletCell}
-use Rattle.dex_act.specs.Wallets.{AreApart, is_among}
+use Rattle.dex_act.specs.Wallets.{AreApart}
 use Rattle.dex_bank.specs.Cells.{AreCells}
 use Rattle.dex_bank.specs.Closed as cells
-use Rattle.dex_bank.specs.Opened.{wallet_opened}
-use Rattle.dex_bank.proofs.OpenCells.{wallets-apart}
 use Rattle.dex_gate.specs.GateView.{GateView}
 use Rattle.dex_gate.specs.History.{added}
 use Rattle.dex_gate.specs.PassView.{PassView}
@@ -26,12 +23,13 @@ use Rattle.dex_stamps.specs.Stamped.{Stamped}
 use Rattle.dex_journals.specs.Journals.{BankMarketState, BankWalletState, IsBankMarket, IsBankWallet, MarketOrigin, WalletOrigin, market_calls, wallet_entries}
 use Rattle.dex_journals.specs.Made.{calls_of_lane, calls_on, entries_of_lane, entries_on}
 use Rattle.dex_fold.specs.Items.{rows_of_lane}
-use Rattle.dex_histories.specs.Lanes.{IsLane, IsLaneDone, Lane}
-use Rattle.dex_histories.specs.Merged.{IsMarketMerged, IsWalletMerged}
+use Rattle.dex_order.specs.Lanes.{IsLane, IsLaneDone, Lane}
+use Rattle.dex_order.specs.Merged.{IsMarketMerged, IsWalletMerged}
+use Rattle.dex_order.proofs.LastCells.{wallets-kept}
 use Rattle.dex_run.specs.Bank.{BankState, IsBank, IsMarketGate, IsWalletGate}
 use Rattle.dex_run.specs.Closing.{AreMarketsClosed, AreWalletsClosed, ClosesAs, IsMarketClosed, IsMarketPassAt, IsWalletClosed, IsWalletPassAt, MarketColumns, WalletColumns}
 use Rattle.dex_run.specs.Seats.{IsDone, IsSeat, IsSeatOf, SeatState, lane_in}
-use Rattle.dex_run.proofs.ColumnLists.{All-across, AllThree-length, AllZip-last_of, map-across}
+use Rattle.dex_run.proofs.ColumnLists.{All-across, AllThree-length, AllZip-last_of}
 
 length-range : (first count : ℕ) → length (range_with_len first count) ≡ count
 length-range first zero = refl
@@ -75,27 +73,6 @@ module _ (script : PlainScript) (seats : List SeatState) (lanes : map (λ (seat 
         (subst (λ opening. All (λ (pass : PassView (Stamped WalletEntry) WalletOrigin). entries_of_lane pass.number (added opening (wallet_entries value)) ≡ pass.mine) passes) is.opening closed.each));
   }
 
--- ---- no two wallets have one address
-
-among-across : (address : Address) (xs ys : List CellState) → map (λ (cell : CellState). cell.address) xs ≡ map (λ (cell : CellState). cell.address) ys
-    → is_among address xs ≡ is_among address ys
-among-across address [] [] same = refl
-among-across address [] (y ∷ ys) same = absurd (omega (arith, ap length same))
-among-across address (x ∷ xs) [] same = absurd (omega (arith, ap length same))
-among-across address (x ∷ xs) (y ∷ ys) same =
-    ap (λ other. is_same address other || is_among address xs) (ap (λ list. get_or list 0 address) same)
-    ∙ ap (λ rest. is_same address y.address || rest) (among-across address xs ys (ap (λ list. drop 1 list) same))
-
-apart-across : (xs ys : List CellState) → map (λ (cell : CellState). cell.address) xs ≡ map (λ (cell : CellState). cell.address) ys → AreApart xs → AreApart ys
-apart-across [] [] same apart = tt
-apart-across [] (y ∷ ys) same apart = absurd (omega (arith, ap length same))
-apart-across (x ∷ xs) [] same apart = absurd (omega (arith, ap length same))
-apart-across (x ∷ xs) (y ∷ ys) same apart =
-    let rest : map (λ (cell : CellState). cell.address) xs ≡ map (λ (cell : CellState). cell.address) ys = ap (λ list. drop 1 list) same in (
-      ap (λ address. is_among address ys) (sym (ap (λ list. get_or list 0 x.address) same)) ∙ sym (among-across x.address xs ys rest) ∙ apart.0,
-      apart-across xs ys rest apart.1,
-    )
-
 -- ---- all gates
 
 module _ (bank : BankState) (seats : List SeatState) (facts : IsBank bank) (lanes : map (λ (seat : SeatState). seat.lane) seats ≡ range_with_len 0 bank.script.lanes) where
@@ -115,17 +92,6 @@ module _ (bank : BankState) (seats : List SeatState) (facts : IsBank bank) (lane
       (λ start gate column value is each given kept. wallet-merged bank.script seats lanes start gate column.items value is each given kept)
       bank.script.start.wallets bank.wallets columns closed.values facts.wallets all closed.given closed.kept
 
-  wallets_apart : {Z : Type 0} (columns : List (Vec (PassView (Stamped WalletEntry) WalletOrigin) Z)) (own : List CellState) → WalletColumns bank seats columns
-      → AreWalletsClosed bank.wallets columns own → AreApart own
-  wallets_apart columns own all closed =
-      apart-across (map (wallet_opened bank.script.rows) bank.script.start.wallets) own
-      (map-map (wallet_opened bank.script.rows) (λ (cell : CellState). cell.address) bank.script.start.wallets
-      ∙ map-across (IsWalletMerged bank.script (map lane_in seats)) (λ (account : PlainAccount). account.address) (λ (value : BankWalletState). value.cell.address)
-      (λ account value merged. sym (ap (λ (origin : WalletOrigin). origin.start.address) merged.origin)) bank.script.start.wallets closed.values (wallets-merged columns own all closed)
-      ∙ sym (map-map (λ (value : BankWalletState). value.cell) (λ (cell : CellState). cell.address) closed.values)
-      ∙ ap (map (λ (cell : CellState). cell.address)) (sym closed.are))
-      (wallets-apart bank.script.rows bank.script.start facts.script.start.accepted)
-
   pub are-cells : {Y Z : Type 0} (market_columns : List (Vec (PassView (Stamped Call) MarketOrigin) Y)) (wallet_columns : List (Vec (PassView (Stamped WalletEntry) WalletOrigin) Z))
       (mints : List PlainAccount) (srm msrm : Option Address) (markets : List MarketCellState) (wallets : List CellState) (program : Program) → WalletColumns bank seats wallet_columns
       → AreMarketsClosed bank.markets market_columns markets → AreWalletsClosed bank.wallets wallet_columns wallets
@@ -135,7 +101,8 @@ module _ (bank : BankState) (seats : List SeatState) (facts : IsBank bank) (lane
         (All-weaker IsBankMarket (λ value. IsMarketCell value.cell) (λ value kept. kept.cell) of_markets.values of_markets.kept));
     wallets = subst (λ list. All IsWalletCell list) (sym of_wallets.are) (All-map IsWalletCell (λ (value : BankWalletState). value.cell) of_wallets.values
         (All-weaker IsBankWallet (λ value. IsWalletCell value.cell) (λ value kept. kept.cell) of_wallets.values of_wallets.kept));
-    apart = wallets_apart wallet_columns wallets all of_wallets;
+    apart = subst AreApart (sym of_wallets.are)
+        (wallets-kept bank.script (map lane_in seats) of_wallets.values facts.script.start.accepted (wallets-merged wallet_columns wallets all of_wallets));
   }
 
   lane-done : (seat : SeatState) → IsSeat seat → IsSeatOf bank seat → IsDone seat → IsLaneDone bank.script (lane_in seat)

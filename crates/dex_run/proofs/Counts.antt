@@ -15,11 +15,14 @@ use Rattle.dex_fold.specs.Fold.{names}
 use Rattle.dex_replay.specs.Lawful.{rows_of_market, rows_of_wallet}
 use Rattle.dex_script.specs.Drafts.{PlainScript}
 use Rattle.dex_stamps.specs.Stamped.{Stamped, stamped}
+use Rattle.dex_replay.proofs.MappedLists.{filter-of}
+use Rattle.dex_journals.proofs.StampedLists.{items_of-stamped}
 use Rattle.dex_journals.specs.Made.{calls_on, entries_in, entries_on, entry_made}
 use Rattle.dex_fold.specs.Items.{rows_of_lane}
-use Rattle.dex_histories.specs.Lanes.{MovesEach}
+use Rattle.dex_order.specs.Lanes.{MovesEach}
+use Rattle.dex_order.proofs.CallEntries.{asked-once}
 use Rattle.dex_run.specs.Turns.{IsDue}
-use Rattle.dex_run.proofs.Once.{asked-once, some-any}
+use Rattle.dex_run.proofs.Once.{some-any}
 
 -- ---- filters
 
@@ -42,22 +45,14 @@ module _ {A : Type 0} where
       omega (arith, ap length (filter-append q front (x ∷ later)), length-append (filter q front) (filter q (x ∷ later)), ap length here)
 
 -- what passes among what elements are mapped to
-pub length-filter_map : {A B : Type 0} (q : B → Bool) (f : A → B) (xs : List A) → length (filter q (map f xs)) ≡ length (filter (λ (x : A). q (f x)) xs)
-length-filter_map q f [] = refl
-length-filter_map q f (x ∷ xs) =
-    let rest : length (filter q (map f xs)) ≡ length (filter (λ (y : _). q (f y)) xs) = length-filter_map q f xs in
-    ⊎_elim (λ (passes : q (f x) ≡ true). rw passes (ap suc rest)) (λ (not : q (f x) ≡ false). rw not rest) (cases_Bool (q (f x)))
+length-filter_map : {A B : Type 0} (q : B → Bool) (f : A → B) (xs : List A) → length (filter q (map f xs)) ≡ length (filter (λ (x : A). q (f x)) xs)
+length-filter_map {A} q f xs = ap length (sym (filter-of f q xs)) ∙ length-map (filter (λ (x : A). q (f x)) xs) f
 
 -- as many items with stamps pass as without
 pub length-stamped : {A : Type 0} (p : A → Bool) (items : List A) (stamps : List ℕ) → length stamps ≡ length items
     → length (filter (λ (made : Stamped A). p made.item) (stamped items stamps)) ≡ length (filter p items)
-length-stamped p [] [] long = refl
-length-stamped p [] (n ∷ stamps) long = refl
-length-stamped p (x ∷ items) [] long = absurd (omega (arith, long))
-length-stamped {A} p (x ∷ items) (n ∷ stamps) long =
-    let rest : length (filter (λ (made : Stamped A). p made.item) (stamped items stamps)) ≡ length (filter p items) =
-    length-stamped p items stamps (omega (arith, long)) in
-    ⊎_elim (λ (passes : p x ≡ true). rw passes (ap suc rest)) (λ (not : p x ≡ false). rw not rest) (cases_Bool (p x))
+length-stamped {A} p items stamps long =
+    sym (length-filter_map p (λ (made : Stamped A). made.item) (stamped items stamps)) ∙ ap (λ (l : List A). length (filter p l)) (items_of-stamped items stamps long)
 
 -- ---- the entries of one call
 

@@ -1,5 +1,5 @@
 -- Passes in declared order, one of which takes a turn.
-use Rattle.std.proofs.Common.{◌≡◌, ℕ, zero, suc, ◌<◌, Bool, true, false, ◌||◌, List, [], ◌∷◌, length, set, get_or, Some, sym, ap, ◌∙◌, subst, arith}
+use Rattle.std.proofs.Common.{◌≡◌, ℕ, zero, suc, ◌<◌, ◌≤◌, Bool, true, false, ◌||◌, List, [], ◌∷◌, ◌++◌, length, set, get_or, Some, refl, sym, ap, ◌∙◌, subst, arith}
 use Rattle.std.specs.List.{AllZip, list_any}
 use Rattle.std.proofs.lemmas.Bool.{false≢true, or_parts, or_right}
 use Rattle.dex_types.specs.declared.addresses.Address.{Address}
@@ -12,7 +12,8 @@ use Rattle.dex_gate.specs.PassView.{PassView}
 use Rattle.dex_replay.specs.Lawful.{AllThree}
 use Rattle.dex_stamps.specs.Stamped.{Stamped}
 use Rattle.dex_journals.specs.Journals.{WalletOrigin}
-use Rattle.dex_run.specs.Submitted.{HasMoved, Where}
+use Rattle.dex_run.specs.Seats.{IsPass}
+use Rattle.dex_run.specs.Submitted.{HasMade, HasMoved, Where}
 use Rattle.dex_run.specs.Turns.{MayDraw, OneGrows}
 
 -- ---- by place
@@ -139,30 +140,55 @@ still-out others call (start ∷ starts) (b ∷ before) (m ∷ mid) zero out add
 still-out others call (start ∷ starts) (b ∷ before) (m ∷ mid) (suc place) out address none within here grown e =
     still-out others call starts before mid place out address none (omega (arith, within)) here grown.1 e
 
--- ---- what stays
+-- ---- passes of any kind
+
+-- each pass grows by these where the test passes, and else is as it was
+module _ {S E O : Type 0} (test : S → Bool) (new : S → List E) (Legal : S → List E → Type 0) where
+  abbrev Grows : S → PassView E O → PassView E O → Type 0
+  Grows start before after = Where (test start) (HasMade (new start) (Legal start) before after) (after ≡ before)
+
+  pub passes-grown : (lane : ℕ) (old more : S → List E) → ((start : S) → test start ≡ true → more start ≡ old start ++ new start)
+      → ((start : S) → test start ≡ false → more start ≡ old start) → (starts : List S) (before after : List (PassView E O))
+      → AllZip (λ (start : S) (pass : PassView E O). IsPass lane (old start) pass) starts before → AllThree Grows starts before after
+      → AllZip (λ (start : S) (pass : PassView E O). IsPass lane (more start) pass) starts after
+  passes-grown lane old more longer still [] [] [] are grown = tt
+  passes-grown lane old more longer still [] [] (q ∷ after) are grown = absurd grown
+  passes-grown lane old more longer still [] (p ∷ before) after are grown = absurd are
+  passes-grown lane old more longer still (start ∷ starts) [] after are grown = absurd are
+  passes-grown lane old more longer still (start ∷ starts) (p ∷ before) [] are grown = absurd grown
+  passes-grown lane old more longer still (start ∷ starts) (p ∷ before) (q ∷ after) are grown =
+      (one (test start) refl grown.0, passes-grown lane old more longer still starts before after are.1 grown.1)
+    where
+      one : (b : Bool) → test start ≡ b → Where b (HasMade (new start) (Legal start) p q) (q ≡ p) → IsPass lane (more start) q
+      one true on has = record {
+        number = ap (λ (x : PassView E O). x.number) has.pass ∙ are.0.number;
+        none_left = subst (λ (x : PassView E O). x.until ≤ x.next) (sym has.pass) are.0.none_left;
+        idle = ap (λ (x : PassView E O). x.stage) has.pass ∙ are.0.idle;
+        mine = ap (λ (x : PassView E O). x.mine) has.pass ∙ ap (λ (l : List E). l ++ new start) are.0.mine ∙ sym (longer start on);
+      }
+      one false off same = subst (IsPass lane (more start)) (sym same) (subst (λ (l : List E). IsPass lane l p) (sym (still start off)) are.0)
+
+  -- each pass is of its gate
+  pub gates-grown : (starts : List S) (gates : List (GateView E O)) (before after : List (PassView E O)) → AllThree Grows starts before after
+      → AllZip (λ (gate : GateView E O) (pass : PassView E O). pass.gate ≡ Some gate) gates before → AllZip (λ (gate : GateView E O) (pass : PassView E O). pass.gate ≡ Some gate) gates after
+  gates-grown [] [] [] [] grown are = tt
+  gates-grown [] [] [] (q ∷ after) grown are = absurd grown
+  gates-grown [] [] (p ∷ before) after grown are = absurd are
+  gates-grown [] (g ∷ gates) [] after grown are = absurd are
+  gates-grown [] (g ∷ gates) (p ∷ before) [] grown are = absurd grown
+  gates-grown [] (g ∷ gates) (p ∷ before) (q ∷ after) grown are = absurd grown
+  gates-grown (start ∷ starts) gates [] [] grown are = absurd grown
+  gates-grown (start ∷ starts) gates [] (q ∷ after) grown are = absurd grown
+  gates-grown (start ∷ starts) gates (p ∷ before) [] grown are = absurd grown
+  gates-grown (start ∷ starts) [] (p ∷ before) (q ∷ after) grown are = absurd are
+  gates-grown (start ∷ starts) (g ∷ gates) (p ∷ before) (q ∷ after) grown are = (one (test start) grown.0, gates-grown starts gates before after grown.1 are.1)
+    where
+      one : (b : Bool) → Where b (HasMade (new start) (Legal start) p q) (q ≡ p) → q.gate ≡ Some g
+      one true has = ap (λ (x : PassView E O). x.gate) has.pass ∙ are.0
+      one false same = ap (λ (x : PassView E O). x.gate) same ∙ are.0
 
 abbrev pub IsAtGate : GateView (Stamped WalletEntry) WalletOrigin → WalletPass → Type 0
 IsAtGate gate pass = pass.gate ≡ Some gate
-
--- each pass is of its gate
-pub gates-grown : (others : List Address) (call : Stamped _) (starts : List PlainAccount) (gates : List _) (before after : List WalletPass)
-    → AllThree (OneGrows others call) starts before after → AllZip IsAtGate gates before → AllZip IsAtGate gates after
-gates-grown others call [] [] [] [] grown are = tt
-gates-grown others call [] [] [] (q ∷ after) grown are = absurd grown
-gates-grown others call [] [] (p ∷ before) after grown are = absurd are
-gates-grown others call [] (g ∷ gates) [] after grown are = absurd are
-gates-grown others call [] (g ∷ gates) (p ∷ before) [] grown are = absurd grown
-gates-grown others call [] (g ∷ gates) (p ∷ before) (q ∷ after) grown are = absurd grown
-gates-grown others call (start ∷ starts) gates [] [] grown are = absurd grown
-gates-grown others call (start ∷ starts) gates [] (q ∷ after) grown are = absurd grown
-gates-grown others call (start ∷ starts) gates (p ∷ before) [] grown are = absurd grown
-gates-grown others call (start ∷ starts) [] (p ∷ before) (q ∷ after) grown are = absurd are
-gates-grown others call (start ∷ starts) (g ∷ gates) (p ∷ before) (q ∷ after) grown are =
-    (one (list_any (is_same start.address) others) grown.0, gates-grown others call starts gates before after grown.1 are.1)
-  where
-    one : (b : Bool) → Where b (HasMoved call start p q) (q ≡ p) → q.gate ≡ Some g
-    one true moved = ap (λ (x : WalletPass). x.gate) moved.pass ∙ are.0
-    one false same = ap (λ (x : WalletPass). x.gate) same ∙ are.0
 
 -- a pass that holds a turn is of its gate
 pub gates-set : (gates : List _) (passes : List WalletPass) (place : ℕ) (out : WalletPass) → AllZip IsAtGate gates passes

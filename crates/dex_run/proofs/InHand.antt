@@ -31,9 +31,10 @@ use Rattle.dex_script.specs.Drafts.{PlainScript}
 use Rattle.dex_replay.specs.Lawful.{IsSight, IsWalletSeen}
 use Rattle.dex_stamps.specs.Stamped.{Stamped}
 use Rattle.dex_journals.specs.Made.{entries_in, entry_made}
-use Rattle.dex_histories.specs.Lanes.{MovesEach}
+use Rattle.dex_order.specs.Lanes.{MovesEach}
+use Rattle.dex_order.proofs.CallEntries.{asked-once}
 use Rattle.dex_run.specs.Turns.{AreInHand, HasEntry, IsReady, world_in}
-use Rattle.dex_run.proofs.Once.{AreOnce, asked-once, once-head, once-tail}
+use Rattle.dex_run.proofs.Once.{AreOnce, once-head, once-tail}
 
 abbrev address_in : CellState → Address
 address_in cell = cell.address

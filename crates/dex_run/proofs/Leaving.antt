@@ -38,9 +38,6 @@ module _ {E : Type 0} where
         ap (of_lane lane number) new ∙ ap (λ (b : Bool). cond b (entry ∷ []) []) own ∙ sym new,
       )
 
-  pub extends-more : (before new : List E) → Extends before (before ++ new)
-  extends-more before new = ap (λ (l : List E). before ++ l) (drop-append_seam before new)
-
 -- ---- a wallet
 
 -- what is given back

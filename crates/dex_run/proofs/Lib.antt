@@ -16,3 +16,4 @@ mod Acted
 mod Taking
 mod Entering
 mod SeatAfter
+mod RowMore

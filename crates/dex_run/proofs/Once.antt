@@ -1,35 +1,15 @@
--- The wallets of a row stand once among its addresses.
-use Rattle.std.proofs.Common.{◌≡◌, ℕ, ◌+◌, ◌≤◌, Bool, true, false, ◌||◌, cond, List, [], ◌∷◌, ◌++◌, Option, Some, None, refl, sym, subst, arith, ⊎_elim}
+-- Addresses of which each stands once.
+use Rattle.std.proofs.Common.{◌≡◌, ℕ, ◌+◌, ◌≤◌, Bool, true, false, ◌||◌, cond, List, [], ◌∷◌, ◌++◌, refl, subst, arith, ⊎_elim}
 use Rattle.std.specs.List.{list_any}
 use Rattle.std.proofs.lemmas.Bool.{cases_Bool, cond_both, false≢true}
 use Rattle.dex_types.specs.declared.addresses.Address.{Address}
 use Rattle.dex_types.specs.Addresses.{is_same}
-use Rattle.dex_types.specs.Wallets.{with_role}
 use Rattle.dex_laws.proofs.TraderLaws.{is_same-refl}
-use Rattle.dex_history.specs.Journal.{Asked, asked_wallets}
-use Rattle.dex_history.proofs.AddressOrder.{AreRising, times, with_address-rising, with_address-times}
+use Rattle.dex_history.proofs.AddressOrder.{times}
 
 -- each address stands there once at most
 abbrev pub AreOnce : List Address → Type 0
 AreOnce addresses = (address : Address) → times address addresses ≤ 1
-
--- one more role keeps them rising, and each once
-abbrev AreOrdered : List Address → Type 0
-AreOrdered addresses = AreRising addresses × AreOnce addresses
-
-with-role : (role : Option Address) (addresses : List Address) → AreOrdered addresses → AreOrdered (with_role role addresses)
-with-role None addresses ordered = ordered
-with-role (Some other) addresses ordered = (
-  with_address-rising other addresses ordered.0,
-  λ address.
-      subst (λ (n : ℕ). n ≤ 1) (sym (with_address-times address other addresses ordered.0))
-      (cond_both (is_same address other) 1 (times address addresses) (λ (n : ℕ). n ≤ 1) (λ same. omega arith) (λ apart. ordered.1 address)),
-)
-
-pub asked-once : (asked : Asked) → AreOnce (asked_wallets asked)
-asked-once asked =
-    let none : AreOrdered [] = (tt, λ address. omega arith) in
-    (with-role asked.coin _ (with-role asked.pc _ (with-role asked.discount _ (with-role asked.referrer [] none)))).1
 
 -- ---- what stands once
 

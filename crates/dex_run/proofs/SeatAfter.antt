@@ -2,38 +2,41 @@
 use Rattle.std.proofs.Common.{◌≡◌, ℕ, zero, suc, ◌+◌, ◌<◌, ◌≤◌, ◌==◌, Bool, true, false, ◌||◌, cond, List, [], ◌∷◌, ◌++◌, length, map, set, get_or, take, Some, refl, sym, ap, ◌∙◌, subst, arith}
 use Rattle.std.specs.List.{All, AllZip, list_any}
 use Rattle.std.proofs.lemmas.Bool.{eqb-true}
-use Rattle.std.proofs.lemmas.List.{append-nil, append_assoc, get_or-map, length-append, length-map, map-append}
+use Rattle.std.proofs.lemmas.List.{append-nil, append_assoc, get_or-map, length-map}
 use Rattle.std.proofs.lemmas.List.Elements.{All-filter, All-push, All-weaker, filter-append, filter_passes}
-use Rattle.std.proofs.lemmas.List.Quantifiers.{all_pairs_push}
-use Rattle.std.proofs.Math.Seq.{take-append-add}
 use Rattle.dex_types.specs.declared.addresses.Address.{Address}
 use Rattle.dex_types.specs.declared.movements.WalletEntry.{WalletEntry}
 use Rattle.dex_types.specs.Accounts.{PlainAccount, PlainMarketAccounts}
 use Rattle.dex_types.specs.Addresses.{is_same}
 use Rattle.dex_types.specs.Rows.{PlainRow}
 use Rattle.dex_types.specs.Wallets.{row_wallets}
+use Rattle.dex_types.specs.WalletJournal.{IsWalletLegal}
 use Rattle.dex_laws.proofs.TraderLaws.{is_same-refl, is_same-sym}
 use Rattle.dex_gate.specs.GateView.{GateView}
-use Rattle.dex_history.specs.Journal.{Asked, Call, asked_of, asked_wallets}
+use Rattle.dex_accounts.specs.Decoded.{market_in}
+use Rattle.dex_history.specs.Journal.{Asked, Call, IsLegal, asked_of, asked_wallets}
 use Rattle.dex_fold.specs.Fold.{names}
 use Rattle.dex_places.specs.Places.{IsPlace}
 use Rattle.dex_script.specs.Drafts.{PlainScript}
 use Rattle.dex_script.specs.Facts.{IsRowOf, IsScript}
 use Rattle.dex_script.specs.Known.{has_market}
 use Rattle.dex_replay.specs.Lawful.{AllThree, IsSight}
-use Rattle.dex_stamps.specs.Stamped.{Stamped}
+use Rattle.dex_wallet.specs.CellState.{balance_of}
+use Rattle.dex_stamps.specs.Stamped.{Stamped, items_of}
 use Rattle.dex_journals.specs.Journals.{MarketOrigin}
 use Rattle.dex_journals.specs.Made.{calls_on, entries_in, entries_on}
 use Rattle.dex_fold.specs.Items.{rows_of_lane}
-use Rattle.dex_histories.specs.Lanes.{IsLane, MovesEach}
+use Rattle.dex_order.specs.Lanes.{IsLane, MovesEach}
 use Rattle.dex_run.specs.Bank.{BankState, IsBank, IsMarketGate, market_addresses}
 use Rattle.dex_run.specs.Seats.{IsMarketPass, IsSeat, IsSeatOf, IsWalletPass, SeatState}
-use Rattle.dex_run.specs.Submitted.{HasCalled, HasMoved, HasSubmitted, IsNext, MarketGrows, WalletGrows, Where}
+use Rattle.dex_run.specs.Submitted.{HasCalled, HasSubmitted, IsNext, MarketGrows, WalletGrows, Where}
 use Rattle.dex_run.specs.Turns.{AreReady, HaveGrown, IsDue, IsTold, MayDraw, MayEnter}
 use Rattle.dex_run.proofs.Counts.{entries-one}
 use Rattle.dex_run.proofs.Distinct.{markets-differ}
 use Rattle.dex_run.proofs.Entering.{MarketPass}
-use Rattle.dex_run.proofs.Growing.{Differ, WalletPass, gates-grown, set-three}
+use Rattle.dex_order.proofs.LaneGrowth.{lane-more}
+use Rattle.dex_run.proofs.Growing.{Differ, WalletPass, gates-grown, passes-grown, set-three}
+use Rattle.dex_run.proofs.RowMore.{row-more}
 use Rattle.dex_run.proofs.Taking.{all-midst, same-get, zip-at, zip-long}
 
 -- ---- before
@@ -191,50 +194,11 @@ module _ (row : PlainRow) (call : Stamped Call) (asked : call.item.asked ≡ ask
 
   pub market-passes : (lane : ℕ) (calls : List (Stamped Call)) (starts : List PlainMarketAccounts) (before after : List MarketPass) → AllZip (IsMarketPass lane calls) starts before
       → AllThree (MarketGrows row call) starts before after → AllZip (IsMarketPass lane (calls ++ call ∷ [])) starts after
-  market-passes lane calls [] [] [] are grown = tt
-  market-passes lane calls [] [] (q ∷ after) are grown = absurd grown
-  market-passes lane calls [] (p ∷ before) after are grown = absurd are
-  market-passes lane calls (start ∷ starts) [] after are grown = absurd are
-  market-passes lane calls (start ∷ starts) (p ∷ before) [] are grown = absurd grown
-  market-passes lane calls (start ∷ starts) (p ∷ before) (q ∷ after) are grown =
-      (one (is_same row.market start.address) refl grown.0, market-passes lane calls starts before after are.1 grown.1)
-    where
-      one : (b : Bool) → is_same row.market start.address ≡ b → Where b (HasCalled call start p q) (q ≡ p) → IsMarketPass lane (calls ++ call ∷ []) start q
-      one true on has = record {
-        number = ap (λ (x : MarketPass). x.number) has.pass ∙ are.0.number;
-        none_left = subst (λ (x : MarketPass). x.until ≤ x.next) (sym has.pass) are.0.none_left;
-        idle = ap (λ (x : MarketPass). x.stage) has.pass ∙ are.0.idle;
-        mine =
-            ap (λ (x : MarketPass). x.mine) has.pass
-            ∙ ap (λ (l : List (Stamped Call)). l ++ call ∷ []) are.0.mine
-            ∙ sym (calls-more start.address calls true on);
-      }
-      one false off same =
-          subst (IsMarketPass lane (calls ++ call ∷ []) start) (sym same)
-          (record {
-            number = are.0.number;
-            none_left = are.0.none_left;
-            idle = are.0.idle;
-            mine = are.0.mine ∙ sym (calls-more start.address calls false off ∙ append-nil (calls_on start.address calls));
-          })
-
-  pub market-gates : (starts : List PlainMarketAccounts) (gates : List _) (before after : List MarketPass) → AllThree (MarketGrows row call) starts before after
-      → AllZip IsAtMarket gates before → AllZip IsAtMarket gates after
-  market-gates [] [] [] [] grown are = tt
-  market-gates [] gates [] (q ∷ after) grown are = absurd grown
-  market-gates [] gates (p ∷ before) [] grown are = absurd grown
-  market-gates [] gates (p ∷ before) (q ∷ after) grown are = absurd grown
-  market-gates [] (g ∷ gates) [] [] grown are = absurd are
-  market-gates (start ∷ starts) gates [] [] grown are = absurd grown
-  market-gates (start ∷ starts) gates [] (q ∷ after) grown are = absurd grown
-  market-gates (start ∷ starts) gates (p ∷ before) [] grown are = absurd grown
-  market-gates (start ∷ starts) [] (p ∷ before) (q ∷ after) grown are = absurd are
-  market-gates (start ∷ starts) (g ∷ gates) (p ∷ before) (q ∷ after) grown are =
-      (one (is_same row.market start.address) grown.0, market-gates starts gates before after grown.1 are.1)
-    where
-      one : (b : Bool) → Where b (HasCalled call start p q) (q ≡ p) → q.gate ≡ Some g
-      one true has = ap (λ (x : MarketPass). x.gate) has.pass ∙ are.0
-      one false same = ap (λ (x : MarketPass). x.gate) same ∙ are.0
+  market-passes lane calls =
+      passes-grown (λ (start : PlainMarketAccounts). is_same row.market start.address) (λ (start : PlainMarketAccounts). call ∷ [])
+      (λ (start : PlainMarketAccounts) (seen : List (Stamped Call)). IsLegal (market_in start) (items_of seen)) lane (λ (start : PlainMarketAccounts). calls_on start.address calls)
+      (λ (start : PlainMarketAccounts). calls_on start.address (calls ++ call ∷ [])) (λ start on. calls-more start.address calls true on)
+      (λ start off. calls-more start.address calls false off ∙ append-nil (calls_on start.address calls))
 
   entries-more : (address : Address) (calls : List (Stamped Call)) → entries_on address (calls ++ call ∷ []) ≡ entries_on address calls ++ entries_in address call
   entries-more address [] = append-nil (entries_in address call)
@@ -253,62 +217,15 @@ module _ (row : PlainRow) (call : Stamped Call) (asked : call.item.asked ≡ ask
 
   pub wallet-passes : (lane : ℕ) (calls : List (Stamped Call)) (starts : List PlainAccount) (before after : List WalletPass) → MovesEach call.item
       → AllZip (IsWalletPass lane calls) starts before → AllThree (WalletGrows row call) starts before after → AllZip (IsWalletPass lane (calls ++ call ∷ [])) starts after
-  wallet-passes lane calls [] [] [] moves are grown = tt
-  wallet-passes lane calls [] [] (q ∷ after) moves are grown = absurd grown
-  wallet-passes lane calls [] (p ∷ before) after moves are grown = absurd are
-  wallet-passes lane calls (start ∷ starts) [] after moves are grown = absurd are
-  wallet-passes lane calls (start ∷ starts) (p ∷ before) [] moves are grown = absurd grown
-  wallet-passes lane calls (start ∷ starts) (p ∷ before) (q ∷ after) moves are grown =
-      (one (names row start.address) refl grown.0, wallet-passes lane calls starts before after moves are.1 grown.1)
-    where
-      one : (b : Bool) → names row start.address ≡ b → Where b (HasMoved call start p q) (q ≡ p) → IsWalletPass lane (calls ++ call ∷ []) start q
-      one true on has = record {
-        number = ap (λ (x : WalletPass). x.number) has.pass ∙ are.0.number;
-        none_left = subst (λ (x : WalletPass). x.until ≤ x.next) (sym has.pass) are.0.none_left;
-        idle = ap (λ (x : WalletPass). x.stage) has.pass ∙ are.0.idle;
-        mine =
-            ap (λ (x : WalletPass). x.mine) has.pass
-            ∙ ap (λ (l : List (Stamped WalletEntry)). l ++ entries_in start.address call) are.0.mine
-            ∙ sym (entries-more start.address calls);
-      }
-      one false off same =
-          subst (IsWalletPass lane (calls ++ call ∷ []) start) (sym same)
-          (record {
-            number = are.0.number;
-            none_left = are.0.none_left;
-            idle = are.0.idle;
-            mine =
-                are.0.mine
-                ∙ sym (entries-more start.address calls
-                ∙ ap (λ (l : List (Stamped WalletEntry)). entries_on start.address calls ++ l) (none-in start.address moves off)
-                ∙ append-nil (entries_on start.address calls));
-          })
-
-  -- the lane has one row more done
-  pub lane-more : (script : PlainScript) (lane last : ℕ) (calls : List (Stamped Call)) (later : List PlainRow) → IsLane script lane calls
-      → rows_of_lane lane script.rows ≡ take (length calls) (rows_of_lane lane script.rows) ++ row ∷ later → All (λ (c : Stamped Call). c.stamp ≤ last) calls
-      → IsTold script last call → IsLane script lane (calls ++ call ∷ [])
-  lane-more script lane last calls later is next below told =
-      let rows : List PlainRow = rows_of_lane lane script.rows in
-      let done : List PlainRow = take (length calls) rows in
-      let long : length done ≡ length calls =
-      sym (length-map done asked_of) ∙ sym (ap length is.asks) ∙ length-map calls (λ (c : Stamped Call). c.item.asked) in
-      let count : length (calls ++ call ∷ []) ≡ length done + 1 = omega (arith, length-append calls (call ∷ []), long) in
-      let all : take (length (calls ++ call ∷ [])) rows ≡ done ++ row ∷ [] =
-      ap (λ (n : ℕ). take n rows) count ∙ ap (take (length done + 1)) next ∙ take-append-add done (row ∷ later) 1 in
-      record {
-        asks =
-            map-append (λ (c : Stamped Call). c.item.asked) calls (call ∷ [])
-            ∙ ap (λ (l : List Asked). l ++ call.item.asked ∷ []) is.asks
-            ∙ ap (λ (a : Asked). map asked_of done ++ a ∷ []) asked
-            ∙ sym (map-append asked_of done (row ∷ []))
-            ∙ ap (map asked_of) (sym all);
-        sees = All-push (λ (c : Stamped Call). IsSight script c.item.seen) calls call is.sees told.sees;
-        moves = All-push (λ (c : Stamped Call). MovesEach c.item) calls call is.moves told.moves;
-        rising =
-            all_pairs_push (λ (one other : Stamped Call). one.stamp < other.stamp) calls call is.rising
-            (λ k d within_calls. omega (arith, below k d within_calls, told.later));
-      }
+  wallet-passes lane calls starts before after moves =
+      passes-grown (λ (start : PlainAccount). names row start.address) (λ (start : PlainAccount). entries_in start.address call)
+      (λ (start : PlainAccount) (seen : List (Stamped WalletEntry)). IsWalletLegal (balance_of start.bytes) (items_of seen)) lane
+      (λ (start : PlainAccount). entries_on start.address calls) (λ (start : PlainAccount). entries_on start.address (calls ++ call ∷ [])) (λ start on. entries-more start.address calls)
+      (λ start off.
+      entries-more start.address calls
+      ∙ ap (λ (l : List (Stamped WalletEntry)). entries_on start.address calls ++ l) (none-in start.address moves off)
+      ∙ append-nil (entries_on start.address calls))
+      starts before after
 
   pub below-more : (script : PlainScript) (last : ℕ) (calls : List (Stamped Call)) → All (λ (c : Stamped Call). c.stamp ≤ last) calls → IsTold script last call
       → All (λ (c : Stamped Call). c.stamp ≤ call.stamp) (calls ++ call ∷ [])
@@ -349,6 +266,7 @@ module _ (bank : BankState) (row : PlainRow) (before : SeatState) (next : IsNext
     call = call;
     asked = asked;
     answered = refl;
+    own = told.own;
     sees = subst (λ (s : PlainScript). IsSight s call.item.seen) (sym of.script) told.sees;
     moves = told.moves;
     lane = refl;
@@ -361,8 +279,14 @@ module _ (bank : BankState) (row : PlainRow) (before : SeatState) (next : IsNext
   pub seat-of : IsSeatOf bank seat_after
   seat-of = record {
     script = of.script;
-    markets = market-gates row call asked bank.script.start.markets bank.markets before.markets (set before.markets place left) markets-grown of.markets;
-    wallets = gates-grown (row_wallets row) call bank.script.start.wallets bank.wallets before.wallets wallets grown of.wallets;
+    markets =
+        gates-grown (λ (start : PlainMarketAccounts). is_same row.market start.address) (λ (start : PlainMarketAccounts). call ∷ [])
+        (λ (start : PlainMarketAccounts) (seen : List (Stamped Call)). IsLegal (market_in start) (items_of seen)) bank.script.start.markets bank.markets before.markets
+        (set before.markets place left) markets-grown of.markets;
+    wallets =
+        gates-grown (λ (start : PlainAccount). names row start.address) (λ (start : PlainAccount). entries_in start.address call)
+        (λ (start : PlainAccount) (seen : List (Stamped WalletEntry)). IsWalletLegal (balance_of start.bytes) (items_of seen)) bank.script.start.wallets bank.wallets
+        before.wallets wallets grown of.wallets;
   }
 
   pub seat-kept : IsSeat seat_after
@@ -370,7 +294,10 @@ module _ (bank : BankState) (row : PlainRow) (before : SeatState) (next : IsNext
   seat-kept =
       let told_here : IsTold before.script before.last call = subst (λ (s : PlainScript). IsTold s before.last call) (sym of.script) told in
       record {
-        calls = lane-more row call asked before.script before.lane before.last before.calls next.later kept.calls next.is kept.below told_here;
+        calls =
+            lane-more before.script before.lane before.calls (row ∷ []) call [] kept.calls
+            (row-more row call asked before.script before.lane before.last before.calls next.later (script-kept bank row before next bank_kept of).rows.single kept.calls next.is
+            kept.below told_here);
         below = below-more row call asked before.script before.last before.calls kept.below told_here;
         markets =
             market-passes row call asked before.lane before.calls before.script.start.markets before.markets (set before.markets place left) kept.markets

@@ -13,61 +13,40 @@ use Rattle.dex_cell.specs.CellState.{MarketCellState}
 use Rattle.dex_wallet.specs.CellState.{CellState}
 use Rattle.dex_bank.specs.Opened.{market_opened, wallet_opened}
 use Rattle.dex_journals.specs.Journals.{MarketOrigin, WalletOrigin}
-use Rattle.dex_run.specs.Bank.{BankState, IsMarketGate, IsWalletGate}
+use Rattle.dex_run.specs.Bank.{BankState, IsGate, IsMarketGate, IsWalletGate}
 use Rattle.dex_run.specs.Opened.{first_passes, fresh_pass, fresh_seat, passes_of, seat_in}
-use Rattle.dex_run.specs.Seats.{IsMarketPass, IsSeatOf, IsWalletPass, SeatState}
+use Rattle.dex_run.specs.Seats.{IsPass, IsSeatOf, SeatState}
 use Rattle.dex_run.proofs.Openings.{all-mapped, firsts-last, firsts-some, passes-of_gates, zip-map, zip-unmap}
 
 -- ---- passes of a lane
 
-pub market-passes : (script : PlainScript) (lane : ℕ) (starts : List PlainMarketAccounts) (gates : List (GateView (Stamped Call) MarketOrigin))
-    → AllZip (IsMarketGate script) starts gates → AllZip (IsMarketPass lane []) starts (passes_of lane gates)
-market-passes script lane starts gates all =
-    zip-map (IsMarketGate script) (IsMarketPass lane []) (λ (gate : GateView (Stamped Call) MarketOrigin). fresh_pass lane gate.passes gate)
-    (λ start gate is. record { number = refl; none_left = omega arith; idle = refl; mine = refl }) starts gates all
+-- what the gate of a market was opened with, and that of a wallet
+abbrev pub market_from : PlainScript → PlainMarketAccounts → MarketOrigin
+market_from script start = record { start = start; script = script }
 
-pub wallet-passes : (script : PlainScript) (lane : ℕ) (starts : List PlainAccount) (gates : List (GateView (Stamped WalletEntry) WalletOrigin))
-    → AllZip (IsWalletGate script) starts gates → AllZip (IsWalletPass lane []) starts (passes_of lane gates)
-wallet-passes script lane starts gates all =
-    zip-map (IsWalletGate script) (IsWalletPass lane []) (λ (gate : GateView (Stamped WalletEntry) WalletOrigin). fresh_pass lane gate.passes gate)
-    (λ start gate is. record { number = refl; none_left = omega arith; idle = refl; mine = refl }) starts gates all
+abbrev pub wallet_from : PlainScript → PlainAccount → WalletOrigin
+wallet_from script start = record { start = start; script = script }
 
--- passes that are these
-pub market-passes-are : (script : PlainScript) (lane : ℕ) (gates : List (GateView (Stamped Call) MarketOrigin)) (passes : List (PassView (Stamped Call) MarketOrigin))
-    → AllZip (IsMarketGate script) script.start.markets gates → passes ≡ passes_of lane gates → AllZip (IsMarketPass lane []) script.start.markets passes
-market-passes-are script lane gates passes all are =
-    subst (AllZip (IsMarketPass lane []) script.start.markets) (sym are) (market-passes script lane script.start.markets gates all)
+module _ {S E O : Type 0} (lanes : ℕ) (from : S → O) (starts : List S) (gates : List (GateView E O)) (passes : List (PassView E O))
+    (all : AllZip (λ (start : S) (gate : GateView E O). IsGate lanes (from start) gate) starts gates) where
+  abbrev Opened : S → GateView E O → Type 0
+  Opened start gate = IsGate lanes (from start) gate
 
-pub wallet-passes-are : (script : PlainScript) (lane : ℕ) (gates : List (GateView (Stamped WalletEntry) WalletOrigin)) (passes : List (PassView (Stamped WalletEntry) WalletOrigin))
-    → AllZip (IsWalletGate script) script.start.wallets gates → passes ≡ passes_of lane gates → AllZip (IsWalletPass lane []) script.start.wallets passes
-wallet-passes-are script lane gates passes all are =
-    subst (AllZip (IsWalletPass lane []) script.start.wallets) (sym are) (wallet-passes script lane script.start.wallets gates all)
+  -- passes that made nothing
+  pub passes-are : (lane : ℕ) → passes ≡ passes_of lane gates → AllZip (λ (start : S) (pass : PassView E O). IsPass lane [] pass) starts passes
+  passes-are lane are =
+      subst (AllZip (λ (start : S) (pass : PassView E O). IsPass lane [] pass) starts) (sym are)
+      (zip-map Opened (λ (start : S) (pass : PassView E O). IsPass lane [] pass) (λ (gate : GateView E O). fresh_pass lane gate.passes gate)
+      (λ start gate is. record { number = refl; none_left = omega arith; idle = refl; mine = refl }) starts gates all)
 
--- while a number is left, the first passes may hand it out
-pub market-some : (script : PlainScript) (next : ℕ) (gates : List (GateView (Stamped Call) MarketOrigin)) (passes : List (PassView (Stamped Call) MarketOrigin))
-    → AllZip (IsMarketGate script) script.start.markets gates → passes ≡ first_passes next gates → next < script.lanes
-    → All (λ (pass : PassView (Stamped Call) MarketOrigin). pass.next < pass.until) passes
-market-some script next gates passes all is some =
-    subst (All (λ (pass : PassView (Stamped Call) MarketOrigin). pass.next < pass.until)) (sym is)
-    (firsts-some (IsMarketGate script) next script.lanes (λ start gate opened. opened.passes) script.start.markets gates all some)
+  -- while a number is left, the first passes may hand it out
+  pub passes-some : (next : ℕ) → passes ≡ first_passes next gates → next < lanes → All (λ (pass : PassView E O). pass.next < pass.until) passes
+  passes-some next is some =
+      subst (All (λ (pass : PassView E O). pass.next < pass.until)) (sym is) (firsts-some Opened next lanes (λ start gate opened. opened.passes) starts gates all some)
 
-pub wallet-some : (script : PlainScript) (next : ℕ) (gates : List (GateView (Stamped WalletEntry) WalletOrigin)) (passes : List (PassView (Stamped WalletEntry) WalletOrigin))
-    → AllZip (IsWalletGate script) script.start.wallets gates → passes ≡ first_passes next gates → next < script.lanes
-    → All (λ (pass : PassView (Stamped WalletEntry) WalletOrigin). pass.next < pass.until) passes
-wallet-some script next gates passes all is some =
-    subst (All (λ (pass : PassView (Stamped WalletEntry) WalletOrigin). pass.next < pass.until)) (sym is)
-    (firsts-some (IsWalletGate script) next script.lanes (λ start gate opened. opened.passes) script.start.wallets gates all some)
-
--- when all numbers are handed out, the first passes are those of lane 0
-pub market-firsts : (script : PlainScript) (next : ℕ) (gates : List (GateView (Stamped Call) MarketOrigin)) (passes : List (PassView (Stamped Call) MarketOrigin))
-    → AllZip (IsMarketGate script) script.start.markets gates → passes ≡ first_passes next gates → next ≡ script.lanes → passes ≡ passes_of 0 gates
-market-firsts script next gates passes all is done =
-    is ∙ firsts-last (IsMarketGate script) next (λ start gate opened. opened.passes ∙ sym done) script.start.markets gates all
-
-pub wallet-firsts : (script : PlainScript) (next : ℕ) (gates : List (GateView (Stamped WalletEntry) WalletOrigin)) (passes : List (PassView (Stamped WalletEntry) WalletOrigin))
-    → AllZip (IsWalletGate script) script.start.wallets gates → passes ≡ first_passes next gates → next ≡ script.lanes → passes ≡ passes_of 0 gates
-wallet-firsts script next gates passes all is done =
-    is ∙ firsts-last (IsWalletGate script) next (λ start gate opened. opened.passes ∙ sym done) script.start.wallets gates all
+  -- when all numbers are handed out, the first passes are those of lane 0
+  pub passes-first : (next : ℕ) → passes ≡ first_passes next gates → next ≡ lanes → passes ≡ passes_of 0 gates
+  passes-first next is done = is ∙ firsts-last Opened next (λ start gate opened. opened.passes ∙ sym done) starts gates all
 
 -- ---- seats
 

@@ -1,5 +1,5 @@
 -- The gates of an exchange's markets and wallets.
-use Rattle.std.specs.Prelude.{◌≡◌, List, [], map}
+use Rattle.std.specs.Prelude.{ℕ, ◌≡◌, List, [], map}
 use Rattle.std.specs.List.{AllZip}
 use Rattle.dex_types.specs.declared.addresses.Address.{Address}
 use Rattle.dex_types.specs.declared.movements.WalletEntry.{WalletEntry}
@@ -17,19 +17,19 @@ pub record BankState : Type 0 where
   pub markets : List (GateView (Stamped Call) MarketOrigin)
   pub wallets : List (GateView (Stamped WalletEntry) WalletOrigin)
 
--- the gate of a market of the start: it was opened with these accounts and no call, and has a pass for each lane
-pub record IsMarketGate (script : PlainScript) (start : PlainMarketAccounts)
-    (gate : GateView (Stamped Call) MarketOrigin) : Type 0 where
-  pub origin : gate.origin ≡ record { start = start; script = script }
+-- a gate that was opened so, with nothing made yet, and has a pass for each of so many lanes
+pub record IsGate {E O : Type 0} (lanes : ℕ) (from : O) (gate : GateView E O) : Type 0 where
+  pub origin : gate.origin ≡ from
   pub opening : gate.opening ≡ []
-  pub passes : gate.passes ≡ script.lanes
+  pub passes : gate.passes ≡ lanes
+
+-- the gate of a market of the start: it was opened with these accounts and no call, and has a pass for each lane
+abbrev pub IsMarketGate : PlainScript → PlainMarketAccounts → GateView (Stamped Call) MarketOrigin → Type 0
+IsMarketGate script start gate = IsGate {O = MarketOrigin} script.lanes (record { start = start; script = script }) gate
 
 -- the gate of a wallet of the start
-pub record IsWalletGate (script : PlainScript) (start : PlainAccount)
-    (gate : GateView (Stamped WalletEntry) WalletOrigin) : Type 0 where
-  pub origin : gate.origin ≡ record { start = start; script = script }
-  pub opening : gate.opening ≡ []
-  pub passes : gate.passes ≡ script.lanes
+abbrev pub IsWalletGate : PlainScript → PlainAccount → GateView (Stamped WalletEntry) WalletOrigin → Type 0
+IsWalletGate script start gate = IsGate {O = WalletOrigin} script.lanes (record { start = start; script = script }) gate
 
 -- what always holds of a bank
 pub record IsBank (bank : BankState) : Type 0 where

@@ -14,12 +14,13 @@ use Rattle.dex_wallet.specs.CellState.{CellState}
 use Rattle.dex_stamps.specs.Stamped.{Stamped}
 use Rattle.dex_journals.specs.Journals.{BankMarketState, IsBankMarket, MarketOrigin, market_calls, market_origin}
 use Rattle.dex_journals.specs.Journals.{BankWalletState, IsBankWallet, WalletOrigin, wallet_entries, wallet_origin}
-use Rattle.dex_histories.specs.Merged.{AreMerged, Histories, left}
+use Rattle.dex_journals.specs.Made.{calls_on, entries_on}
+use Rattle.dex_order.specs.Merged.{AreMerged, Histories, left}
 use Rattle.dex_run.specs.declared.closing.ClosingRoom.{ClosingRoom}
 use Rattle.dex_run.specs.declared.closing.GateRoom.{GateRoom}
 use Rattle.dex_run.specs.Bank.{BankState}
 use Rattle.dex_run.specs.Columns.{AreEmpty, IsClosed, IsRoom}
-use Rattle.dex_run.specs.Seats.{IsMarketPass, IsWalletPass, SeatState, lane_in}
+use Rattle.dex_run.specs.Seats.{IsPass, SeatState, lane_in}
 
 -- journals that hold for the lane of each of these seats just what it made, in its order, leave this
 pub record ClosesAs (script : PlainScript) (seats : List SeatState) (outcome : PlainOutcome) : Type 0 where
@@ -45,17 +46,20 @@ pub record HasRoom (markets wallets lanes : ℕ) (room : ClosingRoom) : Type 0 w
 
 -- ---- the passes of all seats, gate by gate
 
--- the pass of a seat for the gate of a market
-pub record IsMarketPassAt (start : PlainMarketAccounts) (gate : GateView (Stamped Call) MarketOrigin) (seat : SeatState)
-    (pass : PassView (Stamped Call) MarketOrigin) : Type 0 where
+-- the pass of a seat for a gate, which made these
+pub record IsPassAt {E O : Type 0} (mine : List E) (gate : GateView E O) (seat : SeatState) (pass : PassView E O) : Type 0 where
   pub of_gate : pass.gate ≡ Some gate
-  pub made : IsMarketPass seat.lane seat.calls start pass
+  pub made : IsPass seat.lane mine pass
+
+-- the pass of a seat for the gate of a market
+abbrev pub IsMarketPassAt : PlainMarketAccounts → GateView (Stamped Call) MarketOrigin → SeatState
+    → PassView (Stamped Call) MarketOrigin → Type 0
+IsMarketPassAt start gate seat pass = IsPassAt (calls_on start.address seat.calls) gate seat pass
 
 -- the pass of a seat for the gate of a wallet
-pub record IsWalletPassAt (start : PlainAccount) (gate : GateView (Stamped WalletEntry) WalletOrigin) (seat : SeatState)
-    (pass : PassView (Stamped WalletEntry) WalletOrigin) : Type 0 where
-  pub of_gate : pass.gate ≡ Some gate
-  pub made : IsWalletPass seat.lane seat.calls start pass
+abbrev pub IsWalletPassAt : PlainAccount → GateView (Stamped WalletEntry) WalletOrigin → SeatState
+    → PassView (Stamped WalletEntry) WalletOrigin → Type 0
+IsWalletPassAt start gate seat pass = IsPassAt (entries_on start.address seat.calls) gate seat pass
 
 -- for each market a column with the passes of these seats, in their order
 abbrev pub MarketColumns : {Z : Type 0} → BankState → List SeatState

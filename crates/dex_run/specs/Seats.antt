@@ -12,7 +12,7 @@ use Rattle.dex_stamps.specs.Stamped.{Stamped}
 use Rattle.dex_journals.specs.Journals.{MarketOrigin, WalletOrigin}
 use Rattle.dex_journals.specs.Made.{calls_on, entries_on}
 use Rattle.dex_fold.specs.Items.{rows_of_lane}
-use Rattle.dex_histories.specs.Lanes.{IsLane, Lane}
+use Rattle.dex_order.specs.Lanes.{IsLane, Lane}
 use Rattle.dex_run.specs.Bank.{BankState}
 
 -- a lane of a script, the calls that it made so far and the last stamp of them (0 where there is none), and its pass for each
@@ -25,22 +25,20 @@ pub record SeatState : Type 0 where
   pub markets : List (PassView (Stamped Call) MarketOrigin)
   pub wallets : List (PassView (Stamped WalletEntry) WalletOrigin)
 
--- a pass of the lane for a market: it holds no ticket and has no number to hand out, and what it made are the lane's calls on
--- the market
-pub record IsMarketPass (lane : ℕ) (calls : List (Stamped Call)) (start : PlainMarketAccounts)
-    (pass : PassView (Stamped Call) MarketOrigin) : Type 0 where
+-- a pass of the lane that made these: it holds no ticket and has no number to hand out
+pub record IsPass {E O : Type 0} (lane : ℕ) (made : List E) (pass : PassView E O) : Type 0 where
   pub number : pass.number ≡ lane
   pub none_left : pass.until ≤ pass.next
   pub idle : pass.stage ≡ Idle
-  pub mine : pass.mine ≡ calls_on start.address calls
+  pub mine : pass.mine ≡ made
+
+-- a pass of the lane for a market: what it made are the lane's calls on the market
+abbrev pub IsMarketPass : ℕ → List (Stamped Call) → PlainMarketAccounts → PassView (Stamped Call) MarketOrigin → Type 0
+IsMarketPass lane calls start pass = IsPass lane (calls_on start.address calls) pass
 
 -- a pass of the lane for a wallet: what it made are the entries of the lane's calls in the wallet's journal
-pub record IsWalletPass (lane : ℕ) (calls : List (Stamped Call)) (start : PlainAccount)
-    (pass : PassView (Stamped WalletEntry) WalletOrigin) : Type 0 where
-  pub number : pass.number ≡ lane
-  pub none_left : pass.until ≤ pass.next
-  pub idle : pass.stage ≡ Idle
-  pub mine : pass.mine ≡ entries_on start.address calls
+abbrev pub IsWalletPass : ℕ → List (Stamped Call) → PlainAccount → PassView (Stamped WalletEntry) WalletOrigin → Type 0
+IsWalletPass lane calls start pass = IsPass lane (entries_on start.address calls) pass
 
 -- what always holds of a seat: its calls are its lane's first rows, each done once, and its passes made just these
 pub record IsSeat (seat : SeatState) : Type 0 where

@@ -10,39 +10,41 @@ use Rattle.dex_accounts.specs.Decoded.{market_in}
 use Rattle.dex_fold.specs.Fold.{names}
 use Rattle.dex_gate.specs.History.{Extends}
 use Rattle.dex_gate.specs.PassView.{PassView}
-use Rattle.dex_history.specs.Journal.{Call, IsLegal, asked_of}
+use Rattle.dex_history.specs.Journal.{Call, IsLegal, asked_of, is_held}
 use Rattle.dex_wallet.specs.CellState.{balance_of}
 use Rattle.dex_replay.specs.Lawful.{AllThree, IsSight}
 use Rattle.dex_stamps.specs.Stamped.{Stamped, items_of}
 use Rattle.dex_journals.specs.Journals.{MarketOrigin, WalletOrigin}
 use Rattle.dex_journals.specs.Made.{entries_in}
 use Rattle.dex_fold.specs.Items.{rows_of_lane}
-use Rattle.dex_histories.specs.Lanes.{MovesEach}
+use Rattle.dex_order.specs.Lanes.{MovesEach}
 use Rattle.dex_run.specs.Seats.{SeatState}
 
 -- a pass with a longer history, and with these entries made
 abbrev pub grown : {E O : Type 0} → PassView E O → List E → List E → PassView E O
 grown pass seen made = record pass { seen = seen; mine = pass.mine ++ made }
 
+-- a pass has seen a longer history, which is such and ends with these, and has made these
+pub record HasMade {E O : Type 0} (made : List E) (Legal : List E → Type 0) (before after : PassView E O) : Type 0 where
+  pub pass : after ≡ grown before after.seen made
+  pub seen : Extends before.seen after.seen
+  pub earlier : List E
+  pub last : after.seen ≡ earlier ++ made
+  pub legal : Legal after.seen
+
 -- the row is one on this market: the pass has seen a longer history, which is legal from the market's start and ends with the
 -- call, and has made the call
-pub record HasCalled (call : Stamped Call) (start : PlainMarketAccounts)
-    (before after : PassView (Stamped Call) MarketOrigin) : Type 0 where
-  pub pass : after ≡ grown before after.seen (call ∷ [])
-  pub seen : Extends before.seen after.seen
-  pub earlier : List (Stamped Call)
-  pub last : after.seen ≡ earlier ++ call ∷ []
-  pub legal : IsLegal (market_in start) (items_of after.seen)
+abbrev pub HasCalled : Stamped Call → PlainMarketAccounts → PassView (Stamped Call) MarketOrigin
+    → PassView (Stamped Call) MarketOrigin → Type 0
+HasCalled call start before after =
+    HasMade (call ∷ []) (λ (seen : List (Stamped Call)). IsLegal (market_in start) (items_of seen)) before after
 
 -- the row names this wallet: the pass has seen a longer history of movements, which is legal from the wallet's first amount and
 -- ends with the movement that the call has for the wallet, and has made it
-pub record HasMoved (call : Stamped Call) (start : PlainAccount)
-    (before after : PassView (Stamped WalletEntry) WalletOrigin) : Type 0 where
-  pub pass : after ≡ grown before after.seen (entries_in start.address call)
-  pub seen : Extends before.seen after.seen
-  pub earlier : List (Stamped WalletEntry)
-  pub last : after.seen ≡ earlier ++ entries_in start.address call
-  pub legal : IsWalletLegal (balance_of start.bytes) (items_of after.seen)
+abbrev pub HasMoved : Stamped Call → PlainAccount → PassView (Stamped WalletEntry) WalletOrigin
+    → PassView (Stamped WalletEntry) WalletOrigin → Type 0
+HasMoved call start before after =
+    HasMade (entries_in start.address call) (λ (seen : List (Stamped WalletEntry)). IsWalletLegal (balance_of start.bytes) (items_of seen)) before after
 
 -- where a row acts on a market or wallet, this holds of its pass; and else the pass is as it was
 abbrev pub Where : Bool → Type 0 → Type 0 → Type 0
@@ -65,12 +67,13 @@ pub record IsNext (row : PlainRow) (seat : SeatState) : Type 0 where
   pub is : rows_of_lane seat.lane seat.script.rows
       ≡ take (length seat.calls) (rows_of_lane seat.lane seat.script.rows) ++ row ∷ later
 
--- a row was submitted at a seat: its lane has one call more, which is this row's, has this reply, saw the script's wallets, and moves each
--- wallet that the row names once; and the passes of its market and of these wallets have grown by it, and no others
+-- a row was submitted at a seat: its lane has one call more, which is this row's, has this reply, was not held back, saw the script's wallets,
+-- and moves each wallet that the row names once; and the passes of its market and of these wallets have grown by it, and no others
 pub record HasSubmitted (row : PlainRow) (reply : Reply) (before after : SeatState) : Type 0 where
   pub call : Stamped Call
   pub asked : call.item.asked ≡ asked_of row
   pub answered : call.item.entry.reply ≡ reply
+  pub own : is_held call.item ≡ false
   pub sees : IsSight before.script call.item.seen
   pub moves : MovesEach call.item
   pub lane : after.lane ≡ before.lane

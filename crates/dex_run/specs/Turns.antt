@@ -1,5 +1,5 @@
 -- A row while it has turns: its market's, and those of the first of its wallets, whose cells are in hand.
-use Rattle.std.specs.Prelude.{ℕ, ◌≡◌, ◌≤◌, ◌<◌, true, List, [], ◌∷◌, ◌++◌, Option, Some, None, All, length, map, take}
+use Rattle.std.specs.Prelude.{ℕ, ◌≡◌, ◌≤◌, ◌<◌, true, false, List, [], ◌∷◌, ◌++◌, Option, Some, None, All, length, map, take}
 use Rattle.std.specs.List.{AllZip, list_any}
 use Rattle.dex_types.specs.declared.addresses.Address.{Address}
 use Rattle.dex_types.specs.declared.movements.WalletEntry.{WalletEntry}
@@ -12,7 +12,7 @@ use Rattle.dex_gate.specs.GateView.{GateView}
 use Rattle.dex_gate.specs.History.{Extends, added, of_lane}
 use Rattle.dex_gate.specs.PassView.{PassView}
 use Rattle.dex_gate.specs.declared.stage.Stage.TheVariants.{Idle, Out}
-use Rattle.dex_history.specs.Journal.{Call}
+use Rattle.dex_history.specs.Journal.{Call, is_held}
 use Rattle.dex_wallet.specs.CellState.{CellState, HasSpare, IsWalletCell, balance_of}
 use Rattle.dex_fold.specs.World.{World}
 use Rattle.dex_act.specs.Wallets.{made_of, wallet_state_of}
@@ -24,7 +24,7 @@ use Rattle.dex_journals.specs.Journals.{BankMarketState, IsBankMarket, IsBankWal
 use Rattle.dex_journals.specs.Journals.{calls_by, entries_by, left_by, market_calls, market_origin, wallet_entries, wallet_origin}
 use Rattle.dex_journals.specs.Made.{calls_on, entries_in, entries_on}
 use Rattle.dex_fold.specs.Items.{rows_of_lane}
-use Rattle.dex_histories.specs.Lanes.{IsLane, MovesEach}
+use Rattle.dex_order.specs.Lanes.{IsLane, MovesEach}
 use Rattle.dex_run.specs.Bank.{BankState}
 use Rattle.dex_run.specs.Submitted.{HasMoved, Where}
 
@@ -173,8 +173,9 @@ pub record HasLeft (call : Stamped Call) (trail : TrailState)
 
 -- ---- what is told of the row
 
--- the call sees what a row of the script may see, moves the wallets of its row, and has a stamp above this one
+-- the call was not held back, sees what a row of the script may see, moves the wallets of its row, and has a stamp above this one
 pub record IsTold (script : PlainScript) (stamp : ℕ) (call : Stamped Call) : Type 0 where
+  pub own : is_held call.item ≡ false
   pub sees : IsSight script call.item.seen
   pub moves : MovesEach call.item
   pub later : stamp < call.stamp

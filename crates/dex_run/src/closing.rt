@@ -18,9 +18,9 @@ use crate::seat::LaneSeat;
 use dex_bank::{Cells, Room};
 use dex_cell::MarketCell;
 use dex_gate::{Gate, Pass};
-use dex_histories::laws;
 use dex_journals::{BankMarket, BankWallet};
 use dex_order::laws::what_lanes_leave_is_a_replay;
+use dex_replay::laws::what_one_order_leaves_is_a_run;
 use dex_report::Outcome;
 use dex_wallet::WalletCell;
 use std::alloc::Global;
@@ -212,22 +212,22 @@ fn closed(bank: Bank, seats: Vec<LaneSeat>, room: ClosingRoom) -> Outcome
     Cells::of(mints, srm, msrm, market_cells, wallet_cells, program).close_into(left)
 }
 
-/// What lanes leave when their rows are done is a run of their script.
-fn what_closes_is_a_run()
-    ensures { (script : PlainScript) (seats : List SeatState) (outcome : PlainOutcome)
-        → ClosesAs script seats outcome → IsRunOf script outcome }
-{
-    laws::what_lanes_leave_is_lawful();
-    laws::what_lanes_leave_is_sound();
-    laws::what_lanes_leave_is_conserved();
-}
-
-/// It is also what all rows leave one after the other, in some order that keeps the order of each lane.
+/// What lanes leave when their rows are done is what all items leave one after the other, in some order that keeps the order of
+/// each lane.
 fn what_closes_is_in_one_order()
     ensures { (script : PlainScript) (seats : List SeatState) (outcome : PlainOutcome)
         → ClosesAs script seats outcome → IsOneOrder script outcome }
 {
     what_lanes_leave_is_a_replay();
+}
+
+/// So it is a run of their script.
+fn what_closes_is_a_run()
+    ensures { (script : PlainScript) (seats : List SeatState) (outcome : PlainOutcome)
+        → ClosesAs script seats outcome → IsRunOf script outcome }
+{
+    what_closes_is_in_one_order();
+    what_one_order_leaves_is_a_run();
 }
 
 impl Bank {
@@ -247,8 +247,8 @@ impl Bank {
             → IsOneOrder self.script (outcome_of outcome)) }
         ensures refused { IfErr result (λ back. (back.0 ≡ self) × (back.1.items ≡ seats.items)) }
     {
-        what_closes_is_a_run();
         what_closes_is_in_one_order();
+        what_closes_is_a_run();
         match closing_room(alloc, self.markets.len(), self.wallets.len(), seats.len()) {
             Some(room) => Ok(closed(self, seats, room)),
             None => Err((self, seats)),

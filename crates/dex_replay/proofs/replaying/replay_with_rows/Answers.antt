@@ -4,9 +4,8 @@ use Rattle.dex_fold.specs.Fold.{act, fold}
 use Rattle.dex_fold.proofs.FoldLaws.{fold-append}
 use Rattle.dex_fold.specs.World.{World}
 use Rattle.dex_bank.specs.Cells.{world_of}
-use Rattle.dex_bank.specs.Closed.{closed}
+use Rattle.dex_report.specs.Outcomes.{outcome_of}
 use Rattle.dex_replay.specs.Replays.{IsReplayOf, start_world}
-use Rattle.dex_replay.specs.Runs.{IsRunOf}
 use Rattle.dex_replay.proofs.Room.{AreOf, all-acted, can-act, row-of-script, rows-more, rows-split}
 use Rattle.dex_replay.proofs.RunOf.{replay-is-run, rows-replay}
 use Rattle.dex_replay.proofs.Starts.{are-of-script, its-address, opened-address, opened-opened, opened-world}
@@ -60,11 +59,4 @@ returns-in-Ok-clause-outcome c =
     (rows-replay script c.loop-row.cells is c.loop-row.invariant.opened c.in-Ok.ensures.cells ended)
 
 pub returns-in-Ok-clause-run : goal.returns-in-Ok-clause-run
-returns-in-Ok-clause-run c =
-    let script = c.args.script in
-    let is = c.in_ok-cells.ensures.script in
-    let rows = c.deref-row-items.result.now in
-    let are : AreOf script rows = sym c.in_ok-cells.ensures.rows ∙ ap (λ some. map row_of some) (sym c.deref-row-items.ensures.value) in
-    let ended = all-acted script rows are c.loop-row.row-index c.loop-row-test.false (world_of c.loop-row.cells) c.loop-row.invariant.acted in
-    subst (IsRunOf script) (sym c.in-Ok.ensures.outcome)
-    (replay-is-run script (closed c.loop-row.cells) is (rows-replay script c.loop-row.cells is c.loop-row.invariant.opened c.in-Ok.ensures.cells ended))
+returns-in-Ok-clause-run c = replay-is-run c.args.script (outcome_of c.in-Ok.outcome) c.in_ok-cells.ensures.script (returns-in-Ok-clause-outcome c)

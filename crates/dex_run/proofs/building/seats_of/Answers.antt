@@ -1,7 +1,7 @@
 use Rattle.std.proofs.Common.{◌≡◌, ◌∙◌, arith}
 use Rattle.dex_run.specs.Bank.{BankState}
 use Rattle.dex_run.proofs.Openings.{firsts-gates, given-are, kept-are}
-use Rattle.dex_run.proofs.Seating.{market-firsts, market-passes-are, market-some, seat-is, seats-all, seats-more, wallet-firsts, wallet-passes-are, wallet-some}
+use Rattle.dex_run.proofs.Seating.{market_from, passes-are, passes-first, passes-some, seat-is, seats-all, seats-more, wallet_from}
 use Rattle.dex_run.proofs.building.seats_of.Goals as goal
 
 pub split_all-requires-clause-gates : goal.split_all-requires-clause-gates
@@ -9,7 +9,7 @@ split_all-requires-clause-gates c = firsts-gates c.loop-lane.lane c.args.markets
 
 pub split_all-requires-clause-some : goal.split_all-requires-clause-some
 split_all-requires-clause-some c =
-    market-some c.args.outline.now c.loop-lane.lane c.args.markets.now c.loop-lane.market_passes.items c.requires.markets c.loop-lane.invariant.markets
+    passes-some c.args.outline.now.lanes (market_from c.args.outline.now) c.args.outline.now.start.markets c.args.markets.now c.loop-lane.market_passes.items c.requires.markets c.loop-lane.lane c.loop-lane.invariant.markets
     (omega (arith, c.loop-lane-test.true, c.lanes-lane-end.ensures.lanes))
 
 pub split_all-requires-in-loop-lane-clause-gates : goal.split_all-requires-in-loop-lane-clause-gates
@@ -17,17 +17,17 @@ split_all-requires-in-loop-lane-clause-gates c = firsts-gates c.loop-lane.lane c
 
 pub split_all-requires-in-loop-lane-clause-some : goal.split_all-requires-in-loop-lane-clause-some
 split_all-requires-in-loop-lane-clause-some c =
-    wallet-some c.args.outline.now c.loop-lane.lane c.args.wallets.now c.loop-lane.wallet_passes.items c.requires.wallets c.loop-lane.invariant.wallets
+    passes-some c.args.outline.now.lanes (wallet_from c.args.outline.now) c.args.outline.now.start.wallets c.args.wallets.now c.loop-lane.wallet_passes.items c.requires.wallets c.loop-lane.lane c.loop-lane.invariant.wallets
     (omega (arith, c.loop-lane-test.true, c.lanes-lane-end.ensures.lanes))
 
 pub seat-requires-clause-markets : goal.seat-requires-clause-markets
 seat-requires-clause-markets c =
-    market-passes-are c.args.outline.now c.loop-lane.lane c.args.markets.now c.in_ok-of_markets.of_markets.items c.requires.markets
+    passes-are c.args.outline.now.lanes (market_from c.args.outline.now) c.args.outline.now.start.markets c.args.markets.now c.in_ok-of_markets.of_markets.items c.requires.markets c.loop-lane.lane
     (given-are c.loop-lane.lane c.args.markets.now c.loop-lane.market_passes.items c.in_ok-of_markets.of_markets.items c.loop-lane.invariant.markets c.in_ok-of_markets.ensures.given)
 
 pub seat-requires-clause-wallets : goal.seat-requires-clause-wallets
 seat-requires-clause-wallets c =
-    wallet-passes-are c.args.outline.now c.loop-lane.lane c.args.wallets.now c.in_ok-of_wallets.of_wallets.items c.requires.wallets
+    passes-are c.args.outline.now.lanes (wallet_from c.args.outline.now) c.args.outline.now.start.wallets c.args.wallets.now c.in_ok-of_wallets.of_wallets.items c.requires.wallets c.loop-lane.lane
     (given-are c.loop-lane.lane c.args.wallets.now c.loop-lane.wallet_passes.items c.in_ok-of_wallets.of_wallets.items c.loop-lane.invariant.wallets c.in_ok-of_wallets.ensures.given)
 
 pub loop-lane-preserved : goal.loop-lane-preserved
@@ -45,14 +45,14 @@ loop-lane-preserved c =
 
 pub seat-requires-2-clause-markets : goal.seat-requires-2-clause-markets
 seat-requires-2-clause-markets c =
-    market-passes-are c.args.outline.now 0 c.args.markets.now c.loop-lane.market_passes.items c.requires.markets
-    (market-firsts c.args.outline.now c.loop-lane.lane c.args.markets.now c.loop-lane.market_passes.items c.requires.markets c.loop-lane.invariant.markets
+    passes-are c.args.outline.now.lanes (market_from c.args.outline.now) c.args.outline.now.start.markets c.args.markets.now c.loop-lane.market_passes.items c.requires.markets 0
+    (passes-first c.args.outline.now.lanes (market_from c.args.outline.now) c.args.outline.now.start.markets c.args.markets.now c.loop-lane.market_passes.items c.requires.markets c.loop-lane.lane c.loop-lane.invariant.markets
     (omega (arith, c.loop-lane-test.false, c.loop-lane.auto.lane-end, c.loop-lane.auto.lane, c.lanes-lane-end.ensures.lanes, c.lanes-lane-end.ensures.some)))
 
 pub seat-requires-2-clause-wallets : goal.seat-requires-2-clause-wallets
 seat-requires-2-clause-wallets c =
-    wallet-passes-are c.args.outline.now 0 c.args.wallets.now c.loop-lane.wallet_passes.items c.requires.wallets
-    (wallet-firsts c.args.outline.now c.loop-lane.lane c.args.wallets.now c.loop-lane.wallet_passes.items c.requires.wallets c.loop-lane.invariant.wallets
+    passes-are c.args.outline.now.lanes (wallet_from c.args.outline.now) c.args.outline.now.start.wallets c.args.wallets.now c.loop-lane.wallet_passes.items c.requires.wallets 0
+    (passes-first c.args.outline.now.lanes (wallet_from c.args.outline.now) c.args.outline.now.start.wallets c.args.wallets.now c.loop-lane.wallet_passes.items c.requires.wallets c.loop-lane.lane c.loop-lane.invariant.wallets
     (omega (arith, c.loop-lane-test.false, c.loop-lane.auto.lane-end, c.loop-lane.auto.lane, c.lanes-lane-end.ensures.lanes, c.lanes-lane-end.ensures.some)))
 
 pub returns-in-Ok : goal.returns-in-Ok
@@ -60,8 +60,8 @@ returns-in-Ok c =
     let bank : BankState = record { script = c.args.outline.now; markets = c.args.markets.now; wallets = c.args.wallets.now } in
     let done : c.loop-lane.lane ≡ c.args.outline.now.lanes =
     omega (arith, c.loop-lane-test.false, c.loop-lane.auto.lane-end, c.loop-lane.auto.lane, c.lanes-lane-end.ensures.lanes, c.lanes-lane-end.ensures.some) in
-    let markets = market-firsts c.args.outline.now c.loop-lane.lane c.args.markets.now c.loop-lane.market_passes.items c.requires.markets c.loop-lane.invariant.markets done in
-    let wallets = wallet-firsts c.args.outline.now c.loop-lane.lane c.args.wallets.now c.loop-lane.wallet_passes.items c.requires.wallets c.loop-lane.invariant.wallets done in
+    let markets = passes-first c.args.outline.now.lanes (market_from c.args.outline.now) c.args.outline.now.start.markets c.args.markets.now c.loop-lane.market_passes.items c.requires.markets c.loop-lane.lane c.loop-lane.invariant.markets done in
+    let wallets = passes-first c.args.outline.now.lanes (wallet_from c.args.outline.now) c.args.outline.now.start.wallets c.args.wallets.now c.loop-lane.wallet_passes.items c.requires.wallets c.loop-lane.lane c.loop-lane.invariant.wallets done in
     c.in-Ok.ensures.items
     ∙ seats-all bank c.loop-lane.lane c.args.outline.now.lanes c.loop-lane.seats.items c.in_ok-first.first
     (omega (arith, c.lanes-lane-end.ensures.lanes, c.lanes-lane-end.ensures.some)) done c.loop-lane.invariant.seats

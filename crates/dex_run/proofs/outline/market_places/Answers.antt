@@ -11,4 +11,4 @@ of-requires c =
     (sym
     (c.in_ok-addresses_of_markets.ensures
     ∙ ap (λ (l : List MarketAccounts). map (λ (accounts : PlainMarketAccounts). accounts.address) (map market_accounts_of l)) c.deref.ensures.value))
-    (markets-distinct (accounts_of c.script.inside.start) c.script.invariant.start.accepted.once)
+    (markets-distinct (accounts_of c.script.inside.start) c.script.invariant.start.accepted)

@@ -11,4 +11,4 @@ of-requires c =
     (sym
     (c.in_ok-addresses_of_wallets.ensures
     ∙ ap (λ (l : List Named). map (λ (account : PlainAccount). account.address) (map named_of l)) c.deref.ensures.value))
-    (wallets-distinct (accounts_of c.script.inside.start) c.script.invariant.start.accepted.once)
+    (wallets-distinct (accounts_of c.script.inside.start) c.script.invariant.start.accepted)

@@ -1,12 +1,10 @@
 -- The journals of markets and wallets beside what the lanes made.
-use Rattle.std.specs.Prelude.{ℕ, ◌≡◌, ◌<◌, List, All, length, map}
+use Rattle.std.specs.Prelude.{◌≡◌, ◌<◌, List, All, length, map}
 use Rattle.std.specs.List.{AllZip, range_with_len}
 use Rattle.dex_types.specs.declared.movements.WalletEntry.{WalletEntry}
 use Rattle.dex_types.specs.Accounts.{PlainAccount, PlainMarketAccounts}
 use Rattle.dex_history.specs.Journal.{Call}
 use Rattle.dex_bank.specs.Closed.{closed}
-use Rattle.dex_fold.specs.Groups.{members}
-use Rattle.dex_fold.specs.Items.{Item, items_of, rows_of_lane}
 use Rattle.dex_report.specs.Outcomes.{PlainOutcome}
 use Rattle.dex_script.specs.Drafts.{PlainScript}
 use Rattle.dex_script.specs.Facts.{IsScript}
@@ -14,7 +12,7 @@ use Rattle.dex_stamps.specs.Stamped.{Stamped}
 use Rattle.dex_journals.specs.Journals.{BankMarketState, BankWalletState, IsBankMarket, IsBankWallet}
 use Rattle.dex_journals.specs.Journals.{market_calls, market_origin, wallet_entries, wallet_origin}
 use Rattle.dex_journals.specs.Made.{calls_of_lane, calls_on, entries_of_lane, entries_on}
-use Rattle.dex_histories.specs.Lanes.{EachApart, IsLaneDone, Lane}
+use Rattle.dex_order.specs.Lanes.{IsLaneDone, Lane}
 
 -- a market that the script starts with, when all lanes are done: for each lane its journal has just the lane's calls on the
 -- market, in their order, and it has no others
@@ -45,7 +43,6 @@ pub record AreMerged (script : PlainScript) (all : Histories) : Type 0 where
   pub facts : IsScript script
   pub numbers : map (λ (lane : Lane). lane.number) all.lanes ≡ range_with_len 0 script.lanes
   pub lanes : All (IsLaneDone script) all.lanes
-  pub legs : (lane : ℕ) → All (λ (item : Item). EachApart (members item)) (items_of (rows_of_lane lane script.rows))
   pub markets : AllZip (IsMarketMerged script all.lanes) script.start.markets all.markets
   pub wallets : AllZip (IsWalletMerged script all.lanes) script.start.wallets all.wallets
 

@@ -1,5 +1,5 @@
 -- A lane, and an item more of it.
-use Rattle.std.proofs.Common.{◌≡◌, ℕ, suc, ◌<◌, ◌+◌, true, false, eqb, List, [], ◌∷◌, ◌++◌, length, map, take, get_or, refl, sym, ap, ◌∙◌, subst, arith}
+use Rattle.std.proofs.Common.{◌≡◌, ℕ, suc, ◌<◌, ◌+◌, false, eqb, List, [], ◌∷◌, ◌++◌, length, map, take, get_or, refl, sym, ap, ◌∙◌, subst, arith}
 use Rattle.std.specs.List.{All, AllPairs}
 use Rattle.std.proofs.lemmas.Bool.{eq-eqb, false≢true}
 use Rattle.std.proofs.lemmas.List.{length-append, length-map, map-append, append_assoc, append-nil}
@@ -12,9 +12,9 @@ use Rattle.dex_replay.specs.Lawful.{IsSight}
 use Rattle.dex_script.specs.Drafts.{PlainScript}
 use Rattle.dex_stamps.specs.Stamped.{Stamped}
 use Rattle.dex_fold.specs.Items.{rows_of_lane}
-use Rattle.dex_fold.specs.Groups.{Group, grouped, members}
+use Rattle.dex_fold.specs.Groups.{Group, grouped}
 use Rattle.dex_fold.proofs.GroupLaws.{grouped-behind, grouped-one}
-use Rattle.dex_histories.specs.Lanes.{AreAllOrNone, IsBefore, IsLane, MovesEach, number_in}
+use Rattle.dex_order.specs.Lanes.{AreAllOrNone, IsBefore, IsLane, MovesEach, number_in}
 
 -- what holds of each two in two lists, and of each in the one and each in the other
 pairs-behind : {X : Type 0} (R : X → X → Type 0) (xs ys : List X) → AllPairs R xs → AllPairs R ys → All (λ (x : X). All (R x) ys) xs → AllPairs R (xs ++ ys)

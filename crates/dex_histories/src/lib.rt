@@ -1,4 +1,0 @@
-//! Laws of journals that lanes made side by side.
-#![tactic(auto)]
-
-pub mod laws;

@@ -1,0 +1,63 @@
+-- A row that is submitted alone is an item of one call.
+use Rattle.std.proofs.Common.{◌≡◌, ℕ, ◌<◌, ◌≤◌, ◌||◌, ◌&&◌, not, Bool, true, false, eqb, List, [], ◌∷◌, ◌++◌, length, take, refl, ap, ◌∙◌, subst, arith}
+use Rattle.std.specs.List.{All}
+use Rattle.std.proofs.lemmas.Bool.{ne_eqb}
+use Rattle.std.proofs.lemmas.List.Elements.{All-cons, All-nil, All-weaker}
+use Rattle.std.proofs.lemmas.List.Kept.{AllPairs-filter}
+use Rattle.dex_types.specs.Rows.{PlainRow}
+use Rattle.dex_history.specs.Journal.{Asked, Call, asked_of, is_refused}
+use Rattle.dex_fold.specs.Items.{rows_of_lane}
+use Rattle.dex_fold.proofs.GroupLaws.{EachTwo}
+use Rattle.dex_script.specs.Drafts.{PlainScript}
+use Rattle.dex_script.specs.Facts.{HasNoSwap}
+use Rattle.dex_stamps.specs.Stamped.{Stamped}
+use Rattle.dex_replay.specs.Lawful.{IsSight}
+use Rattle.dex_replay.proofs.Groups.{each-two}
+use Rattle.dex_replay.proofs.MappedLists.{All-across}
+use Rattle.dex_order.specs.Lanes.{IsAsOthers, IsLane, MovesEach, number_in}
+use Rattle.dex_order.proofs.LaneGrowth.{IsItemMore}
+use Rattle.dex_run.specs.Turns.{IsTold}
+use Rattle.dex_run.proofs.Taking.{all-midst}
+
+-- what holds of each two holds of those before one and it
+before-midst : {A : Type 0} (R : A → A → Type 0) (xs : List A) (y : A) (ys : List A) → EachTwo R (xs ++ y ∷ ys) → All (λ x. R x y) xs
+before-midst R [] y ys each = All-nil (λ x. R x y)
+before-midst R (x ∷ xs) y ys each = All-cons (λ z. R z y) x xs (all-midst (R x) xs y ys each.0) (before-midst R xs y ys each.1)
+
+module _ (row : PlainRow) (call : Stamped Call) (asked : call.item.asked ≡ asked_of row) (script : PlainScript) (lane last : ℕ) (calls : List (Stamped Call))
+    (later : List PlainRow) (single : HasNoSwap script.rows) (is : IsLane script lane calls)
+    (next : rows_of_lane lane script.rows ≡ take (length calls) (rows_of_lane lane script.rows) ++ row ∷ later) where
+  abbrev done : List PlainRow
+  done = take (length calls) (rows_of_lane lane script.rows)
+
+  -- the rows before it have lower numbers, and so have their calls
+  lower : All (λ (c : Stamped Call). number_in c < row.number) calls
+  lower =
+      let Lower : PlainRow → PlainRow → Type 0 = λ one other. one.number < other.number in
+      All-across (λ (a : Asked). a.number < row.number) (λ (c : Stamped Call). c.item.asked) asked_of calls done is.asks
+      (before-midst Lower done row later
+      (subst (EachTwo Lower) next (each-two Lower (rows_of_lane lane script.rows) (AllPairs-filter Lower (λ (r : PlainRow). eqb r.lane lane) script.rows single))))
+
+  pub row-more : All (λ (c : Stamped Call). c.stamp ≤ last) calls → IsTold script last call → IsItemMore script lane calls (row ∷ []) call []
+  row-more below told =
+      let number : number_in call ≡ row.number = ap (λ (a : Asked). a.number) asked in
+      record {
+        later = later;
+        next = next;
+        asked = ap (λ (a : Asked). a ∷ []) asked;
+        sees = All-cons (λ (c : Stamped Call). IsSight script c.item.seen) call [] told.sees (All-nil (λ (c : Stamped Call). IsSight script c.item.seen));
+        moves = All-cons (λ (c : Stamped Call). MovesEach c.item) call [] told.moves (All-nil (λ (c : Stamped Call). MovesEach c.item));
+        one_number = All-nil (λ (c : Stamped Call). number_in c ≡ number_in call);
+        one_stamp = All-nil (λ (c : Stamped Call). c.stamp ≡ call.stamp);
+        fresh = All-weaker (λ (c : Stamped Call). number_in c < row.number) (λ (c : Stamped Call). All (λ (made : Stamped Call). eqb (number_in c) (number_in made) ≡ false) (call ∷ []))
+            (λ c less.
+            All-cons (λ (made : Stamped Call). eqb (number_in c) (number_in made) ≡ false) call []
+            (ne_eqb (number_in c) (number_in call) (λ same. omega (arith, less, same, number)))
+            (All-nil (λ (made : Stamped Call). eqb (number_in c) (number_in made) ≡ false))) calls lower;
+        below = All-weaker (λ (c : Stamped Call). c.stamp ≤ last) (λ (c : Stamped Call). c.stamp < call.stamp) (λ c less. omega (arith, less, told.later)) calls below;
+        all_or_none = All-cons (IsAsOthers (call ∷ [])) call [] (told.own ∙ alone (is_refused call.item)) (All-nil (IsAsOthers (call ∷ [])));
+      }
+    where
+      alone : (b : Bool) → false ≡ ((b || false) && not b)
+      alone true = refl
+      alone false = refl
