@@ -12,6 +12,7 @@ use Rattle.dex_fold.specs.Items.{Item, fold_items, items_of}
 use Rattle.dex_fold.specs.World.{MarketState, WalletState, World}
 use Rattle.dex_report.specs.Outcomes.{PlainMarketJournal, PlainOutcome, PlainWalletJournal}
 use Rattle.dex_script.specs.Drafts.{PlainScript}
+use Rattle.dex_wallet.specs.CellState.{balance_of}
 use Rattle.dex_token.specs.TokenAccount.{wallet_words, with_amount}
 
 -- a market with which a script starts
@@ -61,7 +62,7 @@ pub record IsOfStart (script : PlainScript) (outcome : PlainOutcome) : Type 0 wh
       ≡ map address_of script.start.wallets
 
 -- the outcome is what is left when these items have acted: the journals are those of that world, the accounts of markets
--- stand for its markets, and the wallets have its amounts and are else as they were
+-- stand for its markets, and the wallets are as they were but for the amount, which reads as the balance there
 pub record IsLeftBy (script : PlainScript) (items : List Item) (outcome : PlainOutcome) : Type 0 where
   pub start : IsOfStart script outcome
   pub accepted : AreAccepted outcome.accounts
@@ -72,6 +73,8 @@ pub record IsLeftBy (script : PlainScript) (items : List Item) (outcome : PlainO
   pub stand : AllZip (λ (accounts : PlainMarketAccounts) (state : MarketState). StandsFor accounts state.market)
       outcome.accounts.markets (world_after script items).markets
   pub amounts : outcome.accounts.wallets ≡ with_amounts script.start.wallets (world_after script items).wallets
+  pub balances : map (λ (account : PlainAccount). balance_of account.bytes) outcome.accounts.wallets
+      ≡ map (λ (state : WalletState). state.seen.balance) (world_after script items).wallets
 
 -- the outcome is what is left when all items of the script have acted in their order
 abbrev pub IsReplayOf : PlainScript → PlainOutcome → Type 0
@@ -90,3 +93,5 @@ pub record IsLeftByRows (script : PlainScript) (rows : List PlainRow) (outcome :
   pub stand : AllZip (λ (accounts : PlainMarketAccounts) (state : MarketState). StandsFor accounts state.market)
       outcome.accounts.markets (fold rows (start_world script)).markets
   pub amounts : outcome.accounts.wallets ≡ with_amounts script.start.wallets (fold rows (start_world script)).wallets
+  pub balances : map (λ (account : PlainAccount). balance_of account.bytes) outcome.accounts.wallets
+      ≡ map (λ (state : WalletState). state.seen.balance) (fold rows (start_world script)).wallets
