@@ -14,7 +14,6 @@ use Rattle.dex_migrate.specs.declared.faults.MigrateFault.{MigrateFault}
 use Rattle.dex_migrate.specs.Migrated.{AreMigrated}
 use Rattle.dex_migrate.specs.TooSmall.{first_fault}
 use Rattle.dex_script.specs.Drafts.{PlainScript}
-use Rattle.dex_script.specs.Facts.{HasNoSwap}
 use Rattle.dex_script.specs.Scripts.{IsRefused, Reads}
 use Rattle.dex_script.specs.Scripts.Refusal.{AtRow, InAudit, InDump}
 use Rattle.dex_report.specs.Bulk.{bulk_text}
@@ -33,11 +32,11 @@ abbrev pub rows_told : PlainScript → ℕ
 rows_told script = length (items_of script.rows)
 
 -- this is what is left when all items of a script have acted in their order. It is lawful, its markets are sound and its mints
--- conserved; and where no two rows have one number, it is what is left when the rows have acted, each by itself
+-- conserved; and it is what is left when the rows have acted, each by itself
 pub record IsPlayed (script : PlainScript) (outcome : PlainOutcome) : Type 0 where
   pub replay : IsReplayOf script outcome
   pub run : IsRunOf script outcome
-  pub rows : HasNoSwap script.rows → IsLeftByRows script script.rows outcome
+  pub rows : IsLeftByRows script script.rows outcome
 
 -- the bytes are a script, this is what is left when all its items have acted, and the text tells it
 abbrev pub Replayed : List ℕ → (PlainScript → PlainOutcome → List ℕ) → List ℕ → Type 0

@@ -3,7 +3,6 @@ use Rattle.std.specs.Prelude.{ℕ, ◌≡◌, List}
 use Rattle.dex_words.specs.declared.command.Command.{Command}
 use Rattle.dex_words.specs.declared.command.Command.TheVariants.{Run}
 use Rattle.dex_script.specs.Drafts.{PlainScript}
-use Rattle.dex_script.specs.Facts.{HasNoSwap}
 use Rattle.dex_script.specs.Scripts.{Reads}
 use Rattle.dex_report.specs.Outcomes.{PlainOutcome}
 use Rattle.dex_report.specs.Report.{report_text}
@@ -13,12 +12,12 @@ use Rattle.dex_answers.specs.declared.status.Status.{Status}
 use Rattle.dex_answers.specs.declared.status.Status.TheVariants as status
 
 -- this is what is left when the lanes of a script have run side by side: it is lawful, its markets are sound and its mints
--- conserved; it is also what the script's items leave one after the other in some order that keeps the order of each lane; and
--- where no two rows have one number, what its rows leave, each by itself, in such an order
+-- conserved; it is also what the script's items leave one after the other in some order that keeps the order of each lane; and what
+-- its rows leave, each by itself, in such an order
 pub record HaveRun (script : PlainScript) (outcome : PlainOutcome) : Type 0 where
   pub run : IsRunOf script outcome
   pub order : IsOneOrder script outcome
-  pub rows : HasNoSwap script.rows → IsOneOrderOfRows script outcome
+  pub rows : IsOneOrderOfRows script outcome
 
 -- the bytes are a script, this is what is left when its lanes have run, and the text reports it
 abbrev pub Ran : List ℕ → List ℕ → Type 0

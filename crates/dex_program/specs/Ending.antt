@@ -15,7 +15,6 @@ use Rattle.dex_replay.specs.Runs.{IsOneOrder, IsOneOrderOfRows, IsRunOf}
 use Rattle.dex_report.specs.Outcomes.{PlainOutcome}
 use Rattle.dex_report.specs.Report.{report_text}
 use Rattle.dex_script.specs.Drafts.{PlainScript}
-use Rattle.dex_script.specs.Facts.{HasNoSwap}
 use Rattle.dex_script.specs.Scripts.{Reads}
 
 -- the most bytes that an input may have
@@ -144,13 +143,13 @@ pub record OneLegalHistory (bytes : List ℕ) (o : Output) : Type 0 where
   pub taken : o.taken_after ≡ append_known o.taken (report_text outcome (rows_told script))
 
 -- the bytes are those of a script, and the sink took the report of an outcome that is also what all items leave one after the
--- other, in some order that keeps the order of each lane; where no two rows have one number, so do all rows, each by itself
+-- other, in some order that keeps the order of each lane; and so do all rows, each by itself
 pub record OneOrder (bytes : List ℕ) (o : Output) : Type 0 where
   pub script : PlainScript
   pub outcome : PlainOutcome
   pub reads : Reads bytes script
   pub order : IsOneOrder script outcome
-  pub rows : HasNoSwap script.rows → IsOneOrderOfRows script outcome
+  pub rows : IsOneOrderOfRows script outcome
   pub taken : o.taken_after ≡ append_known o.taken (report_text outcome (rows_told script))
 
 -- this holds of the bytes wherever lanes ran and the status is 0, if the source tells its bytes
