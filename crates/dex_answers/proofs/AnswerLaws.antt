@@ -43,7 +43,7 @@ pub read-once : (text : List ℕ) (script : PlainScript) (refusal : Refusal) →
 read-once text script refusal is other = once (begins_with_dump (rows_of text)) (rows_of text) script refusal is other
 
 -- a script is none of which the text says that it is none
-read-told : (text : List ℕ) (script : PlainScript) (stood : Status) (told : List ℕ) → Reads text script → IsNoScript text stood told → ⊥
+pub read-told : (text : List ℕ) (script : PlainScript) (stood : Status) (told : List ℕ) → Reads text script → IsNoScript text stood told → ⊥
 read-told text script status.ScriptRefused told is why = read-once text script (AtRow why.0 why.1) is why.2
 read-told text script status.DumpRefused told is why = read-once text script (InDump why.0) is why.1
 read-told text script status.AuditFailed told is why = read-once text script (InAudit why.0) is why.1
@@ -111,8 +111,7 @@ found-some text found is empty = by (begins_with_dump (rows_of text)) is
 pub answered : (command : Command) (bytes : List ℕ) (stood : Status) (text : List ℕ) → Suits command bytes → Answers command bytes stood text → stood ≡ status.Ok
 answered Replay bytes status.Ok text suits told = refl
 answered Replay bytes stood text suits told = absurd (read-told bytes suits.0 stood text suits.1 told)
-answered Run bytes status.Ok text suits told = refl
-answered Run bytes stood text suits told = absurd (read-told bytes suits.0 stood text suits.1 told)
+answered Run bytes stood text suits told = absurd told
 answered Dump bytes status.Ok text suits told = refl
 answered Dump bytes stood text suits told = absurd (read-told bytes suits.0 stood text suits.1 told)
 answered Audit bytes status.Ok text suits told = refl

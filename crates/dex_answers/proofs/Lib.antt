@@ -1,2 +1,3 @@
 pub mod AnswerLaws
+pub mod GroupCounts
 pub mod TextLaws

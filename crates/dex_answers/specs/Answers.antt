@@ -1,4 +1,4 @@
--- What a command answers, by its status: the text, and what it says of the bytes that were read.
+-- What a command on one thread answers, by its status: the text, and what it says of the bytes that were read.
 use Rattle.std.specs.Prelude.{ℕ, ◌≡◌, List, [], length, Option, Some, Result, Ok, Err}
 use Rattle.dex_types.specs.Accounts.{PlainAccounts}
 use Rattle.dex_words.specs.declared.command.Command.{Command}
@@ -20,24 +20,29 @@ use Rattle.dex_report.specs.Bulk.{bulk_text}
 use Rattle.dex_report.specs.Made.{made_text}
 use Rattle.dex_report.specs.Outcomes.{PlainOutcome}
 use Rattle.dex_report.specs.Report.{report_text}
-use Rattle.dex_replay.specs.Replays.{IsReplayOf}
-use Rattle.dex_replay.specs.Runs.{IsOneOrder, IsRunOf}
+use Rattle.dex_fold.specs.Items.{items_of}
+use Rattle.dex_replay.specs.Replays.{IsLeftByRows, IsReplayOf}
+use Rattle.dex_replay.specs.Runs.{IsRunOf}
 use Rattle.dex_lines.specs.Lines as lines
 use Rattle.dex_answers.specs.declared.status.Status.{Status}
 use Rattle.dex_answers.specs.declared.status.Status.TheVariants as status
 
--- the bytes are a script, this is what is left when all its rows have acted, and the text tells it
+-- how many instruction rows a report tells of: rows of one number are one
+abbrev pub rows_told : PlainScript → ℕ
+rows_told script = length (items_of script.rows)
+
+-- this is what is left when all items of a script have acted in their order. It is lawful, its markets are sound and its mints
+-- conserved; and it is what is left when the rows have acted, each by itself
+pub record IsPlayed (script : PlainScript) (outcome : PlainOutcome) : Type 0 where
+  pub replay : IsReplayOf script outcome
+  pub run : IsRunOf script outcome
+  pub rows : IsLeftByRows script script.rows outcome
+
+-- the bytes are a script, this is what is left when all its items have acted, and the text tells it
 abbrev pub Replayed : List ℕ → (PlainScript → PlainOutcome → List ℕ) → List ℕ → Type 0
 Replayed bytes told text =
-    (script : PlainScript) × (outcome : PlainOutcome) × Reads bytes script × IsReplayOf script outcome
+    (script : PlainScript) × (outcome : PlainOutcome) × Reads bytes script × IsPlayed script outcome
     × (text ≡ told script outcome)
-
--- the bytes are a script, this is what is left when its lanes have run side by side, which is also what its rows leave one after
--- the other in some order that keeps the order of each lane, and the text reports it
-abbrev pub Ran : List ℕ → List ℕ → Type 0
-Ran bytes text =
-    (script : PlainScript) × (outcome : PlainOutcome) × Reads bytes script × IsRunOf script outcome × IsOneOrder script outcome
-    × (text ≡ report_text outcome (length script.rows))
 
 -- the bytes are the dump of accounts without findings
 abbrev pub IsClean : List ℕ → PlainAccounts → Type 0
@@ -67,12 +72,11 @@ IsNotClean bytes status.AuditFailed text =
     × (text ≡ lines.audit_failed (findings accounts))
 IsNotClean bytes _ text = ⊥
 
--- what a command answers to bytes: the status and the text. `make` and `bulk` look at no bytes
+-- what a command on one thread answers to bytes: the status and the text. `make` and `bulk` look at no bytes, and `run` has lanes
 abbrev pub Answers : Command → List ℕ → Status → List ℕ → Type 0
-Answers Replay bytes status.Ok text = Replayed bytes (λ script outcome. report_text outcome (length script.rows)) text
+Answers Replay bytes status.Ok text = Replayed bytes (λ script outcome. report_text outcome (rows_told script)) text
 Answers Replay bytes stood text = IsNoScript bytes stood text
-Answers Run bytes status.Ok text = Ran bytes text
-Answers Run bytes stood text = IsNoScript bytes stood text
+Answers Run bytes stood text = ⊥
 Answers Dump bytes status.Ok text = Replayed bytes (λ script outcome. dump_text outcome.accounts) text
 Answers Dump bytes stood text = IsNoScript bytes stood text
 Answers Audit bytes status.Ok text =

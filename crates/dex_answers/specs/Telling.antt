@@ -1,18 +1,17 @@
 -- What the answers of calls tell, without their buffers.
-use Rattle.std.specs.Prelude.{ℕ, ◌≡◌, List, length}
+use Rattle.std.specs.Prelude.{ℕ, ◌≡◌, List}
 use Rattle.dex_types.specs.Accounts.{accounts_of}
 use Rattle.dex_dump.specs.Accepted.{AreAccepted}
 use Rattle.dex_script.specs.Drafts.{PlainScript}
 use Rattle.dex_script.specs.Scripts.{Reads}
 use Rattle.dex_report.specs.Outcomes.{outcome_of}
-use Rattle.dex_replay.specs.Replays.{IsReplayOf}
 use Rattle.dex_answers.specs.declared.clean.Checked.{Checked}
 use Rattle.dex_answers.specs.declared.clean.Checked.TheVariants as checked
 use Rattle.dex_answers.specs.declared.played.Played.{Played}
 use Rattle.dex_answers.specs.declared.played.Played.TheVariants as played
 use Rattle.dex_answers.specs.declared.status.Status.{Status}
 use Rattle.dex_answers.specs.declared.told.StatusText.{StatusText}
-use Rattle.dex_answers.specs.Answers.{IsClean, IsNoScript, IsNotClean}
+use Rattle.dex_answers.specs.Answers.{IsClean, IsNoScript, IsNotClean, IsPlayed, rows_told}
 
 -- the text of a status
 pub record IsText (told : StatusText) (stood : Status) (bytes : List ℕ) : Type 0 where
@@ -24,8 +23,8 @@ abbrev pub TellsChecked : Checked → List ℕ → Type 0
 TellsChecked (checked.Clean accounts) bytes = IsClean bytes (accounts_of accounts) × AreAccepted (accounts_of accounts)
 TellsChecked (checked.Refused told) bytes = IsNotClean bytes told.status told.text.items
 
--- the bytes are a script of so many rows with this outcome, or the text says why they are none
+-- the bytes are a script with this outcome, whose report tells of so many rows; or the text says why they are none
 abbrev pub TellsPlayed : Played → List ℕ → Type 0
 TellsPlayed (played.Left rows outcome) bytes =
-    (script : PlainScript) × Reads bytes script × IsReplayOf script (outcome_of outcome) × (rows ≡ length script.rows)
+    (script : PlainScript) × Reads bytes script × IsPlayed script (outcome_of outcome) × (rows ≡ rows_told script)
 TellsPlayed (played.Refused told) bytes = IsNoScript bytes told.status told.text.items

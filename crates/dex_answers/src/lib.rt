@@ -5,6 +5,7 @@ mod answer;
 mod audit;
 mod bulk;
 mod clean;
+mod counting;
 mod dump;
 mod laws;
 mod lines;
@@ -12,15 +13,13 @@ mod make;
 mod migrate;
 mod played;
 mod replay;
-mod run;
 mod status;
 mod told;
 
 pub use answer::answer_to;
+pub use counting::items_in;
 pub use laws::what_suits_a_command_is_answered;
-pub use run::run_answer;
+pub use played::no_script;
+pub use replay::report_of;
 pub use status::Status;
 pub use told::StatusText;
-
-#[cfg(test)]
-mod tests;

@@ -5,9 +5,11 @@ ghost use Rattle.dex_script.specs.Telling.{TellsError};
 ghost use Rattle.dex_answers.specs.Answers.{IsNoScript};
 ghost use Rattle.dex_answers.specs.Telling.{TellsPlayed};
 
+use crate::counting::items_in;
 use crate::lines::{audit_failed, dump_refused, script_refused};
 use crate::told::StatusText;
 use dex_lines::ScriptRefused;
+use dex_replay::laws::without_swaps_rows_act_one_by_one;
 use dex_replay::replay;
 use dex_report::Outcome;
 use dex_script::{ScriptError, read_script};
@@ -17,7 +19,7 @@ use std::alloc::Global;
 /// What a script came to.
 #[derive(Drop)]
 pub(crate) enum Played {
-    /// All its rows, of which there are so many, have acted, and left this.
+    /// All its rows, of which a report tells so many, have acted, and left this.
     Left { rows: u32, outcome: Outcome },
     /// The bytes are no script: the text that tells why.
     Refused(StatusText),
@@ -29,8 +31,9 @@ pub(crate) fn play_script(alloc: Global, bytes: &[u8]) -> Result<Played, NoMemor
 {
     match read_script(alloc, bytes) {
         Ok(script) => {
-            let rows = script.rows.len() as u32;
+            let rows = items_in(&script.rows);
             let outcome = replay(alloc, script)?;
+            without_swaps_rows_act_one_by_one();
             Ok(Played::Left { rows, outcome })
         }
         Err(error) => Ok(Played::Refused(no_script(alloc, error)?)),
@@ -38,7 +41,7 @@ pub(crate) fn play_script(alloc: Global, bytes: &[u8]) -> Result<Played, NoMemor
 }
 
 /// The text that tells why bytes are no script.
-pub(crate) fn no_script(alloc: Global, error: ScriptError) -> Result<StatusText, NoMemory>
+pub fn no_script(alloc: Global, error: ScriptError) -> Result<StatusText, NoMemory>
     ensures { (bytes : List ℕ) → TellsError error bytes
         → IfOk result (λ told. IsNoScript bytes told.status told.text.items) }
 {

@@ -25,8 +25,8 @@ pub(crate) fn replay_answer(alloc: Global, bytes: &[u8]) -> Result<StatusText, N
     }
 }
 
-/// The report of an outcome of so many rows.
-pub(crate) fn report_of(alloc: Global, outcome: &Outcome, rows: u32) -> Result<StatusText, NoMemory>
+/// The report of an outcome that tells of so many rows.
+pub fn report_of(alloc: Global, outcome: &Outcome, rows: u32) -> Result<StatusText, NoMemory>
     ensures { IfOk result (λ told. IsText told status.Ok (report_text (outcome_of outcome.now) rows)) }
 {
     let text = report_text(alloc, outcome, rows)?;

@@ -3,6 +3,7 @@
 use crate::acting::act_all;
 use crate::watch::{ROUNDS, Watch};
 use anyhow::Error;
+use dex_answers::items_in;
 use dex_bank::Cells;
 use dex_report::report_text;
 use dex_script::read_script;
@@ -56,6 +57,7 @@ pub fn round<R: Clock + AllocGlobal>(rt: &R, bytes: &[u8]) -> Result<Replayed, E
     let mut watch = Watch::start(rt)?;
     let script = read_script(alloc, bytes)?;
     let lanes = script.lanes;
+    let count = items_in(&script.rows);
     let reading = watch.lap(rt)?;
     let (cells, of_script) = Cells::of_script(alloc, script)?;
     let building = watch.lap(rt)?;
@@ -65,7 +67,6 @@ pub fn round<R: Clock + AllocGlobal>(rt: &R, bytes: &[u8]) -> Result<Replayed, E
         return Err(Error::from(NoMemory));
     };
     let closing = watch.lap(rt)?;
-    let count = of_script.len() as u32;
     let text = report_text(alloc, &outcome, count)?;
     let report = watch.lap(rt)?;
     drop(outcome);

@@ -10,8 +10,9 @@ use Rattle.dex_words.specs.declared.command.Command.TheVariants.{Replay, Run, Du
 use Rattle.dex_answers.specs.declared.status.Status.{Status}
 use Rattle.dex_answers.specs.declared.status.Status.TheVariants as status
 use Rattle.dex_answers.specs.Suits.{Suits}
-use Rattle.dex_answers.proofs.AnswerLaws.{answered}
-use Rattle.dex_replay.specs.Runs.{IsOneOrder, IsRunOf}
+use Rattle.dex_answers.specs.Answers.{rows_told}
+use Rattle.dex_lane_answers.proofs.LaneAnswerLaws.{all-answered}
+use Rattle.dex_lane_answers.specs.LaneAnswers.{HaveRun}
 use Rattle.dex_report.specs.Outcomes.{PlainOutcome}
 use Rattle.dex_report.specs.Report.{report_text}
 use Rattle.dex_script.specs.Drafts.{PlainScript}
@@ -87,9 +88,9 @@ other-suited _ bytes other = absurd (other tt)
 
 -- what suits is answered
 is-done : (stood : Status) (command : Command) (i : Input) (text : List ℕ) → IsSuited command i → Answered stood command i text → stood ≡ status.Ok
-is-done stood command i text (inl other) told = answered command told.0 stood text (other-suited command told.0 other) told.2
+is-done stood command i text (inl other) told = all-answered command told.0 stood text (other-suited command told.0 other) told.2
 is-done stood command i text (inr told_all) told =
-    answered command told.0 stood text (suited command i told.0 told_all.0 told_all.1 told.1 told_all.3) told.2
+    all-answered command told.0 stood text (suited command i told.0 told_all.0 told_all.1 told.1 told_all.3) told.2
 
 -- not too much was taken
 not-long : (command : Command) (i : Input) → IsSuited command i → IsReading command → IfSome i.left (λ bytes. TookMore input_limit bytes i.rest) → ⊥
@@ -122,9 +123,8 @@ record Told (bytes : List ℕ) (o : Output) : Type 0 where
   script : PlainScript
   outcome : PlainOutcome
   reads : Reads bytes script
-  run : IsRunOf script outcome
-  order : IsOneOrder script outcome
-  taken : o.taken_after ≡ append_known o.taken (report_text outcome (length script.rows))
+  left : HaveRun script outcome
+  taken : o.taken_after ≡ append_known o.taken (report_text outcome (rows_told script))
 
 told-end : (i : Input) (o : Output) → Ends (Some Run) i o status.Ok → (bytes : List ℕ) → i.left ≡ Some bytes → Told bytes o
 told-end i o end bytes told =
@@ -134,9 +134,8 @@ told-end i o end bytes told =
       script = a.2.0;
       outcome = a.2.1;
       reads = subst (λ (b : List ℕ). Reads b a.2.0) same a.2.2;
-      run = a.2.3;
-      order = a.2.4;
-      taken = end.taken ∙ ap (append_known o.taken) a.2.5;
+      left = a.2.3;
+      taken = end.taken ∙ ap (append_known o.taken) a.2.4;
     }
 
 told-run : (asked : Option Command) (i : Input) (o : Output) (ended : Status) → Ends asked i o ended → WhereRun Told asked i o ended
@@ -147,9 +146,9 @@ told-run asked i o ended end run done =
 pub legal : (asked : Option Command) (i : Input) (o : Output) (ended : Status) → Ends asked i o ended → WhereRun OneLegalHistory asked i o ended
 legal asked i o ended end run done bytes told =
     let t = told-run asked i o ended end run done bytes told in
-    record { script = t.script; outcome = t.outcome; reads = t.reads; run = t.run; taken = t.taken }
+    record { script = t.script; outcome = t.outcome; reads = t.reads; run = t.left.run; taken = t.taken }
 
 pub ordered : (asked : Option Command) (i : Input) (o : Output) (ended : Status) → Ends asked i o ended → WhereRun OneOrder asked i o ended
 ordered asked i o ended end run done bytes told =
     let t = told-run asked i o ended end run done bytes told in
-    record { script = t.script; outcome = t.outcome; reads = t.reads; order = t.order; taken = t.taken }
+    record { script = t.script; outcome = t.outcome; reads = t.reads; order = t.left.order; rows = t.left.rows; taken = t.taken }

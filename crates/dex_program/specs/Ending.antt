@@ -8,9 +8,10 @@ use Rattle.dex_words.specs.declared.command.Command.TheVariants.{Replay, Run, Du
 use Rattle.dex_lines.specs.Lines.{line}
 use Rattle.dex_answers.specs.declared.status.Status.{Status}
 use Rattle.dex_answers.specs.declared.status.Status.TheVariants as status
-use Rattle.dex_answers.specs.Answers.{Answers}
+use Rattle.dex_answers.specs.Answers.{rows_told}
 use Rattle.dex_answers.specs.Suits.{Suits}
-use Rattle.dex_replay.specs.Runs.{IsOneOrder, IsRunOf}
+use Rattle.dex_lane_answers.specs.LaneAnswers.{AnswersAll}
+use Rattle.dex_replay.specs.Runs.{IsOneOrder, IsOneOrderOfRows, IsRunOf}
 use Rattle.dex_report.specs.Outcomes.{PlainOutcome}
 use Rattle.dex_report.specs.Report.{report_text}
 use Rattle.dex_script.specs.Drafts.{PlainScript}
@@ -69,7 +70,7 @@ Took _ i bytes = HasRead i bytes
 
 -- the text is what the command answers to the bytes that it took, under this status
 abbrev pub Answered : Status → Command → Input → List ℕ → Type 0
-Answered stood command i text = (bytes : List ℕ) × Took command i bytes × Answers command bytes stood text
+Answered stood command i text = (bytes : List ℕ) × Took command i bytes × AnswersAll command bytes stood text
 
 -- a read failed, before too much was taken
 abbrev pub FailedToRead : Command → Input → List ℕ → Type 0
@@ -139,16 +140,17 @@ pub record OneLegalHistory (bytes : List ℕ) (o : Output) : Type 0 where
   pub outcome : PlainOutcome
   pub reads : Reads bytes script
   pub run : IsRunOf script outcome
-  pub taken : o.taken_after ≡ append_known o.taken (report_text outcome (length script.rows))
+  pub taken : o.taken_after ≡ append_known o.taken (report_text outcome (rows_told script))
 
--- the bytes are those of a script, and the sink took the report of an outcome that is also what all rows leave one after the
--- other, in some order that keeps the order of each lane
+-- the bytes are those of a script, and the sink took the report of an outcome that is also what all items leave one after the
+-- other, in some order that keeps the order of each lane; and so do all rows, each by itself
 pub record OneOrder (bytes : List ℕ) (o : Output) : Type 0 where
   pub script : PlainScript
   pub outcome : PlainOutcome
   pub reads : Reads bytes script
   pub order : IsOneOrder script outcome
-  pub taken : o.taken_after ≡ append_known o.taken (report_text outcome (length script.rows))
+  pub rows : IsOneOrderOfRows script outcome
+  pub taken : o.taken_after ≡ append_known o.taken (report_text outcome (rows_told script))
 
 -- this holds of the bytes wherever lanes ran and the status is 0, if the source tells its bytes
 abbrev pub WhereRun : (List ℕ → Output → Type 0) → Option Command → Input → Output → Status → Type 0

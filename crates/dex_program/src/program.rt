@@ -10,8 +10,9 @@ ghost use Rattle.dex_program.specs.Ending.{Completes, Ends, IsReading, OneLegalH
 ghost use Rattle.dex_program.specs.Ending.{WhereRun, input, output};
 ghost use Rattle.dex_program.specs.Stops.{Writes, line_of, status_of, stop_of};
 
-use dex_answers::{Status, StatusText, answer_to, run_answer};
+use dex_answers::{Status, StatusText, answer_to};
 use dex_io::{Pace, ReadAll, Sink, Source, read_all, write_all};
+use dex_lane_answers::run_answer;
 use dex_types::NoMemory;
 use dex_words::{Command, WordsError, read_words};
 use std::alloc::Global;
@@ -103,7 +104,7 @@ pub fn dex_main<R: Threads + Wait + Sync, S: Source, K: Sink, P: Pace + Sync>(
     ensures one_legal_history { WhereRun OneLegalHistory (command_of (map (λ word. string_bytes word) words.now))
         (input (S.left source.old) (S.left source.new) (S.faults source.old) (S.faults source.new))
         (output (K.taken sink.old) (K.taken sink.new) (K.faults sink.old) (K.faults sink.new)) result }
-    // And what they leave is what all rows leave in some order that keeps the order of each lane.
+    // And what they leave is what all items leave in some order that keeps the order of each lane.
     ensures one_order { WhereRun OneOrder (command_of (map (λ word. string_bytes word) words.now))
         (input (S.left source.old) (S.left source.new) (S.faults source.old) (S.faults source.new))
         (output (K.taken sink.old) (K.taken sink.new) (K.faults sink.old) (K.faults sink.new)) result }

@@ -1,13 +1,11 @@
 //! The command `run`.
 
 ghost use Rattle.std.specs.Prelude.{IfOk};
-ghost use Rattle.dex_words.specs.declared.command.Command.TheVariants.{Run};
-ghost use Rattle.dex_answers.specs.Answers.{Answers};
+ghost use Rattle.dex_lane_answers.specs.LaneAnswers.{AnswersRun};
 
-use crate::played::no_script;
-use crate::replay::report_of;
-use crate::told::StatusText;
+use dex_answers::{StatusText, items_in, no_script, report_of};
 use dex_io::Pace;
+use dex_replay::laws::without_swaps_rows_act_one_by_one;
 use dex_run::run;
 use dex_script::read_script;
 use dex_types::NoMemory;
@@ -24,12 +22,13 @@ pub fn run_answer<R: Threads + Wait + Sync, P: Pace + Sync>(
     bytes: &[u8],
     pace: &P,
 ) -> Result<StatusText, NoMemory>
-    ensures { IfOk result (λ told. Answers Run bytes.now told.status told.text.items) }
+    ensures { IfOk result (λ told. AnswersRun bytes.now told.status told.text.items) }
 {
     match read_script(alloc, bytes) {
         Ok(script) => {
-            let rows = script.rows.len() as u32;
+            let rows = items_in(&script.rows);
             let outcome = run(rt, alloc, script, pace)?;
+            without_swaps_rows_act_one_by_one();
             report_of(alloc, &outcome, rows)
         }
         Err(error) => no_script(alloc, error),

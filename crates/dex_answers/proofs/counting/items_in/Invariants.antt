@@ -1,0 +1,9 @@
+use Rattle.std.proofs.Common.{◌≡◌, ◌+◌, drop, length, map}
+use Rattle.dex_types.specs.Rows.{row_of}
+use Rattle.dex_fold.specs.Items.{items_of}
+use Rattle.dex_answers.proofs.GroupCounts.{begun}
+use Rattle.dex_answers.proofs.counting.items_in.Given as goal
+
+-- what is counted, and what begins in the rows that are left, are all items
+abbrev pub invariant-loop-row : goal.invariant-loop-row
+invariant-loop-row l = l.count + begun l.last (drop l.row-index l.fn.rows) ≡ length (items_of (map row_of l.fn.rows))

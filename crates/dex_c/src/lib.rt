@@ -1,0 +1,75 @@
+//! The commands on one thread for C, and for all that can call C. Each function calls that of `dex_call` and says its clause again.
+#![tactic(auto)]
+
+ghost use Rattle.std.specs.Prelude.{[]};
+ghost use Rattle.dex_words.specs.declared.command.Command.TheVariants.{Audit, Bulk, Dump, Make, Migrate, Replay};
+ghost use Rattle.dex_call.specs.Calls.{Ends, done};
+
+use std::alloc::Global;
+
+/// The report of what is left when all rows of a script have acted, one after the other.
+#[unsafe(no_mangle)]
+pub extern "C" fn dex_replay(alloc: Global, script: &[u8], room: &mut [u8], size: &mut usize) -> u8
+    ensures { Ends Replay script.now (done room.old room.new result size.new) }
+{
+    dex_call::replay(alloc, script, room, size)
+}
+
+/// The dump of the accounts that a script leaves.
+#[unsafe(no_mangle)]
+pub extern "C" fn dex_dump(alloc: Global, script: &[u8], room: &mut [u8], size: &mut usize) -> u8
+    ensures { Ends Dump script.now (done room.old room.new result size.new) }
+{
+    dex_call::dump(alloc, script, room, size)
+}
+
+/// What an audit of a dump finds.
+#[unsafe(no_mangle)]
+pub extern "C" fn dex_audit(alloc: Global, dump: &[u8], room: &mut [u8], size: &mut usize) -> u8
+    ensures { Ends Audit dump.now (done room.old room.new result size.new) }
+{
+    dex_call::audit(alloc, dump, room, size)
+}
+
+/// The dump of the same accounts with sides of so many nodes and event queues for so many events.
+#[unsafe(no_mangle)]
+pub extern "C" fn dex_migrate(
+    alloc: Global,
+    nodes: u32,
+    events: u32,
+    dump: &[u8],
+    room: &mut [u8],
+    size: &mut usize,
+) -> u8
+    ensures { Ends (Migrate nodes events) dump.now (done room.old room.new result size.new) }
+{
+    dex_call::migrate(alloc, nodes, events, dump, room, size)
+}
+
+/// The made script of a number, with so many drawn rows.
+#[unsafe(no_mangle)]
+pub extern "C" fn dex_make(
+    alloc: Global,
+    number: u64,
+    rows: u32,
+    room: &mut [u8],
+    size: &mut usize,
+) -> u8
+    ensures { Ends (Make number rows) [] (done room.old room.new result size.new) }
+{
+    dex_call::make(alloc, number, rows, room, size)
+}
+
+/// The summary of what that script leaves.
+#[unsafe(no_mangle)]
+pub extern "C" fn dex_bulk(
+    alloc: Global,
+    number: u64,
+    rows: u32,
+    room: &mut [u8],
+    size: &mut usize,
+) -> u8
+    ensures { Ends (Bulk number rows) [] (done room.old room.new result size.new) }
+{
+    dex_call::bulk(alloc, number, rows, room, size)
+}

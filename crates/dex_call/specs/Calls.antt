@@ -1,0 +1,46 @@
+-- How a call ends that writes what a command answers into memory of its caller.
+use Rattle.std.specs.Prelude.{ℕ, ◌≡◌, ◌≤◌, ◌<◌, ◌++◌, ◌⊎◌, List, drop, length}
+use Rattle.dex_words.specs.declared.command.Command.{Command}
+use Rattle.dex_words.specs.Spelling.{IsWithin}
+use Rattle.dex_answers.specs.Answers.{Answers}
+use Rattle.dex_answers.specs.ExitCodes.{exit_code}
+use Rattle.dex_answers.specs.declared.status.Status.{Status}
+use Rattle.dex_answers.specs.declared.status.Status.TheVariants as status
+
+-- a text was written into a room: where it fits, to its front, and what stood behind is as it was; else all is as it was
+pub record IsWritten (text before after : List ℕ) : Type 0 where
+  pub fits : length text ≤ length before → after ≡ text ++ drop (length text) before
+  pub large : length before < length text → after ≡ before
+
+-- what a call has done: the room before and after it, the number that it gave, and the size that it told
+pub record Done : Type 0 where
+  pub before : List ℕ
+  pub after : List ℕ
+  pub code : ℕ
+  pub size : ℕ
+
+-- what a call has done, by its parts
+abbrev pub done : List ℕ → List ℕ → ℕ → ℕ → Done
+done before after code size = record { before = before; after = after; code = code; size = size }
+
+-- a status and a text that the command answers to the bytes: the call gave the status' number, told the text's length, and wrote it
+pub record HasAnswered (command : Command) (bytes : List ℕ) (call : Done) : Type 0 where
+  pub stood : Status
+  pub text : List ℕ
+  pub answers : Answers command bytes stood text
+  pub code : call.code ≡ exit_code stood
+  pub size : call.size ≡ length text
+  pub written : IsWritten text call.before call.after
+
+-- the call gave this status' number and no text: it told the length 0, and the room is as it was
+pub record HasStopped (stood : Status) (call : Done) : Type 0 where
+  pub code : call.code ≡ exit_code stood
+  pub size : call.size ≡ 0
+  pub same : call.after ≡ call.before
+
+-- how a call of a command ends: with its answer; for want of memory; or since its numbers are not within their limits
+abbrev pub Ends : Command → List ℕ → Done → Type 0
+Ends command bytes call =
+    (IsWithin command × HasAnswered command bytes call)
+    ⊎ HasStopped status.NoMemory call
+    ⊎ (¬ (IsWithin command) × HasStopped status.Usage call)

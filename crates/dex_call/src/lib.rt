@@ -1,0 +1,11 @@
+//! The commands on one thread as functions of bytes, for callers that have the memory for what a command answers.
+#![tactic(auto)]
+
+mod calling;
+mod calls;
+mod writing;
+
+pub use calls::{audit, bulk, dump, make, migrate, replay};
+
+#[cfg(test)]
+mod tests;

@@ -1,0 +1,33 @@
+"""Daisyhook, a proved order book, from Python.
+
+>>> import daisyhook
+>>> report = daisyhook.replay(open('examples/two_traders.csv', 'rb').read())
+>>> [entry.reply for entry in report.markets['m'].journal][2].lots_resting
+4
+>>> report.wallets['ann_usd'].amount
+1500
+
+Each function takes bytes and gives what the program `dex` prints for them, as text and parsed. What is proved is the text; that it is
+parsed right is tested. All amounts are native units of a token (the smallest there is), unless a name says lots: a coin lot is the least
+base that an order can move, `Market.coin_lot` native units of it, and a price is in pc lots a coin lot, of `Market.pc_lot` native units of
+quote. Text may be given in place of bytes.
+
+The module keeps nothing between calls, so threads may call it at once; they run side by side inside the library.
+"""
+
+from .accounts import Accounts, Depth, Event, Level, Market, Mint, OpenOrders, Order, Wallet
+from .commands import Exchange, accounts, audit, bulk, dump, make, migrate, replay
+from .errors import AuditFailed, DexError, DumpRefused, Finding, MigrateRefused, OutOfLimits, OutOfMemory, ScriptRefused
+from .report import (
+    Cancelled, Consumed, Done, Entry, Move, Ordered, Refused, Reply, Report, Settled, Swept, Took, WalletEntry,
+)
+from .summary import MarketSummary, Summary
+
+__all__ = [
+    'replay', 'dump', 'audit', 'migrate', 'make', 'bulk', 'accounts', 'Exchange',
+    'Report', 'Entry', 'Move', 'WalletEntry',
+    'Reply', 'Ordered', 'Took', 'Cancelled', 'Consumed', 'Settled', 'Swept', 'Done', 'Refused',
+    'Accounts', 'Market', 'Mint', 'Wallet', 'Order', 'Event', 'OpenOrders', 'Depth', 'Level',
+    'Summary', 'MarketSummary',
+    'DexError', 'ScriptRefused', 'DumpRefused', 'AuditFailed', 'MigrateRefused', 'OutOfLimits', 'OutOfMemory', 'Finding',
+]

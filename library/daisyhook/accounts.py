@@ -1,0 +1,299 @@
+"""What the accounts of a dump say: mints, wallets, and markets with their book, pending events and open-orders accounts.
+
+The places of fields are those of docs/FORMATS.md. Accounts that a command wrote are in order, so nothing is tested here.
+"""
+
+from __future__ import annotations
+
+from base64 import b64decode
+from collections.abc import Iterable
+from dataclasses import dataclass
+from functools import cached_property
+
+LABEL = frozenset(b'abcdefghijklmnopqrstuvwxyz0123456789_')
+LOW = 2**64 - 1
+KINDS = {1: 'taker fill', 9: 'maker fill', 2: 'out', 18: 'releasing out'}
+BID = 4
+
+
+def number_at(data: bytes, place: int, length: int = 8) -> int:
+    """The number in some bytes from a place on."""
+    return int.from_bytes(data[place:place + length], 'little')
+
+
+def address_at(data: bytes, place: int) -> str:
+    """The address from a place on: its label where it has one, else `0x` and its digits."""
+    word = data[place:place + 32]
+    label = word.rstrip(b'\0')
+    if 1 <= len(label) <= 24 and LABEL.issuperset(label):
+        return label.decode()
+    return '0x' + word.hex()
+
+
+@dataclass(frozen=True, slots=True)
+class Mint:
+    """A token: its address, how much of it there is in native units, and how many decimals a whole token has."""
+
+    address: str
+    supply: int
+    decimals: int
+
+
+@dataclass(frozen=True, slots=True)
+class Order:
+    """An order that rests on a side of a book.
+
+    `price` is in pc lots a coin lot, `lots` in coin lots; `sequence` tells the age, lower being older; `account` is the open-orders
+    account, `slot` its place there, `client` the id that the trader gave, `tier` the fee tier.
+    """
+
+    id: int
+    price: int
+    lots: int
+    sequence: int
+    account: str
+    slot: int
+    client: int
+    tier: int
+
+
+@dataclass(frozen=True, slots=True)
+class Level:
+    """All orders of one price: the price in pc lots a coin lot, the coin lots that rest there, and how many orders."""
+
+    price: int
+    lots: int
+    orders: int
+
+
+@dataclass(frozen=True, slots=True)
+class Depth:
+    """The levels of both sides, the best first."""
+
+    bids: tuple[Level, ...]
+    asks: tuple[Level, ...]
+
+
+@dataclass(frozen=True, slots=True)
+class Event:
+    """A pending event, which a crank will pay or release to an account.
+
+    `kind` is `taker fill`, `maker fill`, `out` or `releasing out`; `is_bid` tells the order's side. `released`, `paid` and `fee` are
+    native amounts: what the account gets, what it gave, and the fee (of a taker) or rebate (of a maker).
+    """
+
+    kind: str
+    is_bid: bool
+    order: int
+    account: str
+    slot: int
+    released: int
+    paid: int
+    fee: int
+    client: int
+    tier: int
+
+
+@dataclass(frozen=True, slots=True)
+class OpenOrders:
+    """A trader's account on a market: `state` is `blank`, `open` or `closed`.
+
+    `coin_free` and `pc_free` can be settled, `coin_total` and `pc_total` are these and what orders lock; all native. `slots` are the
+    ids of its orders by slot.
+    """
+
+    address: str
+    state: str
+    owner: str
+    coin_free: int
+    coin_total: int
+    pc_free: int
+    pc_total: int
+    referrer_rebates: int
+    slots: dict[int, int]
+
+
+@dataclass(frozen=True, slots=True)
+class Wallet:
+    """A token account: the mint of its token, the person whose it is, and the native amount."""
+
+    address: str
+    mint: str
+    owner: str
+    amount: int
+
+
+def orders_of(address: str, data: bytes) -> OpenOrders:
+    """What an open-orders account says."""
+    free = number_at(data, 109, 16)
+    is_blank = not any(data)
+    slots = {} if is_blank else {slot: number_at(data, 141 + 16 * slot, 16) for slot in range(128) if not free >> slot & 1}
+    state = {0: 'blank', 5: 'open'}.get(number_at(data, 5), 'closed')
+    funds = (number_at(data, place) for place in (77, 85, 93, 101))
+    return OpenOrders(address, state, address_at(data, 45), *funds, number_at(data, 3213), slots)
+
+
+def side_of(data: bytes, is_bid: bool) -> tuple[Order, ...]:
+    """The orders of a side, best first."""
+    open_nodes = [number_at(data, 33, 4)] if number_at(data, 37) else []
+    found = []
+    while open_nodes:
+        base = 45 + 72 * open_nodes.pop()
+        if number_at(data, base, 4) == 1:
+            open_nodes += (number_at(data, base + 24, 4), number_at(data, base + 28, 4))
+            continue
+        key = number_at(data, base + 8, 16)
+        low = key & LOW
+        found.append(Order(
+            id=key, price=key >> 64, lots=number_at(data, base + 56), sequence=LOW - low if is_bid else low,
+            account=address_at(data, base + 24), slot=data[base + 4], client=number_at(data, base + 64), tier=data[base + 5],
+        ))
+    return tuple(sorted(found, key=lambda order: order.id, reverse=is_bid))
+
+
+def event_at(data: bytes, base: int) -> Event:
+    """The event from a place on."""
+    flags = data[base]
+    released, paid, fee = (number_at(data, base + place) for place in (8, 16, 24))
+    return Event(
+        kind=KINDS[flags & ~BID], is_bid=bool(flags & BID), order=number_at(data, base + 32, 16), account=address_at(data, base + 48),
+        slot=data[base + 1], released=released, paid=paid, fee=fee, client=number_at(data, base + 80), tier=data[base + 2],
+    )
+
+
+def events_of(data: bytes) -> tuple[Event, ...]:
+    """The pending events, the first to be consumed first."""
+    capacity = (len(data) - 44) // 88
+    head, count = number_at(data, 13), number_at(data, 21)
+    return tuple(event_at(data, 37 + 88 * ((head + place) % capacity)) for place in range(count))
+
+
+def levels_of(orders: Iterable[Order]) -> tuple[Level, ...]:
+    """The levels of a side."""
+    found: dict[int, list[int]] = {}
+    for order in orders:
+        found.setdefault(order.price, []).append(order.lots)
+    return tuple(Level(price, sum(lots), len(lots)) for price, lots in found.items())
+
+
+class Market:
+    """A market: its words, its book, its pending events and its traders' accounts, each read when it is asked for.
+
+    Its journal, of a report alone, is the entries of all rows on it in their order.
+    """
+
+    def __init__(self, address: str, authority: str, fields: list[bytes]) -> None:
+        self.address = address
+        self.authority = authority
+        self._fields = fields
+        self._orders: list[tuple[str, bytes]] = []
+        self._lines: list[str] = []
+
+    def __repr__(self) -> str:
+        return f'Market({self.address!r}, {len(self.bids)} bids, {len(self.asks)} asks, {len(self.events)} events)'
+
+    @cached_property
+    def data(self) -> bytes:
+        """The bytes of the market's own account."""
+        return b64decode(self._fields[0])
+
+    @cached_property
+    def coin_mint(self) -> str:
+        """The mint of base."""
+        return address_at(self.data, 53)
+
+    @cached_property
+    def pc_mint(self) -> str:
+        """The mint of quote."""
+        return address_at(self.data, 85)
+
+    @cached_property
+    def coin_lot(self) -> int:
+        """How many native units of base a coin lot is."""
+        return number_at(self.data, 349)
+
+    @cached_property
+    def pc_lot(self) -> int:
+        """How many native units of quote a pc lot is."""
+        return number_at(self.data, 357)
+
+    @cached_property
+    def fee_rate_bps(self) -> int:
+        """The market's fee rate as its account has it, in basis points."""
+        return number_at(self.data, 365)
+
+    @cached_property
+    def pc_fees(self) -> int:
+        """The fees that can be swept, in native quote."""
+        return number_at(self.data, 205)
+
+    @cached_property
+    def coin_vault(self) -> int:
+        """What the vault of base holds, native."""
+        return number_at(b64decode(self._fields[1]), 64)
+
+    @cached_property
+    def pc_vault(self) -> int:
+        """What the vault of quote holds, native."""
+        return number_at(b64decode(self._fields[2]), 64)
+
+    @cached_property
+    def is_disabled(self) -> bool:
+        """Whether the market takes no orders any more."""
+        return number_at(self.data, 5) == 131
+
+    @cached_property
+    def events(self) -> tuple[Event, ...]:
+        """The pending events, the first to be consumed first."""
+        return events_of(b64decode(self._fields[4]))
+
+    @cached_property
+    def bids(self) -> tuple[Order, ...]:
+        """The resting bids, best first."""
+        return side_of(b64decode(self._fields[5]), True)
+
+    @cached_property
+    def asks(self) -> tuple[Order, ...]:
+        """The resting asks, best first."""
+        return side_of(b64decode(self._fields[6]), False)
+
+    @cached_property
+    def depth(self) -> Depth:
+        """The levels of both sides, best first."""
+        return Depth(levels_of(self.bids), levels_of(self.asks))
+
+    @cached_property
+    def open_orders(self) -> dict[str, OpenOrders]:
+        """The open-orders accounts by their addresses."""
+        return {address: orders_of(address, b64decode(data)) for address, data in self._orders}
+
+
+class Accounts:
+    """All accounts of a dump: `mints`, `wallets` and `markets` by their addresses, and the mints of SRM and MSRM where they are named."""
+
+    def __init__(self, dump: bytes) -> None:
+        self.text = dump
+        self.mints: dict[str, Mint] = {}
+        self.wallets: dict[str, Wallet] = {}
+        self.markets: dict[str, Market] = {}
+        self.srm: str | None = None
+        self.msrm: str | None = None
+        for row in dump.splitlines():
+            self._read(row.split(b','))
+
+    def _read(self, row: list[bytes]) -> None:
+        kind, names = row[0], [field.decode() for field in row[1:3]]
+        if kind == b'mint':
+            data = b64decode(row[2])
+            self.mints[names[0]] = Mint(names[0], number_at(data, 36), data[44])
+        elif kind == b'srm':
+            self.srm = names[0]
+        elif kind == b'msrm':
+            self.msrm = names[0]
+        elif kind == b'wallet':
+            data = b64decode(row[2])
+            self.wallets[names[0]] = Wallet(names[0], address_at(data, 0), address_at(data, 32), number_at(data, 64))
+        elif kind == b'market':
+            self.markets[names[0]] = Market(names[0], names[1], row[3:])
+        elif kind == b'orders':
+            self.markets[names[0]]._orders.append((names[1], row[3]))

@@ -1,0 +1,119 @@
+"""The commands as functions."""
+
+from __future__ import annotations
+
+from .accounts import Accounts
+from .errors import Finding, OutOfLimits, findings_of, refusal_of
+from .native import call
+from .report import Report
+from .summary import Summary, summary_of
+
+Text = bytes | bytearray | memoryview | str
+
+
+def bytes_of(text: Text) -> bytes:
+    """The bytes of a text."""
+    return text.encode() if isinstance(text, str) else bytes(text)
+
+
+def within(number: int, least: int, most: int, what: str) -> int:
+    """The number, where it is within its limits, as the library takes no other."""
+    if not least <= number <= most:
+        raise OutOfLimits(1, f'{what} is {number}, and {least} to {most} is wanted')
+    return number
+
+
+def done(status: int, text: bytes) -> bytes:
+    """The text of a command that was done; else the refusal is raised."""
+    if status != 0:
+        raise refusal_of(status, text)
+    return text
+
+
+def replay(script: Text) -> Report:
+    """Lets all rows of a script act, one after the other.
+
+    Raises ScriptRefused, or DumpRefused or AuditFailed where the script begins with a dump that is at fault.
+    """
+    return Report(done(*call('dex_replay', bytes_of(script))))
+
+
+def dump(script: Text) -> bytes:
+    """The dump of the accounts that a script leaves. Raises what `replay` raises."""
+    return done(*call('dex_dump', bytes_of(script)))
+
+
+def audit(dump: Text) -> list[Finding]:
+    """What an audit of a dump finds, in the order of docs/FORMATS.md; an empty list where the accounts agree.
+
+    Raises DumpRefused where the text is no dump.
+    """
+    status, text = call('dex_audit', bytes_of(dump))
+    if status == 3 and text.startswith(b'finding '):
+        return findings_of(text.decode())
+    done(status, text)
+    return []
+
+
+def migrate(dump: Text, nodes: int, events: int) -> bytes:
+    """The dump of the same accounts with sides of so many nodes (1 to 65,536) and event queues for so many events (1 to 65,535).
+
+    Raises MigrateRefused where orders or events do not fit, AuditFailed where the accounts have findings, and DumpRefused.
+    """
+    sizes = within(nodes, 1, 65_536, 'nodes'), within(events, 1, 65_535, 'events')
+    return done(*call('dex_migrate', *sizes, bytes_of(dump)))
+
+
+def make(number: int, rows: int) -> bytes:
+    """The made script of a number (below 2^64) with so many drawn rows (1 to 20,000)."""
+    numbers = within(number, 0, 2**64 - 1, 'number'), within(rows, 1, 20_000, 'rows')
+    return done(*call('dex_make', *numbers, room=4096 + 128 * rows))
+
+
+def bulk(number: int, rows: int) -> Summary:
+    """The summary of what the made script of this number and so many rows leaves."""
+    numbers = within(number, 0, 2**64 - 1, 'number'), within(rows, 1, 20_000, 'rows')
+    return summary_of(done(*call('dex_bulk', *numbers, room=4096)))
+
+
+def accounts(dump: Text) -> Accounts:
+    """The accounts of a dump, parsed. The dump is audited first: raises DumpRefused, or AuditFailed where there are findings."""
+    told = bytes_of(dump)
+    done(*call('dex_audit', told))
+    return Accounts(told)
+
+
+class Exchange:
+    """All accounts of an exchange at some moment, from which further rows may act: a simulation step by step.
+
+    An exchange never changes: `step` gives the next one, so one may be kept and gone on from twice. `report` is that of the rows that
+    led here. Each step reads the accounts anew from their dump and audits them, which costs time by the accounts' size and not by the
+    steps before; docs/LIBRARY.md has figures.
+
+    >>> start = Exchange(script)
+    >>> next = start.step('do,0,m,ann,amy,ann_coin,-,-,-,new ask 50 4 1 decrement limit 7 10')
+    >>> next.report.markets['m'].journal[0].reply.lots_resting
+    4
+    """
+
+    def __init__(self, script: Text) -> None:
+        self.report = replay(script)
+
+    @property
+    def dump(self) -> bytes:
+        """The accounts, as a dump."""
+        return self.report.dump
+
+    def step(self, rows: Text) -> Exchange:
+        """The exchange when further instruction rows have acted.
+
+        The rows are those of a script behind a dump: `do`, `ix` and `clock`, and a `program` row at their front where `openbook` runs.
+        Each step's clock begins at 0. Rows count from the dump's first row on, so the first row here has the number `first_row`.
+        Raises ScriptRefused; then this exchange is as it was.
+        """
+        return Exchange(self.dump + bytes_of(rows))
+
+    @property
+    def first_row(self) -> int:
+        """The number that reports give the first row of the next step."""
+        return self.dump.count(b'\n') + 1

@@ -1,0 +1,130 @@
+"""What a call may refuse, each as an exception with its values."""
+
+from __future__ import annotations
+
+from collections.abc import Callable
+from dataclasses import dataclass
+
+
+class DexError(Exception):
+    """A command that was not done. `status` is the program's exit status, `text` the lines that it prints."""
+
+    status: int
+    text: str
+
+    def __init__(self, status: int, text: str) -> None:
+        super().__init__(text.rstrip('\n'))
+        self.status = status
+        self.text = text
+
+    def __reduce__(self) -> tuple[Callable[[int, bytes], DexError], tuple[int, bytes]]:
+        return refusal_of, (self.status, self.text.encode())
+
+
+class OutOfLimits(DexError, ValueError):
+    """A number is not within its limits: rows 1 to 20,000, nodes 1 to 65,536, events 1 to 65,535."""
+
+
+class OutOfMemory(DexError, MemoryError):
+    """Memory was wanting."""
+
+
+class ScriptRefused(DexError, ValueError):
+    """A row of the script is at fault: the first such row, counted from 1, and the lowest of its faults.
+
+    `kind` is the fault's number, from 1 to 9, and `name` its name; `code` is the setup code where `kind` is 9, and else None.
+    """
+
+    def __init__(self, text: str) -> None:
+        super().__init__(2, text)
+        words = text.split()
+        self.row = int(words[3].rstrip(':'))
+        self.kind = int(words[4])
+        self.name = words[5]
+        self.code = int(words[6]) if len(words) > 6 else None
+
+    def __repr__(self) -> str:
+        code = '' if self.code is None else f', code={self.code}'
+        return f'ScriptRefused(row={self.row}, kind={self.kind}, name={self.name!r}{code})'
+
+
+class DumpRefused(DexError, ValueError):
+    """A row of a dump is at fault, also of one at a script's start: the first such row, counted from 1, and the fault.
+
+    `account` is the account at fault, `place` a place in it, `found` what stands there and `wanted` what should.
+    """
+
+    def __init__(self, text: str) -> None:
+        super().__init__(3, text)
+        words = text.split()
+        self.row = int(words[3].rstrip(':'))
+        self.kind = int(words[4])
+        self.name = words[5]
+        self.account = words[6]
+        self.place, self.found, self.wanted = (int(word) for word in words[7:10])
+
+    def __repr__(self) -> str:
+        where = f'account={self.account!r}, place={self.place}, found={self.found}, wanted={self.wanted}'
+        return f'DumpRefused(row={self.row}, kind={self.kind}, name={self.name!r}, {where})'
+
+
+@dataclass(frozen=True, slots=True)
+class Finding:
+    """A place where accounts of a dump disagree: the kind's number, the account, a place in it, what was found, what is wanted."""
+
+    kind: int
+    account: str
+    place: int
+    found: int
+    wanted: int
+
+
+def findings_of(text: str) -> list[Finding]:
+    """The findings that lines tell."""
+    found = []
+    for line in text.splitlines():
+        words = line.split()
+        if words[0] == 'finding':
+            found.append(Finding(int(words[1]), words[2], int(words[3]), int(words[4]), int(words[5])))
+    return found
+
+
+class AuditFailed(DexError, ValueError):
+    """The accounts of a dump have findings, where a command needs a dump that has none."""
+
+    def __init__(self, text: str) -> None:
+        super().__init__(3, text)
+        self.findings = findings_of(text)
+
+    def __repr__(self) -> str:
+        return f'AuditFailed({len(self.findings)} findings)'
+
+
+class MigrateRefused(DexError, ValueError):
+    """Accounts do not fit the sizes to migrate to: the first market, `what` of it (`bids`, `asks` or `events`), how many
+    nodes or events are needed, and how many were given."""
+
+    def __init__(self, text: str) -> None:
+        super().__init__(8, text)
+        words = text.split()
+        self.market, self.what = words[2], words[3]
+        self.needed, self.given = int(words[4]), int(words[5])
+
+    def __repr__(self) -> str:
+        return f'MigrateRefused(market={self.market!r}, what={self.what!r}, needed={self.needed}, given={self.given})'
+
+
+def refusal_of(status: int, text: bytes) -> DexError:
+    """The exception for a status that is not 0."""
+    told = text.decode()
+    if status == 1:
+        return OutOfLimits(status, told or 'a number is not within its limits')
+    if status == 2:
+        return ScriptRefused(told)
+    if status == 3:
+        return AuditFailed(told) if told.startswith('finding ') else DumpRefused(told)
+    if status == 7:
+        return OutOfMemory(status, 'no memory')
+    if status == 8:
+        return MigrateRefused(told)
+    return DexError(status, told)

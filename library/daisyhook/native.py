@@ -1,0 +1,60 @@
+"""The library's functions: bytes in, a status and bytes out. `library/dex.h` says what each promises."""
+
+from __future__ import annotations
+
+import ctypes
+import os
+from functools import lru_cache
+from pathlib import Path
+
+NOTHING, SIZE = ctypes.c_char_p, ctypes.c_size_t
+# What stands before the room: the input with its length, two numbers, or both.
+INPUT = (NOTHING, SIZE)
+SIZES = (ctypes.c_uint32, ctypes.c_uint32)
+MADE = (ctypes.c_uint64, ctypes.c_uint32)
+FRONTS = {
+    'dex_replay': INPUT, 'dex_dump': INPUT, 'dex_audit': INPUT,
+    'dex_migrate': SIZES + INPUT, 'dex_make': MADE, 'dex_bulk': MADE,
+}
+ROOM = (ctypes.POINTER(ctypes.c_char), SIZE, ctypes.POINTER(SIZE))
+
+# What a first room has beside five times the input: enough for the accounts of a small script.
+SPARE = 65536
+
+
+@lru_cache(maxsize=None)
+def library() -> ctypes.CDLL:
+    """The shared library: the file that DAISYHOOK_LIBRARY names, else `library/out/libdex.so` beside this module."""
+    path = os.environ.get('DAISYHOOK_LIBRARY') or Path(__file__).resolve().parent.parent / 'out' / 'libdex.so'
+    if not Path(path).exists():
+        raise FileNotFoundError(f'{path} is not there: build it with library/build, or name it by DAISYHOOK_LIBRARY')
+    loaded = ctypes.CDLL(str(path))
+    for name, front in FRONTS.items():
+        function = getattr(loaded, name)
+        function.restype = ctypes.c_uint8
+        function.argtypes = front + ROOM
+    return loaded
+
+
+def call(name: str, *front: int | bytes, room: int | None = None) -> tuple[int, bytes]:
+    """Calls a function of the library, with memory for its text: the status, and the text.
+
+    `room` is how many bytes the first try has. Where the text does not fit, the call is made again with what it needs.
+    """
+    function = getattr(library(), name)
+    arguments: list[int | bytes] = []
+    length = 0
+    for given in front:
+        arguments.append(given)
+        if isinstance(given, bytes):
+            length = len(given)
+            arguments.append(length)
+    size = SIZE(0)
+    wanted = 5 * length + SPARE if room is None else room
+    while True:
+        # One byte at least, so that there is a place to point to.
+        held = bytearray(max(wanted, 1))
+        status = function(*arguments, ctypes.byref(ctypes.c_char.from_buffer(held)), wanted, ctypes.byref(size))
+        if size.value <= wanted:
+            return status, bytes(memoryview(held)[:size.value])
+        wanted = size.value

@@ -1,0 +1,96 @@
+/* The commands of Daisyhook on one thread, as functions of bytes. docs/LIBRARY.md tells how to build and link them.
+ *
+ * What a call promises. There are a status and a text that the command answers to these bytes, just as the program's (the table of
+ * statuses is in docs/FORMATS.md). The call returns the status, sets *size to the length of the text in bytes, and, where the text
+ * fits into the room, writes it to the front of the room and leaves what stands behind it as it was. Where it does not fit, the
+ * room is as it was: call again with a room of *size bytes. Two statuses come with no text, *size 0 and the room as it was:
+ * DEX_NO_MEMORY, where memory was wanting, and DEX_USAGE, where a number is not within its limits. This is proved of the very
+ * functions below; that their callers are C is no part of the proof.
+ *
+ * What the caller keeps, which nothing checks:
+ *  - no pointer is null, also where a length is 0; bytes may be read over the whole length, the room written over its whole size,
+ *    and *size written;
+ *  - bytes, room and *size do not overlap, and no other thread writes to the bytes, or reads or writes the room or *size, during the
+ *    call. Calls from several threads at once are fine: the functions share nothing;
+ *  - the program's malloc, realloc and free are those of one allocator and align as the C standard says;
+ *  - no call from a signal handler, nor in the child of a fork of a program with threads.
+ *
+ * `run` and `batch` are not here: they need threads of their own, which a library without a runtime does not make. */
+#ifndef DEX_H
+#define DEX_H
+
+#include <stddef.h>
+#include <stdint.h>
+#include <stdlib.h>
+
+#ifdef __cplusplus
+extern "C" {
+#endif
+
+/* What a call returns: the exit status of the program. */
+enum {
+  DEX_OK = 0,              /* the report, the dump, the made script, the summary, or that an audit found nothing */
+  DEX_USAGE = 1,           /* a number is not within its limits: no text */
+  DEX_SCRIPT_REFUSED = 2,  /* a row of the script is at fault: the line that names it */
+  DEX_DUMP_REFUSED = 3,    /* a row of the dump is at fault, or its accounts have findings: the lines that tell them */
+  DEX_NO_MEMORY = 7,       /* memory was wanting: no text */
+  DEX_MIGRATE_REFUSED = 8  /* accounts do not fit the sizes to migrate to: the line that names the first */
+};
+
+/* The report of what is left when all rows of a script have acted, one after the other. */
+uint8_t dex_replay(const uint8_t *script, size_t length, uint8_t *room, size_t room_size, size_t *size);
+
+/* The dump of the accounts that a script leaves. */
+uint8_t dex_dump(const uint8_t *script, size_t length, uint8_t *room, size_t room_size, size_t *size);
+
+/* What an audit of a dump finds. */
+uint8_t dex_audit(const uint8_t *dump, size_t length, uint8_t *room, size_t room_size, size_t *size);
+
+/* The dump of the same accounts with sides of so many nodes (1 to 65536) and event queues for so many events (1 to 65535). */
+uint8_t dex_migrate(uint32_t nodes, uint32_t events, const uint8_t *dump, size_t length, uint8_t *room, size_t room_size,
+                    size_t *size);
+
+/* The made script of a number, with so many drawn rows (1 to 20000). */
+uint8_t dex_make(uint64_t number, uint32_t rows, uint8_t *room, size_t room_size, size_t *size);
+
+/* The summary of what that script leaves. */
+uint8_t dex_bulk(uint64_t number, uint32_t rows, uint8_t *room, size_t room_size, size_t *size);
+
+/* ---- with memory from malloc: nothing below is proved */
+
+/* A function of bytes alone: dex_replay, dex_dump or dex_audit. */
+typedef uint8_t dex_command(const uint8_t *bytes, size_t length, uint8_t *room, size_t room_size, size_t *size);
+
+/* Room that is enough for most texts of so many bytes of input. */
+static inline size_t dex_first_room(size_t length) {
+  return length > (SIZE_MAX - 65536) / 5 ? SIZE_MAX : 5 * length + 65536;
+}
+
+/* Calls the command with room from malloc, and once more where the text does not fit. *text is the text, *size its length; the caller
+ * frees *text, which is null where there is none. `bytes` may be null where `length` is 0. */
+static inline uint8_t dex_text_of(dex_command *command, const uint8_t *bytes, size_t length, uint8_t **text, size_t *size) {
+  static const uint8_t nothing[1] = {0};
+  size_t room_size = dex_first_room(length), told = 0;
+  uint8_t status;
+  *text = NULL;
+  *size = 0;
+  for (;;) {
+    uint8_t *room = (uint8_t *)malloc(room_size);
+    if (room == NULL) return DEX_NO_MEMORY;
+    status = command(length == 0 ? nothing : bytes, length, room, room_size, &told);
+    if (told > 0 && told <= room_size) {
+      *text = room;
+      *size = told;
+      return status;
+    }
+    free(room);
+    if (told == 0) return status;
+    room_size = told;
+  }
+}
+
+#ifdef __cplusplus
+}
+#endif
+
+#endif

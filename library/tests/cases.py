@@ -1,0 +1,127 @@
+"""Stored cases through the Python module, from several threads at once, and what it reads from reports.
+
+cases.py ROOT CASE.. compares each case's text and refusal with what is stored, and the parsed reports of the examples with the
+numbers in their text. Prints 'N passed, M failed'.
+"""
+
+import pickle
+import sys
+from concurrent.futures import ThreadPoolExecutor
+from pathlib import Path
+
+root = Path(sys.argv[1])
+sys.path.insert(0, str(root / 'library'))
+import daisyhook
+
+passed = failed = 0
+
+
+def same(what: str, found: object, wanted: object) -> None:
+    """Counts a check as passed where what was found is what was wanted."""
+    global passed, failed
+    if found == wanted:
+        passed += 1
+    else:
+        failed += 1
+        print(f'{what}\n  wanted: {wanted!r:.300}\n  found:  {found!r:.300}')
+
+
+def called(words: list[str], script: bytes) -> tuple[int, bytes]:
+    """What a command gives: its status and its text."""
+    numbers = [int(word) for word in words[1:]]
+    try:
+        match words[0]:
+            case 'replay': return 0, daisyhook.replay(script).text
+            case 'dump': return 0, daisyhook.dump(script)
+            case 'migrate': return 0, daisyhook.migrate(script, *numbers)
+            case 'make': return 0, daisyhook.make(*numbers)
+            case 'bulk': return 0, daisyhook.bulk(*numbers).text
+            case 'audit': return audited(script)
+    except daisyhook.DexError as refusal:
+        again = pickle.loads(pickle.dumps(refusal))
+        assert repr(again) == repr(refusal) and again.__dict__ == refusal.__dict__
+        return refusal.status, refusal.text.encode()
+    raise ValueError(words)
+
+
+def audited(dump: bytes) -> tuple[int, bytes]:
+    """What an audit gives, put into the program's words."""
+    findings = daisyhook.audit(dump)
+    if not findings:
+        accounts = daisyhook.accounts(dump)
+        return 0, f'audit ok {len(accounts.markets)} {len(accounts.wallets)}\n'.encode()
+    lines = [f'finding {one.kind} {one.account} {one.place} {one.found} {one.wanted}' for one in findings]
+    return 3, '\n'.join([*lines, f'audit failed {len(findings)}', '']).encode()
+
+
+def try_case(name: str) -> tuple[str, object, object]:
+    """A case, with what was found and what was wanted."""
+    words = Path(name + '.words').read_text().split()
+    source = Path(name + '.in')
+    found = called(words, source.read_bytes() if source.exists() else b'')
+    return name, found, (int(Path(name + '.status').read_text()), Path(name + '.out').read_bytes())
+
+
+def words_of(entry: daisyhook.Entry) -> list[str]:
+    """The words of an entry, from its parsed form."""
+    names = {daisyhook.Ordered: 'order', daisyhook.Took: 'take', daisyhook.Cancelled: 'cancelled', daisyhook.Consumed: 'consumed',
+             daisyhook.Settled: 'settled', daisyhook.Swept: 'swept', daisyhook.Done: 'done'}
+    reply = entry.reply
+    if isinstance(reply, daisyhook.Refused):
+        told = ['refused', reply.number, reply.name, *reply.values.values()]
+    else:
+        told = ['ok', names[type(reply)], *(getattr(reply, field) for field in reply.__dataclass_fields__)]
+    moves = [word for move in entry.moves for word in (move.wallet, move.kind, move.amount, move.before)]
+    return [str(word) for word in ['entry', entry.lane, entry.row, *told, *moves]]
+
+
+def try_report(text: bytes) -> None:
+    """A report, put together again from what was read from it."""
+    report = daisyhook.Report(text)
+    lines = [f'report {report.rows}']
+    for market in report.markets.values():
+        lines += [f'market {market.address} {len(market.journal)}', *(' '.join(words_of(entry)) for entry in market.journal)]
+    for wallet in report.wallets.values():
+        lines.append(f'wallet {wallet.address} {len(wallet.journal)}')
+        lines += [f'move {one.market} {one.lane} {one.row} {one.kind} {one.amount} {one.before}' for one in wallet.journal]
+    same('a report read and written', '\n'.join([*lines, '']).encode() + report.dump + b'end\n', text)
+    for market in report.markets.values():
+        same('orders stand in slots', {order.id for order in (*market.bids, *market.asks)} - slots_of(market), set())
+        for side in (market.depth.bids, market.depth.asks):
+            same('no level twice', len({level.price for level in side}), len(side))
+        same('lots by levels', [sum(one.lots for one in side) for side in (market.depth.bids, market.depth.asks)],
+             [sum(one.lots for one in side) for side in (market.bids, market.asks)])
+
+
+def slots_of(market: daisyhook.Market) -> set[int]:
+    """The ids in the slots of a market's accounts."""
+    return {order for account in market.open_orders.values() for order in account.slots.values()}
+
+
+def try_steps(script: str) -> None:
+    """Rows one by one leave what they leave together, and are answered alike."""
+    rows = script.splitlines(keepends=True)
+    first = next(at for at, row in enumerate(rows) if row.startswith(('do,', 'ix,')))
+    here = daisyhook.Exchange(''.join(rows[:first]))
+    replies: dict[str, list[daisyhook.Reply]] = {address: [] for address in here.report.markets}
+    for row in rows[first:]:
+        here = here.step(row)
+        for address, market in here.report.markets.items():
+            replies[address] += [entry.reply for entry in market.journal]
+    whole = daisyhook.replay(script)
+    same('rows step by step', here.dump, whole.dump)
+    same('their replies', replies, {address: [entry.reply for entry in one.journal] for address, one in whole.markets.items()})
+
+
+with ThreadPoolExecutor(4) as threads:
+    for told in threads.map(try_case, sys.argv[2:] * 2):
+        same(*told)
+for path in sorted((root / 'examples').glob('*.report')):
+    try_report(path.read_bytes())
+for name in ('two_traders', 'deep_book', 'discount_and_referrer'):
+    try_steps((root / 'examples' / f'{name}.csv').read_text())
+traders = daisyhook.replay((root / 'examples' / 'two_traders.csv').read_text())
+same('what rests in two_traders', traders.markets['m'].depth, daisyhook.Depth((), (daisyhook.Level(50, 1, 1),)))
+same('what Ann holds', traders.wallets['ann_usd'].amount, 1500)
+print(f'{passed} passed, {failed} failed')
+sys.exit(failed > 0)
