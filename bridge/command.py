@@ -159,7 +159,7 @@ def _compare(words: argparse.Namespace) -> int:
     if words.first == words.second == STANDARD_INPUT:
         raise Words("standard input can be one of the two alone; name a file for the other")
     first, second = read_compared(words.first), read_compared(words.second)
-    return DIFFERENT if _write(compare(first, second)) else DONE
+    return DIFFERENT if _write(compare(first, second, words.bytes)) else DONE
 
 
 def _addresses(words: argparse.Namespace) -> int:
@@ -205,6 +205,7 @@ def _add_accounts(parser: argparse.ArgumentParser) -> None:
 def _add_compare(parser: argparse.ArgumentParser) -> None:
     """The words of `compare`."""
     about = "a dump, a report, account JSON, or a folder of such files; - is standard input"
+    parser.add_argument("--bytes", action="store_true", help="compare every byte, also those that mean nothing")
     parser.add_argument("first", metavar="FIRST", help=about)
     parser.add_argument("second", metavar="SECOND", help=about)
 

@@ -111,12 +111,12 @@ def _is_none_on_a_ledger(entry: Entry) -> bool:
     return entry.kind == "wallet" and shown(entry.address) in _REST_NAMES
 
 
-def _data_differences(kind: str, first: bytes, second: bytes) -> Iterator[Difference]:
+def _data_differences(kind: str, first: bytes, second: bytes, exact: bool) -> Iterator[Difference]:
     """What differs between the bytes of two accounts of one kind."""
     if len(first) != len(second):
         yield "length", str(len(first)), str(len(second))
     if kind in ("bids", "asks"):
-        yield from side_differences(first, second)
+        yield from side_differences(first, second, exact)
     elif kind == "event_q":
         yield from event_queue_differences(first, second)
     else:
@@ -137,18 +137,18 @@ def _ring_differences(first: bytes, second: bytes) -> Iterator[Difference]:
         yield f"ring_byte {start + place}", str(ours[place]), str(theirs[place])
 
 
-def _entry_differences(first: Optional[Entry], second: Optional[Entry]) -> Iterator[str]:
+def _entry_differences(first: Optional[Entry], second: Optional[Entry], exact: bool) -> Iterator[str]:
     """The lines of one account that is in either input."""
     one = first or second
     assert one is not None
     name = f"{one.kind} {shown(one.address)}"
     if first is None or second is None:
-        if not _is_none_on_a_ledger(one):
+        if exact or not _is_none_on_a_ledger(one):
             yield f"{name} account {'there' if first else '-'} {'there' if second else '-'}"
     elif first.kind != second.kind:
         yield f"{name} kind {first.kind} {second.kind}"
     elif first.data != second.data:
-        for field_name, ours, theirs in _data_differences(first.kind, first.data, second.data):
+        for field_name, ours, theirs in _data_differences(first.kind, first.data, second.data, exact):
             yield f"{name} {field_name} {ours} {theirs}"
 
 
@@ -167,12 +167,12 @@ def _by_part(compared: Compared, parts: dict[bytes, Key]) -> dict[Key, Entry]:
     return entries
 
 
-def compare(first: Compared, second: Compared) -> Iterator[str]:
-    """Each difference between two inputs, one line each: kind, account, field, and both values."""
+def compare(first: Compared, second: Compared, exact: bool = False) -> Iterator[str]:
+    """Each difference between two inputs, one line each: kind, account, field, and both values. With `exact`, all bytes count."""
     for word, said in first.words.items():
         if second.words.get(word, said) != said:
             yield f"{word} {said} {second.words[word]}"
     parts = _parts(first) | _parts(second)
     ours, theirs = _by_part(first, parts), _by_part(second, parts)
     for key in list(ours) + [key for key in theirs if key not in ours]:
-        yield from _entry_differences(ours.get(key), theirs.get(key))
+        yield from _entry_differences(ours.get(key), theirs.get(key), exact)

@@ -153,13 +153,23 @@ def _node_name(side: Side, number: int) -> str:
     return f"node {number}"
 
 
-def _node_differences(first: Side, second: Side) -> Iterator[Difference]:
-    """What differs between two sides, node by node."""
+def _is_behind_prefix(first: bytes, second: bytes) -> bool:
+    """Whether the keys of two inner nodes differ only in bits behind their prefix, which nobody reads."""
+    prefix = number_at("inner_node", "prefix_len", first)
+    keys = number_at("inner_node", "key", first) ^ number_at("inner_node", "key", second)
+    return prefix < _KEY_BITS and keys >> (_KEY_BITS - prefix) == 0
+
+
+def _node_differences(first: Side, second: Side, exact: bool) -> Iterator[Difference]:
+    """What differs between two sides, node by node; without `exact`, bits of a key that nobody reads are passed over."""
     for number in range(min(first.nodes(), second.nodes())):
-        if first.node(number) != second.node(number):
-            layout = _LAYOUT_OF.get(first.tag(number), "free_node")
-            for name, ours, theirs in field_differences(layout, first.node(number), second.node(number)):
-                yield f"{_node_name(first, number)} {name}", ours, theirs
+        ours, theirs = first.node(number), second.node(number)
+        if ours == theirs:
+            continue
+        is_inner = first.tag(number) == INNER
+        for name, one, other in field_differences(_LAYOUT_OF.get(first.tag(number), "free_node"), ours, theirs):
+            if exact or not (is_inner and name == "key" and _is_behind_prefix(ours, theirs)):
+                yield f"{_node_name(first, number)} {name}", one, other
 
 
 def _unfilled_differences(first: Side, second: Side) -> Iterator[Difference]:
@@ -191,17 +201,24 @@ def _leaf_differences(first: Order, second: Order) -> Iterator[Difference]:
             yield f"order {first.id} {name}", ours, theirs
 
 
-def side_differences(first_data: bytes, second_data: bytes) -> Iterator[Difference]:
-    """What differs between two sides. Where both can be read, and hold the same orders in other nodes, nothing does."""
+def side_differences(first_data: bytes, second_data: bytes, exact: bool) -> Iterator[Difference]:
+    """What differs between two sides. Without `exact`, two sides that can both be read are compared by their orders."""
     first, second = Side(first_data), Side(second_data)
     header = field_differences("slab", first_data, second_data)
-    try:
-        ours, theirs = orders_of(first), orders_of(second)
-    except Broken:
+    ours, theirs = _orders_or_none(first), _orders_or_none(second)
+    if exact or ours is None or theirs is None:
         yield from header
-        yield from _node_differences(first, second)
+        yield from _node_differences(first, second, True)
     else:
         yield from (row for row in header if row[0] in ("serum", "account_flags"))
         is_alike = _is_placed_alike(first, second)
-        yield from _node_differences(first, second) if is_alike else _order_differences(ours, theirs)
+        yield from _node_differences(first, second, False) if is_alike else _order_differences(ours, theirs)
     yield from _unfilled_differences(first, second)
+
+
+def _orders_or_none(side: Side) -> Optional[list[Order]]:
+    """The orders of a side, or None where it cannot be read."""
+    try:
+        return orders_of(side)
+    except Broken:
+        return None
