@@ -159,7 +159,10 @@ def _compare(words: argparse.Namespace) -> int:
     if words.first == words.second == STANDARD_INPUT:
         raise Words("standard input can be one of the two alone; name a file for the other")
     first, second = read_compared(words.first), read_compared(words.second)
-    return DIFFERENT if _write(compare(first, second, words.bytes)) else DONE
+    notes: list[str] = []
+    count = _write(compare(first, second, words.bytes, notes))
+    _tell(notes)
+    return DIFFERENT if count else DONE
 
 
 def _addresses(words: argparse.Namespace) -> int:

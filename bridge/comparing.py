@@ -41,7 +41,7 @@ class Compared:
         self.entries[key] = entry
 
 
-def _of_snapshot(snapshot: Snapshot) -> Compared:
+def compared_of(snapshot: Snapshot) -> Compared:
     """A dump or report, to be compared."""
     compared = Compared()
     for held in snapshot.mints:
@@ -77,7 +77,7 @@ def _kind_of(account: Account) -> str:
     return kinds[0]
 
 
-def _of_accounts(accounts: dict[bytes, Account]) -> Compared:
+def compared_accounts(accounts: dict[bytes, Account]) -> Compared:
     """Accounts of a ledger, to be compared."""
     compared = Compared()
     parts = {address_at("market", part, market.data): Key(market.address, part) for market in _markets_of(accounts) for part in PARTS}
@@ -94,11 +94,11 @@ def _of_accounts(accounts: dict[bytes, Account]) -> Compared:
 def read_compared(path: str) -> Compared:
     """What a path names: a dump, a report, a file of account JSON, or a folder of such files."""
     if path != STANDARD_INPUT and os.path.isdir(path):
-        return _of_accounts(read_accounts([path]))
+        return compared_accounts(read_accounts([path]))
     data = read_bytes(path)
     if data.lstrip()[:1] in (b"{", b"[") and not is_dump_text(data):
-        return _of_accounts(by_address(accounts_of_text(data, name_of(path))))
-    return _of_snapshot(read_dump(data, name_of(path)))
+        return compared_accounts(by_address(accounts_of_text(data, name_of(path))))
+    return compared_of(read_dump(data, name_of(path)))
 
 
 _REST_NAMES = frozenset(rest_name(place) for place in range(_MOST_REST))
@@ -152,6 +152,11 @@ def _entry_differences(first: Optional[Entry], second: Optional[Entry], exact: b
             yield f"{name} {field_name} {ours} {theirs}"
 
 
+def _is_told_by_none(first: Optional[Entry], second: Optional[Entry], lines: list[str]) -> bool:
+    """Whether two accounts have other bytes of one meaning, so that no line tells them."""
+    return not lines and first is not None and second is not None and first.data != second.data
+
+
 def _parts(compared: Compared) -> dict[bytes, Key]:
     """The vaults, queues and sides that the markets of an input name, by address."""
     markets = [entry for entry in compared.entries.values() if entry.kind == "market"]
@@ -162,17 +167,24 @@ def _by_part(compared: Compared, parts: dict[bytes, Key]) -> dict[Key, Entry]:
     """The accounts of an input, where those that a market of either input names are known by it."""
     entries: dict[Key, Entry] = {}
     for key, entry in compared.entries.items():
-        known = key if key.part else parts.get(key.address, key)
-        entries[known] = entry if entry.kind != "wallet" or not known.part else entry._replace(kind=known.part)
+        may_be_part = not key.part and (entry.kind == "wallet" or entry.kind in PARTS)
+        known = parts.get(key.address, key) if may_be_part else key
+        entries[known] = entry._replace(kind=known.part) if known.part else entry
     return entries
 
 
-def compare(first: Compared, second: Compared, exact: bool = False) -> Iterator[str]:
-    """Each difference between two inputs, one line each: kind, account, field, and both values. With `exact`, all bytes count."""
+def compare(first: Compared, second: Compared, exact: bool, notes: list[str]) -> Iterator[str]:
+    """Each difference between two inputs, one line each: kind, account, field, and both values. With `exact`, all bytes count.
+
+    Adds to `notes` the accounts whose bytes differ and mean the same."""
     for word, said in first.words.items():
         if second.words.get(word, said) != said:
             yield f"{word} {said} {second.words[word]}"
     parts = _parts(first) | _parts(second)
     ours, theirs = _by_part(first, parts), _by_part(second, parts)
     for key in list(ours) + [key for key in theirs if key not in ours]:
-        yield from _entry_differences(ours.get(key), theirs.get(key), exact)
+        one, other = ours.get(key), theirs.get(key)
+        lines = list(_entry_differences(one, other, exact))
+        yield from lines
+        if one is not None and _is_told_by_none(one, other, lines):
+            notes.append(f"{one.kind} {shown(one.address)}: other bytes that mean the same; --bytes tells them")

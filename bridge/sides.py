@@ -6,7 +6,7 @@ from dataclasses import dataclass
 from typing import Iterator, NamedTuple, Optional
 
 from bridge.encoding import shown
-from bridge.layouts import address_at, field_differences, number_at, size_of
+from bridge.layouts import address_at, field_differences, number_at, size_of, value_text
 
 Difference = tuple[str, str, str]
 
@@ -127,9 +127,16 @@ def orders_of(side: Side) -> list[Order]:
     return orders
 
 
+def _header_places(side: Side) -> tuple[int, ...]:
+    """Where the header says that the tree and the free list begin, as far as it is read."""
+    leaves, free = side.header("leaf_count"), side.header("free_list_len")
+    root = side.header("root_node") if leaves else 0
+    return side.header("bump_index"), leaves, root, free, side.header("free_list_head") if free else 0
+
+
 def _places(side: Side) -> list[tuple[int, ...]]:
     """Which node holds what: of each node below bump_index its tag and the nodes that it leads to."""
-    places: list[tuple[int, ...]] = []
+    places = [_header_places(side)]
     for number in range(min(side.header("bump_index"), side.nodes())):
         node, tag = side.node(number), side.tag(number)
         if tag == INNER:
@@ -141,8 +148,7 @@ def _places(side: Side) -> list[tuple[int, ...]]:
 
 def _is_placed_alike(first: Side, second: Side) -> bool:
     """Whether both sides hold their orders in the same nodes, so that nodes can be compared one by one."""
-    return (len(first.data) == len(second.data) and not list(field_differences("slab", first.data, second.data))
-            and _places(first) == _places(second))
+    return len(first.data) == len(second.data) and _places(first) == _places(second)
 
 
 def _node_name(side: Side, number: int) -> str:
@@ -160,15 +166,25 @@ def _is_behind_prefix(first: bytes, second: bytes) -> bool:
     return prefix < _KEY_BITS and keys >> (_KEY_BITS - prefix) == 0
 
 
+def _fields_of_node(ours: bytes, theirs: bytes, exact: bool) -> Iterator[Difference]:
+    """What differs between two nodes; without `exact`, bits of a key that nobody reads are passed over."""
+    tag = ours[:4]
+    if tag != theirs[:4]:
+        yield "tag", value_text("number", tag), value_text("number", theirs[:4])
+        if ours[4:] != theirs[4:]:
+            yield "behind_tag", value_text("bytes", ours[4:]), value_text("bytes", theirs[4:])
+        return
+    layout = _LAYOUT_OF.get(int.from_bytes(tag, "little"), "free_node")
+    for name, one, other in field_differences(layout, ours, theirs):
+        if exact or not (layout == "inner_node" and name == "key" and _is_behind_prefix(ours, theirs)):
+            yield name, one, other
+
+
 def _node_differences(first: Side, second: Side, exact: bool) -> Iterator[Difference]:
-    """What differs between two sides, node by node; without `exact`, bits of a key that nobody reads are passed over."""
+    """What differs between two sides, node by node."""
     for number in range(min(first.nodes(), second.nodes())):
-        ours, theirs = first.node(number), second.node(number)
-        if ours == theirs:
-            continue
-        is_inner = first.tag(number) == INNER
-        for name, one, other in field_differences(_LAYOUT_OF.get(first.tag(number), "free_node"), ours, theirs):
-            if exact or not (is_inner and name == "key" and _is_behind_prefix(ours, theirs)):
+        if first.node(number) != second.node(number):
+            for name, one, other in _fields_of_node(first.node(number), second.node(number), exact):
                 yield f"{_node_name(first, number)} {name}", one, other
 
 
@@ -209,10 +225,12 @@ def side_differences(first_data: bytes, second_data: bytes, exact: bool) -> Iter
     if exact or ours is None or theirs is None:
         yield from header
         yield from _node_differences(first, second, True)
+    elif _is_placed_alike(first, second):
+        yield from header
+        yield from _node_differences(first, second, False)
     else:
         yield from (row for row in header if row[0] in ("serum", "account_flags"))
-        is_alike = _is_placed_alike(first, second)
-        yield from _node_differences(first, second, False) if is_alike else _order_differences(ours, theirs)
+        yield from _order_differences(ours, theirs)
     yield from _unfilled_differences(first, second)
 
 
