@@ -151,7 +151,7 @@ def _follow_rules(maker: _Maker, seen: Seen) -> None:
 def _follow_clock(maker: _Maker, seen: Seen) -> None:
     """Adds a clock row where the rules look at the clock and it has gone on."""
     time = seen.transaction.time
-    if maker.rules != "openbook" or time == maker.clock:
+    if maker.rules != "openbook":
         return
     if time is None:
         if seen.instruction.tag == _NEW_ORDER and len(seen.call.data) == _WITH_LATEST_TIME:
@@ -159,8 +159,9 @@ def _follow_clock(maker: _Maker, seen: Seen) -> None:
         return
     if not 0 <= time < 2**63:
         raise seen.fault(f"its blockTime is {time}", "save the answer of getTransaction as it is")
-    maker.clock = time
-    maker.lines.append(Line(f"clock,{time}", ""))
+    if time != maker.clock:
+        maker.clock = time
+        maker.lines.append(Line(f"clock,{time}", ""))
 
 
 def _wallet(maker: _Maker, seen: Seen, role: str) -> bytes:

@@ -98,7 +98,8 @@ def _call(reader: _Reader, value: Any, addresses: list[bytes], number: str) -> C
 def _inner_values(reader: _Reader, meta: dict[str, Any], count: int) -> dict[int, list[Any]]:
     """The inner calls by the number of the instruction that made them."""
     inner: dict[int, list[Any]] = {}
-    for group in meta.get("innerInstructions") or []:
+    told = meta.get("innerInstructions")
+    for group in reader.member(meta, "innerInstructions", list) if told is not None else []:
         index = reader.member(group, "index", int)
         if not 0 <= index < count:
             raise reader.fault(f"it has inner calls of an instruction {index}, and has {count} instructions")

@@ -3,6 +3,8 @@
 from __future__ import annotations
 
 import base64
+import contextlib
+import io
 import json
 import os
 import subprocess
@@ -10,13 +12,14 @@ import sys
 import tempfile
 import unittest
 from dataclasses import dataclass
-from typing import Any, Iterator, Optional
+from typing import IO, Any, Iterator, Optional
 
 ROOT = os.path.dirname(os.path.dirname(os.path.dirname(os.path.abspath(__file__))))
 PROGRAM = os.environ.get("DEX_PROGRAM") or os.path.join(ROOT, "dex")
 sys.path.insert(0, ROOT)
 sys.dont_write_bytecode = True
 
+from bridge.command import main  # noqa: E402
 from bridge.dump_text import dump_rows, read_dump  # noqa: E402
 from bridge.encoding import base58_text, base64_text  # noqa: E402
 from bridge.snapshot import Entry, Snapshot, is_blank  # noqa: E402
@@ -35,10 +38,22 @@ class Ended:
     err: str
 
 
-def ledger(*words: str, given: bytes = b"", folder: Optional[str] = None) -> Ended:
-    """Runs the command."""
-    done = subprocess.run([sys.executable, os.path.join(ROOT, "ledger"), *words], input=given, capture_output=True, cwd=folder)
-    return Ended(done.returncode, done.stdout.decode(), done.stderr.decode())
+def ledger(*words: str, given: bytes = b"") -> Ended:
+    """Runs the command in this process."""
+    out, err, before = io.StringIO(), io.StringIO(), sys.stdin
+    sys.stdin = io.TextIOWrapper(io.BytesIO(given))
+    try:
+        with contextlib.redirect_stdout(out), contextlib.redirect_stderr(err):
+            status = main(words)
+    finally:
+        sys.stdin = before
+    return Ended(status, out.getvalue(), err.getvalue())
+
+
+def ledger_apart(*words: str, given: bytes = b"", out: Optional[IO[bytes]] = None) -> Ended:
+    """Runs the command as a process of its own."""
+    done = subprocess.run([os.path.join(ROOT, "ledger"), *words], input=given, stdout=out or subprocess.PIPE, stderr=subprocess.PIPE, check=False)
+    return Ended(done.returncode, (done.stdout or b"").decode(), done.stderr.decode())
 
 
 def dex(word: str, text: str) -> str:
@@ -109,6 +124,25 @@ def words_for(snapshot: Snapshot) -> list[str]:
     for name, mint in (("--srm", snapshot.srm), ("--msrm", snapshot.msrm)):
         words += [name, base58_text(mint)] if mint is not None else []
     return words
+
+
+def every_path(value: Any) -> list[list[Any]]:
+    """The way to each member of a JSON value."""
+    names = list(value) if isinstance(value, dict) else range(len(value)) if isinstance(value, list) else []
+    return [path for name in names for path in [[name], *([name, *rest] for rest in every_path(value[name]))]]
+
+
+def hostile(value: Any) -> Iterator[Any]:
+    """Values of which one member is of another form."""
+    wrongs: tuple[Any, ...] = (None, 5, -1, "x", [], {}, [None], True, 1.5, 10**30, "1" * 32, "AAAA")
+    for path in every_path(value):
+        for wrong in wrongs:
+            other = json.loads(json.dumps(value))
+            part = other
+            for name in path[:-1]:
+                part = part[name]
+            part[path[-1]] = wrong
+            yield other
 
 
 def changed(data: bytes, place: int) -> bytes:

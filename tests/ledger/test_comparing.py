@@ -5,7 +5,7 @@ import unittest
 from dataclasses import replace
 from typing import Iterator
 
-from support import Folder, changed, example, ledger, listed_accounts, stored_dumps, text_of
+from support import ROOT, Folder, changed, example, ledger, listed_accounts, stored_dumps, text_of
 
 from bridge.comparing import Compared, compare, compared_of
 from bridge.dump_text import read_dump
@@ -227,10 +227,10 @@ class Meaning(Folder):
         snapshot = example()
         dump = self.save("a.dump", text_of(snapshot))
         ledger("accounts", self.path("folder"), given=text_of(snapshot).encode())
-        inputs = [os.path.join("examples", "deep_book.report"), dump, self.path("folder"), self.save("all.json", listed_accounts(snapshot))]
+        inputs = [os.path.join(ROOT, "examples", "deep_book.report"), dump, self.path("folder"), self.save("all.json", listed_accounts(snapshot))]
         for first in inputs:
             for second in inputs:
-                told = ledger("compare", first, second, folder=os.path.dirname(os.path.dirname(os.path.dirname(os.path.abspath(__file__)))))
+                told = ledger("compare", first, second)
                 self.assertEqual((told.status, told.out, told.err), (0, "", ""), (first, second))
         other = self.save("other.dump", text_of(with_wallet(snapshot, changed(snapshot.wallets[0].data, 64))))
         for path in inputs[1:]:

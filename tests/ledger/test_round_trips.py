@@ -6,7 +6,7 @@ import os
 import unittest
 from typing import Any, Callable
 
-from support import Folder, account, answer, example, ledger, named, stored_dumps, text_of, words_for
+from support import Folder, account, answer, example, ledger, ledger_apart, named, stored_dumps, text_of, words_for
 
 from bridge.accounts import accounts_of_text, by_address
 from bridge.dump_text import read_dump
@@ -123,9 +123,9 @@ class Commands(Folder):
     def test_accounts_and_back(self) -> None:
         """`accounts` of a report, and `dump` of its folder by the words that it printed, is the report's dump."""
         text = text_of(example())
-        told = ledger("accounts", self.path("out"), given=text.encode())
+        told = ledger_apart("accounts", self.path("out"), given=text.encode())
         self.assertEqual((told.status, told.err), (0, ""))
-        self.assertEqual(ledger("dump", *told.out.split(), self.path("out")).out, text)
+        self.assertEqual(ledger_apart("dump", *told.out.split(), self.path("out")).out, text)
 
     def test_several_markets_with_blank_accounts(self) -> None:
         """The same of a stored dump of several markets with accounts that were never opened."""

@@ -56,7 +56,7 @@ class Instructions(unittest.TestCase):
     def test_names(self) -> None:
         """Every tag of the document has places, and no other one."""
         section = formats().split("## Instruction data")[1].split("Data that breaks a rule")[0]
-        told = {}
+        told: dict[int, str] = {}
         for tags, names in re.findall(r"^\| ([\d, ]+) \| ([A-Za-z0-9, ]+) \|", section, re.M):
             told.update(zip(map(int, tags.split(", ")), names.split(", ")))
         self.assertEqual({tag: row.name for tag, row in INSTRUCTIONS.items() if row.places}, told)
