@@ -5,7 +5,7 @@ from __future__ import annotations
 import json
 import os
 from dataclasses import dataclass
-from typing import Any, Iterable, Iterator, Optional
+from typing import Any, Iterable, Iterator, NamedTuple, Optional
 
 from bridge.encoding import address_of, base58_bytes, base58_text, base64_bytes, base64_text, shown
 from bridge.files import json_files, json_of, read_bytes
@@ -18,12 +18,13 @@ _TOKEN_KINDS = ("mint", "wallet", "coin_vault", "pc_vault")
 
 @dataclass(frozen=True)
 class Account:
-    """An account of the ledger: where it was read, its address, the program that owns it, and its bytes."""
+    """An account of the ledger: where it was read, its address, the program that owns it, its bytes, and of which slot it is."""
 
     source: str
     address: bytes
     owner: bytes
     data: bytes
+    slot: Optional[int]
 
     def fault(self, what: str, remedy: str) -> Refusal:
         """What is wrong with this account."""
@@ -35,7 +36,7 @@ class _Addresses:
 
     def __init__(self, source: str) -> None:
         self._source = source
-        self.path = os.path.splitext(source)[0] + ".addresses"
+        self.path = f"{os.path.splitext(source)[0]}.addresses"
         self._words: Optional[list[str]] = None
         self._used = 0
 
@@ -64,6 +65,14 @@ class _Addresses:
         if self._words is not None and self._used != len(self._words):
             what = f"it has {len(self._words)} addresses, and {self._source} has {self._used} answers without one"
             raise Refusal(self.path, what, "write the addresses of the request, one a line and in its order")
+
+
+class _Source(NamedTuple):
+    """Where accounts are read: the file, the addresses beside it, and the slot that the answer tells."""
+
+    path: str
+    addresses: _Addresses
+    slot: Optional[int]
 
 
 def read_address(word: Any, where: str) -> bytes:
@@ -102,9 +111,9 @@ def _data_of(data: Any, where: str) -> bytes:
     raise Refusal(where, "its data is neither text nor a text with its encoding", 'ask again with "encoding": "base64"')
 
 
-def _account(value: dict[str, Any], address: bytes, source: str) -> Account:
+def _account(value: dict[str, Any], address: bytes, source: _Source) -> Account:
     """An account from its JSON."""
-    where = f"{source}: account {shown(address)}"
+    where = f"{source.path}: account {shown(address)}"
     if "owner" not in value or "data" not in value:
         raise Refusal(where, "it has no member `owner` or no member `data`", "save the answer of the tool whole and as it is")
     owner = read_address(value["owner"], f"{where}: owner")
@@ -113,63 +122,69 @@ def _account(value: dict[str, Any], address: bytes, source: str) -> Account:
     if space != len(data):
         what = f"its data has {len(data)} bytes, and `space` says {json.dumps(space)[:30]}"
         raise Refusal(where, what, "ask for the whole account, without dataSlice")
-    return Account(source, address, owner, data)
+    return Account(source.path, address, owner, data, source.slot)
 
 
-def _missing(address: bytes, source: str) -> Refusal:
+def _missing(address: bytes, source: _Source) -> Refusal:
     """An account that the node does not have."""
     remedy = "ask again for an account that exists, or leave it out of the request"
-    return Refusal(f"{source}: account {shown(address)}", "the node answered null: there is no such account", remedy)
+    return Refusal(f"{source.path}: account {shown(address)}", "the node answered null: there is no such account", remedy)
 
 
-def _named(value: dict[str, Any], source: str) -> Account:
+def _named(value: dict[str, Any], source: _Source) -> Account:
     """An account with its address beside it."""
-    address = read_address(value["pubkey"], f"{source}: pubkey")
+    address = read_address(value["pubkey"], f"{source.path}: pubkey")
     if value["account"] is None:
         raise _missing(address, source)
     if not isinstance(value["account"], dict):
-        raise Refusal(f"{source}: account {shown(address)}", "its member `account` is no account", "save the answer as it is")
+        raise Refusal(f"{source.path}: account {shown(address)}", "its member `account` is no account", "save the answer as it is")
     return _account(value["account"], address, source)
 
 
-def _read_object(value: dict[str, Any], source: str, addresses: _Addresses) -> Iterator[Account]:
+def _with_context(value: dict[str, Any], source: _Source) -> _Source:
+    """The source with the slot that an answer tells."""
+    slot = value["context"].get("slot") if isinstance(value["context"], dict) else None
+    return source._replace(slot=slot if isinstance(slot, int) else None)
+
+
+def _read_object(value: dict[str, Any], source: _Source) -> Iterator[Account]:
     """The accounts of a JSON object: an answer, one account with its address, or one without."""
     if "error" in value and "result" not in value:
-        raise Refusal(source, f"the node answered with an error: {json.dumps(value['error'])[:120]}", "ask again")
+        raise Refusal(source.path, f"the node answered with an error: {json.dumps(value['error'])[:120]}", "ask again")
     if "result" in value:
-        yield from _read_value(value["result"], source, addresses)
+        yield from _read_value(value["result"], source)
     elif "context" in value and "value" in value:
-        yield from _read_value(value["value"], source, addresses)
+        yield from _read_value(value["value"], _with_context(value, source))
     elif "pubkey" in value and "account" in value:
         yield _named(value, source)
     elif "data" in value and "owner" in value:
-        yield _account(value, addresses.take(), source)
+        yield _account(value, source.addresses.take(), source)
     elif "transaction" in value:
-        raise Refusal(source, "it holds a transaction and no account", "give transactions to `ledger script`")
+        raise Refusal(source.path, "it holds a transaction and no account", "give transactions to `ledger script`")
     else:
-        raise Refusal(source, "it holds no account in a form that is known here", "docs/LEDGER.md tells the forms and the commands")
+        raise Refusal(source.path, "it holds no account in a form that is known here", "docs/LEDGER.md tells the forms and the commands")
 
 
-def _read_value(value: Any, source: str, addresses: _Addresses) -> Iterator[Account]:
+def _read_value(value: Any, source: _Source) -> Iterator[Account]:
     """The accounts of a JSON value."""
     if value is None:
-        raise _missing(addresses.take(), source)
+        raise _missing(source.addresses.take(), source)
     if isinstance(value, dict):
-        yield from _read_object(value, source, addresses)
+        yield from _read_object(value, source)
     elif isinstance(value, list):
         for part in value:
-            yield from _read_value(part, source, addresses)
+            yield from _read_value(part, source)
     else:
-        raise Refusal(source, f"{json.dumps(value)[:40]} is no account", "docs/LEDGER.md tells the forms and the commands")
+        raise Refusal(source.path, f"{json.dumps(value)[:40]} is no account", "docs/LEDGER.md tells the forms and the commands")
 
 
-def accounts_of_text(data: bytes, source: str) -> list[Account]:
+def accounts_of_text(data: bytes, path: str) -> list[Account]:
     """The accounts of a file's bytes."""
-    addresses = _Addresses(source)
+    addresses = _Addresses(path)
     try:
-        accounts = list(_read_value(json_of(data, source), source, addresses))
+        accounts = list(_read_value(json_of(data, path), _Source(path, addresses, None)))
     except RecursionError:
-        raise Refusal(source, "it is no JSON of accounts: it is nested too deep", "save the answer of the tool as it is") from None
+        raise Refusal(path, "it is no JSON of accounts: it is nested too deep", "save the answer of the tool as it is") from None
     addresses.finish()
     return accounts
 

@@ -12,9 +12,9 @@ from bridge.comparing import compare, read_compared
 from bridge.dump_text import dump_rows, is_dump_text, read_dump
 from bridge.encoding import base58_text, dump_word
 from bridge.files import STANDARD_INPUT, name_of, read_bytes
-from bridge.making import Wanted, make_snapshot
+from bridge.making import Wanted, make_snapshot, names_of_markets
 from bridge.refusals import Refusal, Words, one_line
-from bridge.rows import Wish, make_script
+from bridge.rows import Wish, make_script, wallets_of
 from bridge.snapshot import Snapshot, is_blank
 from bridge.tables import PROGRAMS
 from bridge.transactions import read_transactions
@@ -172,6 +172,23 @@ def _addresses(words: argparse.Namespace) -> int:
     return DONE
 
 
+def _names(words: argparse.Namespace) -> int:
+    """Writes the accounts that markets name."""
+    named = names_of_markets(read_accounts(words.file))
+    if not named:
+        raise Refusal(", ".join(words.file), "no market is among the accounts", "get the market's account, of 388 bytes")
+    _write(f"{word} {base58_text(address)}" for word, address in named)
+    return DONE
+
+
+def _wallets(words: argparse.Namespace) -> int:
+    """Writes the wallets that transactions use."""
+    markets = [_address(word, "--market") for word in words.market] or None
+    found = wallets_of(read_transactions(words.file), Wish(markets, _rules_of(words)))
+    _write(f"{role} {base58_text(address)}" for role, address in found)
+    return DONE
+
+
 def _add_dump(parser: argparse.ArgumentParser) -> None:
     """The words of `dump`."""
     parser.add_argument("--market", action="append", default=[], metavar="ADDRESS", help="a market; once for each")
@@ -187,15 +204,31 @@ def _add_dump(parser: argparse.ArgumentParser) -> None:
     parser.add_argument("file", nargs="+", metavar="FILE", help="account JSON, or a folder of such files")
 
 
-def _add_script(parser: argparse.ArgumentParser) -> None:
-    """The words of `script`."""
-    parser.add_argument("--market", action="append", default=[], metavar="ADDRESS", help="a market of the dump; none: all of them")
+def _add_transactions(parser: argparse.ArgumentParser) -> None:
+    """The words of every command that reads transactions."""
+    parser.add_argument("--market", action="append", default=[], metavar="ADDRESS", help="a market; none: all of them")
     parser.add_argument("--program", metavar="PROGRAM", help="serum, openbook, or the address of another deployment")
     parser.add_argument("--rules", choices=sorted(PROGRAMS), help="whose rules another deployment follows (serum)")
+
+
+def _add_script(parser: argparse.ArgumentParser) -> None:
+    """The words of `script`."""
+    _add_transactions(parser)
     parser.add_argument("--table", metavar="FILE", help="write the table of rows to this file, not to standard error")
     parser.add_argument("--leave-out-unknown", action="store_true", help="go on without instructions that a script has no form for")
     parser.add_argument("--open-accounts", action="store_true", help="open accounts by a row before the first order that finds them blank")
     parser.add_argument("dump", metavar="DUMP", help="a dump or a report; - is standard input")
+    parser.add_argument("file", nargs="+", metavar="FILE", help="transaction JSON, oldest first, or a folder of such files")
+
+
+def _add_names(parser: argparse.ArgumentParser) -> None:
+    """The words of `names`."""
+    parser.add_argument("file", nargs="+", metavar="FILE", help="account JSON with a market, or a folder of such files")
+
+
+def _add_wallets(parser: argparse.ArgumentParser) -> None:
+    """The words of `wallets`."""
+    _add_transactions(parser)
     parser.add_argument("file", nargs="+", metavar="FILE", help="transaction JSON, oldest first, or a folder of such files")
 
 
@@ -223,6 +256,8 @@ _COMMANDS = (
     ("script", "a dump and transactions in, a script out", _add_script, _script),
     ("accounts", "a report or a dump in, one JSON file an account out", _add_accounts, _accounts),
     ("compare", "tells each field that differs between two inputs", _add_compare, _compare),
+    ("names", "tells the accounts that a market names", _add_names, _names),
+    ("wallets", "tells the wallets that transactions use", _add_wallets, _wallets),
     ("address", "tells addresses in both ways", _add_address, _addresses),
 )
 

@@ -258,6 +258,14 @@ def _check_wanted(accounts: dict[bytes, Account], wanted: Wanted) -> None:
             raise account.fault("--blank names it, and it is no open-orders account of zero bytes", "leave the option out")
 
 
+def _slot_notes(accounts: dict[bytes, Account]) -> list[str]:
+    """A line where the accounts are of several slots, as far as the answers tell."""
+    slots = {account.slot for account in accounts.values() if account.slot is not None}
+    if len(slots) < 2:
+        return []
+    return [f"the accounts are of slots {min(slots)} to {max(slots)}: an audit may find what happened between"]
+
+
 def make_snapshot(accounts: dict[bytes, Account], wanted: Wanted) -> tuple[Snapshot, list[str]]:
     """The snapshot of the wanted markets, and lines that tell what was left out."""
     _check_wanted(accounts, wanted)
@@ -270,4 +278,13 @@ def make_snapshot(accounts: dict[bytes, Account], wanted: Wanted) -> tuple[Snaps
             _take_rest(maker, account)
     if wanted.make_rest:
         _add_rests(maker)
-    return maker.snapshot, maker.notes()
+    return maker.snapshot, maker.notes() + _slot_notes(accounts)
+
+
+def names_of_markets(accounts: dict[bytes, Account]) -> list[tuple[str, bytes]]:
+    """The accounts that the markets among some accounts name, each with the market's word for it."""
+    named: list[tuple[str, bytes]] = []
+    for account in accounts.values():
+        if kind_by_flags(account.data) == "market" and length_fault("market", account.data) is None:
+            named += [(word, address_at("market", word, account.data)) for word in ("coin_mint", "pc_mint", *PARTS)]
+    return named

@@ -17,6 +17,7 @@ LANE = 0
 _INIT_OPEN_ORDERS, _NEW_ORDER = 15, 10
 _SIDE_PLACE, _WITH_LATEST_TIME = 5, 5 + 54
 _TABLE = "the table of places (bridge/tables.json) does not fit this input"
+_ROLES = ("coin", "pc", "discount", "referrer")
 _NAMED_WORDS = PARTS + ("coin_mint", "pc_mint")
 
 
@@ -174,16 +175,46 @@ def _wallet(maker: _Maker, seen: Seen, role: str) -> bytes:
     return address
 
 
+def _paying_role(data: bytes) -> str:
+    """The role of the wallet that pays for a new order: quote for a bid, base for an ask."""
+    return "coin" if any(data[_SIDE_PLACE : _SIDE_PLACE + 4]) else "pc"
+
+
 def _wallets(maker: _Maker, seen: Seen) -> list[str]:
     """The words of the four roles of a row."""
-    words = {role: "-" for role in ("coin", "pc", "discount", "referrer")}
-    for role in words:
+    words = {role: "-" for role in _ROLES}
+    for role in _ROLES:
         if role in seen.roles:
             words[role] = dump_word(_wallet(maker, seen, role))
     if "payer" in seen.roles:
-        is_bid = not any(seen.call.data[_SIDE_PLACE : _SIDE_PLACE + 4])
-        words["pc" if is_bid else "coin"] = dump_word(_wallet(maker, seen, "payer"))
+        words[_paying_role(seen.call.data)] = dump_word(_wallet(maker, seen, "payer"))
     return list(words.values())
+
+
+def _wallets_of_call(transaction: Transaction, call: Call, markets: Optional[list[bytes]]) -> Iterator[tuple[str, bytes]]:
+    """The wallets of a call of the program, each with its role, where it is on one of the markets."""
+    instruction = INSTRUCTIONS.get(_tag_of(transaction, call))
+    if instruction is None or instruction.places is None:
+        return
+    roles, _ = _roles(transaction, call, instruction)
+    if markets is not None and roles["market"] not in markets:
+        return
+    if "payer" in roles:
+        roles[_paying_role(call.data)] = roles["payer"]
+    for role in _ROLES:
+        if role in roles:
+            yield role, roles[role]
+
+
+def wallets_of(transactions: list[Transaction], wish: Wish) -> list[tuple[str, bytes]]:
+    """The wallets that transactions use, each once, with the first role that it has."""
+    found: dict[bytes, str] = {}
+    for transaction in transactions:
+        for call in transaction.calls:
+            if call.program in wish.rules_of:
+                for role, address in _wallets_of_call(transaction, call, wish.markets):
+                    found.setdefault(address, role)
+    return [(role, address) for address, role in found.items()]
 
 
 def _row(seen: Seen, signer: bytes, wallets: list[str], data: bytes) -> str:

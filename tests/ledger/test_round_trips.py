@@ -180,6 +180,34 @@ class Commands(Folder):
         self.assertEqual(ledger("accounts", self.path("out"), given=text_of(snapshot).encode()).out.split(), words_for(snapshot))
 
 
+class Names(Folder):
+    """What a market names, and of which slots accounts are."""
+
+    def test_names(self) -> None:
+        """`names` tells the accounts that a market names, in the words of the market."""
+        snapshot = example()
+        market = snapshot.markets[0]
+        told = ledger("names", self.save("market.json", named(next(market.entries()))))
+        lines = dict(line.split() for line in told.out.splitlines())
+        self.assertEqual(list(lines), ["coin_mint", "pc_mint", "coin_vault", "pc_vault", "req_q", "event_q", "bids", "asks"])
+        for part in list(lines)[2:]:
+            self.assertEqual(lines[part], base58_text(market.part_address(part)))
+        self.assertEqual(lines["coin_mint"], base58_text(snapshot.mints[0].address))
+        self.assert_refused(ledger("names", self.save("mint.json", named(next(snapshot.entries())))), "mint.json", "no market")
+
+    def test_slots(self) -> None:
+        """Accounts of several slots are told."""
+        snapshot = example()
+        entries = list(snapshot.entries())
+        first, second = answer(alone(entries[:3], "base64")), answer(alone(entries[3:], "base64"))
+        files = [self.save("1.json", first), self.save("2.json", second)]
+        self.assertEqual(ledger("dump", *words_for(snapshot), *files).err, "")
+        second["result"]["context"]["slot"] = 7
+        told = ledger("dump", *words_for(snapshot), files[0], self.save("2.json", second))
+        self.assertEqual((told.out, told.err.count("\n")), (text_of(snapshot), 1))
+        self.assertIn("slots 1 to 7", told.err)
+
+
 class Rest(Folder):
     """What no account holds of a mint."""
 

@@ -211,6 +211,20 @@ class Rows(Script):
         self.assert_refused(ledger("script", "--market", "n", self.dump, self.save("given.json", self.transaction(self.call(7)))), "market n")
 
 
+class Wallets(Script):
+    """The wallets that transactions use."""
+
+    def test_wallets(self) -> None:
+        """Each once, with its first role; of the markets that are named."""
+        bid = self.call(10, body=BID + bytes(42), places=PLACES[10].replace("coin_wallet", "pc_wallet2"))
+        path = self.save("given.json", [self.transaction(self.call(10)), self.transaction(bid, self.call(5)), self.transaction(self.call(7))])
+        wanted = [("coin", "coin_wallet"), ("pc", "pc_wallet2"), ("pc", "pc_wallet")]
+        lines = "".join(f"{role} {base58_text(self.names[name])}\n" for role, name in wanted)
+        self.assertEqual(ledger("wallets", path).out, lines)
+        self.assertEqual(ledger("wallets", "--market", "m", path).out, lines)
+        self.assertEqual(ledger("wallets", "--market", "n", path).out, "")
+
+
 class Accounts(Script):
     """Open-orders accounts that a day opens."""
 
