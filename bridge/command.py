@@ -9,9 +9,9 @@ from typing import Iterable, NoReturn, Optional, Sequence
 
 from bridge.accounts import read_accounts, read_address, write_account_files
 from bridge.comparing import compare, read_compared
-from bridge.dump_text import dump_rows, is_dump_text, read_dump
+from bridge.dump_text import dump_rows, read_dump
 from bridge.encoding import base58_text, dump_word
-from bridge.files import STANDARD_INPUT, name_of, read_bytes
+from bridge.files import STANDARD_INPUT, is_json_text, name_of, read_bytes
 from bridge.making import Wanted, make_snapshot, names_of_markets
 from bridge.refusals import Refusal, Words, one_line
 from bridge.rows import Wish, make_script, wallets_of
@@ -44,6 +44,8 @@ def _program(word: Optional[str]) -> Optional[bytes]:
 def _write(lines: Iterable[str]) -> int:
     """Writes lines to standard output, and tells how many."""
     count = 0
+    if sys.stdout is None:
+        raise Refusal("standard output", "it is closed", "give it a place that takes all")
     try:
         for line in lines:
             sys.stdout.write(line + "\n")
@@ -56,8 +58,8 @@ def _write(lines: Iterable[str]) -> int:
 
 
 def _tell(lines: Iterable[str]) -> None:
-    """Tells lines on standard error."""
-    for line in lines:
+    """Tells lines on standard error, where there is one."""
+    for line in lines if sys.stderr is not None else ():
         print(f"ledger: {one_line(line)}", file=sys.stderr)
 
 
@@ -96,7 +98,8 @@ def _write_table(lines: list[str], path: Optional[str]) -> None:
     """Writes the table of a script's rows to its file, or to standard error."""
     text = "".join(line + "\n" for line in lines)
     if path is None:
-        sys.stderr.write(text)
+        if sys.stderr is not None:
+            sys.stderr.write(text)
         return
     try:
         with open(path, "w", encoding="utf-8") as file:
@@ -121,7 +124,7 @@ def _script(words: argparse.Namespace) -> int:
     rules = _rules_of(words)
     markets = [_address(word, "--market") for word in words.market] or None
     data = read_bytes(words.dump)
-    if data.lstrip()[:1] in (b"{", b"["):
+    if is_json_text(data):
         raise Refusal(name_of(words.dump), "it is JSON, and a dump is wanted first", "name the dump, and the transactions behind it")
     snapshot = read_dump(data, name_of(words.dump))
     wish = Wish(markets, rules, words.leave_out_unknown, words.open_accounts)
@@ -135,8 +138,7 @@ def _words_for(snapshot: Snapshot) -> str:
     """The words of `dump` that a snapshot's accounts do not tell by themselves."""
     words = []
     for market in snapshot.markets:
-        authority = base58_text(market.authority) if market.authority is not None else "-"
-        words += ["--market", base58_text(market.address), "--authority", authority]
+        words += ["--market", base58_text(market.address), "--authority", base58_text(market.authority)]
     for name, mint in (("--srm", snapshot.srm), ("--msrm", snapshot.msrm)):
         words += [name, base58_text(mint)] if mint is not None else []
     for market in snapshot.markets if len(snapshot.markets) > 1 else []:
@@ -218,7 +220,7 @@ def _add_script(parser: argparse.ArgumentParser) -> None:
     parser.add_argument("--leave-out-unknown", action="store_true", help="go on without instructions that a script has no form for")
     parser.add_argument("--open-accounts", action="store_true", help="open accounts by a row before the first order that finds them blank")
     parser.add_argument("dump", metavar="DUMP", help="a dump or a report; - is standard input")
-    parser.add_argument("file", nargs="+", metavar="FILE", help="transaction JSON, oldest first, or a folder of such files")
+    parser.add_argument("file", nargs="*", metavar="FILE", help="transaction JSON, oldest first, or a folder of such files")
 
 
 def _add_names(parser: argparse.ArgumentParser) -> None:

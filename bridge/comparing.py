@@ -7,9 +7,9 @@ from dataclasses import dataclass, field
 from typing import Iterator, NamedTuple, Optional
 
 from bridge.accounts import Account, accounts_of_text, by_address, read_accounts
-from bridge.dump_text import is_dump_text, read_dump
+from bridge.dump_text import read_dump
 from bridge.encoding import shown
-from bridge.files import STANDARD_INPUT, name_of, read_bytes
+from bridge.files import STANDARD_INPUT, is_json_text, name_of, read_bytes
 from bridge.layouts import address_at, field_differences
 from bridge.making import rest_name
 from bridge.queues import Difference, event_queue_differences
@@ -52,8 +52,7 @@ def compared_of(snapshot: Snapshot) -> Compared:
         for entry in market.entries():
             part = entry.kind if entry.kind in PARTS else ""
             compared.add(Key(market.address if part else entry.address, part), entry)
-        if market.authority is not None:
-            compared.words[f"market {shown(market.address)} authority"] = shown(market.authority)
+        compared.words[f"market {shown(market.address)} authority"] = shown(market.authority)
     for name, mint in (("srm", snapshot.srm), ("msrm", snapshot.msrm)):
         compared.words[name] = shown(mint) if mint is not None else "-"
     return compared
@@ -96,7 +95,7 @@ def read_compared(path: str) -> Compared:
     if path != STANDARD_INPUT and os.path.isdir(path):
         return compared_accounts(read_accounts([path]))
     data = read_bytes(path)
-    if data.lstrip()[:1] in (b"{", b"[") and not is_dump_text(data):
+    if is_json_text(data):
         return compared_accounts(by_address(accounts_of_text(data, name_of(path))))
     return compared_of(read_dump(data, name_of(path)))
 

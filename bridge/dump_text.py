@@ -4,11 +4,11 @@ from __future__ import annotations
 
 import csv
 from dataclasses import dataclass, field
-from typing import Iterator, Optional
+from typing import Iterator
 
 from bridge.encoding import address_of, base64_bytes, base64_text, dump_word, shown
 from bridge.refusals import Refusal
-from bridge.snapshot import PARTS, Entry, Held, Market, Snapshot, length_fault
+from bridge.snapshot import PARTS, Held, Market, Snapshot, length_fault
 
 _MEND = "give a dump or a report whole, as `dex` printed it"
 
@@ -137,11 +137,6 @@ def _start_of(lines: list[str], source: str) -> int:
     raise Refusal(source, "the report is cut short: it has no row `dump`", _MEND)
 
 
-def is_dump_text(data: bytes) -> bool:
-    """Whether bytes begin as a dump or a report does."""
-    return data.removeprefix(b"\xef\xbb\xbf").startswith((b"dump\n", b"dump\r", b"report "))
-
-
 def read_dump(data: bytes, source: str) -> Snapshot:
     """The snapshot that a dump or a report holds."""
     try:
@@ -156,9 +151,8 @@ def read_dump(data: bytes, source: str) -> Snapshot:
 def _market_rows(market: Market) -> Iterator[str]:
     """The rows of a market and of its open-orders accounts."""
     name = dump_word(market.address)
-    authority = dump_word(market.authority) if market.authority is not None else "-"
     texts = [base64_text(market.data)] + [base64_text(market.parts[part]) for part in PARTS]
-    yield ",".join(["market", name, authority] + texts)
+    yield ",".join(["market", name, dump_word(market.authority)] + texts)
     for held in market.orders:
         yield f"orders,{name},{dump_word(held.address)},{base64_text(held.data)}"
 
@@ -176,13 +170,3 @@ def dump_rows(snapshot: Snapshot) -> Iterator[str]:
     for market in snapshot.markets:
         yield from _market_rows(market)
     yield "enddump"
-
-
-def same_address_fault(entries: Iterator[Entry]) -> Optional[bytes]:
-    """An address that two accounts have, if there is one."""
-    seen: set[bytes] = set()
-    for entry in entries:
-        if entry.address in seen:
-            return entry.address
-        seen.add(entry.address)
-    return None

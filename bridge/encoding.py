@@ -4,6 +4,7 @@ from __future__ import annotations
 
 import base64
 import binascii
+import functools
 import re
 
 ALPHABET = "123456789ABCDEFGHJKLMNPQRSTUVWXYZabcdefghijkmnopqrstuvwxyz"
@@ -75,6 +76,7 @@ def base64_text(data: bytes) -> str:
     return base64.b64encode(data).decode("ascii")
 
 
+@functools.lru_cache(maxsize=65536)
 def address_of(word: str) -> bytes:
     """The address of a word: a label, `0x` and 64 hexadecimal digits, or base58. ValueError where it is none of these."""
     if _LABEL.fullmatch(word):

@@ -12,15 +12,27 @@ from bridge.refusals import Refusal
 STANDARD_INPUT = "-"
 
 
+def _standard_input() -> bytes:
+    """The bytes of standard input."""
+    if sys.stdin is None:
+        raise Refusal("standard input", "it is closed", "give the input there")
+    return sys.stdin.buffer.read()
+
+
 def read_bytes(path: str) -> bytes:
     """The bytes of a file, or of standard input where the path is `-`."""
     try:
         if path == STANDARD_INPUT:
-            return sys.stdin.buffer.read()
+            return _standard_input()
         with open(path, "rb") as file:
             return file.read()
     except OSError as fault:
-        raise Refusal(path, f"it cannot be read ({fault.strerror})", "name a file that is there and that you may read") from None
+        raise Refusal(name_of(path), f"it cannot be read ({fault.strerror})", "name a file that is there and that you may read") from None
+
+
+def is_json_text(data: bytes) -> bool:
+    """Whether bytes begin as JSON of accounts or transactions does."""
+    return data.removeprefix(b"\xef\xbb\xbf").lstrip()[:1] in (b"{", b"[")
 
 
 def name_of(path: str) -> str:

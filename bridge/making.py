@@ -163,20 +163,25 @@ def _market_of_blank(maker: _Maker, account: Account) -> Market:
     return maker.snapshot.markets[0]
 
 
+def _market_of(maker: _Maker, account: Account) -> Optional[Market]:
+    """The market that an open-orders account belongs to, where it is one of the wanted."""
+    if is_blank(account.data):
+        return _market_of_blank(maker, account)
+    address = address_at("open_orders", "market", account.data)
+    return next((market for market in maker.snapshot.markets if market.address == address), None)
+
+
 def _take_orders(maker: _Maker, account: Account) -> None:
     """Takes an open-orders account of one of the markets, or leaves it out."""
     maker.take(account.address, "open_orders", "it is among the files")
-    if is_blank(account.data):
-        _market_of_blank(maker, account).orders.append(Held(account.address, account.data))
-        return
-    if not is_closed(account.data):
+    if not is_blank(account.data) and not is_closed(account.data):
         _check_flags(account, "open_orders")
-    address = address_at("open_orders", "market", account.data)
-    for market in maker.snapshot.markets:
-        if market.address == address:
-            market.orders.append(Held(account.address, account.data))
-            return
-    maker.leave_out(account, "open-orders accounts of other markets")
+    market = _market_of(maker, account)
+    if market is None:
+        maker.leave_out(account, "open-orders accounts of other markets")
+    else:
+        _check_owner(account, frozenset([maker.accounts[market.address].owner]), "open_orders")
+        market.orders.append(Held(account.address, account.data))
 
 
 def _take_rest(maker: _Maker, account: Account) -> None:

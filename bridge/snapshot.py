@@ -33,7 +33,7 @@ class Market:
     """A market with the accounts that belong to it; `parts` by the names of the market's own words."""
 
     address: bytes
-    authority: Optional[bytes]
+    authority: bytes
     data: bytes
     parts: dict[str, bytes]
     orders: list[Held] = field(default_factory=list)

@@ -118,7 +118,7 @@ def words_for(snapshot: Snapshot) -> list[str]:
     """The words of `dump` for a snapshot."""
     words = []
     for market in snapshot.markets:
-        words += ["--market", base58_text(market.address), "--authority", base58_text(market.authority or b"")]
+        words += ["--market", base58_text(market.address), "--authority", base58_text(market.authority)]
         for held in market.orders:
             words += ["--blank", base58_text(market.address), base58_text(held.address)] if is_blank(held.data) else []
     for name, mint in (("--srm", snapshot.srm), ("--msrm", snapshot.msrm)):

@@ -2,10 +2,11 @@
 
 import json
 import os
+import subprocess
 import unittest
 from typing import Any
 
-from support import SERUM, Folder, answer, example, hostile, ledger, ledger_apart, listed_accounts, named, text_of, words_for, zstd_like
+from support import ROOT, SERUM, Folder, answer, example, hostile, ledger, ledger_apart, listed_accounts, named, text_of, words_for, zstd_like
 
 from bridge.encoding import base58_text, base64_text, shown
 from bridge.snapshot import Entry
@@ -215,6 +216,20 @@ class BadAccounts(Folder):
         for value in [*hostile(answer([few[0]])), *hostile(few), *hostile({"result": few[2]})]:
             told = ledger("dump", *self.words, self.save("given.json", value))
             self.assert_refused(told)
+
+    def test_two_programs(self) -> None:
+        """An open-orders account of another program than the market's."""
+        self.refused(self.changed("open_orders", owner="srmqPvymJeFKQ4zGQed1GFppgkRHL9kaELCbyksJtPX"), "given.json",
+                     shown(self.entry("open_orders").address), base58_text(SERUM))
+
+    def test_closed_streams(self) -> None:
+        """Standard input and output that are closed."""
+        path = self.save("given.json", self.accounts)
+        command = [os.path.join(ROOT, "ledger")]
+        for words, redirection in ((["compare", "-", path], "<&-"), (["dump", *self.words, path], ">&-")):
+            line = " ".join([*command, *words, redirection])
+            done = subprocess.run(["bash", "-c", line], capture_output=True, check=False)
+            self.assertEqual((done.returncode, done.stdout, done.stderr.count(b"\n")), (2, b"", 1), done.stderr)
 
     def test_full_device(self) -> None:
         """Standard output that takes nothing."""

@@ -51,7 +51,7 @@ class Script(Folder):
         names.update({word: market.part_address(word) for word in words})
         coin, pc = market.data[53:85], market.data[85:117]
         wallets = {mint: [held for held in snapshot.wallets if held.data[:32] == mint] for mint in (coin, pc)}
-        names.update(market=market.address, coin_mint=coin, pc_mint=pc, authority=market.authority or b"", trader=b"ann".ljust(32, b"\0"),
+        names.update(market=market.address, coin_mint=coin, pc_mint=pc, authority=market.authority, trader=b"ann".ljust(32, b"\0"),
                      account=market.orders[0].address, account2=market.orders[1].address, coin_wallet=wallets[coin][0].address,
                      pc_wallet=wallets[pc][0].address, pc_wallet2=wallets[pc][1].address, payer=bytes.fromhex(PAYER))
         return names
