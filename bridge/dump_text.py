@@ -24,10 +24,11 @@ class _Reader:
     declared: set[bytes] = field(default_factory=set)
     markets: dict[bytes, Market] = field(default_factory=dict)
     row: int = 0
+    name: str = ""
 
     def fault(self, what: str, remedy: str = _MEND) -> Refusal:
         """What is wrong with the row that is read."""
-        return Refusal(f"{self.source}: line {self.row}", what, remedy)
+        return Refusal(f"{self.source}: line {self.row}{self.name}", what, remedy)
 
     def address(self, word: str) -> bytes:
         """The address of a word of the row."""
@@ -41,10 +42,10 @@ class _Reader:
         try:
             data = base64_bytes(text)
         except ValueError as fault:
-            raise self.fault(f"the account ({kind}) is no base64: {fault}") from None
+            raise self.fault(f"its account ({kind}) is no base64: {fault}") from None
         wrong = length_fault(kind, data)
         if wrong:
-            raise self.fault(f"the account ({kind}) has a length of no layout: {wrong}")
+            raise self.fault(f"its account ({kind}) has a length that is not the layout's: {wrong}")
         return data
 
     def declare(self, address: bytes) -> None:
@@ -111,6 +112,7 @@ def _read_rows(reader: _Reader, lines: list[str], start: int) -> None:
             "market": reader.market, "orders": reader.orders}
     for number in range(start, len(lines)):
         reader.row = number + 1
+        reader.name = ""
         if not lines[number]:
             continue
         fields = _fields(lines[number])
@@ -118,6 +120,7 @@ def _read_rows(reader: _Reader, lines: list[str], start: int) -> None:
             return
         if _FIELDS.get(fields[0]) != len(fields) - 1:
             raise reader.fault(f"{lines[number][:40]!r} is no row of a dump")
+        reader.name = f" ({fields[0]} {fields[2 if fields[0] == 'orders' else 1]})"
         acts[fields[0]](fields[1:])
     reader.row = len(lines)
     raise reader.fault("the dump is cut short: there is no row `enddump`")

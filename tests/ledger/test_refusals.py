@@ -259,7 +259,7 @@ class BadDumps(Folder):
         self.refused(text.replace("wallet,", "walet,", 1), "line 4", "no row")
         self.refused(text.replace("mint,coin", "mint,Coin", 1), "line 2", "Coin")
         self.refused(text.replace("mint,coin,A", "mint,coin,?", 1), "line 2", "no base64")
-        self.refused(text.replace("mint,coin,AAAA", "mint,coin,", 1), "line 2", "79 bytes")
+        self.refused(text.replace("mint,coin,AAAA", "mint,coin,", 1), "line 2 (mint coin)", "79 bytes")
         self.refused(text.replace("orders,m,", "orders,n,", 1), "line", "market n")
         self.refused("dump\n" + text.split("\n")[1] + "\n" + text.split("\n", 1)[1], "line 3", "twice")
         self.refused(text.replace("mint", "m\xefnt", 1), "no dump or report")
