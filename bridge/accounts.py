@@ -7,7 +7,7 @@ import os
 from dataclasses import dataclass
 from typing import Any, Iterable, Iterator, NamedTuple, Optional
 
-from bridge.encoding import address_of, base58_bytes, base58_text, base64_bytes, base64_text, shown
+from bridge.encoding import address_of, base58_bytes, base58_of, base64_bytes, base64_text, shown
 from bridge.files import json_files, json_of, read_bytes
 from bridge.refusals import Refusal
 from bridge.snapshot import Snapshot
@@ -208,9 +208,9 @@ def read_accounts(paths: list[str]) -> dict[bytes, Account]:
 
 def account_json(address: bytes, owner: bytes, data: bytes) -> str:
     """An account as `solana account --output json` prints it and as a test validator loads it."""
-    account = {"lamports": rent_exempt(len(data)), "data": [base64_text(data), "base64"], "owner": base58_text(owner),
+    account = {"lamports": rent_exempt(len(data)), "data": [base64_text(data), "base64"], "owner": base58_of(owner),
                "executable": False, "rentEpoch": RENT["epoch"], "space": len(data)}
-    return json.dumps({"pubkey": base58_text(address), "account": account}) + "\n"
+    return json.dumps({"pubkey": base58_of(address), "account": account}) + "\n"
 
 
 def account_files(snapshot: Snapshot, program: bytes) -> Iterator[tuple[str, str]]:
@@ -219,7 +219,7 @@ def account_files(snapshot: Snapshot, program: bytes) -> Iterator[tuple[str, str
     width = max(4, len(str(len(entries))))
     for number, entry in enumerate(entries, 1):
         owner = TOKEN_PROGRAM if entry.kind in _TOKEN_KINDS else program
-        name = f"{number:0{width}}_{entry.kind}_{base58_text(entry.address)}.json"
+        name = f"{number:0{width}}_{entry.kind}_{base58_of(entry.address)}.json"
         yield name, account_json(entry.address, owner, entry.data)
 
 

@@ -10,7 +10,7 @@ from typing import Iterable, NoReturn, Optional, Sequence
 from bridge.accounts import read_accounts, read_address, write_account_files
 from bridge.comparing import compare, read_compared
 from bridge.dump_text import dump_rows, read_dump
-from bridge.encoding import base58_text, dump_word
+from bridge.encoding import base58_of, dump_word
 from bridge.files import STANDARD_INPUT, is_json_text, name_of, read_bytes
 from bridge.making import Wanted, make_snapshot, names_of_markets
 from bridge.refusals import Refusal, Words, one_line
@@ -138,12 +138,12 @@ def _words_for(snapshot: Snapshot) -> str:
     """The words of `dump` that a snapshot's accounts do not tell by themselves."""
     words = []
     for market in snapshot.markets:
-        words += ["--market", base58_text(market.address), "--authority", base58_text(market.authority)]
+        words += ["--market", base58_of(market.address), "--authority", base58_of(market.authority)]
     for name, mint in (("--srm", snapshot.srm), ("--msrm", snapshot.msrm)):
-        words += [name, base58_text(mint)] if mint is not None else []
+        words += [name, base58_of(mint)] if mint is not None else []
     for market in snapshot.markets if len(snapshot.markets) > 1 else []:
         for held in market.orders:
-            words += ["--blank", base58_text(market.address), base58_text(held.address)] if is_blank(held.data) else []
+            words += ["--blank", base58_of(market.address), base58_of(held.address)] if is_blank(held.data) else []
     return " ".join(words)
 
 
@@ -170,7 +170,7 @@ def _compare(words: argparse.Namespace) -> int:
 def _addresses(words: argparse.Namespace) -> int:
     """Writes addresses in both ways."""
     addresses = [_address(word, f"address {number}") for number, word in enumerate(words.word, 1)]
-    _write(f"{base58_text(address)} {dump_word(address)}" for address in addresses)
+    _write(f"{base58_of(address)} {dump_word(address)}" for address in addresses)
     return DONE
 
 
@@ -179,7 +179,7 @@ def _names(words: argparse.Namespace) -> int:
     named = names_of_markets(read_accounts(words.file))
     if not named:
         raise Refusal(", ".join(words.file), "no market is among the accounts", "get the market's account, of 388 bytes")
-    _write(f"{word} {base58_text(address)}" for word, address in named)
+    _write(f"{word} {base58_of(address)}" for word, address in named)
     return DONE
 
 
@@ -187,7 +187,7 @@ def _wallets(words: argparse.Namespace) -> int:
     """Writes the wallets that transactions use."""
     markets = [_address(word, "--market") for word in words.market] or None
     found = wallets_of(read_transactions(words.file), Wish(markets, _rules_of(words)))
-    _write(f"{role} {base58_text(address)}" for role, address in found)
+    _write(f"{role} {base58_of(address)}" for role, address in found)
     return DONE
 
 
@@ -276,10 +276,21 @@ def _parser() -> argparse.ArgumentParser:
     return parser
 
 
+def _parsed(arguments: Sequence[str]) -> argparse.Namespace:
+    """The words, with options before, between and behind the files."""
+    parser = _parser()
+    words, more = parser.parse_known_args(arguments)
+    if any(word.startswith("-") for word in more) or (more and not hasattr(words, "file")):
+        parser.error(f"unknown words: {' '.join(more)}")
+    if more:
+        words.file = words.file + more
+    return words
+
+
 def main(arguments: Sequence[str]) -> int:
     """Does what the words ask for, and answers the exit status."""
     try:
-        words = _parser().parse_args(arguments)
+        words = _parsed(arguments)
         status: int = words.act(words)
         return status
     except (Refusal, Words) as fault:

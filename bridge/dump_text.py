@@ -102,8 +102,11 @@ _FIELDS = {"mint": 2, "wallet": 2, "srm": 1, "msrm": 1, "market": 9, "orders": 3
 
 
 def _fields(line: str) -> list[str]:
-    """The fields of a row, of which some may stand in quotes."""
-    return next(csv.reader([line])) if '"' in line else line.split(",")
+    """The fields of a row, of which some may stand in quotes; none where the quotes are wrong."""
+    try:
+        return next(csv.reader([line])) if '"' in line else line.split(",")
+    except csv.Error:
+        return [""]
 
 
 def _read_rows(reader: _Reader, lines: list[str], start: int) -> None:

@@ -15,6 +15,7 @@ _DIGIT_OF = {sign: digit for digit, sign in enumerate(ALPHABET)}
 _LABEL = re.compile(r"[a-z0-9_]{1,24}")
 _HEXADECIMAL = re.compile(r"0x[0-9a-f]{64}")
 _LABEL_BYTES = frozenset(b"abcdefghijklmnopqrstuvwxyz0123456789_")
+_PAIRS = tuple(first + second for first in ALPHABET for second in ALPHABET)
 _SHORT = 64
 
 
@@ -36,11 +37,11 @@ def _digits_of(number: int, count: int) -> str:
         low = count // 2
         upper, lower = divmod(number, 58**low)
         return _digits_of(upper, count - low) + _digits_of(lower, low)
-    signs = []
-    for _ in range(count):
-        number, digit = divmod(number, 58)
-        signs.append(ALPHABET[digit])
-    return "".join(reversed(signs))
+    pairs = []
+    for _ in range((count + 1) // 2):
+        number, pair = divmod(number, len(_PAIRS))
+        pairs.append(_PAIRS[pair])
+    return "".join(reversed(pairs))[-count:]
 
 
 def base58_bytes(text: str) -> bytes:
@@ -58,6 +59,12 @@ def base58_text(data: bytes) -> str:
     rest = data.lstrip(b"\0")
     text = _digits_of(int.from_bytes(rest, "big"), len(rest) * 138 // 100 + 1).lstrip("1")
     return "1" * (len(data) - len(rest)) + text
+
+
+@functools.lru_cache(maxsize=65536)
+def base58_of(address: bytes) -> str:
+    """An address as base58 text."""
+    return base58_text(address)
 
 
 def base64_bytes(text: str) -> bytes:
@@ -106,4 +113,4 @@ def dump_word(address: bytes) -> str:
 
 def shown(address: bytes) -> str:
     """An address as messages and comparisons write it: the label where there is one, else base58, as the ledger's tools do."""
-    return label_of(address) or base58_text(address)
+    return label_of(address) or base58_of(address)

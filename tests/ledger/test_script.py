@@ -204,6 +204,18 @@ class Rows(Script):
         self.refused(self.transaction(late, blockTime=None), "blockTime")
         self.refused(self.transaction(late, blockTime=-5), "blockTime")
 
+    def test_options_anywhere(self) -> None:
+        """Options before, between and behind the files are the same."""
+        one, two = (self.save(name, self.transaction(self.call(tag))) for name, tag in (("1.json", 7), ("2.json", 12)))
+        table = ["--table", self.path("rows.txt")]
+        wanted = ledger("script", *table, self.dump, one, two).out
+        self.assertEqual(wanted.count("\nix,"), 2)
+        for words in ([self.dump, *table, one, two], [self.dump, one, *table, two], [self.dump, one, two, *table]):
+            self.assertEqual(ledger("script", *words).out, wanted)
+        self.assertEqual(ledger("script", self.dump).out, text_of(self.snapshot))
+        self.assert_refused(ledger("script", self.dump, one, "--tables", "x"), "--tables")
+        self.assert_refused(ledger("compare", self.dump, self.dump, self.dump), "unknown words")
+
     def test_several_markets(self) -> None:
         """Only the markets that are named."""
         told = ledger("script", "--market", "m", self.dump, self.save("given.json", self.transaction(self.call(7))))
