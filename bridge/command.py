@@ -26,6 +26,7 @@ class _Parser(argparse.ArgumentParser):
     """A parser that says in one line what is wrong with the words."""
 
     def error(self, message: str) -> NoReturn:
+        """Refuses the words."""
         raise Words(f"{message}; `{self.prog} --help` tells the words")
 
 

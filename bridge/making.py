@@ -82,7 +82,7 @@ def _check_flags(account: Account, kind: str) -> None:
     if kind_by_flags(account.data) == kind and flags_of(account.data) & INITIALIZED:
         return
     what = f"its flags are {flags_of(account.data)}, and one of its kind ({kind}) has {INITIALIZED + KIND_FLAGS[kind]}"
-    raise account.fault(what, "take the account that the market names at this place")
+    raise account.fault(what, "compare it with the ledger's own, and give the account that belongs here")
 
 
 def _take_market(maker: _Maker, address: bytes, authority: bytes) -> None:
