@@ -4,7 +4,7 @@ import os
 import re
 import unittest
 
-from support import ROOT
+from support import ROOT, ledger_apart
 
 from bridge.tables import INSTRUCTIONS, LAYOUTS, SIZES, rent_exempt
 
@@ -55,11 +55,28 @@ class Instructions(unittest.TestCase):
 
     def test_names(self) -> None:
         """Every tag of the document has places, and no other one."""
-        section = formats().split("## Instruction data")[1].split("Data that breaks a rule")[0]
+        table = re.search(r"^\| Tag \|.*\n(?:\|.*\n)+", formats(), re.M)
+        assert table is not None
         told: dict[int, str] = {}
-        for tags, names in re.findall(r"^\| ([\d, ]+) \| ([A-Za-z0-9, ]+) \|", section, re.M):
+        for tags, names in re.findall(r"^\| ([\d, ]+) \| ([A-Za-z0-9, ]+) \|", table.group(), re.M):
             told.update(zip(map(int, tags.split(", ")), names.split(", ")))
         self.assertEqual({tag: row.name for tag, row in INSTRUCTIONS.items() if row.places}, told)
+
+
+class Document(unittest.TestCase):
+    """docs/LEDGER.md tells every command and every option."""
+
+    def test_options(self) -> None:
+        """Options of the commands' own help."""
+        with open(os.path.join(ROOT, "docs", "LEDGER.md"), encoding="utf-8") as file:
+            document = file.read()
+        told = ledger_apart("--help").out
+        commands = re.findall(r"^    ([a-z]+) ", told, re.M)
+        self.assertEqual(len(commands), 7)
+        for command in commands:
+            self.assertIn(f"`./ledger {command} ", document)
+            for option in set(re.findall(r"--[a-z-]+", ledger_apart(command, "--help").out)) - {"--help"}:
+                self.assertIn(option, document, command)
 
 
 if __name__ == "__main__":
