@@ -40,11 +40,11 @@ class _Maker:
     used: dict[bytes, str] = field(default_factory=dict)
     left_out: dict[str, list[str]] = field(default_factory=dict)
 
-    def take(self, address: bytes, kind: str, named_by: str) -> Account:
-        """The account of an address, as one of a kind."""
+    def take(self, address: bytes, kind: str, named_by: str, named_in: str = "words") -> Account:
+        """The account of an address, as one of a kind; who names it, and in which file."""
         account = self.accounts.get(address)
         if account is None:
-            raise Refusal(f"account {shown(address)}", f"it is in none of the files, and {named_by}", _ASK)
+            raise Refusal(f"{named_in}: account {shown(address)}", f"it is in none of the files, and {named_by}", _ASK)
         if address in self.used:
             what = f"{named_by}, and it is the {self.used[address]} already"
             raise account.fault(what, "compare the market account with the ledger's")
@@ -93,7 +93,8 @@ def _take_market(maker: _Maker, address: bytes, authority: bytes) -> None:
     _check_flags(market, "market")
     parts = {}
     for part in PARTS:
-        account = maker.take(address_at("market", part, market.data), part, f"the market {name} names it as its {part}")
+        named_by = f"the market {name} names it as its {part}"
+        account = maker.take(address_at("market", part, market.data), part, named_by, market.source)
         _check_owner(account, frozenset([TOKEN_PROGRAM if part in VAULTS else market.owner]), part)
         if part not in VAULTS:
             _check_flags(account, part)
@@ -101,22 +102,24 @@ def _take_market(maker: _Maker, address: bytes, authority: bytes) -> None:
     maker.snapshot.markets.append(Market(address, authority, market.data, parts))
 
 
-def _mints_wanted(maker: _Maker) -> dict[bytes, str]:
-    """The mints that have to be there, each with who names it."""
-    wanted: dict[bytes, str] = {}
+def _mints_wanted(maker: _Maker) -> dict[bytes, tuple[str, str]]:
+    """The mints that have to be there, each with who names it and in which file."""
+    wanted: dict[bytes, tuple[str, str]] = {}
     for market in maker.snapshot.markets:
+        source = maker.accounts[market.address].source
         for word in ("coin_mint", "pc_mint"):
-            wanted.setdefault(address_at("market", word, market.data), f"the market {shown(market.address)} names it as its {word}")
+            named_by = f"the market {shown(market.address)} names it as its {word}"
+            wanted.setdefault(address_at("market", word, market.data), (named_by, source))
     for word, mint in (("--srm", maker.wanted.srm), ("--msrm", maker.wanted.msrm)):
         if mint is not None:
-            wanted.setdefault(mint, f"{word} names it")
+            wanted.setdefault(mint, (f"{word} names it", "words"))
     return wanted
 
 
 def _take_mints(maker: _Maker) -> None:
     """Takes the mints: those that have to be there, and all others among the accounts, in their order."""
-    for address, named_by in _mints_wanted(maker).items():
-        _check_owner(maker.take(address, "mint", named_by), frozenset([TOKEN_PROGRAM]), "mint")
+    for address, (named_by, source) in _mints_wanted(maker).items():
+        _check_owner(maker.take(address, "mint", named_by, source), frozenset([TOKEN_PROGRAM]), "mint")
     for account in maker.accounts.values():
         is_other = account.address not in maker.used and account.owner == TOKEN_PROGRAM
         if is_other and length_fault("mint", account.data) is None:

@@ -123,7 +123,8 @@ class BadAccounts(Folder):
         """Each account that the market names, and the market, are missed by their names."""
         for kind in ("market", "coin_vault", "pc_vault", "req_q", "event_q", "bids", "asks"):
             named_by = "--market" if kind == "market" else f"the market m names it as its {kind}"
-            self.refused(self.without(kind), shown(self.entry(kind).address), named_by, "get its account")
+            named_in = "words: " if kind == "market" else "given.json: "
+            self.refused(self.without(kind), named_in, shown(self.entry(kind).address), named_by, "get its account")
         self.refused(self.without("mint"), shown(self.entry("mint").address), "the market m names it as its coin_mint")
         self.refused(self.accounts, base58_text(NOBODY), "--srm", more=("--srm", base58_text(NOBODY)))
 
