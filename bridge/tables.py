@@ -1,0 +1,79 @@
+"""The tables of `tables.json`, typed: programs, layouts, instructions and the places of their accounts."""
+
+from __future__ import annotations
+
+import json
+import os
+from dataclasses import dataclass
+from typing import Any, Optional
+
+from bridge.encoding import address_of
+
+
+@dataclass(frozen=True)
+class Field:
+    """A field of a layout: `count` values of `length` bytes from `place` on."""
+
+    place: int
+    name: str
+    length: int
+    form: str
+    count: int
+
+
+@dataclass(frozen=True)
+class Size:
+    """The lengths that an account of a kind may have; no `most` where it ends with a ring or nodes."""
+
+    layout: str
+    least: int
+    most: Optional[int]
+
+
+@dataclass(frozen=True)
+class Instruction:
+    """An instruction's name and, where a script has it, which account stands at which place."""
+
+    tag: int
+    name: str
+    places: Optional[tuple[str, ...]]
+    optional: Optional[str]
+    named_in_front: bool
+
+
+def _loaded() -> Any:
+    """The file of tables."""
+    with open(os.path.join(os.path.dirname(os.path.abspath(__file__)), "tables.json"), encoding="utf-8") as file:
+        return json.load(file)
+
+
+def _field(row: list[Any]) -> Field:
+    """A field from its row."""
+    place, name, length, form = row[:4]
+    return Field(place, name, length, form, row[4] if len(row) > 4 else 1)
+
+
+def _instruction(row: dict[str, Any]) -> Instruction:
+    """An instruction from its row."""
+    places = tuple(row["places"]) if "places" in row else None
+    return Instruction(row["tag"], row["name"], places, row.get("optional"), row.get("named_in_front", False))
+
+
+_TABLES = _loaded()
+
+PROGRAMS: dict[str, bytes] = {name: address_of(word) for name, word in _TABLES["programs"].items()}
+TOKEN_PROGRAM: bytes = address_of(_TABLES["token_program"])
+RENT: dict[str, int] = _TABLES["rent"]
+MOST_NAMED: int = _TABLES["row"]["most_named_accounts"]
+MOST_DATA: int = _TABLES["row"]["most_data"]
+INITIALIZED: int = _TABLES["flags"]["initialized"]
+KIND_FLAGS: dict[str, int] = _TABLES["flags"]["kinds"]
+CLOSED: int = _TABLES["flags"]["closed"]
+SIZES: dict[str, Size] = {kind: Size(row["layout"], row["least"], row["most"]) for kind, row in _TABLES["accounts"].items()}
+LAYOUTS: dict[str, tuple[Field, ...]] = {name: tuple(map(_field, rows)) for name, rows in _TABLES["layouts"].items()}
+INSTRUCTIONS: dict[int, Instruction] = {row["tag"]: _instruction(row) for row in _TABLES["instructions"]}
+
+
+def rent_exempt(length: int) -> int:
+    """The lamports that keep an account of so many bytes free of rent."""
+    return (RENT["account_bytes"] + length) * RENT["lamports_of_a_byte_year"] * RENT["years"]
