@@ -74,8 +74,8 @@ module _ (doing : PlainRow) (seen : Seen) (place : ℕ) (cells : CellsState) (se
     (first : IsFirstAt doing.market cells.markets place) (markets : List MarketCellState) (wallets : List CellState)
     (has : HasBecomeAt doing seen place cells.markets markets)
     (have :
-        (default : MarketCellState)
-        → HaveActed doing seen (row_step doing seen (market.market_at (get_or cells.markets place default))).transfers cells.wallets wallets) where
+    (default : MarketCellState)
+    → HaveActed doing seen (row_step doing seen (market.market_at (get_or cells.markets place default))).transfers cells.wallets wallets) where
   abbrev before : World
   before = world_of cells
 

@@ -70,6 +70,7 @@ module _ (one other : PlainRow) (share : ShareNothing one other) where
     where
       address : new.accounts.address ≡ old.accounts.address
       address = is.one_market.address ∙ ap (λ (cell : MarketCellState). cell.start.address) alike ∙ sym was.one_market.address
+
       touched : is_same one.market old.accounts.address ≡ true → market.HasSpare new
       touched same =
           let both : one.market ≡ other.market =

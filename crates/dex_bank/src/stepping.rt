@@ -140,7 +140,7 @@ pub(crate) fn act_or_wait(cells: &mut Cells, row: &Row, waits: bool) -> Reply
     requires held { waits ≡ true → CanWait (row_of row.now) cells.old }
     ensures reply { (m : Market) → world.market_at row.entry.now.market (world_of cells.old).markets ≡ Some m
         → result ≡ (row_step (doing waits (row_of row.entry.now))
-            (world.seen_by (row_of row.entry.now) (world_of cells.old)) m).reply }
+        (world.seen_by (row_of row.entry.now) (world_of cells.old)) m).reply }
     ensures acted { world_of cells.new ≡ fold.act (doing waits (row_of row.entry.now)) (world_of cells.old) }
     ensures kept { opened_of cells.new ≡ opened_of cells.old }
     ensures others { OthersStay row.entry.now.market cells.old.markets cells.new.markets }
@@ -149,7 +149,14 @@ pub(crate) fn act_or_wait(cells: &mut Cells, row: &Row, waits: bool) -> Reply
 {
     let seen = seen_by(cells, row);
     let place = place_of(&cells.markets, row.market);
-    do_at(&mut cells.markets, place, &mut cells.wallets, row, &seen, waits)
+    do_at(
+        &mut cells.markets,
+        place,
+        &mut cells.wallets,
+        row,
+        &seen,
+        waits,
+    )
 }
 
 /// Whether the market at a place would refuse a row.
