@@ -12,6 +12,7 @@ use Rattle.dex_fold.specs.Items.{Item, fold_items, items_of}
 use Rattle.dex_fold.specs.World.{MarketState, WalletState, World}
 use Rattle.dex_report.specs.Outcomes.{PlainMarketJournal, PlainOutcome, PlainWalletJournal}
 use Rattle.dex_script.specs.Drafts.{PlainScript}
+use Rattle.dex_wallet.specs.CellState.{balance_of}
 use Rattle.dex_token.specs.TokenAccount.{wallet_words, with_amount}
 
 -- a market with which a script starts
@@ -60,33 +61,27 @@ pub record IsOfStart (script : PlainScript) (outcome : PlainOutcome) : Type 0 wh
   pub wallet_journals : map (λ (journal : PlainWalletJournal). journal.address) outcome.wallets
       ≡ map address_of script.start.wallets
 
--- the outcome is what is left when these items have acted: the journals are those of that world, the accounts of markets
--- stand for its markets, and the wallets have its amounts and are else as they were
-pub record IsLeftBy (script : PlainScript) (items : List Item) (outcome : PlainOutcome) : Type 0 where
+-- the outcome is what is left of this world: the journals are its, the accounts of markets stand for its markets, and the wallets
+-- are as they were but for the amount, which reads as the balance there
+pub record IsLeftIn (script : PlainScript) (world : World) (outcome : PlainOutcome) : Type 0 where
   pub start : IsOfStart script outcome
   pub accepted : AreAccepted outcome.accounts
-  pub markets : map (λ (journal : PlainMarketJournal). journal.entries) outcome.markets
-      ≡ map (λ (state : MarketState). state.entries) (world_after script items).markets
-  pub wallets : map (λ (journal : PlainWalletJournal). journal.entries) outcome.wallets
-      ≡ map (λ (state : WalletState). state.entries) (world_after script items).wallets
+  pub markets : map (λ (journal : PlainMarketJournal). journal.entries) outcome.markets ≡ map (λ (state : MarketState). state.entries) world.markets
+  pub wallets : map (λ (journal : PlainWalletJournal). journal.entries) outcome.wallets ≡ map (λ (state : WalletState). state.entries) world.wallets
   pub stand : AllZip (λ (accounts : PlainMarketAccounts) (state : MarketState). StandsFor accounts state.market)
-      outcome.accounts.markets (world_after script items).markets
-  pub amounts : outcome.accounts.wallets ≡ with_amounts script.start.wallets (world_after script items).wallets
+      outcome.accounts.markets world.markets
+  pub amounts : outcome.accounts.wallets ≡ with_amounts script.start.wallets world.wallets
+  pub balances : map (λ (account : PlainAccount). balance_of account.bytes) outcome.accounts.wallets
+      ≡ map (λ (state : WalletState). state.seen.balance) world.wallets
+
+-- the outcome is what is left when these items have acted
+abbrev pub IsLeftBy : PlainScript → List Item → PlainOutcome → Type 0
+IsLeftBy script items outcome = IsLeftIn script (world_after script items) outcome
 
 -- the outcome is what is left when all items of the script have acted in their order
 abbrev pub IsReplayOf : PlainScript → PlainOutcome → Type 0
 IsReplayOf script outcome = IsLeftBy script (items_of script.rows) outcome
 
--- ---- rows one by one
-
 -- the outcome is what is left when these rows have acted, each by itself
-pub record IsLeftByRows (script : PlainScript) (rows : List PlainRow) (outcome : PlainOutcome) : Type 0 where
-  pub start : IsOfStart script outcome
-  pub accepted : AreAccepted outcome.accounts
-  pub markets : map (λ (journal : PlainMarketJournal). journal.entries) outcome.markets
-      ≡ map (λ (state : MarketState). state.entries) (fold rows (start_world script)).markets
-  pub wallets : map (λ (journal : PlainWalletJournal). journal.entries) outcome.wallets
-      ≡ map (λ (state : WalletState). state.entries) (fold rows (start_world script)).wallets
-  pub stand : AllZip (λ (accounts : PlainMarketAccounts) (state : MarketState). StandsFor accounts state.market)
-      outcome.accounts.markets (fold rows (start_world script)).markets
-  pub amounts : outcome.accounts.wallets ≡ with_amounts script.start.wallets (fold rows (start_world script)).wallets
+abbrev pub IsLeftByRows : PlainScript → List PlainRow → PlainOutcome → Type 0
+IsLeftByRows script rows outcome = IsLeftIn script (fold rows (start_world script)) outcome

@@ -1,5 +1,6 @@
 -- What every way to run a script promises of its outcome.
 use Rattle.std.specs.Prelude.{ℕ, ◌≡◌, List, All}
+use Rattle.dex_types.specs.Rows.{PlainRow}
 use Rattle.dex_accounts.specs.Decoded.{AreSound}
 use Rattle.dex_audit.specs.Audited.{IsConserved}
 use Rattle.dex_dump.specs.Accepted.{AreAccepted}
@@ -7,7 +8,7 @@ use Rattle.dex_fold.specs.Items.{Item, items_of, items_of_lane, rows_of_lane}
 use Rattle.dex_report.specs.Outcomes.{PlainOutcome}
 use Rattle.dex_script.specs.Drafts.{PlainScript}
 use Rattle.dex_replay.specs.Lawful.{IsLawful}
-use Rattle.dex_replay.specs.Replays.{IsLeftBy}
+use Rattle.dex_replay.specs.Replays.{IsLeftBy, IsLeftByRows}
 
 -- an order of items has the script's items, and of each lane in the lane's order
 abbrev pub KeepsLanes : PlainScript → List Item → Type 0
@@ -19,6 +20,13 @@ pub record IsOneOrder (script : PlainScript) (outcome : PlainOutcome) : Type 0 w
   pub order : List Item
   pub lanes : KeepsLanes script order
   pub replay : IsLeftBy script order outcome
+
+-- the outcome is what is left when rows have acted, each by itself, in an order that has the script's rows, and of each lane in
+-- the lane's order
+pub record IsOneOrderOfRows (script : PlainScript) (outcome : PlainOutcome) : Type 0 where
+  pub order : List PlainRow
+  pub lanes : (lane : ℕ) → rows_of_lane lane order ≡ rows_of_lane lane script.rows
+  pub replay : IsLeftByRows script order outcome
 
 -- the outcome is lawful; its accounts are accepted, and each market's those of a sound market; and of each mint the wallets and
 -- the vaults hold its supply together
