@@ -9,7 +9,6 @@ use Rattle.dex_types.specs.declared.refusals.Refusal.{Refusal}
 use Rattle.dex_types.specs.declared.replies.Reply.{Reply}
 use Rattle.dex_types.specs.declared.rows.Seen.{Seen}
 use Rattle.dex_types.specs.Addresses.{is_same}
-use Rattle.dex_types.specs.Accounts.{PlainMarketAccounts}
 use Rattle.dex_types.specs.Market.{Market}
 use Rattle.dex_types.specs.Rows.{PlainRow}
 use Rattle.dex_types.specs.Transfers.{Transfers}
@@ -26,8 +25,8 @@ use Rattle.dex_fold.specs.Fold.{act, acted, names, wallet_acted, wallet_moved}
 use Rattle.dex_fold.specs.Items.{ShareNothing, why_in, why_on}
 use Rattle.dex_fold.specs.World.{WalletState, World, market_at, seen_by}
 use Rattle.dex_fold.proofs.FarLaws.{why-far}
-use Rattle.dex_act.specs.Wallets.{is_among, made_of, wallet_state_of}
-use Rattle.dex_bank.specs.Cells.{AreCells, CanAct, CanWait, CellsState, IsTakeOrRefused, OthersStay, is_market, opened_of, world_of}
+use Rattle.dex_act.specs.Wallets.{made_of, wallet_state_of}
+use Rattle.dex_bank.specs.Cells.{AreCells, CanAct, CanWait, CellsState, IsTakeOrRefused, OthersStay, opened_of, world_of}
 use Rattle.dex_bank.specs.Stepping.{doing}
 use Rattle.dex_bank.proofs.StepWorld.{opened_market, same-markets, same-wallets}
 

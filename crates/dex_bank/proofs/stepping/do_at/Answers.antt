@@ -1,8 +1,7 @@
-use Rattle.std.proofs.Common.{◌≡◌, ◌||◌, Bool, true, false, List, get_or, refl, sym, ap, ◌∙◌, subst}
+use Rattle.std.proofs.Common.{◌≡◌, ◌||◌, Bool, true, List, get_or, refl, sym, ap, ◌∙◌, subst}
 use Rattle.dex_types.specs.Market.{Market}
-use Rattle.dex_types.specs.Rows.{PlainRow, row_of}
+use Rattle.dex_types.specs.Rows.{row_of}
 use Rattle.dex_types.specs.Steps.{Step}
-use Rattle.dex_types.specs.declared.replies.Reply.{Reply}
 use Rattle.dex_history.specs.Journal.{is_refusal, row_step}
 use Rattle.dex_cell.specs.CellState.{MarketCellState, market_at, refused_on}
 use Rattle.dex_fold.proofs.ItemLaws.{idle-step}
