@@ -20,8 +20,8 @@ use Rattle.dex_fold.specs.World.{MarketState, WalletState, World, market_at, see
 use Rattle.dex_act.specs.Wallets.{Fits, SeesCells, made_of, roles_of, wallet_state_of}
 use Rattle.dex_act.proofs.Sights.{row-sees, sees-cells}
 use Rattle.dex_bank.specs.Cells.{AreCells, CanAct, CanWait, CellsState, opened_of, world_of}
-use Rattle.dex_bank.specs.Stepping.{CanActAt, HaveActed, IsFirstAt}
-use Rattle.dex_bank.proofs.StepMarkets.{HasBecomeAt, market-found, markets-become-at, markets-kept, markets-opened}
+use Rattle.dex_bank.specs.Stepping.{CanActAt, HasBecomeAt, HaveActed, IsFirstAt}
+use Rattle.dex_bank.proofs.StepMarkets.{market-found, markets-become-at, markets-kept, markets-opened}
 
 module _ (row : Row) (seen : Seen) (place : ℕ) (cells : CellsState) (seen_is : seen ≡ seen_by (row_of row) (world_of cells))
     (first : IsFirstAt row.market cells.markets place) where
@@ -74,8 +74,8 @@ module _ (doing : PlainRow) (seen : Seen) (place : ℕ) (cells : CellsState) (se
     (first : IsFirstAt doing.market cells.markets place) (markets : List MarketCellState) (wallets : List CellState)
     (has : HasBecomeAt doing seen place cells.markets markets)
     (have :
-        (default : MarketCellState)
-        → HaveActed doing seen (row_step doing seen (market.market_at (get_or cells.markets place default))).transfers cells.wallets wallets) where
+    (default : MarketCellState)
+    → HaveActed doing seen (row_step doing seen (market.market_at (get_or cells.markets place default))).transfers cells.wallets wallets) where
   abbrev before : World
   before = world_of cells
 

@@ -24,7 +24,7 @@ use Rattle.dex_fold.specs.Items.{idle_row}
 use Rattle.dex_fold.specs.World.{MarketState, market_at}
 use Rattle.dex_fold.proofs.ItemLaws.{idle-step}
 use Rattle.dex_bank.specs.Cells.{OthersStay, accounts_in, market_state_of}
-use Rattle.dex_bank.specs.Stepping.{HasActedAt, HasHeldAt, IsFirstAt}
+use Rattle.dex_bank.specs.Stepping.{HasActedAt, HasBecomeAt, HasHeldAt, IsFirstAt}
 
 -- the address of the market that accounts tell is theirs
 listing-address : (accounts : PlainMarketAccounts) → (market_in accounts).listing.address ≡ accounts.address
@@ -65,15 +65,6 @@ acted-state row seen cell after acted =
     let state : Market → List Entry → MarketState = λ m entries. record { market = m; entries = entries } in
     ap (λ (m : Market). state m (entries_of after)) acted.market
     ∙ ap (state (step_on row seen cell).market) (ap (map entry) acted.calls ∙ map-append entry cell.calls (call_on row seen cell ∷ []))
-
--- the cell at the place has become what a row makes of it, and no other changed
-pub record HasBecomeAt (doing : PlainRow) (seen : Seen) (place : ℕ) (before after : List MarketCellState) : Type 0 where
-  pub cell : MarketCellState
-  pub is : after ≡ set before place cell
-  pub kept : IsMarketCell cell
-  pub state : (default : MarketCellState) → market_state_of cell ≡ market_acted doing seen (market_state_of (get_or before place default))
-  pub start : (default : MarketCellState) → cell.start ≡ (get_or before place default).start
-  pub room : (default : MarketCellState) → cell.room ≡ (get_or before place default).room
 
 -- where it acts
 pub acted-became : (row : Row) (seen : Seen) (place : ℕ) (before after : List MarketCellState) → HasActedAt row seen place before after

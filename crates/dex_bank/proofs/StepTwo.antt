@@ -1,5 +1,5 @@
 -- Two rows that share nothing, one behind the other.
-use Rattle.std.proofs.Common.{◌≡◌, ℕ, ◌<◌, Bool, true, false, cond, List, [], ◌∷◌, length, map, is_some, Option, Some, None, refl, sym, ap, ◌∙◌, subst, ⊎_elim}
+use Rattle.std.proofs.Common.{◌≡◌, ℕ, ◌<◌, ◌||◌, Bool, true, false, cond, List, [], ◌∷◌, length, map, is_some, Option, Some, None, refl, sym, ap, ◌∙◌, subst, ⊎_elim}
 use Rattle.std.specs.List.{All}
 use Rattle.std.proofs.lemmas.List.Elements.{All-nil, All-cons, All-head, All-tail}
 use Rattle.std.proofs.lemmas.Bool.{cases_Bool, false≢true}
@@ -9,7 +9,6 @@ use Rattle.dex_types.specs.declared.refusals.Refusal.{Refusal}
 use Rattle.dex_types.specs.declared.replies.Reply.{Reply}
 use Rattle.dex_types.specs.declared.rows.Seen.{Seen}
 use Rattle.dex_types.specs.Addresses.{is_same}
-use Rattle.dex_types.specs.Accounts.{PlainMarketAccounts}
 use Rattle.dex_types.specs.Market.{Market}
 use Rattle.dex_types.specs.Rows.{PlainRow}
 use Rattle.dex_types.specs.Transfers.{Transfers}
@@ -23,11 +22,12 @@ use Rattle.dex_cell.specs.CellState.{IsMarketCell, MarketCellState}
 use Rattle.dex_wallet.specs.CellState as wallet
 use Rattle.dex_wallet.specs.CellState.{CellState}
 use Rattle.dex_fold.specs.Fold.{act, acted, names, wallet_acted, wallet_moved}
-use Rattle.dex_fold.specs.Items.{ShareNothing, idle_row, why_in, why_on}
+use Rattle.dex_fold.specs.Items.{ShareNothing, why_in, why_on}
 use Rattle.dex_fold.specs.World.{WalletState, World, market_at, seen_by}
 use Rattle.dex_fold.proofs.FarLaws.{why-far}
-use Rattle.dex_act.specs.Wallets.{is_among, made_of, wallet_state_of}
-use Rattle.dex_bank.specs.Cells.{AreCells, CanAct, CanWait, CellsState, IsTakeOrRefused, OthersStay, is_market, opened_of, world_of}
+use Rattle.dex_act.specs.Wallets.{made_of, wallet_state_of}
+use Rattle.dex_bank.specs.Cells.{AreCells, CanAct, CanWait, CellsState, IsTakeOrRefused, OthersStay, opened_of, world_of}
+use Rattle.dex_bank.specs.Stepping.{doing}
 use Rattle.dex_bank.proofs.StepWorld.{opened_market, same-markets, same-wallets}
 
 -- a leg that is not refused can wait
@@ -42,7 +42,7 @@ can-wait row cells take spared = record {
     nothing (Some why) is = absurd (false≢true (sym is))
 
 -- a row that is refused is answered so
-pub refused-reply : (row : PlainRow) (world : World) (reply : Reply)
+refused-reply : (row : PlainRow) (world : World) (reply : Reply)
     → ((m : Market) → market_at row.market world.markets ≡ Some m → reply ≡ (row_step row (seen_by row world) m).reply)
     → is_some (why_in world row) ≡ true → is_refusal reply ≡ true
 refused-reply row world reply told refused = on (market_at row.market world.markets) refl refused
@@ -69,6 +69,7 @@ module _ (one other : PlainRow) (share : ShareNothing one other) where
     where
       address : new.accounts.address ≡ old.accounts.address
       address = is.one_market.address ∙ ap (λ (cell : MarketCellState). cell.start.address) alike ∙ sym was.one_market.address
+
       touched : is_same one.market old.accounts.address ≡ true → market.HasSpare new
       touched same =
           let both : one.market ≡ other.market =
@@ -152,18 +153,22 @@ module _ (one other : PlainRow) (share : ShareNothing one other) where
 
 -- ---- whether the first acts or waits
 
-abbrev pub doing_of : Bool → PlainRow → PlainRow
-doing_of waits row = cond waits (idle_row row) row
-
 module _ (one other : PlainRow) (share : ShareNothing one other) (before after : CellsState) (were : AreCells before) (are : AreCells after)
-    (kept : opened_of after ≡ opened_of before) (others : OthersStay one.market before.markets after.markets) where
-  idle-share : ShareNothing (idle_row one) other
-  idle-share = record { markets = share.markets; wallets = share.wallets }
+    (kept : opened_of after ≡ opened_of before) (others : OthersStay one.market before.markets after.markets)
+    (waits : Bool) (acts : world_of after ≡ act (doing waits one) (world_of before)) where
+  done-share : ShareNothing (doing waits one) other
+  done-share = record { markets = share.markets; wallets = share.wallets }
 
-  pub can-behind : (waits : Bool) → world_of after ≡ act (doing_of waits one) (world_of before) → CanAct other before → CanAct other after
-  can-behind true acts = act-behind (idle_row one) other idle-share before after were are kept others acts
-  can-behind false acts = act-behind one other share before after were are kept others acts
+  pub can-behind : CanAct other before → CanAct other after
+  can-behind = act-behind (doing waits one) other done-share before after were are kept others acts
 
-  pub why-still : (waits : Bool) → world_of after ≡ act (doing_of waits one) (world_of before) → why_in (world_of after) other ≡ why_in (world_of before) other
-  why-still true acts = why-behind (idle_row one) other idle-share before after were are kept others acts
-  why-still false acts = why-behind one other share before after were are kept others acts
+  pub why-still : why_in (world_of after) other ≡ why_in (world_of before) other
+  why-still = why-behind (doing waits one) other done-share before after were are kept others acts
+
+-- a row that waits where it is not refused waits, or is answered by a refusal
+pub waits-or-refused : (row : PlainRow) (world : World) (waits refused : Bool) (reply : Reply)
+    → ((m : Market) → market_at row.market world.markets ≡ Some m → reply ≡ (row_step (doing waits row) (seen_by row world) m).reply)
+    → refused ≡ is_some (why_in world row) → (refused ≡ false → waits ≡ true) → (waits || is_refusal reply) ≡ true
+waits-or-refused row world true refused reply told is spared = refl
+waits-or-refused row world false true reply told is spared = refused-reply row world reply told (sym is)
+waits-or-refused row world false false reply told is spared = absurd (false≢true (spared refl))

@@ -1,5 +1,5 @@
 -- A row at the place of its market.
-use Rattle.std.specs.Prelude.{◌≡◌, ℕ, ◌<◌, true, false, List, length, map, slice_index_or, slice_set}
+use Rattle.std.specs.Prelude.{◌≡◌, ℕ, ◌<◌, Bool, true, false, if◌then◌else◌, List, length, map, slice_index_or, slice_set}
 use Rattle.std.specs.List.{All}
 use Rattle.dex_types.specs.declared.addresses.Address.{Address}
 use Rattle.dex_types.specs.declared.rows.Row.{Row}
@@ -9,8 +9,10 @@ use Rattle.dex_types.specs.Rows.{PlainRow}
 use Rattle.dex_types.specs.Transfers.{Transfers}
 use Rattle.dex_cell.specs.CellState.{HasActed, HasSpare, IsFor, IsMarketCell, MarketCellState, held_on}
 use Rattle.dex_wallet.specs.CellState.{CellState, IsWalletCell}
-use Rattle.dex_fold.specs.Fold.{wallet_acted}
+use Rattle.dex_fold.specs.Fold.{market_acted, wallet_acted}
+use Rattle.dex_fold.specs.Items.{nothing_to_do}
 use Rattle.dex_act.specs.Wallets.{AreApart, SeesCells, made_of, wallet_state_of}
+use Rattle.dex_bank.specs.Cells.{market_state_of}
 
 -- the first of the cells whose market has this address stands at the place
 pub record IsFirstAt (address : Address) (cells : List MarketCellState) (place : ℕ) : Type 0 where
@@ -42,11 +44,25 @@ pub record HaveActed (row : PlainRow) (seen : Seen) (t : Transfers) (before afte
   pub apart : AreApart after
   pub made : map made_of after ≡ map made_of before
 
--- ---- a row that is held back
-
 -- the market at the place was held back, and no other changed
 pub record HasHeldAt (row : Row) (seen : Seen) (place : ℕ) (before after : List MarketCellState) : Type 0 where
   pub cell : MarketCellState
   pub is : after ≡ slice_set before place cell
   pub kept : IsMarketCell cell
   pub held : (default : MarketCellState) → cell ≡ held_on row seen (slice_index_or before place default)
+
+-- ---- a row that acts, or is held back
+
+-- what the row does: what it asks, or nothing
+abbrev pub doing : Bool → PlainRow → PlainRow
+doing waits row = record row { bytes = if waits then nothing_to_do else row.bytes }
+
+-- the cell at the place has become what such a row makes of it, and no other changed
+pub record HasBecomeAt (row : PlainRow) (seen : Seen) (place : ℕ) (before after : List MarketCellState) : Type 0 where
+  pub cell : MarketCellState
+  pub is : after ≡ slice_set before place cell
+  pub kept : IsMarketCell cell
+  pub state : (default : MarketCellState)
+      → market_state_of cell ≡ market_acted row seen (market_state_of (slice_index_or before place default))
+  pub start : (default : MarketCellState) → cell.start ≡ (slice_index_or before place default).start
+  pub room : (default : MarketCellState) → cell.room ≡ (slice_index_or before place default).room

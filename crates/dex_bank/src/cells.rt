@@ -6,7 +6,7 @@ use crate::closing::{closed, left_by};
 use crate::copying::accounts_copy;
 use crate::opening::opened;
 use crate::room::Room;
-use crate::stepping::{stepped, stepped_both};
+use crate::stepping::{act_or_wait, stepped_both};
 use dex_cell::MarketCell;
 use dex_report::Outcome;
 use dex_script::Script;
@@ -146,7 +146,7 @@ impl Cells {
             → spec.accounts_in self.new.markets ≡ spec.accounts_in self.old.markets }
         ensures cells { AreCells self.new }
     {
-        stepped(self, row)
+        act_or_wait(self, row, false)
     }
 
     /// Two legs of one swap act, both or neither, and these are their markets' replies. It takes no memory.

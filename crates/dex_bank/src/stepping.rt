@@ -1,6 +1,6 @@
 //! One row on all cells.
 
-ghost use Rattle.std.specs.Prelude.{◌≡◌, ◌<◌, ◌||◌, length, None, Some, true, if◌then◌else◌, is_some, map, slice_index_or, slice_set};
+ghost use Rattle.std.specs.Prelude.{◌≡◌, ◌<◌, ◌||◌, length, None, Some, true, is_some, map, slice_index_or, slice_set};
 ghost use Rattle.std.specs.List.{All};
 ghost use Rattle.dex_types.specs.declared.replies.Reply.TheVariants.{Done};
 ghost use Rattle.dex_types.specs.Market.{Market};
@@ -10,12 +10,12 @@ ghost use Rattle.dex_types.specs.Why.{why};
 ghost use Rattle.dex_history.specs.Journal.{is_refusal, request_of, row_step};
 ghost use Rattle.dex_cell.specs.CellState.{CanHold, IsFor, MarketCellState, market_at, refused_on, step_on};
 ghost use Rattle.dex_fold.specs.Fold as fold;
-ghost use Rattle.dex_fold.specs.Items.{act_item, idle_row, pair_of, why_in};
+ghost use Rattle.dex_fold.specs.Items.{act_item, pair_of, why_in};
 ghost use Rattle.dex_fold.specs.World as world;
 ghost use Rattle.dex_act.specs.Wallets.{Fits, roles_of, wallet_state_of};
 ghost use Rattle.dex_bank.specs.Cells.{AreCells, CanAct, CanActBoth, CanWait, OthersStay, accounts_in};
 ghost use Rattle.dex_bank.specs.Cells.{is_market, opened_of, world_of};
-ghost use Rattle.dex_bank.specs.Stepping.{CanActAt, HasActedAt, HasHeldAt, HaveActed, IsFirstAt};
+ghost use Rattle.dex_bank.specs.Stepping.{CanActAt, HasActedAt, HasBecomeAt, HasHeldAt, HaveActed, IsFirstAt, doing};
 
 use crate::cells::Cells;
 use dex_act::{act, hold, wallet_at};
@@ -90,24 +90,6 @@ fn act_at(
     act(&mut markets[place], wallets, row, seen)
 }
 
-/// A row acts on all cells.
-pub(crate) fn stepped(cells: &mut Cells, row: &Row) -> Reply
-    requires { CanAct (row_of row.now) cells.old }
-    ensures reply { (m : Market) → world.market_at row.entry.now.market (world_of cells.old).markets ≡ Some m
-        → result
-        ≡ (row_step (row_of row.entry.now) (world.seen_by (row_of row.entry.now) (world_of cells.old)) m).reply }
-    ensures acted { world_of cells.new ≡ fold.act (row_of row.entry.now) (world_of cells.old) }
-    ensures kept { opened_of cells.new ≡ opened_of cells.old }
-    ensures others { OthersStay row.entry.now.market cells.old.markets cells.new.markets }
-    ensures refused { is_refusal result ≡ true
-        → accounts_in cells.new.markets ≡ accounts_in cells.old.markets }
-    ensures cells { AreCells cells.new }
-{
-    let seen = seen_by(cells, row);
-    let place = place_of(&cells.markets, row.market);
-    act_at(&mut cells.markets, place, &mut cells.wallets, row, &seen)
-}
-
 /// A take is held back at the market at a place, and looks at the wallets that it names.
 fn hold_at(
     markets: &mut [MarketCell],
@@ -125,20 +107,56 @@ fn hold_at(
     hold(&mut markets[place], wallets, row, seen)
 }
 
-/// A take is held back on all cells: it does nothing, and looks at the wallets that it names.
-fn held(cells: &mut Cells, row: &Row) -> Reply
+/// A row acts, or is held back, at the market at a place.
+fn do_at(
+    markets: &mut [MarketCell],
+    place: usize,
+    wallets: &mut [WalletCell],
+    row: &Row,
+    seen: &Seen,
+    waits: bool,
+) -> Reply
+    requires row { CanActAt row.now seen.now place markets.old wallets.old }
+    requires held { waits ≡ true
+        → (default : MarketCellState) → CanHold row.now seen.now (slice_index_or markets.old place default) }
+    ensures reply { (default : MarketCellState) → result
+        ≡ (row_step (doing waits (row_of row.entry.now)) seen.now (market_at (slice_index_or markets.old place default))).reply }
+    ensures market { HasBecomeAt (doing waits (row_of row.entry.now)) seen.now place markets.old markets.new }
+    ensures stays { (waits || is_refusal result) ≡ true → accounts_in markets.new ≡ accounts_in markets.old }
+    ensures wallets { (default : MarketCellState) → let done = doing waits (row_of row.entry.now) in
+        HaveActed done seen.now (row_step done seen.now (market_at (slice_index_or markets.old place default))).transfers
+        wallets.old wallets.new }
+{
+    if waits {
+        hold_at(markets, place, wallets, row, seen)
+    } else {
+        act_at(markets, place, wallets, row, seen)
+    }
+}
+
+/// A row acts on all cells, or is held back on them: then it does nothing, and looks at the wallets that it names.
+pub(crate) fn act_or_wait(cells: &mut Cells, row: &Row, waits: bool) -> Reply
     requires row { CanAct (row_of row.now) cells.old }
-    requires held { CanWait (row_of row.now) cells.old }
-    ensures reply { result ≡ Done }
-    ensures acted { world_of cells.new ≡ fold.act (idle_row (row_of row.entry.now)) (world_of cells.old) }
+    requires held { waits ≡ true → CanWait (row_of row.now) cells.old }
+    ensures reply { (m : Market) → world.market_at row.entry.now.market (world_of cells.old).markets ≡ Some m
+        → result ≡ (row_step (doing waits (row_of row.entry.now))
+        (world.seen_by (row_of row.entry.now) (world_of cells.old)) m).reply }
+    ensures acted { world_of cells.new ≡ fold.act (doing waits (row_of row.entry.now)) (world_of cells.old) }
     ensures kept { opened_of cells.new ≡ opened_of cells.old }
     ensures others { OthersStay row.entry.now.market cells.old.markets cells.new.markets }
-    ensures accounts { accounts_in cells.new.markets ≡ accounts_in cells.old.markets }
+    ensures stays { (waits || is_refusal result) ≡ true → accounts_in cells.new.markets ≡ accounts_in cells.old.markets }
     ensures cells { AreCells cells.new }
 {
     let seen = seen_by(cells, row);
     let place = place_of(&cells.markets, row.market);
-    hold_at(&mut cells.markets, place, &mut cells.wallets, row, &seen)
+    do_at(
+        &mut cells.markets,
+        place,
+        &mut cells.wallets,
+        row,
+        &seen,
+        waits,
+    )
 }
 
 /// Whether the market at a place would refuse a row.
@@ -160,26 +178,6 @@ fn is_refused(cells: &Cells, row: &Row) -> bool
     let seen = seen_by(cells, row);
     let place = place_of(&cells.markets, row.market);
     is_refused_at(&cells.markets, place, row, &seen)
-}
-
-/// A row acts, or is held back.
-fn act_or_wait(cells: &mut Cells, row: &Row, waits: bool) -> Reply
-    requires row { CanAct (row_of row.now) cells.old }
-    requires held { waits ≡ true → CanWait (row_of row.now) cells.old }
-    ensures acted { world_of cells.new
-        ≡ fold.act (if waits then idle_row (row_of row.entry.now) else row_of row.entry.now) (world_of cells.old) }
-    ensures kept { opened_of cells.new ≡ opened_of cells.old }
-    ensures others { OthersStay row.entry.now.market cells.old.markets cells.new.markets }
-    ensures accounts { waits ≡ true → accounts_in cells.new.markets ≡ accounts_in cells.old.markets }
-    ensures stays { is_some (why_in (world_of cells.old) (row_of row.entry.now)) ≡ true
-        → accounts_in cells.new.markets ≡ accounts_in cells.old.markets }
-    ensures cells { AreCells cells.new }
-{
-    if waits {
-        held(cells, row)
-    } else {
-        stepped(cells, row)
-    }
 }
 
 /// Two legs of one swap act, both or neither.

@@ -8,7 +8,6 @@ mod Items
 pub mod LastAccounts
 mod Lawfulness
 pub mod MappedLists
-mod Moving
 mod Numbers
 pub mod Once
 pub mod Orders

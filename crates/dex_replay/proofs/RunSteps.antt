@@ -1,5 +1,5 @@
 -- One row more leaves a run of rows with that row.
-use Rattle.std.proofs.Common.{◌≡◌, ℕ, ◌≤◌, ◌<◌, ⊎_elim, length, Bool, true, false, ◌||◌, cond, List, [], ◌∷◌, ◌++◌, map, get_or, Option, Some, refl, sym, ap, ◌∙◌, subst, arith}
+use Rattle.std.proofs.Common.{◌≡◌, ℕ, ◌≤◌, ⊎_elim, Bool, true, false, ◌||◌, cond, List, [], ◌∷◌, ◌++◌, map, get_or, Option, Some, refl, sym, ap, ◌∙◌, subst, arith}
 use Rattle.std.specs.List.{All, AllZip, Contains, list_any}
 use Rattle.std.proofs.lemmas.Bool.{cases_Bool, cond-true, cond-false, cond_both, false≢true}
 use Rattle.std.proofs.lemmas.List.{map_push}
@@ -26,6 +26,7 @@ use Rattle.dex_accounts.specs.Decoded.{AreSound, market_in}
 use Rattle.dex_history.specs.Journal.{Asked, Call, Sees, Stands, asked_of, front, market_after, request_of, row_step, wallet_entry_of}
 use Rattle.dex_history.proofs.HistoryLaws.{IsLegal-one, IsWalletLegal-one, balance_after-append, market_after-one}
 use Rattle.dex_history.proofs.PriceLaws.{calls-sound}
+use Rattle.dex_history.proofs.StepMints.{row-of}
 use Rattle.dex_history.proofs.StepMoves.{row-moves}
 use Rattle.dex_history.proofs.WalletLaws.{places-movements, wallet-movement_by}
 use Rattle.dex_movements.specs.Entries.{entry_by, wallet_entry_by}
@@ -42,10 +43,9 @@ use Rattle.dex_replay.specs.Lawful.{IsSight, Origin, origin_of_entry, origin_of_
 use Rattle.dex_replay.specs.Replays.{market_state, start_world, wallet_state}
 use Rattle.dex_replay.proofs.LastAccounts.{listing-in, market_after-listing}
 use Rattle.dex_replay.proofs.MappedLists.{Any-map, filter-push_no, filter-push_yes, zip-map}
-use Rattle.dex_replay.proofs.Holdings.{markets-hold}
-use Rattle.dex_replay.proofs.Moving.{CanMoveIt, IsThere, before-movement, wallets-hold}
+use Rattle.dex_replay.proofs.Holdings.{CanMoveIt, markets-hold, wallets-hold}
 use Rattle.dex_replay.proofs.Runs.{AllStandIn, IsHistory, IsMoved, IsRun, StandIn, StandsIn, Told, naming, on, origin_of, row-sees, row-sight, said, said_of, still-there}
-use Rattle.dex_replay.proofs.Sights.{AreOnce, address_in, sees-wallets}
+use Rattle.dex_replay.proofs.Sights.{AreOnce, address_in, before-movement, sees-balances}
 use Rattle.dex_replay.proofs.Room.{roles-all}
 use Rattle.dex_replay.proofs.Doing.{Does, doing, made, sees-doing}
 use Rattle.dex_replay.proofs.Once.{market-once, wallet-once}
@@ -350,9 +350,10 @@ module _ (script : PlainScript) (start : IsStart script.start) (done : List Told
         let own : Sees (asked_of (doing row bytes)) seen = sees-doing row bytes seen sees in
         let sound : IsSound m = sound-at row.market m script.start.markets world.markets run.markets start.sound at in
         let t : Transfers = (row_step (doing row bytes) seen m).transfers in
-        let known : All (IsThere world.wallets) (row_wallets row) = roles-all (IsThere world.wallets) script.start
+        let known : All (λ (address : Address). list_any (λ (state : WalletState). is_same address state.seen.address) world.wallets ≡ true) (row_wallets row) =
+        roles-all (λ (address : Address). list_any (λ (state : WalletState). is_same address state.seen.address) world.wallets ≡ true) script.start
         (λ address has. still-there script done address script.start.wallets world.wallets run.wallets ∙ has) row fits in
-        let balance = λ (k : ℕ) (d : WalletState) (within : k < length world.wallets). (sees-wallets row world states-once k d within).balance in
+        let balance = sees-balances row world states-once in
         let can : All (CanMoveIt row seen t) world.wallets = λ k d within named.
         let address : Address = (get_or world.wallets k d).seen.address in
         let move : Movement = movement_of seen t address in
@@ -374,8 +375,9 @@ module _ (script : PlainScript) (start : IsStart script.start) (done : List Told
           holds = λ mint. omega (
             arith,
             run.holds mint,
-            markets-hold mint (doing row bytes) seen m sound own world.markets at,
-            wallets-hold row world t sees states-once known mint can,
+            markets-hold mint (doing row bytes) seen m sound world.markets at,
+            wallets-hold row world t (λ address. (row-moves (asked_of (doing row bytes)) seen m address sound own).one_way) mint m
+                (row-of (asked_of (doing row bytes)) seen m) states-once can,
           );
         } in
         subst (λ (one : Option Market). IsRun script (done ++ record { row = row; reply = (row_step (doing row bytes) seen m).reply } ∷ []) (acted (doing row bytes) one world)) (sym at) next

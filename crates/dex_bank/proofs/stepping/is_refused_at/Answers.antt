@@ -1,4 +1,4 @@
-use Rattle.std.proofs.Common.{◌≡◌, get_or, is_some, sym, ap, ◌∙◌}
+use Rattle.std.proofs.Common.{◌≡◌, get_or, is_some, ap, ◌∙◌}
 use Rattle.std.specs.Result.{is_err}
 use Rattle.std.proofs.lemmas.List.{get_or_read}
 use Rattle.dex_types.specs.Rows.{row_of}

@@ -1,10 +1,10 @@
-use Rattle.std.proofs.Common.{◌≡◌, ◌||◌, Bool, true, false, not, is_some, Option, sym, ap, ◌∙◌, ⊎_elim}
-use Rattle.std.proofs.lemmas.Bool.{cases_Bool, false≢true, not-true}
+use Rattle.std.proofs.Common.{◌≡◌, ◌||◌, Bool, true, false, not, is_some, Option, sym, ap, ◌∙◌}
+use Rattle.std.proofs.lemmas.Bool.{false≢true, not-true}
 use Rattle.dex_types.specs.declared.refusals.Refusal.{Refusal}
 use Rattle.dex_types.specs.Rows.{row_of}
 use Rattle.dex_fold.specs.Items.{why_in}
-use Rattle.dex_bank.specs.Cells.{CellsState, accounts_in, world_of}
-use Rattle.dex_bank.proofs.StepTwo.{can-behind, can-wait, why-still}
+use Rattle.dex_bank.specs.Cells.{CellsState, world_of}
+use Rattle.dex_bank.proofs.StepTwo.{can-behind, can-wait, waits-or-refused, why-still}
 use Rattle.dex_bank.proofs.stepping.stepped_both.Goals as goal
 use Rattle.dex_bank.proofs.stepping.stepped_both.Goals.{else-any, else-any-2, else-first_refused, then-any, then-any-2, then-first_refused}
 
@@ -66,9 +66,8 @@ returns-clause-stays c = λ some.
       | then-any-2 w ↦ w.act_or_wait-is ∙ ap not spared
       | else-any-2 w ↦ absurd (false≢true (sym w.if-any-2.false ∙ any))
     ] in
-    let first_stays : accounts_in after.markets ≡ accounts_in before.markets =
-    ⊎_elim (λ (is : one ≡ true). c.act_or_wait-one.ensures.stays (sym one_is ∙ is)) (λ (isnt : one ≡ false). c.act_or_wait-one.ensures.accounts (first_waits isnt)) (cases_Bool one) in
-    ⊎_elim
-    (λ (is : two ≡ true). c.act_or_wait-two.ensures.stays (ap (λ (found : Option Refusal). is_some found) same ∙ sym two_is ∙ is))
-    (λ (isnt : two ≡ false). c.act_or_wait-two.ensures.accounts (second_waits isnt)) (cases_Bool two)
-    ∙ first_stays
+    let two_told : two ≡ is_some (why_in (world_of after) second) = two_is ∙ ap (λ (found : Option Refusal). is_some found) (sym same) in
+    c.act_or_wait-two.ensures.stays
+    (waits-or-refused second (world_of after) c.if-any-2.act_or_wait two c.act_or_wait-two.result c.act_or_wait-two.ensures.reply two_told second_waits)
+    ∙ c.act_or_wait-one.ensures.stays
+    (waits-or-refused first (world_of before) c.if-any.act_or_wait one c.act_or_wait-one.result c.act_or_wait-one.ensures.reply one_is first_waits)
