@@ -100,8 +100,8 @@ pub fn act(market: &mut MarketCell, wallets: &mut [WalletCell], row: &Row, seen:
     reply
 }
 
-/// A take that is held back, since another row of its number is refused: its market writes down that nothing was to do, and it looks
-/// at the wallets that it names. No account changes.
+/// A take is held back, for a row whose item is refused elsewhere: its market writes down that nothing was to do, and it looks at the
+/// wallets that it names. No account changes.
 pub fn hold(market: &mut MarketCell, wallets: &mut [WalletCell], row: &Row, seen: &Seen) -> Reply
     requires row { IsFor row.now seen.now market.old }
     requires market { IsMarketCell market.old }

@@ -149,7 +149,8 @@ impl Cells {
         act_or_wait(self, row, false)
     }
 
-    /// Two legs of one swap act, both or neither, and these are their markets' replies. It takes no memory.
+    /// Two legs of one swap act, both or neither. It answers what their markets answered, of which no clause speaks yet, and takes no
+    /// memory.
     pub fn step_two(&mut self, first: &Row, second: &Row) -> (Reply, Reply)
         requires { CanActBoth (row_of first.now) (row_of second.now) self.old }
         ensures acted { spec.world_of self.new

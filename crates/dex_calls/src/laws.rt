@@ -12,7 +12,7 @@ ghost use Rattle.dex_script.specs.Drafts.{PlainScript};
 ghost use Rattle.dex_script.specs.Facts.{IsScript};
 ghost use Rattle.dex_calls.specs.Told.{IsCallOf, TellsHistory, call_told, calls_told};
 
-/// The call of an entry of a lawful journal is the one that the script and the entry tell.
+/// The call of an entry of a lawful journal is the one that the script, the market and the entry tell.
 pub fn an_entry_tells_its_call()
     ensures call { (script : PlainScript) → IsScript script → (row : PlainRow) (m : Market) (call : Call)
         → IsCallOf script row m call → call_told script row.market call.entry ≡ Some call }

@@ -201,8 +201,8 @@ impl MarketCell {
         append(&mut self.entries, entry);
     }
 
-    /// Writes down that a take is held back, which would not be refused, since another row of its number is: the journal has one
-    /// entry more, its reply is that it is done, and all accounts stay as they are, byte by byte.
+    /// Writes down that a take is held back which would not be refused, for a row whose item is refused elsewhere: the journal has
+    /// one entry more, its reply is that it is done, and all accounts stay as they are, byte by byte.
     pub fn idle(&mut self, row: &Row, seen: &Seen) -> Reply
         requires row { IsFor row.now seen.now self.old }
         requires held { CanHold row.now seen.now self.old }
