@@ -10,6 +10,7 @@ use Rattle.dex_script.specs.Facts.{IsRowOf}
 use Rattle.dex_stamps.specs.Stamped.{Stamped}
 use Rattle.dex_fold.specs.Items.{rows_of_lane}
 use Rattle.dex_replay.specs.Lawful.{IsSight}
+use Rattle.dex_replay.proofs.MappedLists.{head-same, tail-same}
 use Rattle.dex_order.specs.Lanes.{IsLaneDone, Lane}
 
 -- a row of the script asked for a call, which saw what a row of it may see
@@ -36,13 +37,6 @@ stamp_in item = item.call.stamp
 abbrev pub asked_in : Stamped Call → Asked
 asked_in call = call.item.asked
 
--- equal lists have equal firsts and equal rests
-pub first-same : {A : Type 0} (x y : A) (xs ys : List A) → x ∷ xs ≡ y ∷ ys → x ≡ y
-first-same x y xs ys same = cc
-
-pub rest-same : {A : Type 0} (x y : A) (xs ys : List A) → x ∷ xs ≡ y ∷ ys → xs ≡ ys
-rest-same x y xs ys same = cc
-
 -- ---- calls beside rows
 
 module _ (script : PlainScript) where
@@ -56,11 +50,11 @@ module _ (script : PlainScript) where
   each-asked (call ∷ calls) [] same sees fit = absurd (cc)
   each-asked (call ∷ calls) (row ∷ rows) same sees fit = (
     record {
-      asks = first-same (asked_in call) (asked_of row) (map asked_in calls) (map asked_of rows) same;
+      asks = head-same same;
       sight = All-head Sees call calls sees;
       fits = All-head (IsRowOf script.start) row rows fit;
     },
-    each-asked calls rows (rest-same (asked_in call) (asked_of row) (map asked_in calls) (map asked_of rows) same) (All-tail Sees call calls sees)
+    each-asked calls rows (tail-same same) (All-tail Sees call calls sees)
         (All-tail (IsRowOf script.start) row rows fit),
   )
 

@@ -14,10 +14,10 @@ use Rattle.dex_fold.proofs.GroupLaws.{EachTwo, Goes, IsOneStamp, Rise, grouped-a
 use Rattle.dex_script.specs.Drafts.{PlainScript}
 use Rattle.dex_script.specs.Facts.{AreRows}
 use Rattle.dex_replay.proofs.Groups.{each-two, each-two-weaker, filter-all, filter-none}
-use Rattle.dex_replay.proofs.MappedLists.{All-unmap}
+use Rattle.dex_replay.proofs.MappedLists.{All-unmap, head-same, tail-same}
 use Rattle.dex_replay.proofs.Orders.{items-apart}
 use Rattle.dex_order.specs.Lanes.{AreAllOrNone, IsAsOthers, IsBefore, IsLaneDone, Lane, number_in}
-use Rattle.dex_order.proofs.Items.{Item, all_items, call_in, first-same, lane-calls, lane-rows, lane_items, rest-same, row_in, stamp_in}
+use Rattle.dex_order.proofs.Items.{Item, all_items, call_in, lane-calls, lane-rows, lane_items, row_in, stamp_in}
 use Rattle.dex_order.proofs.Sorted.{Rises}
 
 -- ---- one of them
@@ -192,12 +192,12 @@ module _ (script : PlainScript) (facts : AreRows script) where
       let here : IsLaneDone script lane = All-head (IsLaneDone script) lane lanes done in
       let rest : All (IsLaneDone script) lanes = All-tail (IsLaneDone script) lane lanes done in
       let mine : lane.number ≡ first =
-      first-same lane.number first (map (λ (one : Lane). one.number) lanes) (range_with_len (first + 1) count) numbers in
+      head-same numbers in
       filter-append (IsOf number) (lane_turns lane here) (all_turns lanes rest)
       ∙ ap (λ (some : List (Turn script)). some ++ filter (IsOf number) (all_turns lanes rest))
       (lane-other number lane here (λ same. absurd (omega (arith, same, mine, below))))
       ∙ none-below number (first + 1) count lanes rest (omega (arith, below))
-      (rest-same lane.number first (map (λ (one : Lane). one.number) lanes) (range_with_len (first + 1) count) numbers)
+      (tail-same numbers)
 
   -- those of one lane rise, and are the items of its rows
   pub record IsPart (number : ℕ) (some : List (Turn script)) (there : Bool) : Type 0 where
@@ -214,9 +214,9 @@ module _ (script : PlainScript) (facts : AreRows script) where
       let here : IsLaneDone script lane = All-head (IsLaneDone script) lane lanes done in
       let rest : All (IsLaneDone script) lanes = All-tail (IsLaneDone script) lane lanes done in
       let mine : lane.number ≡ first =
-      first-same lane.number first (map (λ (one : Lane). one.number) lanes) (range_with_len (first + 1) count) numbers in
+      head-same numbers in
       let later : map (λ (one : Lane). one.number) lanes ≡ range_with_len (first + 1) count =
-      rest-same lane.number first (map (λ (one : Lane). one.number) lanes) (range_with_len (first + 1) count) numbers in
+      tail-same numbers in
       let split = filter-append (IsOf number) (lane_turns lane here) (all_turns lanes rest) in
       let there : Bool = list_any (eqb number) (range_with_len (first + 1) count) in
       ⊎_elim

@@ -1,5 +1,5 @@
 -- How many calls a lane has made on a market and on a wallet, before one of its rows.
-use Rattle.std.proofs.Common.{◌≡◌, ℕ, suc, ◌+◌, ◌<◌, ◌==◌, Bool, true, false, ◌||◌, cond, List, [], ◌∷◌, ◌++◌, length, map, take, refl, sym, ap, ◌∙◌, subst, arith, ⊎_elim}
+use Rattle.std.proofs.Common.{◌≡◌, ℕ, ◌+◌, ◌<◌, ◌==◌, Bool, true, false, ◌||◌, cond, List, [], ◌∷◌, ◌++◌, length, map, take, refl, sym, ap, ◌∙◌, subst, arith, ⊎_elim}
 use Rattle.std.specs.List.{All, filter, list_any}
 use Rattle.std.proofs.lemmas.Bool.{cases_Bool, cond-true, cond-false, false≢true}
 use Rattle.std.proofs.lemmas.List.{length-append, length-map}
@@ -15,7 +15,7 @@ use Rattle.dex_fold.specs.Fold.{names}
 use Rattle.dex_replay.specs.Lawful.{rows_of_market, rows_of_wallet}
 use Rattle.dex_script.specs.Drafts.{PlainScript}
 use Rattle.dex_stamps.specs.Stamped.{Stamped, stamped}
-use Rattle.dex_replay.proofs.MappedLists.{filter-of}
+use Rattle.dex_replay.proofs.MappedLists.{filter-of, filter-swap}
 use Rattle.dex_journals.proofs.StampedLists.{items_of-stamped}
 use Rattle.dex_journals.specs.Made.{calls_on, entries_in, entries_on, entry_made}
 use Rattle.dex_fold.specs.Items.{rows_of_lane}
@@ -27,17 +27,6 @@ use Rattle.dex_run.proofs.Once.{some-any}
 -- ---- filters
 
 module _ {A : Type 0} where
-  pub filter-comm : (p q : A → Bool) (xs : List A) → filter p (filter q xs) ≡ filter q (filter p xs)
-  filter-comm p q [] = refl
-  filter-comm p q (x ∷ xs) =
-      let rest : filter p (filter q xs) ≡ filter q (filter p xs) = filter-comm p q xs in
-      ⊎_elim
-      (λ (one : p x ≡ true).
-      ⊎_elim (λ (two : q x ≡ true). rw (two, one, two) (ap (λ (l : List A). x ∷ l) rest)) (λ (two : q x ≡ false). rw (two, one, two) rest) (cases_Bool (q x)))
-      (λ (one : p x ≡ false).
-      ⊎_elim (λ (two : q x ≡ true). rw (two, one) rest) (λ (two : q x ≡ false). rw (two, one) rest) (cases_Bool (q x)))
-      (cases_Bool (p x))
-
   -- one element more that passes, in the midst
   pub filter-fewer : (q : A → Bool) (front : List A) (x : A) (later : List A) → q x ≡ true → length (filter q front) < length (filter q (front ++ x ∷ later))
   filter-fewer q front x later passes =
@@ -129,7 +118,7 @@ calls-pass q calls rows are =
 fewer : (lane : ℕ) (q : PlainRow → Bool) (rows done later : List PlainRow) (row : PlainRow) → rows_of_lane lane rows ≡ done ++ row ∷ later → q row ≡ true
     → length (filter q done) < length (filter (λ (r : PlainRow). r.lane == lane) (filter q rows))
 fewer lane q rows done later row are passes =
-    subst (λ (l : List PlainRow). length (filter q done) < length l) (sym (filter-comm (λ (r : PlainRow). r.lane == lane) q rows))
+    subst (λ (l : List PlainRow). length (filter q done) < length l) (sym (filter-swap (λ (r : PlainRow). r.lane == lane) q rows))
     (subst (λ (l : List PlainRow). length (filter q done) < length (filter q l)) (sym are) (filter-fewer q done row later passes))
 
 module _ (row : PlainRow) (calls : List (Stamped Call)) (address : Address) where

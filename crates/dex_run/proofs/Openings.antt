@@ -30,19 +30,6 @@ zip-push R [] (z ∷ ys) x y all one = absurd all
 zip-push R (z ∷ xs) [] x y all one = absurd all
 zip-push R (z ∷ xs) (w ∷ ys) x y all one = (all.0, zip-push R xs ys x y all.1 one)
 
-pub zip-at : {A B : Type 0} (R : A → B → Type 0) (xs : List A) (ys : List B) (i : ℕ) (d : A) (e : B) → AllZip R xs ys → i < length xs
-    → R (get_or xs i d) (get_or ys i e)
-zip-at R [] ys i d e all within = absurd (omega (arith, within))
-zip-at R (x ∷ xs) [] i d e all within = absurd all
-zip-at R (x ∷ xs) (y ∷ ys) zero d e all within = all.0
-zip-at R (x ∷ xs) (y ∷ ys) (suc i) d e all within = zip-at R xs ys i d e all.1 (omega (arith, within))
-
-pub zip-length : {A B : Type 0} (R : A → B → Type 0) (xs : List A) (ys : List B) → AllZip R xs ys → length xs ≡ length ys
-zip-length R [] [] all = refl
-zip-length R [] (y ∷ ys) all = absurd all
-zip-length R (x ∷ xs) [] all = absurd all
-zip-length R (x ∷ xs) (y ∷ ys) all = ap suc (zip-length R xs ys all.1)
-
 pub zip-map : {A B C : Type 0} (P : A → B → Type 0) (Q : A → C → Type 0) (f : B → C) → ((x : A) (y : B) → P x y → Q x (f y))
     → (xs : List A) (ys : List B) → AllZip P xs ys → AllZip Q xs (map f ys)
 zip-map P Q f each [] [] all = tt

@@ -1,9 +1,10 @@
 -- A seat before and after a row.
-use Rattle.std.proofs.Common.{◌≡◌, ℕ, zero, suc, ◌+◌, ◌<◌, ◌≤◌, ◌==◌, Bool, true, false, ◌||◌, cond, List, [], ◌∷◌, ◌++◌, length, map, set, get_or, take, Some, refl, sym, ap, ◌∙◌, subst, arith}
+use Rattle.std.proofs.Common.{◌≡◌, ℕ, zero, suc, ◌<◌, ◌≤◌, ◌==◌, Bool, true, false, ◌||◌, cond, List, [], ◌∷◌, ◌++◌, length, map, set, get_or, take, Some, refl, sym, ap, ◌∙◌, subst, arith}
 use Rattle.std.specs.List.{All, AllZip, list_any}
 use Rattle.std.proofs.lemmas.Bool.{eqb-true}
 use Rattle.std.proofs.lemmas.List.{append-nil, append_assoc, get_or-map, length-map}
 use Rattle.std.proofs.lemmas.List.Elements.{All-filter, All-push, All-weaker, filter-append, filter_passes}
+use Rattle.std.proofs.lemmas.Slice.Zip.{AllZip-long}
 use Rattle.dex_types.specs.declared.addresses.Address.{Address}
 use Rattle.dex_types.specs.declared.movements.WalletEntry.{WalletEntry}
 use Rattle.dex_types.specs.Accounts.{PlainAccount, PlainMarketAccounts}
@@ -37,7 +38,7 @@ use Rattle.dex_run.proofs.Entering.{MarketPass}
 use Rattle.dex_order.proofs.LaneGrowth.{lane-more}
 use Rattle.dex_run.proofs.Growing.{Differ, WalletPass, gates-grown, passes-grown, set-three}
 use Rattle.dex_run.proofs.RowMore.{row-more}
-use Rattle.dex_run.proofs.Taking.{all-midst, same-get, zip-at, zip-long}
+use Rattle.dex_run.proofs.Taking.{all-midst, same-get, zip-at}
 
 -- ---- before
 
@@ -63,7 +64,7 @@ within-gates bank kept address place at =
       arith,
       at.within,
       length-map bank.script.start.markets (λ (accounts : PlainMarketAccounts). accounts.address),
-      zip-long (IsMarketGate bank.script) bank.script.start.markets bank.markets kept.markets,
+      AllZip-long (IsMarketGate bank.script) bank.script.start.markets bank.markets kept.markets,
     )
 
 abbrev IsAtMarket : GateView (Stamped Call) MarketOrigin → MarketPass → Type 0
@@ -127,7 +128,7 @@ module _ (bank : BankState) (row : PlainRow) (before : SeatState) (next : IsNext
       passes-kept = subst (λ (s : PlainScript). AllZip (IsMarketPass before.lane before.calls) s.start.markets before.markets) of.script kept.markets
 
       pub within-passes : place < length before.markets
-      within-passes = omega (arith, within, zip-long (IsMarketPass before.lane before.calls) market_starts before.markets passes-kept)
+      within-passes = omega (arith, within, AllZip-long (IsMarketPass before.lane before.calls) market_starts before.markets passes-kept)
 
       -- the pass of the row's market may draw
       pub enters : (d : PlainMarketAccounts) (gate : GateView (Stamped Call) MarketOrigin) (pass : MarketPass) → gate ≡ get_or bank.markets place gate
@@ -255,7 +256,7 @@ module _ (bank : BankState) (row : PlainRow) (before : SeatState) (next : IsNext
       let inside_passes = within-passes bank row before next bank_kept of kept place at in
       let inside = within bank row before next bank_kept of kept place at in
       markets-grow row call asked bank.script.start.markets before.markets place pass left (markets-differ bank.script.start bank_kept.script.start.accepted) inside
-      (zip-long (IsMarketPass before.lane before.calls) bank.script.start.markets before.markets (passes-kept bank row before next bank_kept of kept place at))
+      (AllZip-long (IsMarketPass before.lane before.calls) bank.script.start.markets before.markets (passes-kept bank row before next bank_kept of kept place at))
       (here bank row before next bank_kept of kept place at) pass_is
       (λ d e.
       subst (λ (p : MarketPass). HasCalled call (get_or bank.script.start.markets place d) p left) (pass_is ∙ same-get before.markets place pass e inside_passes)

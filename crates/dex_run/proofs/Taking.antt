@@ -5,6 +5,7 @@ use Rattle.std.proofs.lemmas.Bool.{cond_both, or_left, or_right}
 use Rattle.std.proofs.lemmas.List.{get_or-map, length-map}
 use Rattle.std.proofs.lemmas.List.Elements.{All-nil, All-cons, All-head, All-tail, All-push}
 use Rattle.std.proofs.Math.Seq.{take-length}
+use Rattle.std.proofs.lemmas.Slice.Zip.{AllZip-long}
 use Rattle.dex_types.specs.declared.addresses.Address.{Address}
 use Rattle.dex_types.specs.declared.movements.WalletEntry.{WalletEntry}
 use Rattle.dex_types.specs.Accounts.{PlainAccount}
@@ -46,12 +47,6 @@ module _ {A B : Type 0} (R : A → B → Type 0) where
   zip-at (x ∷ xs) [] place d e all within = absurd all
   zip-at (x ∷ xs) (y ∷ ys) zero d e all within = all.0
   zip-at (x ∷ xs) (y ∷ ys) (suc place) d e all within = zip-at xs ys place d e all.1 (omega (arith, within))
-
-  pub zip-long : (xs : List A) (ys : List B) → AllZip R xs ys → length ys ≡ length xs
-  zip-long [] [] all = refl
-  zip-long [] (y ∷ ys) all = absurd all
-  zip-long (x ∷ xs) [] all = absurd all
-  zip-long (x ∷ xs) (y ∷ ys) all = ap suc (zip-long xs ys all.1)
 
 pub three-long : {A B C : Type 0} (R : A → B → C → Type 0) (xs : List A) (ys : List B) (zs : List C) → AllThree R xs ys zs → (length ys ≡ length xs) × (length zs ≡ length xs)
 three-long R [] [] [] all = (refl, refl)
@@ -155,10 +150,10 @@ module _ (bank : BankState) (row : PlainRow) (calls : List (Stamped _)) (address
     here d = sym (get_or-map (λ (account : PlainAccount). account.address) starts place d address within) ∙ at.here address
 
     pub within-gates : place < length bank.wallets
-    within-gates = omega (arith, within, zip-long (IsWalletGate bank.script) starts bank.wallets kept.wallets)
+    within-gates = omega (arith, within, AllZip-long (IsWalletGate bank.script) starts bank.wallets kept.wallets)
 
     pub within-passes : place < length passes
-    within-passes = omega (arith, within, zip-long (MayDraw row.lane calls (address ∷ others)) starts passes ready.each)
+    within-passes = omega (arith, within, AllZip-long (MayDraw row.lane calls (address ∷ others)) starts passes ready.each)
 
     pub gate-at : (g : GateView (Stamped WalletEntry) WalletOrigin) (p : WalletPass) → (get_or passes place p).gate ≡ Some (get_or bank.wallets place g)
     gate-at g p = zip-at IsAtGate bank.wallets passes place g p ready.gates within-gates

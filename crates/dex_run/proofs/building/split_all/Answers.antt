@@ -1,16 +1,18 @@
 use Rattle.std.proofs.Common.{◌≡◌, ◌<◌, ◌∙◌, ℕ, List, Some, length, get_or, map, ap, sym, subst, arith}
 use Rattle.std.proofs.lemmas.List.{take_all}
 use Rattle.std.specs.List.{AllZip}
+use Rattle.std.proofs.lemmas.Slice.Zip.{AllZip-long}
 use Rattle.dex_gate.specs.GateView.{GateView}
 use Rattle.dex_gate.specs.PassView.{PassView, next_pass}
 use Rattle.dex_run.specs.Opened.{split_once}
-use Rattle.dex_run.proofs.Openings.{half, half-all, half-at, half-set, length-half, mapped-more, zip-at, zip-length}
+use Rattle.dex_run.proofs.Openings.{half, half-all, half-at, half-set, length-half, mapped-more}
+use Rattle.dex_run.proofs.Taking.{zip-at}
 use Rattle.dex_run.proofs.building.split_all.Goals as goal
 
 -- there are as many passes as gates
 as-many : {E O : Type 0} (gates : List (GateView E O)) (passes : List (PassView E O)) (i : ℕ) → AllZip (λ gate pass. pass.gate ≡ Some gate) gates passes → i < length gates
     → i < length passes
-as-many gates passes i all within = omega (arith, within, zip-length (λ gate pass. pass.gate ≡ Some gate) gates passes all)
+as-many gates passes i all within = omega (arith, within, AllZip-long (λ gate pass. pass.gate ≡ Some gate) gates passes all)
 
 -- the pass at the place that is reached is that of the gate there, and may hand out a number
 reached : {E O : Type 0} (gates : List (GateView E O)) (passes now : List (PassView E O)) (i : ℕ) (gate : GateView E O) (pass : PassView E O)
@@ -60,10 +62,10 @@ returns-clause-given g c =
     c.loop-place.invariant.given
     ∙ ap (map next_pass)
     (take_all c.loop-place.place c.args.firsts.now.items
-    (omega (arith, c.loop-place-test.false, zip-length (λ gate pass. pass.gate ≡ Some gate) c.args.gates.now c.args.firsts.now.items c.requires.gates)))
+    (omega (arith, c.loop-place-test.false, AllZip-long (λ gate pass. pass.gate ≡ Some gate) c.args.gates.now c.args.firsts.now.items c.requires.gates)))
 
 pub returns-clause-kept : goal.returns-clause-kept
 returns-clause-kept g c =
     c.loop-place.invariant.firsts
     ∙ half-all split_once c.loop-place.place c.args.firsts.now.items
-    (omega (arith, c.loop-place-test.false, zip-length (λ gate pass. pass.gate ≡ Some gate) c.args.gates.now c.args.firsts.now.items c.requires.gates))
+    (omega (arith, c.loop-place-test.false, AllZip-long (λ gate pass. pass.gate ≡ Some gate) c.args.gates.now c.args.firsts.now.items c.requires.gates))

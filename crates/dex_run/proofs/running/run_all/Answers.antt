@@ -1,10 +1,10 @@
 use Rattle.std.proofs.Common.{List, map, ap, ◌∙◌, sym, subst, arith}
 use Rattle.std.proofs.lemmas.List.{take_at}
 use Rattle.std.specs.List.{All, AllZip}
+use Rattle.std.proofs.lemmas.Slice.Zip.{AllZip-long}
 use Rattle.dex_run.specs.declared.lane.LaneJob.{LaneJob}
 use Rattle.dex_run.specs.Running.{CanRun, HasRun, IsJobOf}
 use Rattle.dex_run.proofs.Jobs.{jobs-ran, jobs-ready}
-use Rattle.dex_run.proofs.Openings.{zip-length}
 use Rattle.dex_run.proofs.running.run_all.Goals as goal
 
 pub run_jobs-requires-clause-ready : goal.run_jobs-requires-clause-ready
@@ -19,7 +19,7 @@ seats_back-requires g c = (
     arith,
     c.in-Ok.ensures.capacity,
     c.len.ensures,
-    zip-length (IsJobOf c.args.bank.now c.args.rows.now) c.args.seats.items c.in_ok-jobs.jobs.items c.in_ok-jobs.ensures,
+    AllZip-long (IsJobOf c.args.bank.now c.args.rows.now) c.args.seats.items c.in_ok-jobs.jobs.items c.in_ok-jobs.ensures,
     c.in_ok-jobs.jobs.ok.0,
     c.args.seats.ok.0,
   ),

@@ -2,6 +2,7 @@ use Rattle.std.proofs.Common.{◌≡◌, ℕ, ◌+◌, [], ◌∷◌, ◌++◌, 
 use Rattle.std.specs.List.{AllZip}
 use Rattle.std.proofs.lemmas.List.{length-append}
 use Rattle.std.proofs.Math.Nat.{le-max_left, le-max_right}
+use Rattle.std.proofs.lemmas.Slice.Zip.{AllZip-long}
 use Rattle.dex_types.specs.declared.addresses.Address.{Address}
 use Rattle.dex_types.specs.Rows.{row_of}
 use Rattle.dex_history.specs.Journal.{Call}
@@ -12,7 +13,7 @@ use Rattle.dex_journals.specs.Journals.{left_by, wallet_entries}
 use Rattle.dex_run.specs.Inside.{call_made}
 use Rattle.dex_run.specs.Turns.{AreInHand, AreReady, HasEntry, HaveGrown, MayDraw}
 use Rattle.dex_run.proofs.Growing.{WalletPass}
-use Rattle.dex_run.proofs.Taking.{Facts, facts-grown, facts-hand, facts-leave, facts-mid, facts-number, facts-ready, front-none, front-some, grown-none, last-of, rest-long, rest_of, zip-long}
+use Rattle.dex_run.proofs.Taking.{Facts, facts-grown, facts-hand, facts-leave, facts-mid, facts-number, facts-ready, front-none, front-some, grown-none, last-of, rest-long, rest_of}
 use Rattle.dex_run.proofs.Taking as taking
 use Rattle.dex_run.proofs.bank.Bank.+with_wallets.Goals as goal
 
@@ -115,7 +116,7 @@ pub take_from_hand-cell-requires : goal.take_from_hand-cell-requires
 take_from_hand-cell-requires g t c =
     let hands_long : length c.put_in_hand.new.hands.items ≡ length c.args.hands.now.items + 1 =
     ap length c.put_in_hand.ensures.items ∙ length-append c.args.hands.now.items (c.take_wallet-cell.result.0 ∷ []) in
-    omega (arith, hands_long, zip-long (HasEntry (call_made (c.args.row.now, c.with_wallets-made.result))) c.put_in_hand.new.hands.items c.with_wallets-made.new.hands.items c.with_wallets-made.ensures.hands)
+    omega (arith, hands_long, AllZip-long (HasEntry (call_made (c.args.row.now, c.with_wallets-made.result))) c.put_in_hand.new.hands.items c.with_wallets-made.new.hands.items c.with_wallets-made.ensures.hands)
 
 -- ---- behind them
 
@@ -218,5 +219,5 @@ returns-in-None-clause-passes g t c =
     subst (λ (l : List Address). HaveGrown c.args.self.now l call c.args.passes.now.items c.args.passes.now.items)
     (sym (front-none c.args.others.now (sym c.first_of.ensures ∙ c.in-None.is)))
     (grown-none call c.args.self.now.script.start.wallets c.args.passes.now.items
-    (zip-long (MayDraw c.args.row.now.lane (map call_made c.args.calls.now.items) (front c.args.others.now)) c.args.self.now.script.start.wallets c.args.passes.now.items
+    (AllZip-long (MayDraw c.args.row.now.lane (map call_made c.args.calls.now.items) (front c.args.others.now)) c.args.self.now.script.start.wallets c.args.passes.now.items
     c.requires.passes.each))
