@@ -1,9 +1,8 @@
-use Rattle.std.proofs.Common.{◌≡◌, [], ◌∷◌, ◌++◌, List, map, Option, refl, sym, ap, subst, ◌∙◌}
-use Rattle.dex_types.specs.declared.movements.Movement.{Movement}
+use Rattle.std.proofs.Common.{◌≡◌, map, sym, ap, subst, ◌∙◌}
 use Rattle.dex_types.specs.Rows.{row_of}
 use Rattle.dex_types.specs.Transfers.{no_transfers}
 use Rattle.dex_types.specs.Wallets.{movements}
-use Rattle.dex_history.specs.Journal.{Call, places}
+use Rattle.dex_history.specs.Journal.{places}
 use Rattle.dex_cell.specs.CellState.{MarketCellState, held_made}
 use Rattle.dex_act.specs.Wallets.{AreApart, made_of}
 use Rattle.dex_act.proofs.Made.{AreApart-acted, all-made}
