@@ -11,10 +11,10 @@ use Rattle.dex_answers.proofs.AnswerLaws.{answered, read-told}
 use Rattle.dex_lane_answers.specs.LaneAnswers.{AnswersAll}
 
 -- a command on one thread answers so as one of all
-pub plain-answers : (command : Command) (bytes : List ℕ) (stood : Status) (text : List ℕ) → IsPlain command → Answers command bytes stood text
+pub plain_answers : (command : Command) (bytes : List ℕ) (stood : Status) (text : List ℕ) → IsPlain command → Answers command bytes stood text
     → AnswersAll command bytes stood text
-plain-answers Run bytes stood text plain told = absurd plain
-plain-answers _ bytes stood text plain told = told
+plain_answers Run bytes stood text plain told = absurd plain
+plain_answers _ bytes stood text plain told = told
 
 -- what suits is answered
 pub all-answered : (command : Command) (bytes : List ℕ) (stood : Status) (text : List ℕ) → Suits command bytes → AnswersAll command bytes stood text

@@ -152,6 +152,7 @@ fn run<S: Source, K: Sink>(alloc: Global, command: Command, source: &mut S, sink
 }
 
 // Reads what the command reads, and answers the text that it asks for.
+#[tactic(auto, using(dex_lane_answers::proofs::LaneAnswerLaws::plain_answers))]
 fn answer<S: Source>(alloc: Global, command: Command, source: &mut S) -> Result<StatusText, Stop>
     requires within { IsWithin command }
     requires plain { IsPlain command }
