@@ -7,9 +7,9 @@ export function grouped(number) {
   return String(number).replace(/\B(?=([0-9]{3})+$)/g, ',');
 }
 
-/** A number as an element that also holds it as plain digits, by a name where it has one. */
-export function numberNode(number, name = null) {
-  return element('data', { 'value': String(number), 'data-name': name }, grouped(number));
+/** A number as an element that also holds it as plain digits, by a name where it has one; a title tells what it is. */
+export function numberNode(number, name = null, title = null) {
+  return element('data', { 'value': String(number), 'data-name': name, title }, grouped(number));
 }
 
 /** A count of things in words. */
@@ -21,7 +21,7 @@ export function counted(count, one, many = `${one}s`) {
 function lotsText(amount, lot, unit) {
   const size = amount < 0n ? -amount : amount;
   const rest = size % lot;
-  if (size < lot) return size === 0n ? '' : `below a ${unit}`;
+  if (size < lot) return size === 0n ? '' : `< 1 ${unit}`;
   return `${amount < 0n ? '-' : ''}${counted(size / lot, unit)}${rest === 0n ? '' : ` + ${grouped(rest)}`}`;
 }
 

@@ -3,8 +3,8 @@
 import { amountNode, counted, numberNode } from './amounts.js';
 import { depthChart } from './chart.js';
 import { element } from './elements.js';
-import { addressNode, linkOfOrder } from './links.js';
-import { chooseRow, facts, section, tableWithDetails } from './parts.js';
+import { addressNode, linkOfOrder, linkTo } from './links.js';
+import { facts, notice, section, seekRow, tableWithDetails } from './parts.js';
 import { levelsOf, lockedBy } from './sums.js';
 import { Table } from './table.js';
 
@@ -22,7 +22,7 @@ function marketFacts(shown, market) {
     ['Pc lot', numberNode(market.pcLot)],
     ['Authority', addressNode(shown, market.authority)],
     ['State', market.isDisabled ? 'disabled' : 'trading'],
-    ['Next order’s number', numberNode(market.nextAge)],
+    ['Next sequence number', numberNode(market.nextSequence)],
     ['Room', [room(market.bids, 'bid'), room(market.asks, 'ask'), room(market.events, 'event')].join(', ')],
     ['Pending', counted(market.events.list.length, 'event')],
   ]);
@@ -69,11 +69,12 @@ function sideTable(shown, market, orders, name) {
       { title: 'Price', isNumber: true, size: '5rem' },
       { title: 'Lots', isNumber: true, size: '5rem' },
       { title: 'Owner' },
-      { title: 'Age', isNumber: true, size: '4.5rem' },
+      { title: 'Sequence number', isNumber: true, size: '6rem' },
       { title: 'Locked', isNumber: true, isWide: true, size: 'minmax(10rem, 1.4fr)' },
     ],
     count: orders.length,
     empty: `No ${name.toLowerCase()} rest.`,
+    linkOf: (at) => linkTo('book', market.address, { order: orders[at].id }),
     rowAt: (at) => {
       const order = orders[at];
       return {
@@ -82,7 +83,7 @@ function sideTable(shown, market, orders, name) {
           numberNode(order.price),
           numberNode(order.lots),
           addressNode(shown, order.owner),
-          numberNode(order.age),
+          numberNode(order.sequence),
           amountNode(lockedBy(order, market), order.isBid ? 'pc' : 'coin', market),
         ],
         details: [
@@ -97,21 +98,30 @@ function sideTable(shown, market, orders, name) {
   });
 }
 
-/** The view of a market's book; `words.order` is the id of an order to choose. */
+// The place of the order that a link asks for: by its id, or by its side and place in book order.
+function soughtOrder(orders, name, words) {
+  if (words.order !== undefined) return orders.findIndex((order) => String(order.id) === words.order);
+  return words.side === name.toLowerCase() && Number(words.place) < orders.length ? Number(words.place) : -1;
+}
+
+/** The view of a market's book; `words.order` is the id of an order to choose, or `words.side` and `words.place` its place. */
 export function bookView(shown, market, words) {
   const [bids, asks] = [levelsOf(market.bids), levelsOf(market.asks)];
+  let isFound = words.order === undefined && words.side === undefined;
   const sides = [[market.bids.orders, 'Bids'], [market.asks.orders, 'Asks']].map(([orders, name]) => {
     const table = sideTable(shown, market, orders, name);
-    chooseRow(table, orders.findIndex((order) => String(order.id) === words.order));
+    const at = soughtOrder(orders, name, words);
+    if (at >= 0) isFound = seekRow(table, at, 'order') === null;
     return section(`${name} (${orders.length})`, table.node);
   });
   return [
+    isFound ? null : notice(`No order ${words.order || words.place} rests here.`),
     marketFacts(shown, market),
     element('div', { class: 'beside wide-left' },
       section('Depth', depthChart(bids, asks)),
       section('Depth by price', levelTable([...bids, ...asks]).node)),
     element('p', { class: 'hint' },
-      'Age is the sequence number of an order: of two at one price, the lower number is the older and stands first.'),
+      'Of two orders at one price, the one with the lower sequence number is the older and stands first.'),
     element('div', { class: 'beside' }, sides),
   ];
 }

@@ -31,10 +31,11 @@ class DumpReader {
   }
 
   // Notes an account by its address, which has to be new.
-  note(address, kind, bytes, what) {
+  note(address, kind, bytes, what, market = null) {
     const { accounts } = this.exchange;
     if (accounts.has(address)) throw new LineFault(this.line, `The address ${address} stands for two accounts.`);
-    accounts.set(address, { address, kind, bytes, what, line: this.line });
+    const name = market === null ? what : `${what} of ${market}`;
+    accounts.set(address, { address, kind, bytes, what: name, part: what, market, line: this.line });
   }
 
   mint([, address, field]) {
@@ -66,7 +67,7 @@ class DumpReader {
       ...read(0, readMarket),
       coinVault: read(1, readToken),
       pcVault: read(2, readToken),
-      nextAge: read(3, readRequests),
+      nextSequence: read(3, readRequests),
       events: read(4, readEvents),
       bids: read(5, (side) => readSide(side, true)),
       asks: read(6, (side) => readSide(side, false)),
@@ -74,7 +75,7 @@ class DumpReader {
     };
     this.note(address, 'market', bytes[0], 'market');
     const kinds = ['token account', 'token account', 'request queue', 'event queue', 'slab', 'slab'];
-    market.addresses.forEach((own, at) => this.note(own, kinds[at], bytes[at + 1], `${names[at + 1]} of ${address}`));
+    market.addresses.forEach((own, at) => this.note(own, kinds[at], bytes[at + 1], names[at + 1], address));
     this.exchange.markets.set(address, market);
   }
 

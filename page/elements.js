@@ -26,7 +26,7 @@ export function drawn(name, attributes = {}, ...children) {
 
 /** A choice among named values, with a label; `change` takes the value. */
 export function choice(label, options, chosen, change) {
-  const select = element('select', { change: () => change(select.value) },
+  const select = element('select', { 'change': () => change(select.value), 'data-key': `choice ${label}` },
     options.map(([value, text]) => element('option', { value, selected: value === chosen }, text)));
   return element('label', { class: 'choice' }, element('span', {}, label), select);
 }

@@ -2,8 +2,8 @@
 
 import { counted, grouped } from './amounts.js';
 import { choice, element } from './elements.js';
-import { linkTo } from './links.js';
-import { chooseRow, section, tableWithDetails } from './parts.js';
+import { linkTo, shortAddress } from './links.js';
+import { notice, section, seekRow, tableWithDetails } from './parts.js';
 import { REFUSALS, REPLIES } from './replies.js';
 import { moveNode, replyTitle, sentenceNode } from './sentences.js';
 
@@ -45,14 +45,17 @@ function passing(shown, market, journal, words) {
 
 // Those addresses by which a journal can be filtered, with what they are.
 function accountOptions(shown, market) {
-  const options = [...market.traders.keys()].map((address) => [address, `${address} (account)`]);
+  const options = [...market.traders.keys()].map((address) => [address, `${shortAddress(address)} (account)`]);
   const persons = new Set();
   for (const wallet of shown.exchange.wallets.values()) {
-    options.push([wallet.address, `${wallet.address} (wallet)`]);
+    options.push([wallet.address, `${shortAddress(wallet.address)} (wallet)`]);
     persons.add(wallet.owner);
   }
-  return [...options, ...[...persons].map((person) => [person, `${person} (person)`])];
+  return [...options, ...[...persons].map((person) => [person, `${shortAddress(person)} (person)`])];
 }
+
+// Whether words have a filter.
+function isFiltered(words) { return ['lane', 'kind', 'refusal', 'account'].some((name) => words[name] !== undefined); }
 
 // The choices above the table; each leads to the journal with that filter.
 function filters(shown, market, journal, words) {
@@ -106,11 +109,15 @@ export function journalView(shown, market, words) {
       { title: 'Wallets', size: '1.2fr', isWide: true, lines: 2, narrowLines: 2 },
     ],
     count: numbers.length,
+    least: 900,
     empty: 'No entry passes the filters.',
+    linkOf: (at) => linkTo('journal', market.address, { ...words, row: journal.rows[numbers[at]] }),
     rowAt: (at) => entryRow(shown, market, journal, numbers[at]),
   });
-  if (words.row !== undefined) chooseRow(table, numbers.findIndex((at) => String(journal.rows[at]) === words.row));
+  const told = words.row === undefined ? null : seekRow(table, numbers.findIndex((at) => String(journal.rows[at]) === words.row), `row ${words.row}`);
   return [
+    told,
+    isFiltered(words) && told !== null ? notice('Entries that do not pass the filters are not looked at.') : null,
     section(`${grouped(numbers.length)} of ${counted(journal.count, 'entry', 'entries')}`,
       filters(shown, market, journal, words),
       element('p', { class: 'hint' }, 'An account’s entries are those that name it, its owner’s wallets, '

@@ -8,16 +8,32 @@ export function linkTo(view, subject = '', words = {}) {
   return `#${view}${subject === '' ? '' : `/${subject}`}${query === '' ? '' : `?${query}`}`;
 }
 
-/** What a fragment asks for. */
+// A part of a fragment without its percent signs; null where these are no characters.
+function decoded(text) {
+  try {
+    return decodeURIComponent(text);
+  } catch {
+    return null;
+  }
+}
+
+/** What a fragment asks for; `isBroken` where its signs are none that a link of the page has. */
 export function readLink(fragment) {
   const [path, query = ''] = fragment.replace(/^#/, '').split('?');
-  const [view = '', subject = ''] = path.split('/');
-  return { view, subject, words: Object.fromEntries(new URLSearchParams(query)) };
+  const [view, subject] = [...path.split('/'), ''].slice(0, 2).map(decoded);
+  return { view, subject, words: Object.fromEntries(new URLSearchParams(query)), isBroken: view === null || subject === null };
 }
 
 /** An address as it is printed, shortened where it has no label. */
 export function shortAddress(address) {
   return address.startsWith('0x') && address.length === 66 ? `${address.slice(0, 8)}…${address.slice(-4)}` : address;
+}
+
+/** What an address is called: its label, what it is of which market where it is a market's part, else its front and end. */
+export function nameOf(shown, address) {
+  const account = shown.exchange.accounts.get(address);
+  if (account === undefined || account.market === null) return shortAddress(address);
+  return `${shortAddress(account.market)}’s ${account.part}`;
 }
 
 /** The fragment of the view that shows an address best; null where no account has it. */
@@ -30,8 +46,8 @@ export function linkOfAddress(shown, address) {
 /** An address as a link to what it is the address of, or as text where it is a person. */
 export function addressNode(shown, address) {
   const href = linkOfAddress(shown, address);
-  const title = address === shortAddress(address) ? null : address;
-  return element(href === null ? 'span' : 'a', { class: 'address', href, title }, shortAddress(address));
+  const name = nameOf(shown, address);
+  return element(href === null ? 'span' : 'a', { class: 'address', href, title: address === name ? null : address }, name);
 }
 
 /** The fragment of an order: its row in the journal, else its place in the book; null where the text tells neither. */
@@ -43,10 +59,10 @@ export function linkOfOrder(shown, market, id) {
   return rests ? linkTo('book', market.address, { order: id }) : null;
 }
 
-/** An order by its side, price and age, as a link to where it was made or rests. */
+/** An order by its side, price and sequence number, as a link to where it was made or rests. */
 export function orderNode(shown, market, order) {
   const href = linkOfOrder(shown, market, order.id);
-  const text = `${order.isBid ? 'bid' : 'ask'} at ${order.price}, number ${order.age}`;
+  const text = `${order.isBid ? 'bid' : 'ask'} at ${order.price}, sequence number ${order.sequence}`;
   return element(href === null ? 'span' : 'a', { href, title: `order id ${order.id}` }, text);
 }
 

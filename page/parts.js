@@ -14,7 +14,15 @@ export function section(title, ...children) {
   return element('section', {}, element('h2', {}, title), children);
 }
 
-/** A table with the chosen row's values told in full below it; `rowAt` may give further `details` of a row. */
+/** A sentence that tells what a link asked for and the text has not, or what could not be used. */
+export function notice(text) {
+  return element('p', { 'class': 'notice', 'role': 'status', 'data-name': 'notice' }, text);
+}
+
+/**
+ * A table with the chosen row's values told in full below it; `rowAt` may give further `details` of a row, and `linkOf` the fragment of a
+ * row, which the page's address becomes when the row is chosen.
+ */
 export function tableWithDetails(options) {
   const details = element('div', { 'class': 'details', 'aria-live': 'polite' });
   const table = new Table({
@@ -28,7 +36,9 @@ export function tableWithDetails(options) {
   return { table, node: element('div', {}, table.node, details) };
 }
 
-/** Chooses a row of a table where there is one. */
-export function chooseRow({ table }, at) {
-  if (at >= 0) table.choose(at);
+/** Chooses the row that a link asks for; answers a notice where the table has none. */
+export function seekRow({ table }, at, what) {
+  if (at < 0) return notice(`There is no ${what} here.`);
+  table.choose(at, true);
+  return null;
 }

@@ -50,9 +50,6 @@ class WalletJournal {
   at(number) { return readMove(this.lines.at(this.first + number)); }
 }
 
-// How texts begin that tell why there is no report or dump.
-const ANSWERS = /^(script refused|dump refused|migrate refused|finding|audit|read failed|input too long|no memory|usage)\b/;
-
 // The forms of lines, as messages tell them.
 const FORMS = {
   entry: 'entry LANE ROW REPLY MOVES, as docs/FORMATS.md has it',
@@ -146,9 +143,7 @@ async function readLines(lines, tell) {
   } else if (head.length === 2 && head[0] === 'report' && isNumber(head[1])) {
     read = await readReportLines(lines, Number(head[1]), tell);
   } else {
-    let what = 'A report begins with report and a number of rows, a dump with dump';
-    if (ANSWERS.test(lines.at(1))) what = 'This is what a command answered where it wrote no report';
-    throw new LineFault(1, `${what}; here stands ${frontOf(lines.at(1))}.`);
+    throw new LineFault(1, `A report begins with report and a number of rows, a dump with dump; here stands ${frontOf(lines.at(1))}.`);
   }
   if (read.next <= lines.count) {
     throw new LineFault(read.next, `Nothing is wanted behind the end; here stands ${frontOf(lines.at(read.next))}.`);

@@ -3,7 +3,7 @@
 import { orderOfId } from './accounts.js';
 import { amountNode, counted, numberNode, tokenOf } from './amounts.js';
 import { element } from './elements.js';
-import { addressNode, linkTo, orderNode } from './links.js';
+import { addressNode, linkTo, orderNode, shortAddress } from './links.js';
 import { DATA_RULES, REFUSALS, REPLIES } from './replies.js';
 
 // A bid's id has the complement of its sequence number in its lower half, so the half tells the side.
@@ -73,7 +73,7 @@ export function replyTitle(entry) {
 export function moveNode(shown, market, entry, move) {
   const wallet = shown.exchange.wallets.get(move.wallet);
   const sign = { probe: '', debit: '−', credit: '+' }[move.kind];
-  const href = linkTo('wallets', move.wallet, { row: entry.row });
-  const what = move.kind === 'probe' ? ' looked at' : [` ${sign}`, amountNode(move.amount, tokenOf(wallet.mint, market), market)];
-  return element('a', { href, class: `move ${move.kind}` }, move.wallet, what);
+  const href = linkTo('wallets', move.wallet, { row: entry.row, market: market.address });
+  const what = move.kind === 'probe' ? ' unchanged' : [` ${sign}`, amountNode(move.amount, tokenOf(wallet.mint, market), market)];
+  return element('a', { href, class: `move ${move.kind}` }, shortAddress(move.wallet), what);
 }

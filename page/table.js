@@ -27,8 +27,8 @@ function heightOf(columns, isNarrow) {
  * `least` it is narrow.
  */
 export class Table {
-  constructor({ label, columns, count, rowAt, select = () => {}, empty = 'Nothing.', least = LEAST }) {
-    Object.assign(this, { columns, count, rowAt, least, onSelect: select, chosen: -1, isSought: false, height: 35 });
+  constructor({ label, columns, count, rowAt, select = () => {}, linkOf = () => null, empty = 'Nothing.', least = LEAST }) {
+    Object.assign(this, { columns, count, rowAt, least, linkOf, onSelect: select, chosen: -1, isSought: false, height: 35 });
     made += 1;
     this.serial = made;
     this.head = element('div', { class: 'head row', role: 'row' },
@@ -41,6 +41,7 @@ export class Table {
       'aria-readonly': 'true',
       'aria-label': `${label}, ${counted(count, 'row')}`,
       'aria-rowcount': count + 1,
+      'data-key': `table ${label}`,
       'scroll': () => this.draw(),
       'keydown': (event) => this.press(event),
     }, this.head, count === 0 ? element('p', { class: 'empty' }, empty) : this.body);
@@ -102,11 +103,13 @@ export class Table {
     }, nodes);
   }
 
-  /** Chooses a row and scrolls to it. */
-  choose(at) {
+  /** Chooses a row and scrolls to it; the page's address becomes the row's link, unless a link asked for the row. */
+  choose(at, isByLink = false) {
     if (at < 0 || at >= this.count) return;
     this.chosen = at;
     this.isSought = true;
+    if (isByLink) this.node.dataset.sought = '';
+    else if (this.linkOf(at) !== null) window.history.replaceState(null, '', this.linkOf(at));
     this.node.setAttribute('aria-activedescendant', `row-${this.serial}-${at}`);
     this.onSelect(at);
     this.reveal(at);
@@ -128,16 +131,20 @@ export class Table {
     this.node.scrollTop = (Math.min(wanted, this.count - fits) / (this.count - fits)) * way;
   }
 
-  // Moves the choice by keys; Enter follows the first link of the chosen row.
+  // Follows the first link of the chosen row that leads elsewhere than to the row.
+  follow() {
+    const links = [...this.body.querySelectorAll('[aria-selected] a')];
+    const link = links.find((one) => one.getAttribute('href') !== this.linkOf(this.chosen));
+    if (link !== undefined) link.click();
+  }
+
+  // Moves the choice by keys; Enter follows a link.
   press(event) {
     const page = Math.max(1, Math.floor(this.view().fits) - 1);
     const steps = { ArrowDown: 1, ArrowUp: -1, PageDown: page, PageUp: -page, Home: -this.count, End: this.count };
     if (event.key in steps && event.target === this.node && this.count > 0) {
       this.choose(Math.min(this.count - 1, Math.max(0, this.chosen + steps[event.key])));
       event.preventDefault();
-    } else if (event.key === 'Enter' && event.target === this.node) {
-      const link = this.body.querySelector('[aria-selected] a');
-      if (link !== null) link.click();
-    }
+    } else if (event.key === 'Enter' && event.target === this.node) this.follow();
   }
 }

@@ -3,7 +3,7 @@
 import { amountNode, counted } from './amounts.js';
 import { element } from './elements.js';
 import { addressNode, linkTo } from './links.js';
-import { section, tableWithDetails } from './parts.js';
+import { section, seekRow, tableWithDetails } from './parts.js';
 import { tradersOf } from './sums.js';
 
 // Whether the words of totals in an account are what is free, resting and kept by events.
@@ -35,11 +35,11 @@ function traderRow(shown, market, trader) {
   };
 }
 
-/** The view of a market's traders. */
-export function tradersView(shown, market) {
+/** The view of a market's traders; `words.account` is the account to choose. */
+export function tradersView(shown, market, words) {
   const traders = tradersOf(market);
   const titles = ['Coin free', 'Coin resting', 'Coin owed', 'Pc free', 'Pc resting', 'Pc owed'];
-  const { node } = tableWithDetails({
+  const table = tableWithDetails({
     label: 'Open-orders accounts',
     columns: [
       { title: 'Account', size: 'minmax(8rem, 1.1fr)' },
@@ -49,13 +49,18 @@ export function tradersView(shown, market) {
       { title: 'Totals', size: '6rem' },
     ].map((column) => ({ ...column, lines: 2, narrowLines: 1 })),
     count: traders.length,
+    least: 1100,
     empty: 'The market has no accounts.',
+    linkOf: (at) => linkTo('traders', market.address, { account: traders[at].address }),
     rowAt: (at) => traderRow(shown, market, traders[at]),
   });
+  const sought = traders.findIndex(({ address }) => address === words.account);
+  const told = words.account === undefined ? null : seekRow(table, sought, `account ${words.account}`);
   return [
+    told,
     section(`Traders (${traders.length})`,
       element('p', { class: 'hint' }, counted(traders.filter((trader) => trader.state === 'open').length, 'account is', 'accounts are'),
         ' open. Free can be settled at once; resting is locked by orders on the book; owed waits in the event queue.'),
-      node),
+      table.node),
   ];
 }

@@ -1,0 +1,30 @@
+// The views: what each is called, what it shows, and when it is there.
+
+import { answerView } from './answer_view.js';
+import { auditView } from './audit_view.js';
+import { bookView } from './book_view.js';
+import { bytesView } from './bytes_view.js';
+import { eventsView } from './events_view.js';
+import { journalView } from './journal_view.js';
+import { tradersView } from './traders_view.js';
+import { vaultsView } from './vaults_view.js';
+import { walletsView } from './wallets_view.js';
+
+// The views of a market are shown one market at a time. `isThere` tells whether the texts have what a view shows.
+const VIEWS = [
+  { name: 'answer', title: 'Answer', show: answerView, isThere: (shown) => shown.answer !== null },
+  { name: 'book', title: 'Book', ofMarket: bookView },
+  { name: 'events', title: 'Events', ofMarket: eventsView },
+  { name: 'traders', title: 'Traders', ofMarket: tradersView },
+  { name: 'vaults', title: 'Vaults', ofMarket: vaultsView },
+  { name: 'audit', title: 'Audit', show: auditView },
+  { name: 'journal', title: 'Journal', ofMarket: journalView },
+  { name: 'wallets', title: 'Wallets', show: walletsView },
+  { name: 'bytes', title: 'Bytes', show: bytesView },
+];
+
+/** The views that texts have, in the order of their tabs. */
+export function viewsOf(shown) {
+  const isThere = (view) => (view.isThere === undefined ? shown.hasAccounts : view.isThere(shown));
+  return VIEWS.filter(isThere);
+}
