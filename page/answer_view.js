@@ -13,6 +13,12 @@ function verdict(text, mark = 'bad') {
   return element('p', { 'class': `verdict ${mark}`, 'role': 'status', 'data-name': 'answer' }, text);
 }
 
+// The text of a row of the script, where that is there.
+function scriptLine(shown, row) {
+  if (shown.script === null) return 'open the script too, and it is shown';
+  return Number(row) > shown.script.count ? 'the script has no such row' : element('code', {}, shown.script.lineOf(Number(row)));
+}
+
 // A refused script: the row, what it has, how to mend it.
 function scriptAnswer(shown, answer) {
   const [name, what, remedy] = SCRIPT_FAULTS[answer.k] || [answer.name, 'the page knows no such fault', ''];
@@ -20,7 +26,8 @@ function scriptAnswer(shown, answer) {
   return [
     verdict(`The script is refused at row ${answer.row}: ${setup || what}.`),
     facts([
-      ['Row', answer.row],
+      ['Row', shown.script === null ? answer.row : element('a', { href: linkTo('script', '', { row: answer.row }) }, answer.row)],
+      ['Its text', scriptLine(shown, answer.row)],
       ['Fault', `${answer.k} ${name}${answer.code === undefined ? '' : `, setup code ${answer.code}`}`],
       ['How to mend it', mending],
     ]),

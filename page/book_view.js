@@ -1,12 +1,13 @@
 // A market's book: its sizes, the depth, and the orders that rest on both sides.
 
-import { amountNode, counted, numberNode } from './amounts.js';
+import { amountNode, bareNode, counted, numberNode, priceNode, sizeNode } from './amounts.js';
 import { depthChart } from './chart.js';
 import { element } from './elements.js';
 import { addressNode, linkOfOrder, linkTo } from './links.js';
 import { facts, notice, section, seekRow, tableWithDetails } from './parts.js';
 import { levelsOf, lockedBy } from './sums.js';
 import { Table } from './table.js';
+import { priceUnit, sizeUnit } from './units.js';
 
 // What never changes in a market, and what counts on.
 function marketFacts(shown, market) {
@@ -29,13 +30,13 @@ function marketFacts(shown, market) {
 }
 
 // The depth as a table.
-function levelTable(levels) {
+function levelTable(levels, market) {
   return new Table({
     label: 'Depth by price',
     columns: [
       { title: 'Side', size: '3.2rem' },
-      { title: 'Price', isNumber: true },
-      { title: 'Lots', isNumber: true },
+      { title: `Price (${priceUnit(market)})`, isNumber: true, size: '1.3fr' },
+      { title: `Size (${sizeUnit(market)})`, isNumber: true },
       { title: 'Orders', isNumber: true, size: '3.4rem' },
       { title: 'Cumulated', isNumber: true, size: 'minmax(5rem, 1fr)' },
     ],
@@ -48,7 +49,7 @@ function levelTable(levels) {
       return {
         name: `${side} ${price} ${lots} ${total}`,
         mark: side,
-        cells: [side, numberNode(price), numberNode(lots), orders, numberNode(total)],
+        cells: [side, bareNode(priceNode(price, market)), bareNode(sizeNode(lots, market)), orders, bareNode(sizeNode(total, market))],
       };
     },
   });
@@ -66,8 +67,8 @@ function sideTable(shown, market, orders, name) {
   return tableWithDetails({
     label: `${name}, best first`,
     columns: [
-      { title: 'Price', isNumber: true, size: '5rem' },
-      { title: 'Lots', isNumber: true, size: '5rem' },
+      { title: `Price (${priceUnit(market)})`, isNumber: true, size: '7rem' },
+      { title: `Size (${sizeUnit(market)})`, isNumber: true, size: '6rem' },
       { title: 'Owner' },
       { title: 'Sequence number', isNumber: true, size: '6rem' },
       { title: 'Locked', isNumber: true, isWide: true, size: 'minmax(10rem, 1.4fr)' },
@@ -80,8 +81,8 @@ function sideTable(shown, market, orders, name) {
       return {
         name: `order ${order.id}`,
         cells: [
-          numberNode(order.price),
-          numberNode(order.lots),
+          bareNode(priceNode(order.price, market)),
+          bareNode(sizeNode(order.lots, market)),
           addressNode(shown, order.owner),
           numberNode(order.sequence),
           amountNode(lockedBy(order, market), order.isBid ? 'pc' : 'coin', market),
@@ -118,8 +119,8 @@ export function bookView(shown, market, words) {
     isFound ? null : notice(`No order ${words.order || words.place} rests here.`),
     marketFacts(shown, market),
     element('div', { class: 'beside wide-left' },
-      section('Depth', depthChart(bids, asks)),
-      section('Depth by price', levelTable([...bids, ...asks]).node)),
+      section('Depth', depthChart(bids, asks, market)),
+      section('Depth by price', levelTable([...bids, ...asks], market).node)),
     element('p', { class: 'hint' },
       'Of two orders at one price, the one with the lower sequence number is the older and stands first.'),
     element('div', { class: 'beside' }, sides),

@@ -56,6 +56,12 @@ class DumpReader {
     this.exchange.wallets.set(address, { address, ...token });
   }
 
+  // The decimals of a mint; null where it is not there.
+  decimalsOf(address) {
+    const mint = this.exchange.mints.get(address);
+    return mint === undefined ? null : Number(mint.decimals);
+  }
+
   // The seven accounts of a market that stand in its row.
   market([, address, authority, ...fields]) {
     const names = ['account', 'coin vault', 'pc vault', 'request queue', 'event queue', 'bids', 'asks'];
@@ -73,6 +79,8 @@ class DumpReader {
       asks: read(6, (side) => readSide(side, false)),
       traders: new Map(),
     };
+    market.coinDecimals = this.decimalsOf(market.coinMint);
+    market.pcDecimals = this.decimalsOf(market.pcMint);
     this.note(address, 'market', bytes[0], 'market');
     const kinds = ['token account', 'token account', 'request queue', 'event queue', 'slab', 'slab'];
     market.addresses.forEach((own, at) => this.note(own, kinds[at], bytes[at + 1], names[at + 1], address));

@@ -1,10 +1,11 @@
 // The events that wait in a market's event queue, from the front.
 
-import { amountNode, counted, grouped } from './amounts.js';
+import { amountNode, counted } from './amounts.js';
 import { element } from './elements.js';
 import { addressNode, linkTo, orderNode } from './links.js';
 import { section, seekRow, tableWithDetails } from './parts.js';
 import { owedBy } from './sums.js';
+import { grouped } from './units.js';
 
 // The tokens in which an event releases and pays.
 function tokensOf(event) {

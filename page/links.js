@@ -1,6 +1,7 @@
 // The views of the page as fragments of its address, and links to them.
 
 import { element } from './elements.js';
+import { priceText } from './units.js';
 
 /** The fragment of a view: its name, what it shows, and further words such as filters. */
 export function linkTo(view, subject = '', words = {}) {
@@ -62,8 +63,8 @@ export function linkOfOrder(shown, market, id) {
 /** An order by its side, price and sequence number, as a link to where it was made or rests. */
 export function orderNode(shown, market, order) {
   const href = linkOfOrder(shown, market, order.id);
-  const text = `${order.isBid ? 'bid' : 'ask'} at ${order.price}, sequence number ${order.sequence}`;
-  return element(href === null ? 'span' : 'a', { href, title: `order id ${order.id}` }, text);
+  const text = `${order.isBid ? 'bid' : 'ask'} at ${priceText(order.price, market)}, sequence number ${order.sequence}`;
+  return element(href === null ? 'span' : 'a', { href, title: `order id ${order.id}, ${order.price} pc lots per coin lot` }, text);
 }
 
 /** The row of a journal as a link. */

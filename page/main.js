@@ -6,6 +6,7 @@ import { drawView, frame, goToView } from './navigation.js';
 import { addTexts, faultText, toldTexts } from './opening.js';
 import { notice } from './parts.js';
 import { searchField } from './search.js';
+import { units } from './units.js';
 
 const told = element('p', { class: 'file' });
 const faults = element('div', { class: 'faults' });
@@ -42,6 +43,15 @@ async function openTexts(given) {
     faults.replaceChildren(...opened.faulty.map(faultNode), ...opened.shown.notices.map(notice));
     drawView();
   }
+}
+
+// The units in which amounts are shown.
+function unitsChoice() {
+  const change = (value) => {
+    units.isNative = value === 'native';
+    drawView();
+  };
+  return choice('Amounts', [['tokens', 'in tokens'], ['native', 'native, lots']], 'tokens', change);
 }
 
 // The light or dark look, or the one that the system has.
@@ -97,9 +107,10 @@ function begin() {
   const header = element('header', {},
     element('div', { class: 'bar' },
       element('strong', {}, 'Daisyhook report'), search.node,
-      element('label', { for: 'file', class: 'button' }, 'Open files'), file, themeChoice()),
+      element('label', { for: 'file', class: 'button' }, 'Open files'), file, unitsChoice(), themeChoice()),
     told, faults, frame.tabs);
   frame.main.replaceChildren(...welcome());
+  frame.main.dataset.view = 'welcome';
   document.body.replaceChildren(element('a', { href: '#main', class: 'skip', click: (event) => {
     event.preventDefault();
     frame.main.focus();

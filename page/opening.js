@@ -36,6 +36,7 @@ export function toldTexts({ texts, report }) {
   return Object.values(texts).map(({ name, kind, read }) => {
     if (kind === 'report') return `${name}: a report of ${counted(read.rows, 'row')}, ${sizes}`;
     if (kind === 'dump') return `${name}: a dump, ${sizes}`;
+    if (kind === 'script') return `${name}: a script of ${counted(read.count, 'row')}`;
     return `${name}: what a command answered`;
   }).join('; ');
 }

@@ -1,6 +1,8 @@
 // What is on the page: the report or dump, and the texts beside it.
 
 import { auditOf } from './audit.js';
+import { askedBy } from './instructions.js';
+import { mismatch } from './script.js';
 
 // What stands in the place of a report where only other texts were given.
 function noReport() {
@@ -18,7 +20,21 @@ export class Shown {
     this.answer = texts.answer === undefined ? null : texts.answer.read;
     // What could not be used, told above every view.
     this.notices = [];
+    this.script = texts.script === undefined ? null : texts.script.read;
+    this.joined = this.joinScript();
   }
+
+  // The script where it is the one of the report; what is wrong with it is told.
+  joinScript() {
+    if (this.script === null || this.report.kind !== 'report') return null;
+    const why = mismatch(this.script, this.report);
+    if (why === null) return this.script;
+    this.notices.push(`${this.texts.script.name} is not the script of this report: ${why}. Its rows are not told beside the report’s.`);
+    return null;
+  }
+
+  /** What a row asked of a market; null where the report's script is not there, or the row is no instruction. */
+  askedBy(row, market) { return this.joined === null ? null : askedBy(this.joined, row, market); }
 
   /** Whether a report or dump is there. */
   get hasAccounts() { return this.report.kind !== 'none'; }

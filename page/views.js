@@ -6,6 +6,7 @@ import { bookView } from './book_view.js';
 import { bytesView } from './bytes_view.js';
 import { eventsView } from './events_view.js';
 import { journalView } from './journal_view.js';
+import { scriptView } from './script_view.js';
 import { tradersView } from './traders_view.js';
 import { vaultsView } from './vaults_view.js';
 import { walletsView } from './wallets_view.js';
@@ -19,6 +20,7 @@ const VIEWS = [
   { name: 'vaults', title: 'Vaults', ofMarket: vaultsView },
   { name: 'audit', title: 'Audit', show: auditView },
   { name: 'journal', title: 'Journal', ofMarket: journalView },
+  { name: 'script', title: 'Script', show: scriptView, isThere: (shown) => shown.script !== null },
   { name: 'wallets', title: 'Wallets', show: walletsView },
   { name: 'bytes', title: 'Bytes', show: bytesView },
 ];

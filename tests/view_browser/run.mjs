@@ -8,9 +8,10 @@ import { layoutCases } from './layout.mjs';
 import { linkCases } from './links.mjs';
 import { answerCases } from './answers.mjs';
 import { auditCases } from './audit.mjs';
+import { scriptCases } from './script.mjs';
 import { Suite } from './suite.mjs';
 
-const GROUPS = { answers: answerCases, audit: auditCases, links: linkCases, layout: layoutCases };
+const GROUPS = { answers: answerCases, audit: auditCases, links: linkCases, script: scriptCases, layout: layoutCases };
 
 const [, , chromium, ...names] = process.argv;
 const folder = mkdtempSync(join(tmpdir(), 'view'));
