@@ -3,11 +3,14 @@
 import { amountNode, bareNode, counted, numberNode, priceNode, sizeNode } from './amounts.js';
 import { depthChart } from './chart.js';
 import { element } from './elements.js';
-import { addressNode, linkOfOrder, linkTo } from './links.js';
+import { addressNode, linkOfOrder, linkTo, rowNode } from './links.js';
 import { facts, notice, section, seekRow, tableWithDetails } from './parts.js';
+import { priceChart } from './price_chart.js';
 import { levelsOf, lockedBy } from './sums.js';
 import { Table } from './table.js';
-import { priceUnit, sizeUnit } from './units.js';
+import { spreadOf } from './trades.js';
+import { volumeFacts } from './trades_view.js';
+import { decimalText, priceUnit, sizeUnit } from './units.js';
 
 // What never changes in a market, and what counts on.
 function marketFacts(shown, market) {
@@ -55,11 +58,24 @@ function levelTable(levels, market) {
   });
 }
 
-// An order's place in the journal.
-function madeBy(shown, market, order) {
-  const href = linkOfOrder(shown, market, order.id);
-  const isThere = href !== null && href.startsWith('#journal');
-  return isThere ? element('a', { href }, 'the row that made it') : 'rested before the first row';
+// The row that placed an order, and the order's life.
+function placedBy(shown, market, order) {
+  const journal = shown.report.markets.get(market.address);
+  const at = journal === undefined ? undefined : journal.ofOrder.get(order.id);
+  const row = at === undefined ? 'before the first row' : rowNode(market.address, journal.rows[at]);
+  return [row, '; ', element('a', { href: linkOfOrder(shown, market, order.id) }, 'its life')];
+}
+
+// The best prices and what lies between them.
+function spreadFacts(market) {
+  const [bid, ask] = [market.bids.orders[0], market.asks.orders[0]];
+  const spread = spreadOf(market);
+  const basis = spread === null ? '' : ` (${decimalText((spread.basis + 5n) / 10n, 1)} basis points)`;
+  return [
+    ['Best bid', bid === undefined ? 'none' : priceNode(bid.price, market, 'best bid')],
+    ['Best ask', ask === undefined ? 'none' : priceNode(ask.price, market, 'best ask')],
+    ['Spread', spread === null ? 'none' : [priceNode(spread.units, market, 'spread'), element('span', { 'data-name': 'basis points' }, basis)]],
+  ];
 }
 
 // A side's orders, best first.
@@ -92,7 +108,7 @@ function sideTable(shown, market, orders, name) {
           ['Slot', order.slot],
           ['Tier', order.tier],
           ['Client id', order.client],
-          ['Made by', madeBy(shown, market, order)],
+          ['Placed by', placedBy(shown, market, order)],
         ],
       };
     },
@@ -117,12 +133,14 @@ export function bookView(shown, market, words) {
   });
   return [
     isFound ? null : notice(`No order ${words.order || words.place} rests here.`),
-    marketFacts(shown, market),
-    element('div', { class: 'beside wide-left' },
+    facts([...spreadFacts(market), ...volumeFacts(shown, market)]),
+    element('div', { class: 'beside' },
       section('Depth', depthChart(bids, asks, market)),
-      section('Depth by price', levelTable([...bids, ...asks], market).node)),
+      section('Prices by row', priceChart(shown, market))),
+    section('Depth by price', levelTable([...bids, ...asks], market).node),
     element('p', { class: 'hint' },
       'Of two orders at one price, the one with the lower sequence number is the older and stands first.'),
     element('div', { class: 'beside' }, sides),
+    section('The market', marketFacts(shown, market)),
   ];
 }

@@ -51,16 +51,15 @@ export function addressNode(shown, address) {
   return element(href === null ? 'span' : 'a', { class: 'address', href, title: address === name ? null : address }, name);
 }
 
-/** The fragment of an order: its row in the journal, else its place in the book; null where the text tells neither. */
+/** The fragment of an order's life; null where the text tells nothing of it. */
 export function linkOfOrder(shown, market, id) {
   const journal = shown.report.markets.get(market.address);
-  const at = journal === undefined ? undefined : journal.ofOrder.get(id);
-  if (at !== undefined) return linkTo('journal', market.address, { row: journal.rows[at] });
-  const rests = [market.bids, market.asks].some((side) => side.orders.some((order) => order.id === id));
-  return rests ? linkTo('book', market.address, { order: id }) : null;
+  const isTold = (journal !== undefined && journal.ofOrder.has(id))
+    || [market.bids.orders, market.asks.orders, market.events.list].some((list) => list.some((order) => order.id === id));
+  return isTold ? linkTo('orders', market.address, { id }) : null;
 }
 
-/** An order by its side, price and sequence number, as a link to where it was made or rests. */
+/** An order by its side, price and sequence number, as a link to its life. */
 export function orderNode(shown, market, order) {
   const href = linkOfOrder(shown, market, order.id);
   const text = `${order.isBid ? 'bid' : 'ask'} at ${priceText(order.price, market)}, sequence number ${order.sequence}`;

@@ -18,6 +18,10 @@ class MarketJournal {
     this.kinds = new Uint8Array(count);
     this.refusals = new Uint8Array(count);
     this.ofOrder = new Map();
+    // The numbers of the entries in which something was filled, and what they come to.
+    this.trades = [];
+    this.volume = { lots: 0n, pc: 0n, fees: 0n };
+    this.refused = 0;
   }
 
   /** Notes what the entry of a number, from 0, says. */
@@ -26,7 +30,14 @@ class MarketJournal {
     this.lanes[at] = entry.lane;
     this.kinds[at] = entry.kind;
     this.refusals[at] = entry.refusal;
+    if (entry.refusal > 0) this.refused += 1;
     if (entry.values.id !== undefined) this.ofOrder.set(entry.values.id, at);
+    if (entry.values.lots > 0n) {
+      this.trades.push(at);
+      this.volume.lots += entry.values.lots;
+      this.volume.pc += entry.values.pc;
+      this.volume.fees += entry.values.fee;
+    }
     for (const { wallet } of entry.moves) if (!this.named.has(wallet)) this.named.set(wallet, this.first + at);
   }
 
@@ -95,11 +106,15 @@ async function readJournals(lines, next, { kind, word, read, make, into }, tell)
   }
 }
 
-// The rows of instructions that the journals have must be as many as the first line tells.
+// The rows of instructions that the journals have must be as many as the first line tells; a swap is one row with an entry in each of
+// two journals.
 function checkRows(rows, markets) {
   let entries = 0;
   for (const journal of markets.values()) entries += journal.count;
-  if (entries !== rows) throw new LineFault(1, `The report tells of ${rows} rows, and its markets’ journals have ${entries} entries.`);
+  if (entries === rows) return;
+  const numbers = new Set();
+  for (const journal of markets.values()) for (const row of journal.rows) numbers.add(row);
+  if (numbers.size !== rows) throw new LineFault(1, `The report tells of ${rows} rows, and its markets’ journals have ${entries} entries.`);
 }
 
 // Each journal's market or wallet stands in the dump, and each wallet that an entry names has a journal.

@@ -1,5 +1,6 @@
 // A script: its rows as records of CSV, numbered as the program numbers them, and of each instruction row what filters go by.
 
+import { readDump } from './dump.js';
 import { nameOfData } from './instructions.js';
 import { Lines, LineFault, pause } from './text.js';
 
@@ -77,6 +78,7 @@ export class Script {
     this.program = 'serum';
     this.clocks = [];
     this.dumpEnd = 0;
+    this.start = null;
   }
 
   /** The fields of a row; none where there is no such row. */
@@ -153,6 +155,8 @@ export async function readScript(text, tell) {
       await pause();
     }
   }
+  const lines = dumpLines(script);
+  if (lines !== null) script.start = (await readDump(lines, 1, tell)).exchange;
   return script;
 }
 
@@ -171,7 +175,9 @@ export function mismatch(script, report) {
   return null;
 }
 
-/** The dump that a script begins with, as numbered lines; null where it begins with none. */
-export function dumpLines(script) {
-  return script.dumpEnd === 0 ? null : new Lines(script.text.slice(0, script.starts[script.dumpEnd] || script.text.length));
+// The dump that a script begins with, as numbered lines; null where it begins with none.
+function dumpLines(script) {
+  if (script.dumpEnd === 0) return null;
+  const rows = Array.from({ length: script.dumpEnd }, (_, at) => script.fieldsOf(at + 1).join(','));
+  return new Lines(`${rows.join('\n')}\n`);
 }

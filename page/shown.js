@@ -2,6 +2,7 @@
 
 import { auditOf } from './audit.js';
 import { askedBy } from './instructions.js';
+import { replayOf } from './lives.js';
 import { mismatch } from './script.js';
 
 // What stands in the place of a report where only other texts were given.
@@ -22,6 +23,9 @@ export class Shown {
     this.notices = [];
     this.script = texts.script === undefined ? null : texts.script.read;
     this.joined = this.joinScript();
+    // The accounts that the script begins with, where it begins with a dump.
+    this.start = this.joined === null ? null : this.joined.start;
+    this.replays = new Map();
   }
 
   // The script where it is the one of the report; what is wrong with it is told.
@@ -35,6 +39,12 @@ export class Shown {
 
   /** What a row asked of a market; null where the report's script is not there, or the row is no instruction. */
   askedBy(row, market) { return this.joined === null ? null : askedBy(this.joined, row, market); }
+
+  /** A market's journal replayed with its script; null where the script is not there. */
+  replay(market) {
+    if (!this.replays.has(market.address)) this.replays.set(market.address, replayOf(this, market));
+    return this.replays.get(market.address);
+  }
 
   /** Whether a report or dump is there. */
   get hasAccounts() { return this.report.kind !== 'none'; }

@@ -65,6 +65,12 @@ export function sizeText(lots, market) {
   return isInTokens(market) ? tokensText(lots * market.coinLot, 'coin', market) : grouped(lots);
 }
 
+/** The average price of native quote for base lots, as text. */
+export function averageText(pc, lots, market) {
+  if (!isInTokens(market)) return ratioText(pc, lots * market.pcLot);
+  return ratioText(pc * 10n ** BigInt(market.coinDecimals), lots * market.coinLot * 10n ** BigInt(market.pcDecimals));
+}
+
 /** What a price is told in. */
 export function priceUnit(market) {
   return isInTokens(market) ? `${symbolOf('pc', market)} per ${symbolOf('coin', market)}` : 'pc lots per coin lot';
@@ -72,6 +78,12 @@ export function priceUnit(market) {
 
 /** What a size is told in. */
 export function sizeUnit(market) { return isInTokens(market) ? symbolOf('coin', market) : 'lots'; }
+
+/** The average price of native quote for base lots as a number for a drawing; it may be rounded. */
+export function averageNumber(pc, lots, market) {
+  if (!isInTokens(market)) return Number(pc) / Number(lots * market.pcLot);
+  return (Number(pc) * 10 ** (market.coinDecimals - market.pcDecimals)) / Number(lots * market.coinLot);
+}
 
 /** A price as a number for a drawing; it may be rounded. */
 export function priceNumber(price, market) {

@@ -6,8 +6,10 @@ import { bookView } from './book_view.js';
 import { bytesView } from './bytes_view.js';
 import { eventsView } from './events_view.js';
 import { journalView } from './journal_view.js';
+import { ordersView } from './orders_view.js';
 import { scriptView } from './script_view.js';
 import { tradersView } from './traders_view.js';
+import { tradesView } from './trades_view.js';
 import { vaultsView } from './vaults_view.js';
 import { walletsView } from './wallets_view.js';
 
@@ -15,6 +17,8 @@ import { walletsView } from './wallets_view.js';
 const VIEWS = [
   { name: 'answer', title: 'Answer', show: answerView, isThere: (shown) => shown.answer !== null },
   { name: 'book', title: 'Book', ofMarket: bookView },
+  { name: 'trades', title: 'Trades', ofMarket: tradesView },
+  { name: 'orders', title: 'Orders', ofMarket: ordersView },
   { name: 'events', title: 'Events', ofMarket: eventsView },
   { name: 'traders', title: 'Traders', ofMarket: tradersView },
   { name: 'vaults', title: 'Vaults', ofMarket: vaultsView },

@@ -10,8 +10,9 @@ import { answerCases } from './answers.mjs';
 import { auditCases } from './audit.mjs';
 import { scriptCases } from './script.mjs';
 import { Suite } from './suite.mjs';
+import { traderCases } from './trader.mjs';
 
-const GROUPS = { answers: answerCases, audit: auditCases, links: linkCases, script: scriptCases, layout: layoutCases };
+const GROUPS = { answers: answerCases, audit: auditCases, links: linkCases, script: scriptCases, trader: traderCases, layout: layoutCases };
 
 const [, , chromium, ...names] = process.argv;
 const folder = mkdtempSync(join(tmpdir(), 'view'));
