@@ -44,7 +44,7 @@ function levelTable(levels, market) {
       { title: 'Cumulated', isNumber: true, size: 'minmax(5rem, 1fr)' },
     ],
     count: levels.length,
-    least: 300,
+    least: 480,
     empty: 'Nothing rests.',
     rowAt: (at) => {
       const { isBid, price, lots, orders, total } = levels[at];

@@ -41,10 +41,11 @@ export function nameOf(shown, address) {
 export function linkOfAddress(shown, address) {
   if (shown.exchange.wallets.has(address)) return linkTo('wallets', address);
   if (shown.exchange.markets.has(address)) return linkTo('book', address);
-  return shown.exchange.accounts.has(address) ? linkTo('bytes', address) : null;
+  if (shown.exchange.accounts.has(address)) return linkTo('bytes', address);
+  return shown.isOwner(address) ? linkTo('owners', address) : null;
 }
 
-/** An address as a link to what it is the address of, or as text where it is a person. */
+/** An address as a link to what it is the address of, or to the owner that it is. */
 export function addressNode(shown, address) {
   const href = linkOfAddress(shown, address);
   const name = nameOf(shown, address);

@@ -37,6 +37,7 @@ export function toldTexts({ texts, report }) {
     if (kind === 'report') return `${name}: a report of ${counted(read.rows, 'row')}, ${sizes}`;
     if (kind === 'dump') return `${name}: a dump, ${sizes}`;
     if (kind === 'script') return `${name}: a script of ${counted(read.count, 'row')}`;
+    if (kind === 'worth') return `${name}: the worth of ${counted(read.rows.length, 'account')}`;
     return `${name}: what a command answered`;
   }).join('; ');
 }

@@ -3,7 +3,9 @@
 import { auditOf } from './audit.js';
 import { askedBy } from './instructions.js';
 import { replayOf } from './lives.js';
+import { dealingsOf, personsOf } from './owners.js';
 import { mismatch } from './script.js';
+import { strayWorth } from './worth.js';
 
 // What stands in the place of a report where only other texts were given.
 function noReport() {
@@ -26,6 +28,8 @@ export class Shown {
     // The accounts that the script begins with, where it begins with a dump.
     this.start = this.joined === null ? null : this.joined.start;
     this.replays = new Map();
+    this.allDealings = new Map();
+    this.worth = this.joinWorth();
   }
 
   // The script where it is the one of the report; what is wrong with it is told.
@@ -37,6 +41,15 @@ export class Shown {
     return null;
   }
 
+  // The table of worth where it is that of the report; what is wrong with it is told.
+  joinWorth() {
+    if (this.texts.worth === undefined) return null;
+    const { name, read } = this.texts.worth;
+    const why = this.hasAccounts ? strayWorth(read, this.exchange) : null;
+    if (why !== null) this.notices.push(`${name} is not the worth of these accounts: ${why}. It is not shown.`);
+    return why === null ? read : null;
+  }
+
   /** What a row asked of a market; null where the report's script is not there, or the row is no instruction. */
   askedBy(row, market) { return this.joined === null ? null : askedBy(this.joined, row, market); }
 
@@ -46,8 +59,20 @@ export class Shown {
     return this.replays.get(market.address);
   }
 
+  /** What each account of a market paid and earned; null where the script is not there. */
+  dealings(market) {
+    if (!this.allDealings.has(market.address)) this.allDealings.set(market.address, dealingsOf(this, market));
+    return this.allDealings.get(market.address);
+  }
+
   /** Whether a report or dump is there. */
   get hasAccounts() { return this.report.kind !== 'none'; }
+
+  /** Whether an address is that of an owner of accounts or wallets. */
+  isOwner(address) {
+    if (this.owners === undefined) this.owners = new Set(personsOf(this.exchange));
+    return this.owners.has(address);
+  }
 
   /** The findings of all 13 kinds that the page makes of the accounts. */
   get findings() {

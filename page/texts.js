@@ -4,6 +4,7 @@ import { isAnswer, readAnswer } from './answers.js';
 import { readText } from './report.js';
 import { isScript, readScript } from './script.js';
 import { frontOf, LineFault, Lines } from './text.js';
+import { isWorth, readWorth } from './worth.js';
 
 // A text that begins as a dump does is a script where something stands behind its enddump.
 function isDumpAlone(text) {
@@ -15,6 +16,7 @@ function isDumpAlone(text) {
 function kindOfText(text) {
   if (/^report [0-9]+\r?(\n|$)/.test(text)) return 'report';
   if (/^dump\r?(\n|$)/.test(text) && isDumpAlone(text)) return 'dump';
+  if (isWorth(text)) return 'worth';
   if (isAnswer(text)) return 'answer';
   return isScript(text) ? 'script' : null;
 }
@@ -24,6 +26,7 @@ async function readKind(kind, text, tell) {
   if (kind === 'report' || kind === 'dump') return readText(text, tell);
   if (kind === 'script') return readScript(text, tell);
   const lines = new Lines(text);
+  if (kind === 'worth') return readWorth(lines);
   if (kind === 'answer') return readAnswer(lines);
   throw new LineFault(1, `A report begins with report and a number of rows, a dump with dump; here stands ${frontOf(lines.at(1))}.`);
 }

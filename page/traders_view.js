@@ -3,6 +3,7 @@
 import { amountNode, counted } from './amounts.js';
 import { element } from './elements.js';
 import { addressNode, linkTo } from './links.js';
+import { worthOf } from './owners.js';
 import { section, seekRow, tableWithDetails } from './parts.js';
 import { tradersOf } from './sums.js';
 
@@ -12,6 +13,19 @@ function totalsText(trader) {
     .map((token) => [token, trader.total[token] - trader.free[token] - trader.resting[token] - trader.kept[token]])
     .filter(([, difference]) => difference !== 0n);
   return off.length === 0 ? 'add up' : off.map(([token, difference]) => `${token} off by ${difference}`).join(', ');
+}
+
+// What the script tells of an account besides.
+function dealingFacts(shown, market, trader) {
+  const all = shown.dealings(market);
+  if (all === null) return [];
+  const { fees, rebates } = all.get(trader.address);
+  const worth = worthOf(shown, market, trader);
+  return [
+    ['Worth', [amountNode(worth.coin, 'coin', market), ' and ', amountNode(worth.pc, 'pc', market)]],
+    ['Fees paid', amountNode(fees, 'pc', market)],
+    ['Rebates earned', amountNode(rebates, 'pc', market)],
+  ];
 }
 
 // One account's cells and details.
@@ -29,6 +43,7 @@ function traderRow(shown, market, trader) {
       ['Orders', `${counted(trader.bids, 'bid')}, ${counted(trader.asks, 'ask')}`],
       ['Coin total', amountNode(trader.total.coin, 'coin', market)],
       ['Pc total', amountNode(trader.total.pc, 'pc', market)],
+      ...dealingFacts(shown, market, trader),
       ['Journal', element('a', { href: linkTo('journal', market.address, { account: trader.address }) }, 'its rows')],
       ['Bytes', element('a', { href: linkTo('bytes', trader.address) }, 'its account by field')],
     ],

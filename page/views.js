@@ -7,11 +7,13 @@ import { bytesView } from './bytes_view.js';
 import { eventsView } from './events_view.js';
 import { journalView } from './journal_view.js';
 import { ordersView } from './orders_view.js';
+import { ownersView } from './owner_view.js';
 import { scriptView } from './script_view.js';
 import { tradersView } from './traders_view.js';
 import { tradesView } from './trades_view.js';
 import { vaultsView } from './vaults_view.js';
 import { walletsView } from './wallets_view.js';
+import { worthView } from './worth_view.js';
 
 // The views of a market are shown one market at a time. `isThere` tells whether the texts have what a view shows.
 const VIEWS = [
@@ -21,6 +23,8 @@ const VIEWS = [
   { name: 'orders', title: 'Orders', ofMarket: ordersView },
   { name: 'events', title: 'Events', ofMarket: eventsView },
   { name: 'traders', title: 'Traders', ofMarket: tradersView },
+  { name: 'owners', title: 'Owners', show: ownersView },
+  { name: 'worth', title: 'Worth', show: worthView, isThere: (shown) => shown.worth !== null || shown.joined !== null },
   { name: 'vaults', title: 'Vaults', ofMarket: vaultsView },
   { name: 'audit', title: 'Audit', show: auditView },
   { name: 'journal', title: 'Journal', ofMarket: journalView },

@@ -9,10 +9,11 @@ import { linkCases } from './links.mjs';
 import { answerCases } from './answers.mjs';
 import { auditCases } from './audit.mjs';
 import { scriptCases } from './script.mjs';
+import { makerCases } from './maker.mjs';
 import { Suite } from './suite.mjs';
 import { traderCases } from './trader.mjs';
 
-const GROUPS = { answers: answerCases, audit: auditCases, links: linkCases, script: scriptCases, trader: traderCases, layout: layoutCases };
+const GROUPS = { answers: answerCases, audit: auditCases, links: linkCases, script: scriptCases, trader: traderCases, maker: makerCases, layout: layoutCases };
 
 const [, , chromium, ...names] = process.argv;
 const folder = mkdtempSync(join(tmpdir(), 'view'));
