@@ -4,7 +4,7 @@ import { amountNode, bareNode, counted, numberNode, priceNode, sizeNode } from '
 import { depthChart } from './chart.js';
 import { element } from './elements.js';
 import { addressNode, linkOfOrder, linkTo, rowNode } from './links.js';
-import { facts, notice, section, seekRow, tableWithDetails } from './parts.js';
+import { addressFacts, facts, notice, section, seekRow, tableWithDetails } from './parts.js';
 import { priceChart } from './price_chart.js';
 import { levelsOf, lockedBy } from './sums.js';
 import { Table } from './table.js';
@@ -29,6 +29,7 @@ function marketFacts(shown, market) {
     ['Next sequence number', numberNode(market.nextSequence)],
     ['Room', [room(market.bids, 'bid'), room(market.asks, 'ask'), room(market.events, 'event')].join(', ')],
     ['Pending', counted(market.events.list.length, 'event')],
+    ...addressFacts(market.address),
   ]);
 }
 

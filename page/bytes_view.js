@@ -3,7 +3,7 @@
 import { choice, element } from './elements.js';
 import { addressNode, linkTo, nameOf, shortAddress } from './links.js';
 import { fieldsOf } from './layouts.js';
-import { facts, notice, section, seekRow, tableWithDetails } from './parts.js';
+import { addressFacts, facts, notice, section, seekRow, tableWithDetails } from './parts.js';
 
 // The bytes of a field, those of a long one shortened in the middle.
 function shortHex(hex) {
@@ -43,6 +43,7 @@ function fieldTable(shown, account, fields) {
           field.address === null ? element('span', { 'data-name': field.name }, field.text) : addressNode(shown, field.address),
           element('code', {}, shortHex(field.hex)),
         ],
+        details: field.address === null ? [] : addressFacts(field.address),
       };
     },
   });
@@ -71,7 +72,7 @@ export function bytesView(shown, subject, words) {
     section(nameOf(shown, account.address),
       element('div', { class: 'filters' }, choice('Account', options, account.address, go)),
       facts([
-        ['Address', account.address],
+        ...addressFacts(account.address),
         ['Is', account.what],
         ['Layout', account.kind],
         ['Length', `${account.bytes.length} bytes`],

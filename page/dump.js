@@ -20,7 +20,7 @@ function atLine(line, what, read) {
 /** The rows of a dump as they are read one after the other. */
 class DumpReader {
   constructor() {
-    this.exchange = { mints: new Map(), wallets: new Map(), markets: new Map(), accounts: new Map(), srm: null, msrm: null };
+    this.exchange = { mints: new Map(), wallets: new Map(), markets: new Map(), accounts: new Map(), vaultOwners: new Map(), srm: null, msrm: null };
   }
 
   // The bytes of a field in base64.
@@ -84,6 +84,7 @@ class DumpReader {
     this.note(address, 'market', bytes[0], 'market');
     const kinds = ['token account', 'token account', 'request queue', 'event queue', 'slab', 'slab'];
     market.addresses.forEach((own, at) => this.note(own, kinds[at], bytes[at + 1], names[at + 1], address));
+    this.exchange.vaultOwners.set(market.coinVault.owner, address);
     this.exchange.markets.set(address, market);
   }
 

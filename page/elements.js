@@ -31,6 +31,12 @@ export function choice(label, options, chosen, change) {
   return element('label', { class: 'choice' }, element('span', {}, label), select);
 }
 
+/** A box to tick, with a label; `change` takes whether it is ticked. */
+export function tickBox(label, isTicked, change) {
+  const box = element('input', { 'type': 'checkbox', 'checked': isTicked, 'change': () => change(box.checked), 'data-key': `box ${label}` });
+  return element('label', { class: 'choice' }, box, element('span', {}, label));
+}
+
 /** Runs a layout once its element stands on the page, and again whenever the element's width changes. */
 export function withWidth(node, layout) {
   let width = -1;

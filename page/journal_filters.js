@@ -1,7 +1,7 @@
 // Which entries of a journal are shown: by lane, reply, refusal and account; with the script beside the report by what was asked and who
 // signed too.
 
-import { choice, element } from './elements.js';
+import { choice, element, tickBox } from './elements.js';
 import { linkTo, shortAddress } from './links.js';
 import { REFUSALS, REPLIES } from './replies.js';
 import { scriptChoices } from './script_view.js';
@@ -94,5 +94,6 @@ export function journalChoices(shown, market, journal, words) {
     filter('Reply', 'kind', kind),
     filter('Refusal', 'refusal', refusal),
     filter('Account', 'account', accountOptions(shown, market)),
-    shown.joined === null ? null : scriptChoices(shown.joined, words, go));
+    shown.joined === null ? null : scriptChoices(shown.joined, words, go),
+    tickBox('Hide probes', words.probes === 'hidden', (isTicked) => go('probes')(isTicked ? 'hidden' : null)));
 }

@@ -9,13 +9,14 @@ import { notice, section, seekRow, tableWithDetails } from './parts.js';
 import { moveNode, replyTitle, sentenceNode } from './sentences.js';
 import { grouped } from './units.js';
 
-// The wallets of an entry.
-function movesNode(shown, market, entry) {
-  return element('span', { class: 'moves' }, entry.moves.map((move) => [moveNode(shown, market, entry, move), ' ']));
+// The wallets of an entry; those that it only looks at can be left out.
+function movesNode(shown, market, entry, words) {
+  const moves = words.probes === 'hidden' ? entry.moves.filter(({ kind }) => kind !== 'probe') : entry.moves;
+  return element('span', { class: 'moves' }, moves.map((move) => [moveNode(shown, market, entry, move), ' ']));
 }
 
 // One entry's cells; with the script what was asked stands in front of what happened.
-function entryRow(shown, market, journal, at) {
+function entryRow(shown, market, journal, at, words) {
   const entry = journal.at(at);
   const asked = shown.askedBy(entry.row, market.address);
   const answer = sentenceNode(shown, market, entry);
@@ -29,7 +30,7 @@ function entryRow(shown, market, journal, at) {
       ...(shown.joined === null ? [] : [asked === null ? '' : askedNode(shown, market, asked)]),
       replyTitle(entry),
       answer,
-      movesNode(shown, market, entry),
+      movesNode(shown, market, entry, words),
     ],
     details: [
       ...(asked === null ? [] : askedDetails(shown, asked, shown.joined.clockAt(entry.row))),
@@ -40,13 +41,14 @@ function entryRow(shown, market, journal, at) {
 }
 
 // The columns, with the script or without.
-function journalColumns(hasScript) {
+function journalColumns(hasScript, journal, numbers) {
   const lines = hasScript ? 3 : 2;
+  const reply = (at) => 100 * journal.kinds[numbers[at]] + journal.refusals[numbers[at]];
   return [
-    { title: 'Row', isNumber: true, size: '4.2rem' },
-    { title: 'Lane', isNumber: true, size: '3rem' },
+    { title: 'Row', isNumber: true, size: '4.2rem', key: (at) => journal.rows[numbers[at]] },
+    { title: 'Lane', isNumber: true, size: '3rem', key: (at) => journal.lanes[numbers[at]] },
     ...(hasScript ? [{ title: 'Who did what', size: '1.7fr', isWide: true, lines, narrowLines: 4 }] : []),
-    { title: 'Reply', size: hasScript ? '8rem' : '11.5rem', isWide: true, lines, narrowLines: 1 },
+    { title: 'Reply', size: hasScript ? '8rem' : '11.5rem', isWide: true, lines, narrowLines: 1, key: reply },
     { title: 'What happened', size: '1.7fr', isWide: true, lines, narrowLines: 3 },
     { title: 'Wallets', size: '1.1fr', isWide: true, lines, narrowLines: 3 },
   ];
@@ -66,12 +68,12 @@ export function journalView(shown, market, words) {
   const numbers = passing(shown, market, journal, words);
   const table = tableWithDetails({
     label: `Journal of ${market.address}`,
-    columns: journalColumns(shown.joined !== null),
+    columns: journalColumns(shown.joined !== null, journal, numbers),
     count: numbers.length,
     least: shown.joined === null ? 900 : 1100,
     empty: 'No entry passes the filters.',
     linkOf: (at) => linkTo('journal', market.address, { ...words, row: journal.rows[numbers[at]] }),
-    rowAt: (at) => entryRow(shown, market, journal, numbers[at]),
+    rowAt: (at) => entryRow(shown, market, journal, numbers[at], words),
   });
   const told = words.row === undefined ? null : seekRow(table, numbers.findIndex((at) => String(journal.rows[at]) === words.row), `row ${words.row}`);
   return [

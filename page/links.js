@@ -33,6 +33,8 @@ export function shortAddress(address) {
 /** What an address is called: its label, what it is of which market where it is a market's part, else its front and end. */
 export function nameOf(shown, address) {
   const account = shown.exchange.accounts.get(address);
+  const { vaultOwners } = shown.exchange;
+  if (account === undefined && vaultOwners.has(address)) return `${shortAddress(vaultOwners.get(address))}’s vault owner`;
   if (account === undefined || account.market === null) return shortAddress(address);
   return `${shortAddress(account.market)}’s ${account.part}`;
 }

@@ -6,6 +6,7 @@ import { drawView, frame, goToView } from './navigation.js';
 import { addTexts, faultText, toldTexts } from './opening.js';
 import { notice } from './parts.js';
 import { searchField } from './search.js';
+import { hearPrinting } from './table.js';
 import { units } from './units.js';
 
 const told = element('p', { class: 'file' });
@@ -117,6 +118,7 @@ function begin() {
   } }, 'To the content'), header, frame.main, footNode());
   hearFiles(file, openTexts);
   hearKeys(search.field, file);
+  hearPrinting();
   window.addEventListener('hashchange', drawView);
 }
 

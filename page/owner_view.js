@@ -4,7 +4,7 @@ import { amountNode, counted, mintAmountNode, numberNode, priceNode, sizeNode } 
 import { element } from './elements.js';
 import { addressNode, linkOfOrder, linkTo, shortAddress } from './links.js';
 import { accountsOf, personsOf, takesOf, worthOf } from './owners.js';
-import { facts, notice, section } from './parts.js';
+import { addressFacts, facts, notice, section } from './parts.js';
 import { lockedBy } from './sums.js';
 import { Table } from './table.js';
 import { priceText } from './units.js';
@@ -60,7 +60,8 @@ function accountSection(shown, { market, trader, orders, crank }) {
       pairLine('Resting: locked by orders', market, trader.resting, `${label} resting`),
       scriptLines(shown, market, trader, label),
       pairLine('For the referrer, at the next settling', market, { pc: trader.referrer }, `${label} referrer`))),
-    element('p', { class: 'hint' }, `${crankText(crank)} ${counted(bids, 'bid rests', 'bids rest')} and ${counted(orders.length - bids, 'ask rests', 'asks rest')}; `
+    element('p', { class: 'hint' }, `${crankText(crank)} ${counted(bids, 'bid rests', 'bids rest')} and `
+      + `${counted(orders.length - bids, 'ask rests', 'asks rest')}; `
       + `${trader.taken} of 128 slots are taken${trader.state === 'closed' ? '; the account is closed' : ''}.`));
 }
 
@@ -123,6 +124,7 @@ function personNodes(shown, person) {
     facts([
       ...wallets.map((wallet) => [['Wallet ', addressNode(shown, wallet.address)], mintAmountNode(shown, wallet.amount, wallet.mint)]),
       ...takeFacts(shown, person),
+      ...addressFacts(person),
     ]),
     element('div', { class: 'sums' }, accounts.map((account) => accountSection(shown, account))),
     section(`Open orders (${count})`, table),

@@ -1,5 +1,6 @@
 // Parts that several views are made of.
 
+import { base58Of, hexOfAddress } from './base58.js';
 import { element } from './elements.js';
 import { Table } from './table.js';
 
@@ -7,6 +8,17 @@ import { Table } from './table.js';
 export function facts(pairs) {
   const fact = ([name, value]) => element('div', {}, element('dt', {}, name), element('dd', {}, value));
   return element('dl', { class: 'facts' }, pairs.map(fact));
+}
+
+/** An address in full as named values: its label where it has one, its hexadecimal digits, and base58. */
+export function addressFacts(address) {
+  const hex = `0x${hexOfAddress(address)}`;
+  const label = address === hex ? [] : [['Address', element('code', { 'data-name': 'label' }, address)]];
+  return [
+    ...label,
+    ['Hexadecimal', element('code', { 'data-name': 'hexadecimal' }, hex)],
+    ['Base58', element('code', { 'data-name': 'base58' }, base58Of(address))],
+  ];
 }
 
 /** A part of a view under a heading. */

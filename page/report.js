@@ -52,10 +52,14 @@ class WalletJournal {
     this.first = first;
     this.count = count;
     this.rows = new Uint32Array(count);
+    this.isProbe = new Uint8Array(count);
   }
 
   /** Notes what the movement of a number, from 0, says. */
-  note(at, move) { this.rows[at] = move.row; }
+  note(at, move) {
+    this.rows[at] = move.row;
+    this.isProbe[at] = Number(move.kind === 'probe');
+  }
 
   /** The movement of a number, from 0. */
   at(number) { return readMove(this.lines.at(this.first + number)); }

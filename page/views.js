@@ -7,6 +7,7 @@ import { bytesView } from './bytes_view.js';
 import { eventsView } from './events_view.js';
 import { journalView } from './journal_view.js';
 import { ordersView } from './orders_view.js';
+import { overview } from './overview.js';
 import { ownersView } from './owner_view.js';
 import { scriptView } from './script_view.js';
 import { tradersView } from './traders_view.js';
@@ -18,6 +19,7 @@ import { worthView } from './worth_view.js';
 // The views of a market are shown one market at a time. `isThere` tells whether the texts have what a view shows.
 const VIEWS = [
   { name: 'answer', title: 'Answer', show: answerView, isThere: (shown) => shown.answer !== null },
+  { name: 'overview', title: 'Overview', show: overview },
   { name: 'book', title: 'Book', ofMarket: bookView },
   { name: 'trades', title: 'Trades', ofMarket: tradesView },
   { name: 'orders', title: 'Orders', ofMarket: ordersView },

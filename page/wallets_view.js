@@ -1,9 +1,9 @@
 // All wallets with their balances, and one wallet's movements, each with the balance before and after.
 
 import { amountNode, mintAmountNode, numberNode, tokenOf } from './amounts.js';
-import { element } from './elements.js';
+import { element, tickBox } from './elements.js';
 import { addressNode, linkTo, nameOf, rowNode, shortAddress } from './links.js';
-import { facts, notice, section, seekRow, tableWithDetails } from './parts.js';
+import { addressFacts, facts, notice, section, seekRow, tableWithDetails } from './parts.js';
 import { Table } from './table.js';
 
 // The table of all wallets.
@@ -48,7 +48,7 @@ function moveRow(shown, wallet, move) {
       rowNode(move.market, move.row),
       addressNode(shown, move.market),
       move.lane,
-      move.kind,
+      move.kind === 'probe' ? 'unchanged' : move.kind,
       amount(move.amount),
       amount(move.before),
       amount(move.after),
@@ -56,14 +56,21 @@ function moveRow(shown, wallet, move) {
   };
 }
 
+// The place of the movement that a link asks for: by its row, on its market where the link tells one.
+function soughtMove(journal, numbers, words) {
+  return numbers.findIndex((at) => String(journal.rows[at]) === words.row && (words.market === undefined || journal.at(at).market === words.market));
+}
+
 // The movements of a wallet, and a notice where a link asks for one that is not there.
 function movements(shown, wallet, words) {
   const journal = shown.report.wallets.get(wallet.address);
   if (journal === undefined) return [element('p', { class: 'empty' }, 'A dump tells no movements.')];
+  const isHidden = words.probes === 'hidden';
+  const numbers = Array.from({ length: journal.count }, (_, at) => at).filter((at) => !isHidden || journal.isProbe[at] === 0);
   const table = tableWithDetails({
     label: `Movements of ${wallet.address}`,
     columns: [
-      { title: 'Row', size: '6rem' },
+      { title: 'Row', size: '6rem', key: (at) => journal.rows[numbers[at]] },
       { title: 'Market', size: 'minmax(5rem, 0.8fr)' },
       { title: 'Lane', isNumber: true, size: '3rem' },
       { title: 'What', size: '5rem' },
@@ -71,13 +78,14 @@ function movements(shown, wallet, words) {
       { title: 'Before', isNumber: true, isWide: true },
       { title: 'After', isNumber: true, isWide: true },
     ],
-    count: journal.count,
-    empty: 'No row named this wallet.',
-    linkOf: (at) => linkTo('wallets', wallet.address, { row: journal.rows[at] }),
-    rowAt: (at) => moveRow(shown, wallet, journal.at(at)),
+    count: numbers.length,
+    empty: 'No row moved anything of this wallet.',
+    linkOf: (at) => linkTo('wallets', wallet.address, { ...words, row: journal.rows[numbers[at]] }),
+    rowAt: (at) => moveRow(shown, wallet, journal.at(numbers[at])),
   });
-  const told = words.row === undefined ? null : seekRow(table, journal.rows.indexOf(Number(words.row)), `movement of row ${words.row}`);
-  return [told, table.node];
+  const told = words.row === undefined ? null : seekRow(table, soughtMove(journal, numbers, words), `movement of row ${words.row}`);
+  const hide = (isTicked) => { window.location.hash = linkTo('wallets', wallet.address, { ...words, probes: isTicked ? 'hidden' : null }); };
+  return [told, element('div', { class: 'filters' }, tickBox('Hide probes', isHidden, hide)), table.node];
 }
 
 // Whether the last movement's balance is that of the account.
@@ -96,7 +104,7 @@ function walletSection(shown, wallet, words) {
       ['Mint', addressNode(shown, wallet.mint)],
       ['Owner', addressNode(shown, wallet.owner)],
       ['After the last movement', agreement(shown, wallet)],
-      ['Address', wallet.address],
+      ...addressFacts(wallet.address),
       ['Bytes', element('a', { href: linkTo('bytes', wallet.address) }, 'its account by field')],
     ]),
     movements(shown, wallet, words));

@@ -10,10 +10,12 @@ import { answerCases } from './answers.mjs';
 import { auditCases } from './audit.mjs';
 import { scriptCases } from './script.mjs';
 import { makerCases } from './maker.mjs';
+import { auditorCases } from './auditor.mjs';
+import { largeCases } from './large.mjs';
 import { Suite } from './suite.mjs';
 import { traderCases } from './trader.mjs';
 
-const GROUPS = { answers: answerCases, audit: auditCases, links: linkCases, script: scriptCases, trader: traderCases, maker: makerCases, layout: layoutCases };
+const GROUPS = { answers: answerCases, audit: auditCases, links: linkCases, script: scriptCases, trader: traderCases, maker: makerCases, auditor: auditorCases, large: largeCases, layout: layoutCases };
 
 const [, , chromium, ...names] = process.argv;
 const folder = mkdtempSync(join(tmpdir(), 'view'));
