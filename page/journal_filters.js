@@ -26,24 +26,34 @@ function wordsOf(shown, market, address) {
   return words;
 }
 
-// Whether one of some words stands in an entry's line, behind its lane, row and kind of reply.
-function namesOneOf(line, words) {
-  return line.split(' ').some((word, place) => place > 4 && words.has(word));
+// Whether a word stands in an entry's line, behind its lane, row and kind of reply.
+function hasWord(line, word) { return line.split(' ').indexOf(word, 5) >= 0; }
+
+// Marks the entries in whose lines one of some words stands; the text is searched as a whole, and only lines with a hit are cut out.
+function entriesWith(journal, words) {
+  const { lines, first, count } = journal;
+  const isNamed = new Uint8Array(count);
+  const end = lines.starts[first - 1 + count];
+  for (const word of words) {
+    let place = count === 0 ? -1 : lines.text.indexOf(` ${word}`, lines.starts[first - 1]);
+    while (place >= 0 && place < end) {
+      const number = lines.numberOf(place);
+      if (hasWord(lines.at(number), word)) isNamed[number - first] = 1;
+      place = lines.text.indexOf(` ${word}`, lines.starts[number]);
+    }
+  }
+  return isNamed;
 }
 
 // Whether an entry has to do with an account, a wallet or a person: with the script by what its row names, else by the entry's words.
 function accountTest(shown, market, journal, address) {
-  const line = (at) => journal.lines.at(journal.first + at);
   const { joined } = shown;
-  if (joined === null) {
-    const words = wordsOf(shown, market, address);
-    return (at) => namesOneOf(line(at), words);
-  }
+  const isNamed = entriesWith(journal, joined === null ? wordsOf(shown, market, address) : [address]);
+  if (joined === null) return (at) => isNamed[at] === 1;
   const place = joined.placed.get(address) || -1;
-  const alone = new Set([address]);
   return (at) => {
     const row = journal.rows[at];
-    return joined.accounts[row] === place || joined.signers[row] === place || namesOneOf(line(at), alone);
+    return isNamed[at] === 1 || joined.accounts[row] === place || joined.signers[row] === place;
   };
 }
 
@@ -84,7 +94,7 @@ export function journalChoices(shown, market, journal, words) {
   const go = (name) => (value) => {
     window.location.hash = linkTo('journal', market.address, { ...words, row: null, [name]: value });
   };
-  const lanes = [...new Set(journal.lanes)].sort((one, other) => one - other);
+  const lanes = journal.laneNumbers();
   const lane = lanes.map((number) => [String(number), String(number)]);
   const kind = REPLIES.map((reply) => [reply.kind, reply.title]);
   const refusal = REFUSALS.slice(1).map(({ name }, at) => [String(at + 1), `${at + 1} ${name}`]);

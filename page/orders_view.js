@@ -2,7 +2,7 @@
 
 import { amountNode, bareNode, counted, numberNode, priceNode, sizeNode } from './amounts.js';
 import { choice, element } from './elements.js';
-import { addressNode, linkTo, orderNode, rowNode } from './links.js';
+import { addressNode, linkTo, orderNode, rowNode, shortAddress } from './links.js';
 import { livesOf } from './lives.js';
 import { facts, notice, section, tableWithDetails } from './parts.js';
 import { averageText, priceText, priceUnit, sizeUnit } from './units.js';
@@ -143,7 +143,7 @@ export function ordersView(shown, market, words) {
     section(`${counted(lives.length, 'order')} of ${counted(all.length, 'order')}`,
       element('div', { class: 'filters' },
         choice('State', [['', 'all'], ...STATES.map((state) => [state, state])], words.state || '', go('state')),
-        choice('Account', [['', 'all'], ...accounts.map((account) => [account, account])], words.account || '', go('account'))),
+        choice('Account', [['', 'all'], ...accounts.map((account) => [account, shortAddress(account)])], words.account || '', go('account'))),
       node),
   ];
 }

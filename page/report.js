@@ -41,6 +41,12 @@ class MarketJournal {
     for (const { wallet } of entry.moves) if (!this.named.has(wallet)) this.named.set(wallet, this.first + at);
   }
 
+  /** The lanes that have entries. */
+  laneNumbers() {
+    if (this.laneList === undefined) this.laneList = [...new Set(this.lanes)].sort((one, other) => one - other);
+    return this.laneList;
+  }
+
   /** The entry of a number, from 0. */
   at(number) { return readEntry(this.lines.at(this.first + number)); }
 }

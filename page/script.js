@@ -137,6 +137,13 @@ export class Script {
   /** The first account that a row names; null where it names none. */
   accountOf(row) { return this.addresses[this.accounts[row] || 0]; }
 
+  /** What is asked for and who signs, each once. */
+  used() {
+    const sorted = (places) => [...new Set(places)].filter((place) => place !== 0).map((place) => this.addresses[place]).sort();
+    if (this.usedWords === undefined) this.usedWords = { names: sorted(this.names), signers: sorted(this.signers) };
+    return this.usedWords;
+  }
+
   /** The clock at a row. */
   clockAt(row) {
     const before = this.clocks.filter(([at]) => at < row);

@@ -55,10 +55,10 @@ function scriptRows(script, words) {
 
 /** The choices by which rows of a script are filtered: what was asked, and who signed. */
 export function scriptChoices(script, words, go) {
-  const sorted = (places) => [...new Set(places)].filter((place) => place !== 0).map((place) => script.addresses[place]).sort();
+  const { names, signers } = script.used();
   return [
-    choice('Asked', [['', 'all'], ...sorted(script.names).map((one) => [one, one])], words.asked || '', go('asked')),
-    choice('Signer', [['', 'all'], ...sorted(script.signers).map((one) => [one, shortAddress(one)])], words.signer || '', go('signer')),
+    choice('Asked', [['', 'all'], ...names.map((one) => [one, one])], words.asked || '', go('asked')),
+    choice('Signer', [['', 'all'], ...signers.map((one) => [one, shortAddress(one)])], words.signer || '', go('signer')),
   ];
 }
 

@@ -33,8 +33,11 @@ export function compareKeys(one, other) {
   return one < other ? -1 : 1;
 }
 
-// A field of CSV.
-function csvField(text) { return /[",\r\n]/.test(text) ? `"${text.replace(/"/g, '""')}"` : text; }
+// A field of CSV. A text that a spreadsheet would take for a formula has a quote in front; numbers below zero have none.
+function csvField(text) {
+  const safe = /^[=+@\t]|^-(?![0-9]|$)/.test(text) ? `'${text}` : text;
+  return /[",\r\n]/.test(safe) ? `"${safe.replace(/"/g, '""')}"` : safe;
+}
 
 /** Rows of texts as lines, their fields joined by tabs or by commas. */
 export function linesOf(rows, isCsv) {

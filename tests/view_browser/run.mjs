@@ -12,10 +12,11 @@ import { scriptCases } from './script.mjs';
 import { makerCases } from './maker.mjs';
 import { auditorCases } from './auditor.mjs';
 import { largeCases } from './large.mjs';
+import { securityCases } from './security.mjs';
 import { Suite } from './suite.mjs';
 import { traderCases } from './trader.mjs';
 
-const GROUPS = { answers: answerCases, audit: auditCases, links: linkCases, script: scriptCases, trader: traderCases, maker: makerCases, auditor: auditorCases, large: largeCases, layout: layoutCases };
+const GROUPS = { answers: answerCases, audit: auditCases, links: linkCases, script: scriptCases, trader: traderCases, maker: makerCases, auditor: auditorCases, security: securityCases, large: largeCases, layout: layoutCases };
 
 const [, , chromium, ...names] = process.argv;
 const folder = mkdtempSync(join(tmpdir(), 'view'));
