@@ -39,8 +39,8 @@ function levelTable(levels, market) {
     label: 'Depth by price',
     columns: [
       { title: 'Side', size: '3.2rem' },
-      { title: `Price (${priceUnit(market)})`, isNumber: true, size: '1.3fr' },
-      { title: `Size (${sizeUnit(market)})`, isNumber: true },
+      { title: `Price (${priceUnit(market)})`, short: 'Price', isNumber: true, size: '1.3fr' },
+      { title: `Size (${sizeUnit(market)})`, short: 'Size', isNumber: true },
       { title: 'Orders', isNumber: true, size: '3.4rem' },
       { title: 'Cumulated', isNumber: true, size: 'minmax(5rem, 1fr)' },
     ],
@@ -84,11 +84,11 @@ function sideTable(shown, market, orders, name) {
   return tableWithDetails({
     label: `${name}, best first`,
     columns: [
-      { title: `Price (${priceUnit(market)})`, isNumber: true, size: '7rem' },
-      { title: `Size (${sizeUnit(market)})`, isNumber: true, size: '6rem' },
-      { title: 'Owner' },
-      { title: 'Sequence number', isNumber: true, size: '6rem' },
-      { title: 'Locked', isNumber: true, isWide: true, size: 'minmax(10rem, 1.4fr)' },
+      { title: `Price (${priceUnit(market)})`, short: 'Price', isNumber: true, size: '6rem' },
+      { title: `Size (${sizeUnit(market)})`, short: 'Size', isNumber: true, size: '6rem' },
+      { title: 'Owner', isWide: true, size: 'minmax(6.2rem, 1fr)' },
+      { title: 'Sequence number', isNumber: true, isWide: true, size: '5.5rem' },
+      { title: 'Locked', isNumber: true, isWide: true, size: 'minmax(8rem, 1.2fr)' },
     ],
     count: orders.length,
     empty: `No ${name.toLowerCase()} rest.`,

@@ -51,7 +51,7 @@ export function eventsView(shown, market, words) {
       { title: 'Place', isNumber: true, size: '3.5rem' },
       { title: 'Event', isWide: true, size: '11rem' },
       { title: 'Order', size: 'minmax(9rem, 1.2fr)', isWide: true },
-      { title: 'Owner' },
+      { title: 'Owner', isWide: true },
       { title: 'Released', isNumber: true, isWide: true, size: 'minmax(8rem, 1fr)' },
       { title: 'Paid', isNumber: true, isWide: true, size: 'minmax(8rem, 1fr)' },
       { title: 'Fee or rebate', isNumber: true, isWide: true, size: 'minmax(7rem, 0.8fr)' },

@@ -27,7 +27,7 @@ export function readLink(fragment) {
 
 /** An address as it is printed, shortened where it has no label. */
 export function shortAddress(address) {
-  return address.startsWith('0x') && address.length === 66 ? `${address.slice(0, 8)}…${address.slice(-4)}` : address;
+  return address.startsWith('0x') && address.length === 66 ? `${address.slice(0, 6)}…${address.slice(-4)}` : address;
 }
 
 /** What an address is called: its label, what it is of which market where it is a market's part, else its front and end. */

@@ -106,7 +106,7 @@ function replyTable(shown) {
   const counts = replyCounts(shown);
   return new Table({
     label: 'Replies and refusals',
-    columns: [{ title: 'Reply', size: '1.4fr' }, { title: 'Market' }, { title: 'Rows', isNumber: true, size: '6rem' }],
+    columns: [{ title: 'Reply', size: '1.4fr', isWide: true }, { title: 'Market', isWide: true }, { title: 'Rows', isNumber: true, size: '6rem' }],
     count: counts.length,
     empty: 'There are no rows.',
     rowAt: (at) => {

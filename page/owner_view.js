@@ -72,13 +72,13 @@ function orderTable(shown, accounts) {
     label: 'Open orders',
     columns: [
       { title: 'Side', size: '3rem' },
-      { title: 'Market' },
+      { title: 'Market', isWide: true, size: 'minmax(6.2rem, 1fr)' },
       { title: 'Price', isNumber: true, size: '1.2fr' },
       { title: 'Size', isNumber: true, size: '1.2fr' },
       { title: 'From the best', isNumber: true, size: '1.1fr' },
       { title: 'Locked', isNumber: true, isWide: true, size: '1.3fr' },
       { title: 'Sequence number', isNumber: true, size: '6rem' },
-      { title: 'Account' },
+      { title: 'Account', isWide: true, size: 'minmax(6.2rem, 1fr)' },
     ],
     count: rows.length,
     least: 820,
@@ -95,7 +95,7 @@ function orderTable(shown, accounts) {
           addressNode(shown, market.address),
           priceNode(order.price, market),
           sizeNode(order.lots, market),
-          away === 0n ? 'best price' : priceText(away, market),
+          away === 0n ? 'best' : priceText(away, market),
           amountNode(lockedBy(order, market), order.isBid ? 'pc' : 'coin', market),
           element('a', { href: linkOfOrder(shown, market, order.id) }, numberNode(order.sequence)),
           addressNode(shown, order.owner),
@@ -136,7 +136,7 @@ function personTable(shown, persons) {
   return new Table({
     label: 'Owners',
     columns: [
-      { title: 'Owner' },
+      { title: 'Owner', isWide: true },
       { title: 'Accounts', isNumber: true },
       { title: 'Markets', isNumber: true },
       { title: 'Open orders', isNumber: true },

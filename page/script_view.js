@@ -71,7 +71,7 @@ export function scriptView(shown, subject, words) {
     label: 'Rows of the script',
     columns: [
       { title: 'Row', isNumber: true, size: '4.5rem' },
-      { title: 'Says', size: '2fr', isWide: true, lines: 2, narrowLines: 4 },
+      { title: 'Says', size: '2fr', isWide: true, lines: 3, narrowLines: 5 },
       { title: 'Market', size: '7.5rem', lines: 2, narrowLines: 2 },
       { title: 'Text', size: '1.6fr', isWide: true, lines: 2, narrowLines: 3 },
     ],

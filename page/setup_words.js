@@ -1,6 +1,7 @@
 // The rows of a script that are no instructions, in words.
 
 import { decodeBase64, longAt, numberAt } from './bytes.js';
+import { shortAddress } from './links.js';
 import { grouped } from './units.js';
 
 // The lot sizes that the data of a market row says.
@@ -27,5 +28,5 @@ const SETUP_WORDS = {
 /** A row that is no instruction, in words; null where it is one, or of no known kind. */
 export function setupWords(fields) {
   const words = Object.hasOwn(SETUP_WORDS, fields[0]) ? SETUP_WORDS[fields[0]] : null;
-  return words === null ? null : words(fields.slice(1).map((field) => field || ''));
+  return words === null ? null : words(fields.slice(1).map((field) => shortAddress(field || '')));
 }

@@ -28,7 +28,8 @@ function heightOf(columns, isNarrow) {
 
 /**
  * A table of `count` rows; `rowAt` gives the cells of a row, and `select` hears of the row that was chosen. Below a width of
- * `least` it is narrow. A column's `key` gives what a row is sorted by; without one it is the cell.
+ * `least` it is narrow, and a column is called by its `short` title where it has one. A column's `key` gives what a row is sorted by;
+ * without one it is the cell.
  */
 export class Table {
   constructor({ label, columns, count, rowAt, select = () => {}, linkOf = () => null, empty = 'Nothing.', least = LEAST }) {
@@ -159,7 +160,7 @@ export class Table {
       const column = this.columns[place];
       const style = [column.isNumber && 'number', column.isWide && 'wide'].filter(Boolean).join(' ');
       return element('span', { role: 'gridcell', class: `cell ${style}`, style: `--lines: ${narrowLines(column)}` },
-        element('span', { class: 'name' }, column.title), element('span', { class: 'value' }, cell));
+        element('span', { class: 'name' }, column.short || column.title), element('span', { class: 'value' }, cell));
     });
     return element('div', {
       'id': `row-${this.serial}-${at}`,

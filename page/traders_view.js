@@ -57,7 +57,7 @@ export function tradersView(shown, market, words) {
   const table = tableWithDetails({
     label: 'Open-orders accounts',
     columns: [
-      { title: 'Account', size: 'minmax(8rem, 1.1fr)' },
+      { title: 'Account', size: 'minmax(9.2rem, 1.2fr)', isWide: true },
       { title: 'State', size: '4rem' },
       ...titles.map((title) => ({ title, isNumber: true, isWide: true })),
       { title: 'Referrer part', isNumber: true },

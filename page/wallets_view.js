@@ -11,9 +11,9 @@ function walletTable(shown, wallets) {
   return new Table({
     label: 'Wallets',
     columns: [
-      { title: 'Wallet', size: '1.2fr' },
-      { title: 'Owner' },
-      { title: 'Mint' },
+      { title: 'Wallet', isWide: true, size: '1.2fr' },
+      { title: 'Owner', isWide: true },
+      { title: 'Mint', isWide: true },
       { title: 'Balance', isNumber: true, isWide: true, size: '1.6fr' },
       { title: 'Moves', isNumber: true, size: '4rem' },
     ],
@@ -71,7 +71,7 @@ function movements(shown, wallet, words) {
     label: `Movements of ${wallet.address}`,
     columns: [
       { title: 'Row', size: '6rem', key: (at) => journal.rows[numbers[at]] },
-      { title: 'Market', size: 'minmax(5rem, 0.8fr)' },
+      { title: 'Market', isWide: true, size: 'minmax(6.2rem, 0.8fr)' },
       { title: 'Lane', isNumber: true, size: '3rem' },
       { title: 'What', size: '5rem' },
       { title: 'Amount', isNumber: true, isWide: true },

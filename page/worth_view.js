@@ -73,9 +73,9 @@ export function worthView(shown) {
   const { node } = tableWithDetails({
     label: 'Worth of accounts',
     columns: [
-      { title: 'Market' },
-      { title: 'Account' },
-      { title: 'Owner' },
+      { title: 'Market', isWide: true },
+      { title: 'Account', isWide: true },
+      { title: 'Owner', isWide: true },
       { title: 'Coin', isNumber: true, isWide: true, size: '1.3fr' },
       { title: 'Pc', isNumber: true, isWide: true, size: '1.3fr' },
       { title: 'In pc at the last price', isNumber: true, isWide: true, size: '1.3fr' },

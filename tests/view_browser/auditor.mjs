@@ -148,6 +148,6 @@ export async function auditorCases(suite) {
   await checkWords(suite, page);
   const { text, names } = withHexAddresses(report, labelsOf(stored('examples/deep_book.csv')));
   await page.open(makePage(suite.folder, text), `bytes/${names.get('m')}`);
-  suite.holds('parts of a hexadecimal market by name', (await page.texts('.rows .address')).some((name) => /^0x[0-9a-f]{6}…[0-9a-f]{4}’s event queue$/.test(name)));
+  suite.holds('parts of a hexadecimal market by name', (await page.texts('.rows .address')).some((name) => /^0x[0-9a-f]{4}…[0-9a-f]{4}’s event queue$/.test(name)));
   await page.close();
 }

@@ -16,7 +16,7 @@ async function checkViews(suite, name, file) {
       await page.settle();
       const { covers, hidden, wide, texts } = await page.run(faultsOfLayout);
       suite.same(`${name} ${view} at ${width}: texts that cover others`, covers.slice(0, 4), []);
-      suite.same(`${name} ${view} at ${width}: numbers that are cut off`, hidden.slice(0, 4), []);
+      suite.same(`${name} ${view} at ${width}: texts that are cut off`, hidden.slice(0, 4), []);
       suite.same(`${name} ${view} at ${width}: parts that are too wide`, wide.slice(0, 4), []);
       suite.holds(`${name} ${view} at ${width}: there are texts`, texts > 8);
     }

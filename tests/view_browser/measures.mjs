@@ -18,6 +18,7 @@ export function faultsOfLayout() {
   const hidden = [];
   const add = (node, holder, rects) => {
     const frames = framesOf(holder);
+    if (holder.tagName === 'DATA' && rects.length > 1 && holder.textContent.length < 13) hidden.push(`${holder.textContent}, on two lines`);
     for (const rect of rects) {
       const box = frames.reduce(cut, { left: rect.left, right: rect.right, top: rect.top, bottom: rect.bottom });
       const isNumber = holder.closest('data') !== null;
@@ -25,7 +26,8 @@ export function faultsOfLayout() {
       if (isNumber && isSeen(box) && wide < rect.width - 1) hidden.push(holder.textContent);
       if (isNumber && wide <= 1 && rect.width > 1 && box.bottom > box.top) hidden.push(holder.textContent);
       const cell = holder.closest('.cell');
-      if (isNumber && cell !== null && rect.bottom > cell.closest('.row').getBoundingClientRect().bottom + 1) hidden.push(`${holder.textContent}, below its row`);
+      const isBelow = cell !== null && rect.bottom > Math.min(cell.closest('.row').getBoundingClientRect().bottom, cell.getBoundingClientRect().bottom) + 3;
+      if (isBelow && holder.closest('code') === null) hidden.push(`${holder.textContent.slice(0, 40)}, below its cell`);
       if (isSeen(box)) boxes.push({ node, holder, text: node.textContent.slice(0, 40), ...box });
     }
   };
