@@ -18,6 +18,12 @@ function marketOf(link, markets) {
   return markets.get(link.subject) || (link.subject === '' && markets.get(frame.market)) || markets.values().next().value;
 }
 
+// How many findings there are, beside the audit's tab.
+function findingsMark() {
+  const { length } = frame.shown.findings;
+  return length === 0 ? null : element('span', { class: 'bad' }, ` (${length})`);
+}
+
 // The tabs of views, and a choice among markets where there are several.
 function drawTabs(views, view, market) {
   const { markets } = frame.shown.exchange;
@@ -26,7 +32,7 @@ function drawTabs(views, view, market) {
     'aria-current': view !== null && name === view.name ? 'page' : null,
     'data-key': `tab ${name}`,
     'title': at < 9 ? `key ${at + 1}` : null,
-  }, title));
+  }, title, name === 'audit' ? findingsMark() : null));
   const go = (address) => { window.location.hash = linkTo(view.name, address); };
   const isChoice = view !== null && view.ofMarket && market !== undefined && markets.size > 1;
   const options = [...markets.keys()].map((address) => [address, shortAddress(address)]);

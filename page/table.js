@@ -39,6 +39,9 @@ export class Table {
     this.order = null;
     this.isPaper = false;
     this.sorted = { place: -1, isFalling: false };
+    const canSort = (column) => count > 1 && column.title !== '' && (column.key !== undefined || count <= MOST_SORTED);
+    this.sortable = columns.map((column, place) => (canSort(column) ? place : -1)).filter((place) => place >= 0);
+    this.onSort = () => {};
     this.head = element('div', { class: 'head row', role: 'row' }, columns.map((column, place) => this.title(column, place)));
     this.body = element('div', { class: 'rows', role: 'rowgroup' });
     this.grid = this.gridNode(empty);
@@ -67,18 +70,24 @@ export class Table {
 
   // A column's title; where rows can be sorted by it, as a button.
   title(column, place) {
-    const canSort = this.count > 1 && (column.key !== undefined || this.count <= MOST_SORTED);
-    const sort = () => this.sort(place);
-    const text = canSort ? element('button', { type: 'button', tabindex: '-1', click: sort, title: 'sort' }, column.title) : column.title;
+    const sort = () => this.turnSort(place);
+    const text = this.sortable.includes(place) ? element('button', { type: 'button', tabindex: '-1', click: sort, title: 'sort' }, column.title) : column.title;
     return element('span', { role: 'columnheader', class: column.isNumber ? 'number' : null }, text);
   }
 
-  /** Sorts by a column: rising, then falling, then as the rows stood. */
-  sort(place) {
+  // Sorts by a column: rising, then falling, then as the rows stood.
+  turnSort(place) {
     const { sorted } = this;
-    if (sorted.place !== place) this.sorted = { place, isFalling: false };
-    else this.sorted = sorted.isFalling ? { place: -1, isFalling: false } : { place, isFalling: true };
-    this.order = this.sorted.place < 0 ? null : this.orderBy(this.columns[place], place);
+    if (sorted.place !== place) this.sortBy(place, false);
+    else if (sorted.isFalling) this.sortBy(-1, false);
+    else this.sortBy(place, true);
+  }
+
+  /** Sorts by the column of a place, rising or falling; as the rows stood where the place is below 0. */
+  sortBy(place, isFalling) {
+    this.sorted = { place, isFalling };
+    this.order = place < 0 ? null : this.orderBy(this.columns[place], place);
+    this.onSort(this.sorted);
     [...this.head.children].forEach((title, at) => {
       if (at !== this.sorted.place) title.removeAttribute('aria-sort');
       else title.setAttribute('aria-sort', this.sorted.isFalling ? 'descending' : 'ascending');

@@ -41,7 +41,20 @@ function keepAsFile(text, name) {
   setTimeout(() => URL.revokeObjectURL(address), 10000);
 }
 
-/** The buttons of a table, and what they tell. */
+// The choice by which a table is sorted, for keys and for cards, which have no titles to click.
+function sortChoice(table, label) {
+  const name = (place, isFalling) => (place < 0 ? '' : `${place} ${isFalling ? 'falling' : 'rising'}`);
+  const options = table.sortable.flatMap((place) => [false, true]
+    .map((isFalling) => [name(place, isFalling), `${table.columns[place].short || table.columns[place].title} ${isFalling ? '▼' : '▲'}`]));
+  const select = element('select', { 'aria-label': `Sort ${label}`, 'data-key': `sort ${label}`, 'change': () => {
+    const [place, way] = select.value.split(' ');
+    table.sortBy(select.value === '' ? -1 : Number(place), way === 'falling');
+  } }, [['', 'as it stands'], ...options].map(([value, text]) => element('option', { value }, text)));
+  table.onSort = ({ place, isFalling }) => { select.value = name(place, isFalling); };
+  return select;
+}
+
+/** The choice and buttons of a table, and what they tell. */
 export function toolsOf(table, label) {
   const told = element('span', { class: 'quiet', role: 'status' });
   const tell = (text) => { told.textContent = text; };
@@ -51,7 +64,7 @@ export function toolsOf(table, label) {
     else await putOnClipboard(text);
     tell(isCsv ? 'written as CSV' : 'copied');
   };
-  return element('div', { class: 'tools' }, told,
+  return element('div', { class: 'tools' }, told, table.sortable.length === 0 ? null : sortChoice(table, label),
     element('button', { 'type': 'button', 'click': run(false), 'aria-label': `Copy ${label}`, 'data-key': `copy ${label}` }, 'Copy'),
     element('button', { 'type': 'button', 'click': run(true), 'aria-label': `CSV of ${label}`, 'data-key': `csv ${label}` }, 'CSV'));
 }

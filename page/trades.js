@@ -33,6 +33,14 @@ export function lastTrade(shown, market) {
   return journal === undefined || journal.trades.length === 0 ? null : tradeAt(shown, market, journal, journal.trades.length - 1);
 }
 
+/** The price of the last fill, which only the script tells where the last row met several orders; null where it is not known. */
+export function lastFillPrice(shown, market) {
+  const last = lastTrade(shown, market);
+  const replay = last === null ? null : shown.replay(market);
+  const fills = replay === null || replay.why !== null ? undefined : replay.fillsOf.get(last.row);
+  return fills === undefined || fills.length === 0 ? null : fills[fills.length - 1].price;
+}
+
 /** The spread of a book: in pc lots per coin lot, and in hundredths of a basis point of the middle; null where a side is empty. */
 export function spreadOf(market) {
   const [bid, ask] = [market.bids.orders[0], market.asks.orders[0]];

@@ -1,16 +1,23 @@
 // A market's tape: each row that filled something, with the taker's side, size, average price and fee; the last one first.
 
-import { amountNode, bareNode, counted, sizeNode } from './amounts.js';
+import { amountNode, bareNode, counted, priceNode, sizeNode } from './amounts.js';
 import { element } from './elements.js';
 import { addressNode, linkTo, orderNode } from './links.js';
 import { facts, section, seekRow, tableWithDetails } from './parts.js';
 import { priceChart } from './price_chart.js';
-import { lastTrade, tradeAt } from './trades.js';
+import { lastFillPrice, lastTrade, tradeAt } from './trades.js';
 import { averageText, priceText, priceUnit, sizeUnit } from './units.js';
 
 // An average price as an element.
 function averageNode(pc, lots, market, name = null) {
   return element('span', { class: 'amount', 'data-name': name }, averageText(pc, lots, market));
+}
+
+// The price of the last fill, or the average of the row where the script is not there.
+function lastPriceNode(shown, market, last) {
+  if (last === null) return 'none';
+  const price = lastFillPrice(shown, market);
+  return price === null ? averageNode(last.pc, last.lots, market, 'last price') : priceNode(price, market, 'last price');
 }
 
 /** What was traded in a market, as named values. */
@@ -20,7 +27,7 @@ export function volumeFacts(shown, market) {
   const last = lastTrade(shown, market);
   const { lots, pc, fees } = journal.volume;
   return [
-    ['Last price', last === null ? 'none' : averageNode(last.pc, last.lots, market, 'last price')],
+    ['Last price', lastPriceNode(shown, market, last)],
     ['Volume', [sizeNode(lots, market, 'volume lots'), ' for ', amountNode(pc, 'pc', market, 'volume pc')]],
     ['Takers’ fees', amountNode(fees, 'pc', market, 'volume fees')],
     ['Trades', counted(journal.trades.length, 'row')],

@@ -7,7 +7,9 @@ const PATIENCE = 60000;
 /** A running Chromium. */
 export class Browser {
   constructor(program, profile) {
-    this.process = spawn(program, ['--headless', '--no-sandbox', '--disable-gpu', '--hide-scrollbars', '--remote-debugging-pipe',
+    const calm = ['--disable-background-timer-throttling', '--disable-backgrounding-occluded-windows', '--disable-renderer-backgrounding',
+      '--disable-extensions', '--disable-component-update', '--no-first-run'];
+    this.process = spawn(program, ['--headless', '--no-sandbox', '--disable-gpu', '--hide-scrollbars', '--remote-debugging-pipe', ...calm,
       `--user-data-dir=${profile}`, 'about:blank'], { stdio: ['ignore', 'ignore', 'ignore', 'pipe', 'pipe'] });
     this.number = 0;
     this.waiting = new Map();
@@ -50,6 +52,7 @@ export class Browser {
     const page = new Page(this, targetId, sessionId);
     await page.ask('Page.enable');
     await page.ask('Network.enable');
+    await page.ask('Emulation.setFocusEmulationEnabled', { enabled: true });
     await page.size(width, height);
     return page;
   }
@@ -71,8 +74,9 @@ class Page {
   ask(method, params) { return this.browser.ask(method, params, this.sessionId); }
 
   /** Gives the page another size. */
-  size(width, height) {
-    return this.ask('Emulation.setDeviceMetricsOverride', { width, height, deviceScaleFactor: 1, mobile: false });
+  async size(width, height) {
+    await this.ask('Emulation.setDeviceMetricsOverride', { width, height, deviceScaleFactor: 1, mobile: false });
+    await this.run(() => new Promise((done) => { requestAnimationFrame(() => requestAnimationFrame(done)); }));
   }
 
   /** Opens a file at a fragment and waits until it shows a view. */
@@ -87,7 +91,7 @@ class Page {
     const end = Date.now() + PATIENCE;
     while (Date.now() < end) {
       const isDone = await this.run(() => document.querySelector('main[data-view]:not([data-busy])') !== null).catch(() => false);
-      if (isDone) return this.run(() => new Promise((done) => { requestAnimationFrame(() => requestAnimationFrame(() => done(true))); }));
+      if (isDone) return this.run(() => new Promise((done) => { setTimeout(() => setTimeout(done, 0), 25); }));
       await new Promise((resume) => { setTimeout(resume, 20); });
     }
     throw new Error('the page shows no view');
@@ -95,7 +99,11 @@ class Page {
 
   /** Goes to a fragment by the page's address. */
   async go(fragment) {
-    await this.run((hash) => { window.location.hash = hash; }, fragment);
+    await this.run((hash) => new Promise((done) => {
+      if (window.location.hash === hash) done();
+      window.addEventListener('hashchange', () => setTimeout(done), { once: true });
+      window.location.hash = hash;
+    }), fragment.startsWith('#') ? fragment : `#${fragment}`);
     await this.settle();
   }
 
