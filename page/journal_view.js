@@ -48,7 +48,7 @@ function journalColumns(hasScript, journal, numbers) {
     { title: 'Row', isNumber: true, size: '4.2rem', key: (at) => journal.rows[numbers[at]] },
     { title: 'Lane', isNumber: true, size: '3rem', key: (at) => journal.lanes[numbers[at]] },
     ...(hasScript ? [{ title: 'Who did what', size: '1.7fr', isWide: true, lines, narrowLines: 4 }] : []),
-    { title: 'Reply', size: hasScript ? '8rem' : '11.5rem', isWide: true, lines, narrowLines: 1, key: reply },
+    { title: 'Reply', size: hasScript ? '9.2rem' : '11.5rem', isWide: true, lines, narrowLines: 1, key: reply },
     { title: 'What happened', size: '1.7fr', isWide: true, lines, narrowLines: 4 },
     { title: 'Wallets', size: '1.1fr', isWide: true, lines, narrowLines: 3 },
   ];

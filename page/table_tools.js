@@ -49,7 +49,7 @@ function sortChoice(table, label) {
   const select = element('select', { 'aria-label': `Sort ${label}`, 'data-key': `sort ${label}`, 'change': () => {
     const [place, way] = select.value.split(' ');
     table.sortBy(select.value === '' ? -1 : Number(place), way === 'falling');
-  } }, [['', 'as it stands'], ...options].map(([value, text]) => element('option', { value }, text)));
+  } }, [['', 'not sorted'], ...options].map(([value, text]) => element('option', { value }, text)));
   table.onSort = ({ place, isFalling }) => { select.value = name(place, isFalling); };
   return select;
 }

@@ -1,6 +1,6 @@
 // The vaults of a market beside the sums of what they must hold, part by part, and each mint's supply beside who holds it.
 
-import { amountNode } from './amounts.js';
+import { amountNode, mintAmountNode } from './amounts.js';
 import { verdictNode } from './audit_view.js';
 import { element } from './elements.js';
 import { addressNode } from './links.js';
@@ -48,6 +48,6 @@ export function vaultsView(shown, market) {
     section(['What the vaults of ', addressNode(shown, market.address), ' must hold'],
       element('div', { class: 'sums' }, sums.map((sum) => sumTable(shown, sum, (value, name) => amountNode(value, sum.token, market, name))))),
     section('What holds each mint’s supply',
-      element('div', { class: 'sums' }, supplies.map((sum) => sumTable(shown, sum, (value, name) => amountNode(value, null, null, name))))),
+      element('div', { class: 'sums' }, supplies.map((sum) => sumTable(shown, sum, (value, name) => mintAmountNode(shown, value, sum.account, name))))),
   ];
 }
