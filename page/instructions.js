@@ -33,8 +33,8 @@ function valueOfWord(field, word) {
   return /^[0-9]{1,39}$/.test(word) ? BigInt(word) : null;
 }
 
-/** The instruction of the words of a do row; null where they are none. */
-export function instructionOfWords(text) {
+// The instruction of the words of a do row; null where they are none.
+function instructionOfWords(text) {
   const [name, ...words] = text.split(' ');
   const form = BY_NAME.get(name);
   if (form === undefined) return null;
@@ -89,8 +89,8 @@ const BODIES = {
   18: [[13, 21, 29, 37, 45, 53, 61, 69], (bytes) => ({ clients: Array.from({ length: (bytes.length - 5) / 8 }, (_, at) => longAt(bytes, 5 + 8 * at)) })],
 };
 
-/** The instruction of data in base64; null where it is none. */
-export function instructionOfData(text) {
+// The instruction of data in base64; null where it is none.
+function instructionOfData(text) {
   const bytes = decodeBase64(text);
   if (bytes === null || bytes.length < 5 || bytes[0] !== 0) return null;
   const tag = wordAt(bytes, 1);

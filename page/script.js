@@ -58,8 +58,8 @@ function recordStarts(text) {
   return starts;
 }
 
-/** The rows of a script, cut out when they are asked for. Rows count from 1. */
-export class Script {
+// The rows of a script, cut out when they are asked for. Rows count from 1.
+class Script {
   constructor(text) {
     this.text = text;
     this.isQuoted = text.includes('"');

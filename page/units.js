@@ -20,8 +20,8 @@ export function decimalText(number, decimals) {
   return `${number < 0n ? '-' : ''}${whole}${part === '' ? '' : `.${part}`}`;
 }
 
-/** A fraction as a decimal number; where it does not end it is rounded to eight digits that tell, with a sign in front. */
-export function ratioText(numerator, denominator) {
+// A fraction as a decimal number; where it does not end it is rounded to eight digits that tell, with a sign in front.
+function ratioText(numerator, denominator) {
   const scaled = numerator * 10n ** BigInt(PLACES);
   const value = scaled / denominator;
   if (scaled % denominator === 0n) return decimalText(value, PLACES);

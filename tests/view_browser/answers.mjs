@@ -55,11 +55,20 @@ async function checkFindings(suite, page) {
   suite.same('findings alone: one row each', await page.run(() => document.querySelectorAll('.rows .row').length), lines.length);
 }
 
+// A dump that cannot be read beside the answer that refuses it: the answer is shown, and above it the line at fault.
+async function checkRefusedDump(suite, page) {
+  const [dump, answer] = ['in', 'out'].map((kind) => stored(`tests/cases/audit/0446.${kind}`));
+  await page.open(makePage(suite.folder, dump, { 'answer.txt': answer }));
+  suite.holds('a refused dump: the answer', (await page.text('[data-name="answer"]')).startsWith('The dump is refused at row 15: the flags are not the account’s.'));
+  suite.holds('a refused dump: the line at fault', (await page.text('[data-name="fault"]')).includes('Line 15: The account ann_0: its flags are 4'));
+}
+
 /** The answers of commands. */
 export async function answerCases(suite) {
   const page = await suite.browser.page(1280, 1600);
   await checkLines(suite, page);
   await checkBulk(suite, page);
   await checkFindings(suite, page);
+  await checkRefusedDump(suite, page);
   await page.close();
 }

@@ -37,7 +37,9 @@ async function checkStored(suite, page) {
     await page.open(makePage(suite.folder, stored(`tests/cases/audit/${name}.in`), { 'answer.txt': answer }), 'audit');
     suite.same(`${name}: the page finds what the audit told`, await page.text('[data-name="comparison"]'), 'The text that ./dex audit wrote says the same.');
     const lines = await page.run(() => [...document.querySelectorAll('.rows .row')].length);
-    suite.same(`${name}: findings`, lines, answer.split('\n').filter((line) => line.startsWith('finding')).length);
+    const count = answer.split('\n').filter((line) => line.startsWith('finding')).length;
+    suite.same(`${name}: findings at the tab`, await page.text('[data-key="tab audit"]'), count === 0 ? 'Audit' : `Audit (${count})`);
+    suite.same(`${name}: findings`, lines, count);
   }
 }
 

@@ -50,6 +50,12 @@ async function checkSorting(suite, page) {
   suite.same('sorted: falling', await balances(), [...rising].reverse());
   await page.point(title);
   suite.same('sorted: as they stood', await balances(), stood);
+  await page.run(() => {
+    const select = document.querySelector('[aria-label="Sort Wallets"]');
+    select.value = '3 falling';
+    select.dispatchEvent(new Event('change'));
+  });
+  suite.same('sorted by the choice: falling', await balances(), [...rising].reverse());
 }
 
 // A table as CSV, and as text on the clipboard.
