@@ -50,12 +50,15 @@ async function checkSorting(suite, page) {
   suite.same('sorted: falling', await balances(), [...rising].reverse());
   await page.point(title);
   suite.same('sorted: as they stood', await balances(), stood);
-  await page.run(() => {
+  const choose = (way) => page.run((value) => {
     const select = document.querySelector('[aria-label="Sort Wallets"]');
-    select.value = '3 falling';
+    select.value = value;
     select.dispatchEvent(new Event('change'));
-  });
+  }, way);
+  await choose('3 falling');
   suite.same('sorted by the choice: falling', await balances(), [...rising].reverse());
+  await choose('');
+  suite.same('sorted by the choice: as they stood', await balances(), stood);
 }
 
 // A table as CSV, and as text on the clipboard.
