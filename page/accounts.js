@@ -103,10 +103,10 @@ export function readEvents(bytes) {
   return { capacity, list: Array.from({ length: Number(count) }, (_, at) => eventAt(bytes, place(at))) };
 }
 
-/** What the id of an order tells: its price and its sequence number, which is its age. */
+/** What the id of an order tells: its price and its sequence number. */
 export function orderOfId(id, isBid) {
   const low = id & 0xffffffffffffffffn;
-  return { id, isBid, price: id >> 64n, age: isBid ? 0xffffffffffffffffn - low : low };
+  return { id, isBid, price: id >> 64n, sequence: isBid ? 0xffffffffffffffffn - low : low };
 }
 
 // The order of the leaf from a place on.
@@ -163,7 +163,24 @@ export function readOrders(bytes) {
     referrer: value('referrer_rebates_accrued'),
     taken,
     holds: (order) => slotHolds(bytes, order),
+    slotId: (slot) => (slot > 127 || isFree(bytes, slot) ? 0n : valueOf('open orders', `orders[${slot}]`, bytes)),
+    slots: () => takenSlotsOf(bytes),
   };
+}
+
+// Whether a slot is free.
+function isFree(bytes, slot) { return (bytes[109 + (slot >> 3)] & (1 << (slot & 7))) !== 0; }
+
+// The orders of the taken slots, each with its slot and client id.
+function takenSlotsOf(bytes) {
+  const orders = [];
+  for (let slot = 0; slot < 128; slot += 1) {
+    if (isFree(bytes, slot)) continue;
+    const isBid = (bytes[125 + (slot >> 3)] & (1 << (slot & 7))) !== 0;
+    const client = valueOf('open orders', `client_order_ids[${slot}]`, bytes);
+    orders.push({ slot, client, ...orderOfId(valueOf('open orders', `orders[${slot}]`, bytes), isBid) });
+  }
+  return orders;
 }
 
 // Whether the slot of an order or event holds its id, side and client id.

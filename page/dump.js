@@ -20,7 +20,7 @@ function atLine(line, what, read) {
 /** The rows of a dump as they are read one after the other. */
 class DumpReader {
   constructor() {
-    this.exchange = { mints: new Map(), wallets: new Map(), markets: new Map(), accounts: new Map(), srm: null, msrm: null };
+    this.exchange = { mints: new Map(), wallets: new Map(), markets: new Map(), accounts: new Map(), vaultOwners: new Map(), srm: null, msrm: null };
   }
 
   // The bytes of a field in base64.
@@ -31,10 +31,11 @@ class DumpReader {
   }
 
   // Notes an account by its address, which has to be new.
-  note(address, kind, bytes, what) {
+  note(address, kind, bytes, what, market = null) {
     const { accounts } = this.exchange;
     if (accounts.has(address)) throw new LineFault(this.line, `The address ${address} stands for two accounts.`);
-    accounts.set(address, { address, kind, bytes, what, line: this.line });
+    const name = market === null ? what : `${what} of ${market}`;
+    accounts.set(address, { address, kind, bytes, what: name, part: what, market, line: this.line });
   }
 
   mint([, address, field]) {
@@ -55,6 +56,12 @@ class DumpReader {
     this.exchange.wallets.set(address, { address, ...token });
   }
 
+  // The decimals of a mint; null where it is not there.
+  decimalsOf(address) {
+    const mint = this.exchange.mints.get(address);
+    return mint === undefined ? null : Number(mint.decimals);
+  }
+
   // The seven accounts of a market that stand in its row.
   market([, address, authority, ...fields]) {
     const names = ['account', 'coin vault', 'pc vault', 'request queue', 'event queue', 'bids', 'asks'];
@@ -66,15 +73,18 @@ class DumpReader {
       ...read(0, readMarket),
       coinVault: read(1, readToken),
       pcVault: read(2, readToken),
-      nextAge: read(3, readRequests),
+      nextSequence: read(3, readRequests),
       events: read(4, readEvents),
       bids: read(5, (side) => readSide(side, true)),
       asks: read(6, (side) => readSide(side, false)),
       traders: new Map(),
     };
+    market.coinDecimals = this.decimalsOf(market.coinMint);
+    market.pcDecimals = this.decimalsOf(market.pcMint);
     this.note(address, 'market', bytes[0], 'market');
     const kinds = ['token account', 'token account', 'request queue', 'event queue', 'slab', 'slab'];
-    market.addresses.forEach((own, at) => this.note(own, kinds[at], bytes[at + 1], `${names[at + 1]} of ${address}`));
+    market.addresses.forEach((own, at) => this.note(own, kinds[at], bytes[at + 1], names[at + 1], address));
+    this.exchange.vaultOwners.set(market.coinVault.owner, address);
     this.exchange.markets.set(address, market);
   }
 

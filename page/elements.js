@@ -26,9 +26,15 @@ export function drawn(name, attributes = {}, ...children) {
 
 /** A choice among named values, with a label; `change` takes the value. */
 export function choice(label, options, chosen, change) {
-  const select = element('select', { change: () => change(select.value) },
+  const select = element('select', { 'change': () => change(select.value), 'data-key': `choice ${label}` },
     options.map(([value, text]) => element('option', { value, selected: value === chosen }, text)));
   return element('label', { class: 'choice' }, element('span', {}, label), select);
+}
+
+/** A box to tick, with a label; `change` takes whether it is ticked. */
+export function tickBox(label, isTicked, change) {
+  const box = element('input', { 'type': 'checkbox', 'checked': isTicked, 'change': () => change(box.checked), 'data-key': `box ${label}` });
+  return element('label', { class: 'choice' }, box, element('span', {}, label));
 }
 
 /** Runs a layout once its element stands on the page, and again whenever the element's width changes. */

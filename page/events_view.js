@@ -1,10 +1,11 @@
 // The events that wait in a market's event queue, from the front.
 
-import { amountNode, counted, grouped } from './amounts.js';
+import { amountNode, counted } from './amounts.js';
 import { element } from './elements.js';
-import { addressNode, orderNode } from './links.js';
-import { section, tableWithDetails } from './parts.js';
+import { addressNode, linkTo, orderNode } from './links.js';
+import { section, seekRow, tableWithDetails } from './parts.js';
 import { owedBy } from './sums.js';
+import { grouped } from './units.js';
 
 // The tokens in which an event releases and pays.
 function tokensOf(event) {
@@ -41,30 +42,35 @@ function eventRow(shown, market, at) {
   };
 }
 
-/** The view of a market's pending events. */
-export function eventsView(shown, market) {
+/** The view of a market's pending events; `words.place` is the place of an event to choose. */
+export function eventsView(shown, market, words) {
   const { list, capacity } = market.events;
-  const { node } = tableWithDetails({
+  const table = tableWithDetails({
     label: 'Pending events, from the front',
     columns: [
       { title: 'Place', isNumber: true, size: '3.5rem' },
       { title: 'Event', isWide: true, size: '11rem' },
       { title: 'Order', size: 'minmax(9rem, 1.2fr)', isWide: true },
-      { title: 'Owner' },
+      { title: 'Owner', isWide: true },
       { title: 'Released', isNumber: true, isWide: true, size: 'minmax(8rem, 1fr)' },
       { title: 'Paid', isNumber: true, isWide: true, size: 'minmax(8rem, 1fr)' },
       { title: 'Fee or rebate', isNumber: true, isWide: true, size: 'minmax(7rem, 0.8fr)' },
       { title: 'Owes its owner', isNumber: true, isWide: true, size: 'minmax(8rem, 1fr)' },
     ].map((column) => ({ ...column, lines: 2, narrowLines: column.title === 'Owes its owner' ? 2 : 1 })),
     count: list.length,
+    least: 1040,
     empty: 'No event waits.',
+    linkOf: (at) => linkTo('events', market.address, { place: at }),
     rowAt: (at) => eventRow(shown, market, at),
   });
+  const at = Number(words.place) < list.length ? Number(words.place) : -1;
+  const told = words.place === undefined ? null : seekRow(table, at, `event ${words.place}`);
   return [
+    told,
     section(`${grouped(list.length)} of ${grouped(capacity)} places are taken`,
       element('p', { class: 'hint' }, counted(list.length, 'event waits', 'events wait'), ' for the crank. A taker was paid at once; '
         + 'a maker’s fill and a releasing out owe what they release. '
         + 'Each order leads to the row that made it, or to its place in the book.'),
-      node),
+      table.node),
   ];
 }

@@ -1,20 +1,27 @@
-// The text that the page came with, and texts that are chosen or dropped.
+// The texts that the page came with, and texts that are chosen or dropped.
 
 // What stands for a character that an inlined text cannot hold as it is.
 const ESCAPES = { '\\\\': '\\', '\\l': '<', '\\r': '\r', '\\0': '\0' };
 
-/** The text that ./view put into the page; null where it put none. */
-export function givenText() {
-  const holder = document.getElementById('given');
-  const text = holder === null ? '' : holder.textContent;
-  if (text === '') return null;
+// A text as it was before ./view put it into the page.
+function unescaped(text) {
   return text.includes('\\') ? text.replace(/\\[\\lr0]/g, (escape) => ESCAPES[escape]) : text;
+}
+
+/** The texts that ./view put into the page, each with its name. */
+export function givenTexts() {
+  return [...document.querySelectorAll('script.given')]
+    .map((holder) => ({ name: holder.dataset.name, text: unescaped(holder.textContent) }))
+    .filter(({ text }) => text !== '');
 }
 
 /** Hears of files that are chosen in a field or dropped on the page. */
 export function hearFiles(field, open) {
-  const take = ([file]) => { if (file !== undefined) file.text().then((text) => open(text, file.name)); };
-  field.addEventListener('change', () => { take(field.files); field.value = ''; });
+  const take = async (files) => {
+    const texts = await Promise.all([...files].map(async (file) => ({ name: file.name, text: await file.text() })));
+    if (texts.length > 0) open(texts);
+  };
+  field.addEventListener('change', () => { take(field.files).then(() => { field.value = ''; }); });
   document.addEventListener('dragover', (event) => {
     event.preventDefault();
     document.body.classList.add('dropping');

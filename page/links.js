@@ -1,6 +1,7 @@
 // The views of the page as fragments of its address, and links to them.
 
 import { element } from './elements.js';
+import { priceText } from './units.js';
 
 /** The fragment of a view: its name, what it shows, and further words such as filters. */
 export function linkTo(view, subject = '', words = {}) {
@@ -8,46 +9,64 @@ export function linkTo(view, subject = '', words = {}) {
   return `#${view}${subject === '' ? '' : `/${subject}`}${query === '' ? '' : `?${query}`}`;
 }
 
-/** What a fragment asks for. */
+// A part of a fragment without its percent signs; null where these are no characters.
+function decoded(text) {
+  try {
+    return decodeURIComponent(text);
+  } catch {
+    return null;
+  }
+}
+
+/** What a fragment asks for; `isBroken` where its signs are none that a link of the page has. */
 export function readLink(fragment) {
   const [path, query = ''] = fragment.replace(/^#/, '').split('?');
-  const [view = '', subject = ''] = path.split('/');
-  return { view, subject, words: Object.fromEntries(new URLSearchParams(query)) };
+  const [view, subject] = [...path.split('/'), ''].slice(0, 2).map(decoded);
+  return { view, subject, words: Object.fromEntries(new URLSearchParams(query)), isBroken: view === null || subject === null };
 }
 
 /** An address as it is printed, shortened where it has no label. */
 export function shortAddress(address) {
-  return address.startsWith('0x') && address.length === 66 ? `${address.slice(0, 8)}…${address.slice(-4)}` : address;
+  return address.startsWith('0x') && address.length === 66 ? `${address.slice(0, 6)}…${address.slice(-4)}` : address;
+}
+
+/** What an address is called: its label, what it is of which market where it is a market's part, else its front and end. */
+export function nameOf(shown, address) {
+  const account = shown.exchange.accounts.get(address);
+  const { vaultOwners } = shown.exchange;
+  if (account === undefined && vaultOwners.has(address)) return `${shortAddress(vaultOwners.get(address))}’s vault owner`;
+  if (account === undefined || account.market === null) return shortAddress(address);
+  return `${shortAddress(account.market)}’s ${account.part}`;
 }
 
 /** The fragment of the view that shows an address best; null where no account has it. */
 export function linkOfAddress(shown, address) {
   if (shown.exchange.wallets.has(address)) return linkTo('wallets', address);
   if (shown.exchange.markets.has(address)) return linkTo('book', address);
-  return shown.exchange.accounts.has(address) ? linkTo('bytes', address) : null;
+  if (shown.exchange.accounts.has(address)) return linkTo('bytes', address);
+  return shown.isOwner(address) ? linkTo('owners', address) : null;
 }
 
-/** An address as a link to what it is the address of, or as text where it is a person. */
+/** An address as a link to what it is the address of, or to the owner that it is. */
 export function addressNode(shown, address) {
   const href = linkOfAddress(shown, address);
-  const title = address === shortAddress(address) ? null : address;
-  return element(href === null ? 'span' : 'a', { class: 'address', href, title }, shortAddress(address));
+  const name = nameOf(shown, address);
+  return element(href === null ? 'span' : 'a', { class: 'address', href, title: address === name ? null : address }, name);
 }
 
-/** The fragment of an order: its row in the journal, else its place in the book; null where the text tells neither. */
+/** The fragment of an order's life; null where the text tells nothing of it. */
 export function linkOfOrder(shown, market, id) {
   const journal = shown.report.markets.get(market.address);
-  const at = journal === undefined ? undefined : journal.ofOrder.get(id);
-  if (at !== undefined) return linkTo('journal', market.address, { row: journal.rows[at] });
-  const rests = [market.bids, market.asks].some((side) => side.orders.some((order) => order.id === id));
-  return rests ? linkTo('book', market.address, { order: id }) : null;
+  const isTold = (journal !== undefined && journal.ofOrder.has(id))
+    || [market.bids.orders, market.asks.orders, market.events.list].some((list) => list.some((order) => order.id === id));
+  return isTold ? linkTo('orders', market.address, { id }) : null;
 }
 
-/** An order by its side, price and age, as a link to where it was made or rests. */
+/** An order by its side, price and sequence number, as a link to its life. */
 export function orderNode(shown, market, order) {
   const href = linkOfOrder(shown, market, order.id);
-  const text = `${order.isBid ? 'bid' : 'ask'} at ${order.price}, number ${order.age}`;
-  return element(href === null ? 'span' : 'a', { href, title: `order id ${order.id}` }, text);
+  const text = `${order.isBid ? 'bid' : 'ask'} at ${priceText(order.price, market)}, sequence number ${order.sequence}`;
+  return element(href === null ? 'span' : 'a', { href, title: `order id ${order.id}, ${order.price} pc lots per coin lot` }, text);
 }
 
 /** The row of a journal as a link. */

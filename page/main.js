@@ -1,98 +1,58 @@
-// The page: opens a text, shows the view that the fragment of the page's address asks for, and hears keys.
+// The page: puts its frame together, opens texts, and hears keys.
 
-import { counted } from './amounts.js';
-import { bookView } from './book_view.js';
-import { bytesView } from './bytes_view.js';
 import { choice, element } from './elements.js';
-import { eventsView } from './events_view.js';
-import { givenText, hearFiles } from './given.js';
-import { journalView } from './journal_view.js';
-import { linkTo, readLink } from './links.js';
-import { readText } from './report.js';
+import { givenTexts, hearFiles } from './given.js';
+import { drawView, frame, goToView } from './navigation.js';
+import { addTexts, faultText, toldTexts } from './opening.js';
+import { notice } from './parts.js';
 import { searchField } from './search.js';
-import { LineFault } from './text.js';
-import { tradersView } from './traders_view.js';
-import { vaultsView } from './vaults_view.js';
-import { walletsView } from './wallets_view.js';
+import { hearPrinting } from './table.js';
+import { units } from './units.js';
 
-// The views by their keys; those of a market are shown one market at a time.
-const VIEWS = [
-  { name: 'book', title: 'Book', ofMarket: bookView },
-  { name: 'events', title: 'Events', ofMarket: eventsView },
-  { name: 'traders', title: 'Traders', ofMarket: tradersView },
-  { name: 'vaults', title: 'Vaults', ofMarket: vaultsView },
-  { name: 'journal', title: 'Journal', ofMarket: journalView },
-  { name: 'wallets', title: 'Wallets', show: walletsView },
-  { name: 'bytes', title: 'Bytes', show: bytesView },
-];
+const told = element('p', { class: 'file' });
+const faults = element('div', { class: 'faults' });
+let texts = {};
 
-const page = {
-  shown: null,
-  name: '',
-  market: '',
-  main: element('main', { id: 'main', tabindex: '-1' }),
-  tabs: element('nav', { 'aria-label': 'Views' }),
-  title: element('p', { class: 'file' }),
-};
-
-// The market that a link is about, else the one shown last, else the first.
-function marketOf(link, markets) {
-  return markets.get(link.subject) || markets.get(page.market) || markets.values().next().value;
+// What is wrong with a text, as an element.
+function faultNode({ name, fault }) {
+  return element('p', { 'class': 'fault', 'role': 'alert', 'data-name': 'fault' }, `${name}: ${faultText(fault)}`);
 }
 
-// The tabs of views, and a choice among markets where there are several.
-function drawTabs(view, market) {
-  const markets = [...page.shown.exchange.markets.keys()];
-  const links = VIEWS.map(({ name, title, ofMarket }, at) => element('a', {
-    'href': linkTo(name, ofMarket ? page.market : ''), 'aria-current': name === view.name ? 'page' : null, 'title': `key ${at + 1}`,
-  }, title));
-  const go = (address) => { window.location.hash = linkTo(view.name, address); };
-  const isChoice = view.ofMarket && markets.length > 1;
-  const options = markets.map((address) => [address, address]);
-  page.tabs.replaceChildren(...links, ...(isChoice ? [choice('Market', options, market.address, go)] : []));
+// Shows what is wrong where no text could be read.
+function drawFaults(faulty) {
+  frame.tabs.replaceChildren();
+  frame.main.replaceChildren(element('h1', {}, 'This text cannot be shown'), ...faulty.map(faultNode));
+  frame.main.dataset.view = 'fault';
 }
 
-// Shows the view that the address of the page asks for.
-function drawView() {
-  if (page.shown === null) return;
-  const link = readLink(decodeURI(window.location.hash));
-  const view = VIEWS.find(({ name }) => name === link.view) || VIEWS[0];
-  const market = marketOf(link, page.shown.exchange.markets);
-  page.market = market === undefined ? '' : market.address;
-  drawTabs(view, market);
-  let nodes;
-  if (!view.ofMarket) nodes = view.show(page.shown, link.subject, link.words);
-  else if (market === undefined) nodes = [element('p', { class: 'empty' }, 'The text has no market.')];
-  else nodes = view.ofMarket(page.shown, market, link.words);
-  page.main.replaceChildren(element('h1', {}, view.ofMarket && market ? `${view.title} of ${market.address}` : view.title), ...nodes);
-  page.main.dataset.view = view.name;
-}
-
-// Shows what is wrong with a text, at its line.
-function drawFault(fault) {
-  page.tabs.replaceChildren();
-  const where = fault instanceof LineFault ? `Line ${fault.line}: ` : 'The page failed: ';
-  page.main.replaceChildren(element('h1', {}, 'This text cannot be shown'),
-    element('p', { 'class': 'fault', 'role': 'alert', 'data-name': 'fault' }, `${where}${fault.message}`));
-}
-
-// Opens a text; reading goes in slices and tells how far it is.
-async function openText(text, name) {
-  const progress = element('p', { class: 'progress', role: 'status' }, `Reading ${name}…`);
-  page.shown = null;
-  page.title.textContent = name;
-  page.tabs.replaceChildren();
-  page.main.replaceChildren(progress);
-  try {
-    const report = await readText(text, (line) => { progress.textContent = `Reading ${name}: line ${line}…`; });
-    page.shown = { report, exchange: report.exchange };
-    const rows = report.kind === 'report' ? `a report of ${counted(report.rows, 'row')}` : 'a dump';
-    const { markets, wallets } = report.exchange;
-    page.title.textContent = `${name}: ${rows}, ${counted(markets.size, 'market')}, ${counted(wallets.size, 'wallet')}`;
+// Opens texts beside those that are there; reading goes in slices and tells how far it is.
+async function openTexts(given) {
+  const progress = element('p', { class: 'progress', role: 'status' }, `Reading ${given.map(({ name }) => name).join(', ')}…`);
+  frame.shown = null;
+  delete frame.main.dataset.view;
+  frame.tabs.replaceChildren();
+  faults.replaceChildren();
+  frame.main.replaceChildren(progress);
+  const opened = await addTexts(texts, given, (text) => { progress.textContent = text; });
+  // A text that cannot be read leaves nothing of what stood there before, unless others came with it.
+  const isAllFaulty = opened.faulty.length === given.length;
+  texts = isAllFaulty ? {} : opened.texts;
+  frame.shown = isAllFaulty ? null : opened.shown;
+  told.textContent = isAllFaulty ? opened.faulty.map(({ name }) => name).join(', ') : toldTexts(opened.shown);
+  if (isAllFaulty) drawFaults(opened.faulty);
+  else {
+    faults.replaceChildren(...opened.faulty.map(faultNode), ...opened.shown.notices.map(notice));
     drawView();
-  } catch (fault) {
-    drawFault(fault);
   }
+}
+
+// The units in which amounts are shown.
+function unitsChoice() {
+  const change = (value) => {
+    units.isNative = value === 'native';
+    drawView();
+  };
+  return choice('Amounts', [['tokens', 'in tokens'], ['native', 'native, lots']], 'tokens', change);
 }
 
 // The light or dark look, or the one that the system has.
@@ -106,8 +66,8 @@ function themeChoice() {
 
 // What keys do, as the page tells it.
 const KEYS = [
-  ['/', 'search'], ['1 to 7', 'the views'], ['o', 'open a file'], ['arrows, Page, Home, End', 'move in a table that has the focus'],
-  ['Enter', 'follow the chosen row’s first link'], ['Escape', 'leave the search'],
+  ['/', 'search'], ['1 to 9', 'the first nine views'], ['o', 'open files'], ['arrows, Page, Home, End', 'move in a table that has the focus'],
+  ['Enter', 'follow the chosen row’s first link to elsewhere'], ['Escape', 'leave the search'],
 ];
 
 // Hears keys that are no text in a field.
@@ -118,11 +78,9 @@ function hearKeys(search, file) {
       if (event.key === 'Escape') event.target.blur();
       return;
     }
-    const view = VIEWS[Number(event.key) - 1];
     if (event.key === '/') search.focus();
     else if (event.key === 'o') file.click();
-    else if (view !== undefined && page.shown !== null) window.location.hash = linkTo(view.name, view.ofMarket ? page.market : '');
-    else return;
+    else if (!/^[1-9]$/.test(event.key) || !goToView(Number(event.key) - 1)) return;
     event.preventDefault();
   });
 }
@@ -131,33 +89,39 @@ function hearKeys(search, file) {
 function welcome() {
   return [
     element('h1', {}, 'A report, to look at'),
-    element('p', {}, 'Choose a report of replay or a dump with “Open a file”, or drop one here. Nothing leaves this computer.'),
+    element('p', {}, 'Choose a report of replay or a dump with “Open files”, or drop one here; a script, a table of worth or what a command '
+      + 'answered may come with it, or later. Nothing leaves this computer.'),
   ];
 }
 
-// Puts the page together and opens what it came with.
+// The page's own line about itself, and its keys.
+function footNode() {
+  return element('footer', {},
+    element('p', {}, 'This page reads texts beside the product, and no proof stands behind what it shows. ./dex audit reads the same dump.'),
+    element('p', { class: 'keys' }, KEYS.map(([key, what]) => [element('kbd', {}, key), ` ${what} `])));
+}
+
+// Puts the page together.
 function begin() {
-  const file = element('input', { type: 'file', id: 'file', class: 'hidden' });
-  const search = searchField(() => page.shown);
+  const file = element('input', { type: 'file', id: 'file', class: 'hidden', multiple: true });
+  const search = searchField(() => frame.shown);
   const header = element('header', {},
     element('div', { class: 'bar' },
       element('strong', {}, 'Daisyhook report'), search.node,
-      element('label', { for: 'file', class: 'button' }, 'Open a file'), file, themeChoice()),
-    page.title, page.tabs);
-  const footer = element('footer', {},
-    element('p', {}, 'This page reads the text of a report beside the product, and no proof stands behind what it shows. '
-      + './dex audit reads the same dump.'),
-    element('p', { class: 'keys' }, KEYS.map(([key, what]) => [element('kbd', {}, key), ` ${what} `])));
-  page.main.replaceChildren(...welcome());
+      element('label', { for: 'file', class: 'button' }, 'Open files'), file, unitsChoice(), themeChoice()),
+    told, faults, frame.tabs);
+  frame.main.replaceChildren(...welcome());
+  frame.main.dataset.view = 'welcome';
   document.body.replaceChildren(element('a', { href: '#main', class: 'skip', click: (event) => {
     event.preventDefault();
-    page.main.focus();
-  } }, 'To the content'), header, page.main, footer);
-  hearFiles(file, openText);
+    frame.main.focus();
+  } }, 'To the content'), header, frame.main, footNode());
+  hearFiles(file, openTexts);
   hearKeys(search.field, file);
+  hearPrinting();
   window.addEventListener('hashchange', drawView);
 }
 
-const given = givenText();
+const given = givenTexts();
 begin();
-if (given !== null) openText(given, 'The report in this page');
+if (given.length > 0) openTexts(given);

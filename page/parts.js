@@ -1,5 +1,6 @@
 // Parts that several views are made of.
 
+import { base58Of, hexOfAddress } from './base58.js';
 import { element } from './elements.js';
 import { Table } from './table.js';
 
@@ -9,12 +10,31 @@ export function facts(pairs) {
   return element('dl', { class: 'facts' }, pairs.map(fact));
 }
 
+/** An address in full as named values: its label where it has one, its hexadecimal digits, and base58. */
+export function addressFacts(address) {
+  const hex = `0x${hexOfAddress(address)}`;
+  const label = address === hex ? [] : [['Address', element('code', { 'data-name': 'label' }, address)]];
+  return [
+    ...label,
+    ['Hexadecimal', element('code', { 'data-name': 'hexadecimal' }, hex)],
+    ['Base58', element('code', { 'data-name': 'base58' }, base58Of(address))],
+  ];
+}
+
 /** A part of a view under a heading. */
 export function section(title, ...children) {
   return element('section', {}, element('h2', {}, title), children);
 }
 
-/** A table with the chosen row's values told in full below it; `rowAt` may give further `details` of a row. */
+/** A sentence that tells what a link asked for and the text has not, or what could not be used. */
+export function notice(text) {
+  return element('p', { 'class': 'notice', 'role': 'status', 'data-name': 'notice' }, text);
+}
+
+/**
+ * A table with the chosen row's values told in full below it; `rowAt` may give further `details` of a row, and `linkOf` the fragment of a
+ * row, which the page's address becomes when the row is chosen.
+ */
 export function tableWithDetails(options) {
   const details = element('div', { 'class': 'details', 'aria-live': 'polite' });
   const table = new Table({
@@ -28,7 +48,9 @@ export function tableWithDetails(options) {
   return { table, node: element('div', {}, table.node, details) };
 }
 
-/** Chooses a row of a table where there is one. */
-export function chooseRow({ table }, at) {
-  if (at >= 0) table.choose(at);
+/** Chooses the row that a link asks for; answers a notice where the table has none. */
+export function seekRow({ table }, at, what) {
+  if (at < 0) return notice(`There is no ${what} here.`);
+  table.choose(at, true);
+  return null;
 }

@@ -39,7 +39,7 @@ export const REFUSALS = [
   ['WouldSelfTrade', 'order', 'The order would meet an own order, {order}, and has to abort.'],
   ['BelowMinimum', 'got', 'The take would get {got}, which is below the minimum that it names.'],
   ['EventQueueFull', 'needed room', 'The row makes {needed} events, and the event queue has room for {room}.'],
-  ['InsufficientFunds', 'needed balance', 'The deposit is {needed}, and the wallet that pays holds {balance}: {wanting} are wanting.'],
+  ['InsufficientFunds', 'needed balance', 'The deposit is {needed}, and the wallet that pays holds {balance}: short by {wanting}.'],
   ['BalanceTooLarge', 'balance amount', 'A wallet holds {balance}, and {amount} more would make 2^64 or above.'],
   ['SumTooLarge', 'vault pending', 'The vault would hold {vault} and pending fills pay {pending}, together 2^64 or above.'],
 ].map((parts) => parts && { name: parts[0], values: parts[1] === '' ? [] : parts[1].split(' '), sentence: parts[2] });

@@ -18,6 +18,10 @@ class MarketJournal {
     this.kinds = new Uint8Array(count);
     this.refusals = new Uint8Array(count);
     this.ofOrder = new Map();
+    // The numbers of the entries in which something was filled, and what they come to.
+    this.trades = [];
+    this.volume = { lots: 0n, pc: 0n, fees: 0n };
+    this.refused = 0;
   }
 
   /** Notes what the entry of a number, from 0, says. */
@@ -26,8 +30,21 @@ class MarketJournal {
     this.lanes[at] = entry.lane;
     this.kinds[at] = entry.kind;
     this.refusals[at] = entry.refusal;
+    if (entry.refusal > 0) this.refused += 1;
     if (entry.values.id !== undefined) this.ofOrder.set(entry.values.id, at);
+    if (entry.values.lots > 0n) {
+      this.trades.push(at);
+      this.volume.lots += entry.values.lots;
+      this.volume.pc += entry.values.pc;
+      this.volume.fees += entry.values.fee;
+    }
     for (const { wallet } of entry.moves) if (!this.named.has(wallet)) this.named.set(wallet, this.first + at);
+  }
+
+  /** The lanes that have entries. */
+  laneNumbers() {
+    if (this.laneList === undefined) this.laneList = [...new Set(this.lanes)].sort((one, other) => one - other);
+    return this.laneList;
   }
 
   /** The entry of a number, from 0. */
@@ -41,17 +58,18 @@ class WalletJournal {
     this.first = first;
     this.count = count;
     this.rows = new Uint32Array(count);
+    this.isProbe = new Uint8Array(count);
   }
 
   /** Notes what the movement of a number, from 0, says. */
-  note(at, move) { this.rows[at] = move.row; }
+  note(at, move) {
+    this.rows[at] = move.row;
+    this.isProbe[at] = Number(move.kind === 'probe');
+  }
 
   /** The movement of a number, from 0. */
   at(number) { return readMove(this.lines.at(this.first + number)); }
 }
-
-// How texts begin that tell why there is no report or dump.
-const ANSWERS = /^(script refused|dump refused|migrate refused|finding|audit|read failed|input too long|no memory|usage)\b/;
 
 // The forms of lines, as messages tell them.
 const FORMS = {
@@ -98,11 +116,15 @@ async function readJournals(lines, next, { kind, word, read, make, into }, tell)
   }
 }
 
-// The rows of instructions that the journals have must be as many as the first line tells.
+// The rows of instructions that the journals have must be as many as the first line tells; a swap is one row with an entry in each of
+// two journals.
 function checkRows(rows, markets) {
   let entries = 0;
   for (const journal of markets.values()) entries += journal.count;
-  if (entries !== rows) throw new LineFault(1, `The report tells of ${rows} rows, and its markets’ journals have ${entries} entries.`);
+  if (entries === rows) return;
+  const numbers = new Set();
+  for (const journal of markets.values()) for (const row of journal.rows) numbers.add(row);
+  if (numbers.size !== rows) throw new LineFault(1, `The report tells of ${rows} rows, and its markets’ journals have ${entries} entries.`);
 }
 
 // Each journal's market or wallet stands in the dump, and each wallet that an entry names has a journal.
@@ -146,9 +168,7 @@ async function readLines(lines, tell) {
   } else if (head.length === 2 && head[0] === 'report' && isNumber(head[1])) {
     read = await readReportLines(lines, Number(head[1]), tell);
   } else {
-    let what = 'A report begins with report and a number of rows, a dump with dump';
-    if (ANSWERS.test(lines.at(1))) what = 'This is what a command answered where it wrote no report';
-    throw new LineFault(1, `${what}; here stands ${frontOf(lines.at(1))}.`);
+    throw new LineFault(1, `A report begins with report and a number of rows, a dump with dump; here stands ${frontOf(lines.at(1))}.`);
   }
   if (read.next <= lines.count) {
     throw new LineFault(read.next, `Nothing is wanted behind the end; here stands ${frontOf(lines.at(read.next))}.`);

@@ -1,7 +1,8 @@
 // The search field: addresses, orders, rows and lines of the journals.
 
 import { element } from './elements.js';
-import { linkOfAddress, linkOfOrder, linkTo } from './links.js';
+import { linkOfAddress, linkOfOrder, linkTo, nameOf, shortAddress } from './links.js';
+import { personsOf } from './owners.js';
 
 const MOST = 24;
 
@@ -10,12 +11,12 @@ function foundAddresses(shown, text) {
   const found = [];
   for (const { address, what } of shown.exchange.accounts.values()) {
     if (found.length === MOST) break;
-    if (address.includes(text)) found.push({ title: address, what, href: linkOfAddress(shown, address) });
+    if (address.includes(text) || what.includes(text)) found.push({ title: nameOf(shown, address), what, href: linkOfAddress(shown, address) });
   }
-  const persons = new Set([...shown.exchange.wallets.values()].map((wallet) => wallet.owner));
-  for (const person of [...persons].filter((one) => one.includes(text)).slice(0, 8)) {
+  for (const person of personsOf(shown.exchange).filter((one) => one.includes(text)).slice(0, 8)) {
+    found.push({ title: nameOf(shown, person), what: 'owner, over all markets', href: linkTo('owners', person) });
     for (const market of shown.report.markets.keys()) {
-      found.push({ title: person, what: `person, rows on ${market}`, href: linkTo('journal', market, { account: person }) });
+      found.push({ title: nameOf(shown, person), what: `owner, rows on ${shortAddress(market)}`, href: linkTo('journal', market, { account: person }) });
     }
   }
   return found;
@@ -28,10 +29,10 @@ function foundNumbers(shown, text) {
   for (const market of shown.exchange.markets.values()) {
     const journal = shown.report.markets.get(market.address);
     if (journal !== undefined && text.length < 10 && journal.rows.includes(Number(text))) {
-      found.push({ title: `row ${text}`, what: `journal of ${market.address}`, href: linkTo('journal', market.address, { row: text }) });
+      found.push({ title: `row ${text}`, what: `journal of ${shortAddress(market.address)}`, href: linkTo('journal', market.address, { row: text }) });
     }
     const href = linkOfOrder(shown, market, BigInt(text));
-    if (href !== null) found.push({ title: `order ${text}`, what: market.address, href });
+    if (href !== null) found.push({ title: `order ${text}`, what: shortAddress(market.address), href });
   }
   return found;
 }

@@ -1,10 +1,11 @@
 // Replies and refusals as sentences in which the numbers are named.
 
 import { orderOfId } from './accounts.js';
-import { amountNode, counted, numberNode, tokenOf } from './amounts.js';
+import { amountNode, counted, numberNode, sizeNode, tokenOf } from './amounts.js';
 import { element } from './elements.js';
-import { addressNode, linkTo, orderNode } from './links.js';
+import { addressNode, linkTo, orderNode, shortAddress } from './links.js';
 import { DATA_RULES, REFUSALS, REPLIES } from './replies.js';
+import { isInTokens } from './units.js';
 
 // A bid's id has the complement of its sequence number in its lower half, so the half tells the side.
 function orderOf(id) {
@@ -37,16 +38,22 @@ function refusalNodes(shown, market, entry) {
   });
 }
 
+// A number of lots in a sentence.
+function lotsNode(lots, market) {
+  return isInTokens(market) ? sizeNode(lots, market) : element('data', { value: String(lots) }, counted(lots, 'lot'));
+}
+
 // What an accepted row was answered.
 function answerNodes(shown, market, entry) {
   const { values } = entry;
   const coin = (name) => amountNode(values[name], 'coin', market, name);
   const pc = (name) => amountNode(values[name], 'pc', market, name);
-  const filled = () => ['filled ', counted(values.lots, 'lot'), ' for ', pc('pc'), ', fee ', pc('fee')];
+  const filled = () => ['filled ', lotsNode(values.lots, market), ' for ', pc('pc'), ', fee ', pc('fee')];
   const traded = () => (values.lots === 0n ? 'filled nothing' : filled());
   switch (REPLIES[entry.kind].kind) {
     case 'order': {
-      const rested = values.rested === 0n ? 'nothing rests' : counted(values.rested, 'lot rests', 'lots rest');
+      const rests = values.rested === 1n || isInTokens(market) ? ' rests' : ' rest';
+      const rested = values.rested === 0n ? 'nothing rests' : [lotsNode(values.rested, market), rests];
       return ['The ', orderNode(shown, market, orderOf(values.id)), `, slot ${values.slot}, `, traded(), '; ', rested, '.'];
     }
     case 'take': return ['The take ', traded(), '.'];
@@ -54,7 +61,7 @@ function answerNodes(shown, market, entry) {
     case 'consumed': return [counted(values.count, 'event was', 'events were'), ' consumed.'];
     case 'settled': return ['Paid out: ', coin('coin'), ' of coin, ', pc('pc'), ' of pc, and ', pc('referrer'), ' to the referrer.'];
     case 'swept': return ['Swept ', pc('pc'), ' of fees.'];
-    default: return ['Done: an account opened or closed, the market disabled, or MatchOrders.'];
+    default: return shown.joined === null ? ['Done: an account opened or closed, the market disabled, or MatchOrders.'] : ['Done.'];
   }
 }
 
@@ -73,7 +80,7 @@ export function replyTitle(entry) {
 export function moveNode(shown, market, entry, move) {
   const wallet = shown.exchange.wallets.get(move.wallet);
   const sign = { probe: '', debit: '−', credit: '+' }[move.kind];
-  const href = linkTo('wallets', move.wallet, { row: entry.row });
-  const what = move.kind === 'probe' ? ' looked at' : [` ${sign}`, amountNode(move.amount, tokenOf(wallet.mint, market), market)];
-  return element('a', { href, class: `move ${move.kind}` }, move.wallet, what);
+  const href = linkTo('wallets', move.wallet, { row: entry.row, market: market.address });
+  const what = move.kind === 'probe' ? ' unchanged' : [` ${sign}`, amountNode(move.amount, tokenOf(wallet.mint, market), market)];
+  return element('a', { href, class: `move ${move.kind}` }, shortAddress(move.wallet), what);
 }

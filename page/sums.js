@@ -89,18 +89,18 @@ export function vaultSums(market) {
     pc: held(free.pc, 'bids', locked(market.bids), owed.pc),
   };
   return [
-    sumOf('coin vault', 'coin', market.coinVault.amount, [...parts.coin, partOf('coin fees', market.coinFees)]),
+    sumOf('coin vault', 'coin', market.coinVault.amount, [...parts.coin, partOf('coin_fees_accrued', market.coinFees)]),
     sumOf('pc vault', 'pc', market.pcVault.amount,
-      [...parts.pc, partOf('pc fees', market.pcFees), partOf('referrer rebates of the market', market.rebates)]),
-    sumOf('referrer rebates of the market', 'pc', market.rebates,
+      [...parts.pc, partOf('pc_fees_accrued', market.pcFees), partOf('referrer_rebates_accrued', market.rebates)]),
+    sumOf('referrer_rebates_accrued', 'pc', market.rebates,
       [partOf('referrer parts of accounts', referrers), partOf('a fifth of each pending taker fill’s fee', pendingReferrers)]),
-    sumOf('word of coin deposits', 'coin', market.coinDeposits, parts.coin),
-    sumOf('word of pc deposits', 'pc', market.pcDeposits, parts.pc),
+    sumOf('coin_deposits_total', 'coin', market.coinDeposits, parts.coin),
+    sumOf('pc_deposits_total', 'pc', market.pcDeposits, parts.pc),
   ];
 }
 
-// A named amount.
-function partOf(name, amount) { return { name, amount }; }
+// A named amount, of an account where it is one's.
+function partOf(name, amount, account = undefined) { return { name, amount, account }; }
 
 // What a vault holds for accounts, in three parts.
 function held(free, side, locked, owed) {
@@ -112,14 +112,14 @@ export function supplySums(exchange) {
   return [...exchange.mints.values()].map((mint) => {
     const parts = [];
     for (const wallet of exchange.wallets.values()) {
-      if (wallet.mint === mint.address) parts.push(partOf(`wallet ${wallet.address}`, wallet.amount));
+      if (wallet.mint === mint.address) parts.push(partOf('wallet', wallet.amount, wallet.address));
     }
     for (const market of exchange.markets.values()) {
-      for (const [name, vault] of [['coin', market.coinVault], ['pc', market.pcVault]]) {
-        if (vault.mint === mint.address) parts.push(partOf(`${name} vault of ${market.address}`, vault.amount));
+      for (const [at, vault] of [market.coinVault, market.pcVault].entries()) {
+        if (vault.mint === mint.address) parts.push(partOf('', vault.amount, market.addresses[at]));
       }
     }
-    return sumOf(`supply of ${mint.address}`, null, mint.supply, parts);
+    return { ...sumOf(`supply of ${mint.address}`, null, mint.supply, parts), account: mint.address };
   });
 }
 

@@ -3,7 +3,8 @@
 import { amountNode, counted } from './amounts.js';
 import { element } from './elements.js';
 import { addressNode, linkTo } from './links.js';
-import { section, tableWithDetails } from './parts.js';
+import { worthOf } from './owners.js';
+import { section, seekRow, tableWithDetails } from './parts.js';
 import { tradersOf } from './sums.js';
 
 // Whether the words of totals in an account are what is free, resting and kept by events.
@@ -12,6 +13,19 @@ function totalsText(trader) {
     .map((token) => [token, trader.total[token] - trader.free[token] - trader.resting[token] - trader.kept[token]])
     .filter(([, difference]) => difference !== 0n);
   return off.length === 0 ? 'add up' : off.map(([token, difference]) => `${token} off by ${difference}`).join(', ');
+}
+
+// What the script tells of an account besides.
+function dealingFacts(shown, market, trader) {
+  const all = shown.dealings(market);
+  if (all === null) return [];
+  const { fees, rebates } = all.get(trader.address);
+  const worth = worthOf(shown, market, trader);
+  return [
+    ['Worth', [amountNode(worth.coin, 'coin', market), ' and ', amountNode(worth.pc, 'pc', market)]],
+    ['Fees paid', amountNode(fees, 'pc', market)],
+    ['Rebates earned', amountNode(rebates, 'pc', market)],
+  ];
 }
 
 // One account's cells and details.
@@ -29,33 +43,39 @@ function traderRow(shown, market, trader) {
       ['Orders', `${counted(trader.bids, 'bid')}, ${counted(trader.asks, 'ask')}`],
       ['Coin total', amountNode(trader.total.coin, 'coin', market)],
       ['Pc total', amountNode(trader.total.pc, 'pc', market)],
+      ...dealingFacts(shown, market, trader),
       ['Journal', element('a', { href: linkTo('journal', market.address, { account: trader.address }) }, 'its rows')],
       ['Bytes', element('a', { href: linkTo('bytes', trader.address) }, 'its account by field')],
     ],
   };
 }
 
-/** The view of a market's traders. */
-export function tradersView(shown, market) {
+/** The view of a market's traders; `words.account` is the account to choose. */
+export function tradersView(shown, market, words) {
   const traders = tradersOf(market);
   const titles = ['Coin free', 'Coin resting', 'Coin owed', 'Pc free', 'Pc resting', 'Pc owed'];
-  const { node } = tableWithDetails({
+  const table = tableWithDetails({
     label: 'Open-orders accounts',
     columns: [
-      { title: 'Account', size: 'minmax(8rem, 1.1fr)' },
+      { title: 'Account', size: 'minmax(9.2rem, 1.2fr)', isWide: true },
       { title: 'State', size: '4rem' },
       ...titles.map((title) => ({ title, isNumber: true, isWide: true })),
       { title: 'Referrer part', isNumber: true },
       { title: 'Totals', size: '6rem' },
     ].map((column) => ({ ...column, lines: 2, narrowLines: 1 })),
     count: traders.length,
+    least: 1100,
     empty: 'The market has no accounts.',
+    linkOf: (at) => linkTo('traders', market.address, { account: traders[at].address }),
     rowAt: (at) => traderRow(shown, market, traders[at]),
   });
+  const sought = traders.findIndex(({ address }) => address === words.account);
+  const told = words.account === undefined ? null : seekRow(table, sought, `account ${words.account}`);
   return [
+    told,
     section(`Traders (${traders.length})`,
       element('p', { class: 'hint' }, counted(traders.filter((trader) => trader.state === 'open').length, 'account is', 'accounts are'),
         ' open. Free can be settled at once; resting is locked by orders on the book; owed waits in the event queue.'),
-      node),
+      table.node),
   ];
 }

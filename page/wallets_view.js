@@ -1,9 +1,9 @@
 // All wallets with their balances, and one wallet's movements, each with the balance before and after.
 
 import { amountNode, mintAmountNode, numberNode, tokenOf } from './amounts.js';
-import { element } from './elements.js';
-import { addressNode, linkTo, rowNode } from './links.js';
-import { chooseRow, facts, section, tableWithDetails } from './parts.js';
+import { element, tickBox } from './elements.js';
+import { addressNode, linkTo, nameOf, rowNode, shortAddress } from './links.js';
+import { addressFacts, facts, notice, section, seekRow, tableWithDetails } from './parts.js';
 import { Table } from './table.js';
 
 // The table of all wallets.
@@ -11,9 +11,9 @@ function walletTable(shown, wallets) {
   return new Table({
     label: 'Wallets',
     columns: [
-      { title: 'Wallet', size: '1.2fr' },
-      { title: 'Owner' },
-      { title: 'Mint' },
+      { title: 'Wallet', isWide: true, size: '1.2fr' },
+      { title: 'Owner', isWide: true },
+      { title: 'Mint', isWide: true },
       { title: 'Balance', isNumber: true, isWide: true, size: '1.6fr' },
       { title: 'Moves', isNumber: true, size: '4rem' },
     ],
@@ -25,7 +25,7 @@ function walletTable(shown, wallets) {
       return {
         name: `wallet ${wallet.address}`,
         cells: [
-          element('a', { href: linkTo('wallets', wallet.address) }, wallet.address),
+          addressNode(shown, wallet.address),
           addressNode(shown, wallet.owner),
           addressNode(shown, wallet.mint),
           mintAmountNode(shown, wallet.amount, wallet.mint),
@@ -33,7 +33,6 @@ function walletTable(shown, wallets) {
         ],
       };
     },
-    select: (at) => { window.location.hash = linkTo('wallets', wallets[at].address); },
   });
 }
 
@@ -49,7 +48,7 @@ function moveRow(shown, wallet, move) {
       rowNode(move.market, move.row),
       addressNode(shown, move.market),
       move.lane,
-      move.kind,
+      move.kind === 'probe' ? 'unchanged' : move.kind,
       amount(move.amount),
       amount(move.before),
       amount(move.after),
@@ -57,27 +56,36 @@ function moveRow(shown, wallet, move) {
   };
 }
 
-// The movements of a wallet, and whether the last leads to its balance.
+// The place of the movement that a link asks for: by its row, on its market where the link tells one.
+function soughtMove(journal, numbers, words) {
+  return numbers.findIndex((at) => String(journal.rows[at]) === words.row && (words.market === undefined || journal.at(at).market === words.market));
+}
+
+// The movements of a wallet, and a notice where a link asks for one that is not there.
 function movements(shown, wallet, words) {
   const journal = shown.report.wallets.get(wallet.address);
-  if (journal === undefined) return element('p', { class: 'empty' }, 'A dump tells no movements.');
+  if (journal === undefined) return [element('p', { class: 'empty' }, 'A dump tells no movements.')];
+  const isHidden = words.probes === 'hidden';
+  const numbers = Array.from({ length: journal.count }, (_, at) => at).filter((at) => !isHidden || journal.isProbe[at] === 0);
   const table = tableWithDetails({
     label: `Movements of ${wallet.address}`,
     columns: [
-      { title: 'Row', size: '6rem' },
-      { title: 'Market', size: '5rem' },
+      { title: 'Row', size: '6rem', key: (at) => journal.rows[numbers[at]] },
+      { title: 'Market', isWide: true, size: 'minmax(6.2rem, 0.8fr)' },
       { title: 'Lane', isNumber: true, size: '3rem' },
       { title: 'What', size: '5rem' },
       { title: 'Amount', isNumber: true, isWide: true },
       { title: 'Before', isNumber: true, isWide: true },
       { title: 'After', isNumber: true, isWide: true },
     ],
-    count: journal.count,
-    empty: 'No row named this wallet.',
-    rowAt: (at) => moveRow(shown, wallet, journal.at(at)),
+    count: numbers.length,
+    empty: 'No row moved anything of this wallet.',
+    linkOf: (at) => linkTo('wallets', wallet.address, { ...words, row: journal.rows[numbers[at]] }),
+    rowAt: (at) => moveRow(shown, wallet, journal.at(numbers[at])),
   });
-  if (words.row !== undefined) chooseRow(table, journal.rows.indexOf(Number(words.row)));
-  return table.node;
+  const told = words.row === undefined ? null : seekRow(table, soughtMove(journal, numbers, words), `movement of row ${words.row}`);
+  const hide = (isTicked) => { window.location.hash = linkTo('wallets', wallet.address, { ...words, probes: isTicked ? 'hidden' : null }); };
+  return [told, element('div', { class: 'filters' }, tickBox('Hide probes', isHidden, hide)), table.node];
 }
 
 // Whether the last movement's balance is that of the account.
@@ -88,23 +96,29 @@ function agreement(shown, wallet) {
   return after === wallet.amount ? 'agrees with the balance' : ['is another balance, ', numberNode(after)];
 }
 
+// One wallet: its balance, mint and owner, and its movements.
+function walletSection(shown, wallet, words) {
+  return section(`Wallet ${nameOf(shown, wallet.address)}`,
+    facts([
+      ['Balance', mintAmountNode(shown, wallet.amount, wallet.mint, `balance of ${wallet.address}`)],
+      ['Mint', addressNode(shown, wallet.mint)],
+      ['Owner', addressNode(shown, wallet.owner)],
+      ['After the last movement', agreement(shown, wallet)],
+      ...addressFacts(wallet.address),
+      ['Bytes', element('a', { href: linkTo('bytes', wallet.address) }, 'its account by field')],
+    ]),
+    movements(shown, wallet, words));
+}
+
 /** The view of wallets; the subject is the wallet whose movements are told, `words.row` the row to choose. */
 export function walletsView(shown, subject, words) {
   const wallets = [...shown.exchange.wallets.values()];
-  const wallet = shown.exchange.wallets.get(subject) || wallets[0];
+  const wallet = shown.exchange.wallets.get(subject);
   const all = walletTable(shown, wallets);
-  if (wallet === undefined) return [section('Wallets', all.node)];
-  all.chosen = wallets.indexOf(wallet);
+  if (wallet !== undefined) all.chosen = wallets.indexOf(wallet);
   return [
-    section(`Wallet ${wallet.address}`,
-      facts([
-        ['Balance', mintAmountNode(shown, wallet.amount, wallet.mint, `balance of ${wallet.address}`)],
-        ['Mint', addressNode(shown, wallet.mint)],
-        ['Owner', addressNode(shown, wallet.owner)],
-        ['After the last movement', agreement(shown, wallet)],
-        ['Bytes', element('a', { href: linkTo('bytes', wallet.address) }, 'its account by field')],
-      ]),
-      movements(shown, wallet, words)),
+    subject !== '' && wallet === undefined ? notice(`There is no wallet ${shortAddress(subject)} in this text.`) : null,
+    wallet === undefined ? null : walletSection(shown, wallet, words),
     section(`All wallets (${wallets.length})`, all.node),
   ];
 }

@@ -1,0 +1,43 @@
+// Opening texts: one of each kind stays, a new report or dump takes the place of the old one.
+
+import { counted } from './amounts.js';
+import { Shown } from './shown.js';
+import { LineFault } from './text.js';
+import { readGiven } from './texts.js';
+
+/** What is wrong with a text, as a sentence. */
+export function faultText(fault) {
+  return fault instanceof LineFault ? `Line ${fault.line}: ${fault.message}` : `The page failed: ${fault.message}`;
+}
+
+// Adds a text that was read to those that are there.
+function take(texts, one) {
+  if (one.kind === 'report') delete texts.dump;
+  if (one.kind === 'dump') delete texts.report;
+  texts[one.kind] = one;
+}
+
+/** Reads texts one after the other and adds them to those that are there; answers them all, and those that have a fault. */
+export async function addTexts(old, given, tell) {
+  const texts = { ...old };
+  const faulty = [];
+  for (const one of given) {
+    const read = await readGiven(one, (line) => tell(`Reading ${one.name}: line ${line}…`));
+    if (read.fault === null) take(texts, read);
+    else faulty.push(read);
+  }
+  return { texts, faulty, shown: Object.keys(texts).length === 0 ? null : new Shown(texts) };
+}
+
+/** What is on the page, in words. */
+export function toldTexts({ texts, report }) {
+  const { markets, wallets } = report.exchange;
+  const sizes = `${counted(markets.size, 'market')}, ${counted(wallets.size, 'wallet')}`;
+  return Object.values(texts).map(({ name, kind, read }) => {
+    if (kind === 'report') return `${name}: a report of ${counted(read.rows, 'row')}, ${sizes}`;
+    if (kind === 'dump') return `${name}: a dump, ${sizes}`;
+    if (kind === 'script') return `${name}: a script of ${counted(read.count, 'row')}`;
+    if (kind === 'worth') return `${name}: the worth of ${counted(read.rows.length, 'account')}`;
+    return `${name}: what a command answered`;
+  }).join('; ');
+}
