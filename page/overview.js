@@ -70,7 +70,7 @@ function marketTable(shown) {
     columns: [
       { title: 'Market', isWide: true, size: '1.1fr' },
       { title: 'Best bid / ask', isWide: true, size: '1.6fr' },
-      { title: 'Last price', size: '1fr' },
+      { title: 'Last trade', size: '1fr' },
       { title: 'Volume', isNumber: true, isWide: true, size: '1.2fr' },
       { title: 'Takers’ fees', isNumber: true, isWide: true, size: '1.2fr' },
       { title: 'pc_fees_accrued', isNumber: true, isWide: true, size: '1.2fr' },

@@ -1,5 +1,5 @@
-// A report of 100,000 rows with its script: how long it takes to open and to filter, and how many rows stand on the page. The times are
-// told; they fail only far above what was measured, since a machine may be busy.
+// A report of 100,000 rows with its script: how long it takes to open and to filter, and how many rows stand on the page. Times of the clock
+// are told; what is held to a bound, twice what was measured, is the time of the processor, since a machine may be busy.
 
 import { makePage, stored } from './texts.mjs';
 
@@ -36,6 +36,12 @@ function repeated() {
   return { report: lines.join('\n'), script: `${[...script.slice(0, first), ...many].join('\n')}\n`, count: rows.length * TIMES };
 }
 
+// The seconds of processor time that all pages took so far.
+async function processorTime(browser) {
+  const { processInfo } = await browser.ask('SystemInfo.getProcessInfo');
+  return processInfo.filter(({ type }) => type === 'renderer').reduce((sum, { cpuTime }) => sum + cpuTime, 0);
+}
+
 // How long the page takes to show another fragment, until its rows stand.
 function timeOf(page, fragment) {
   return page.run((hash) => new Promise((done) => {
@@ -51,15 +57,20 @@ export async function largeCases(suite) {
   const file = makePage(suite.folder, report, { 'script.csv': script });
   const page = await suite.browser.page(1280, 900);
   const from = Date.now();
+  const before = await processorTime(suite.browser);
   await page.open(file, 'journal/m');
   const opened = (Date.now() - from) / 1000;
+  const behind = await processorTime(suite.browser);
   suite.same('long report: entries', (await page.text('h2')).replace(/,/g, ''), `${count} of ${count} entries`);
   const times = [];
-  for (const words of ['signer=bob', 'asked=consume', 'account=amy', 'lane=1&kind=settled', 'refusal=22']) times.push(await timeOf(page, `#journal/m?${words}`));
+  const filters = ['signer=bob', 'asked=consume', 'account=amy', 'lane=1&kind=settled', 'refusal=22'];
+  for (const words of filters) times.push(await timeOf(page, `#journal/m?${words}`));
   const slowest = Math.max(...times) / 1000;
+  const used = { open: behind - before, filter: (await processorTime(suite.browser) - behind) / filters.length };
   suite.same('long report: rows on the page', await page.run(() => document.querySelectorAll('.rows .row').length < 100), true);
-  console.log(`page: ${count} rows with their script opened in ${opened.toFixed(1)} s, filtered in ${slowest.toFixed(2)} s at most`);
-  suite.holds('long report: it opens in time', opened < 20, `${opened} s`);
-  suite.holds('long report: it filters in time', slowest < 3, `${slowest} s`);
+  console.log(`page: ${count} rows with their script opened in ${opened.toFixed(1)} s, filtered in ${slowest.toFixed(2)} s at most; of the processor `
+    + `${used.open.toFixed(1)} s and ${used.filter.toFixed(2)} s`);
+  suite.holds('long report: it opens in time', used.open < 8, `${used.open} s`);
+  suite.holds('long report: it filters in time', used.filter < 0.6, `${used.filter} s`);
   await page.close();
 }
