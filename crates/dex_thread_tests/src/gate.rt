@@ -3,8 +3,8 @@ ghost use Rattle.std.specs.Prelude.{◌≡◌, ◌++◌, ◌+◌, ◌<◌, Some,
 ghost use Rattle.dex_gate.specs.PassView.{IsIdle};
 ghost use Rattle.dex_gate.specs.declared.stage.Stage.TheVariants.{Idle};
 
-use crate::lanes::{Lanes, take_turn};
-use crate::{Gate, Pass};
+use crate::turns::{Lanes, take_turn};
+use dex_gate::{Gate, PASSES, Pass};
 use std::process::Abort;
 use std::sync::Wait;
 use std::test::Fail;
@@ -116,32 +116,13 @@ fn two_threads_take_three_turns_each(rt: HostRuntime) -> Result<(), Fail> {
     Ok(())
 }
 
-#[test]
-fn one_pass_takes_three_turns(rt: HostRuntime) -> Result<(), Fail> {
-    let alloc = rt.alloc();
-    let mut passes = Vec::with_capacity(alloc, 1)?;
-    let (gate, first) = Gate::open(
-        alloc,
-        Lanes {
-            lanes: Vec::new(alloc),
-        },
-        1,
-    )?;
-    passes.push(take_turns(&rt, &gate, first, 0, 3))?;
-    let all = gate.close(passes).lanes;
-    assert_eq!(rt; all.len(), 3);
-    assert_eq!(rt; count_of(all.as_slice(), 0), 3);
-    assert_eq!(rt; count_of(all.as_slice(), 1), 0);
-    Ok(())
-}
-
 // More threads than processors take many turns, and give way in each, so that those who wait are parked. Where the end of a turn
 // wakes nobody, or another than who is next, or who waits does not park at all, this does not end in time.
 #[test]
 fn eight_threads_wait_parked(rt: HostRuntime) -> Result<(), Fail> {
     let alloc = rt.alloc();
     let lanes = Vec::new(alloc);
-    let (gate, mut first) = Gate::open(alloc, Lanes { lanes }, 16)?;
+    let (gate, mut first) = Gate::open(alloc, Lanes { lanes }, PASSES as u32)?;
     let second = gate.split(&mut first);
     let third = gate.split(&mut first);
     let fourth = gate.split(&mut first);

@@ -3,16 +3,13 @@ ghost use Rattle.std.specs.Prelude.{◌≡◌, [], ◌∷◌, ◌++◌, IfErr, O
 ghost use Rattle.dex_gate.specs.declared.stage.Stage.TheVariants.{Idle, Out};
 ghost use Rattle.dex_gate.specs.History.{Extends};
 
-use crate::gate::Gate;
-use crate::journaled::Journaled;
-use crate::pass::Pass;
-use crate::turn::Turn;
+use dex_gate::{Gate, Journaled, Pass, Turn};
 use std::sync::Wait;
 use std::thread;
 
 /// A list of lanes. Each entry is its own lane.
 #[derive(Drop)]
-pub struct Lanes {
+pub(crate) struct Lanes {
     pub lanes: Vec<u32>,
 }
 
@@ -34,7 +31,7 @@ impl Journaled for Lanes {
 
 /// Draws a ticket, waits for its turn, gives way in it, adds the pass's number and leaves. Where memory runs out, the turn comes back with nothing
 /// added, and is still out.
-pub fn take_turn<R: Wait>(
+pub(crate) fn take_turn<R: Wait>(
     rt: &R,
     gate: &Gate<Lanes>,
     pass: &mut Pass<Lanes>,

@@ -1,6 +1,6 @@
 use Rattle.std.proofs.Common.{rules, ◌≡◌, ℕ, zero, suc, [], ◌∷◌, refl, sym, subst, inl, arith}
 use Rattle.dex_gate.specs.PassView.{PassView, AreAll}
-use Rattle.dex_gate.proofs.tests.two_threads_take_three_turns_each.Goals as goal
+use Rattle.dex_thread_tests.proofs.gate.two_threads_take_three_turns_each.Goals as goal
 
 two : {E O : Type 0} (p q : PassView E O) → p.number ≡ 0 → q.number ≡ 1 → AreAll 2 (p ∷ q ∷ [])
 two p q a b zero h = (0, p, omega arith, refl, inl a)
