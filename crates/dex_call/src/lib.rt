@@ -5,7 +5,7 @@ mod calling;
 mod calls;
 mod writing;
 
-pub use calls::{audit, bulk, dump, make, migrate, replay};
+pub use calls::{audit, bulk, dump, make, migrate, replay, worth};
 
 #[cfg(test)]
 mod tests;

@@ -1,6 +1,6 @@
 //! Each call once, with memory enough: none always answers that memory is wanting.
 
-use crate::{audit, bulk, dump, make, migrate, replay};
+use crate::{audit, bulk, dump, make, migrate, replay, worth};
 use std::alloc::Global;
 use std::test::Fail;
 
@@ -43,6 +43,15 @@ fn each_call_answers(rt: HostRuntime) -> Result<(), Fail> {
     let mut report = room(alloc)?;
     let status = replay(alloc, SCRIPT, &mut report, &mut size);
     tells(status, &report, size, REPORT)?;
+
+    let mut worths = room(alloc)?;
+    let status = worth(alloc, SCRIPT, &mut worths, &mut size);
+    tells(
+        status,
+        &worths,
+        size,
+        b"worth 1\ntrader m amy 0 0\nend\n",
+    )?;
 
     let mut dumped = room(alloc)?;
     let status = dump(alloc, SCRIPT, &mut dumped, &mut size);

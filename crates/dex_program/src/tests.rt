@@ -12,7 +12,7 @@ use std::test::Fail;
 use std::thread::Threads;
 
 const USAGE: &str =
-    "usage: dex replay, run, audit, dump, make NUMBER ROWS, bulk NUMBER ROWS or migrate NODES EVENTS\n";
+    "usage: dex replay, run, audit, dump, worth, make NUMBER ROWS, bulk NUMBER ROWS or migrate NODES EVENTS\n";
 
 /// Two bids rest.
 const SCRIPT: &str = "mint,coin,6

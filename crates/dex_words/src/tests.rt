@@ -22,6 +22,7 @@ fn each_command_is_read(rt: HostRuntime) -> Result<(), Fail> {
         ("run", Command::Run),
         ("dump", Command::Dump),
         ("audit", Command::Audit),
+        ("worth", Command::Worth),
         ("make 0 1", Command::Make { number: 0, rows: 1 }),
         (
             "make 18446744073709551615 20000",

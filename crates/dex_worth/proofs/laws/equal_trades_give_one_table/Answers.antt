@@ -1,0 +1,12 @@
+use Rattle.std.proofs.Common.{sym, ap, ◌∙◌}
+use Rattle.dex_accounts.specs.Decoded.{market_in}
+use Rattle.dex_eager.specs.Eager.{Eager}
+use Rattle.dex_eager.specs.Histories.{counted, eager_start}
+use Rattle.dex_eager.proofs.DelayLaws.{trades-after}
+use Rattle.dex_worth.proofs.laws.equal_trades_give_one_table.Goals as goal
+
+pub returns : goal.returns
+returns c = λ script other first last late journal second one two same.
+    one.worths
+    ∙ ap (λ (e : Eager). e.worths) (trades-after (counted one.calls) (counted two.calls) (eager_start (market_in first)) same)
+    ∙ sym two.worths
