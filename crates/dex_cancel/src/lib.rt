@@ -6,7 +6,7 @@ mod deciding;
 mod finding;
 mod found;
 mod laws;
-mod leaving;
+mod applying;
 mod pruning;
 pub mod steps;
 mod taking;
@@ -14,7 +14,7 @@ mod what;
 
 pub use deciding::decide_cancel;
 pub use laws::a_market_is_left_by_its_parts;
-pub use leaving::apply_cancel;
+pub use applying::apply_cancel;
 pub use what::CancelWhat;
 
 #[cfg(test)]

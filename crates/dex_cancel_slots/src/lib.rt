@@ -6,10 +6,10 @@ mod deciding;
 mod finding;
 mod first_own;
 mod laws;
-mod leaving;
+mod applying;
 mod pruning;
 mod taken;
 
 pub use deciding::decide_cancel_by_slots;
 pub use laws::{an_accounts_slots_name_its_orders, the_slots_tell_an_owners_orders};
-pub use leaving::apply_cancel_by_slots;
+pub use applying::apply_cancel_by_slots;

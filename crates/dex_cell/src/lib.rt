@@ -5,7 +5,7 @@ mod amounts;
 mod journal;
 mod market_cell;
 mod payouts;
-mod told;
+mod call_record;
 
 pub use dex_decide::{Deposit, Plan};
 pub use market_cell::MarketCell;

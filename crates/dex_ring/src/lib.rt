@@ -3,14 +3,14 @@
 
 pub mod amounts;
 mod event_bytes;
-mod leaving;
+mod pending_fills;
 mod making;
 mod places;
 mod ring_check;
 mod ring_ref;
 mod ring_view;
 
-pub use leaving::Leaving;
+pub use pending_fills::PendingFills;
 pub use making::{blank, made_size};
 pub use ring_check::check_events;
 pub use ring_ref::RingRef;

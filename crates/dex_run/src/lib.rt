@@ -6,7 +6,7 @@ mod building;
 mod closing;
 mod columns;
 mod lane;
-mod made;
+mod stamped_record;
 mod outline;
 mod running;
 mod seat;

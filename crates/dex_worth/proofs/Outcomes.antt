@@ -20,7 +20,7 @@ use Rattle.dex_replay.specs.Lawful.{AllThree, IsLawful}
 use Rattle.dex_report.specs.Outcomes.{PlainMarketJournal, PlainOutcome}
 use Rattle.dex_script.specs.Drafts.{PlainScript}
 use Rattle.dex_script.specs.Facts.{IsScript}
-use Rattle.dex_calls.specs.Told.{TellsHistory, calls_told}
+use Rattle.dex_calls.specs.EntryCalls.{TellsHistory, calls_told}
 use Rattle.dex_worth.specs.Rows.{PlainWorthRow}
 use Rattle.dex_worth.specs.Tables.{AreToldHere, IsTold, IsToldHere, PaysAtOnce, calls_of, row_told, rows_told, tables_told, worth_in_row, worth_told, worths_told}
 use Rattle.dex_worth.proofs.Tables.{worths-told}

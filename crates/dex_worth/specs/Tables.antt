@@ -12,7 +12,7 @@ use Rattle.dex_accounts.specs.StandsFor.{StandsFor}
 use Rattle.dex_history.specs.Journal.{Call, market_after}
 use Rattle.dex_report.specs.Outcomes.{PlainMarketJournal, PlainOutcome}
 use Rattle.dex_script.specs.Drafts.{PlainScript}
-use Rattle.dex_calls.specs.Told.{TellsHistory, calls_told}
+use Rattle.dex_calls.specs.EntryCalls.{TellsHistory, calls_told}
 use Rattle.dex_eager.specs.Eager.{Worths}
 use Rattle.dex_eager.specs.Histories.{counted, eager_end, eager_fills, eager_start, fills_of, moves_of}
 use Rattle.dex_eager.specs.Slots.{without_slots}

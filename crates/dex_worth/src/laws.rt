@@ -5,7 +5,7 @@ ghost use Rattle.dex_types.specs.declared.addresses.Address.{Address};
 ghost use Rattle.dex_types.specs.Market.{Market};
 ghost use Rattle.dex_types.specs.Accounts.{PlainMarketAccounts};
 ghost use Rattle.dex_accounts.specs.Decoded.{market_in};
-ghost use Rattle.dex_calls.specs.Told.{TellsHistory};
+ghost use Rattle.dex_calls.specs.EntryCalls.{TellsHistory};
 ghost use Rattle.dex_eager.specs.Histories.{eager_end, trades};
 ghost use Rattle.dex_replay.specs.Lawful.{AllThree, IsLawful};
 ghost use Rattle.dex_report.specs.Outcomes.{PlainMarketJournal, PlainOutcome};
