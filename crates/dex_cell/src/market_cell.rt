@@ -5,9 +5,9 @@ ghost use Rattle.dex_ring.specs.PendingFills.{pending_fills_of};
 ghost use Rattle.dex_ring.specs.Ring.{IsEventQueue, ring_of};
 
 use crate::amounts::amounts_of;
+use crate::call_record::CallRecord;
 use crate::journal::{append, entry_of};
 use crate::payouts::{Payouts, pay};
-use crate::call_record::CallRecord;
 use dex_decide::Plan;
 use dex_meet::{PendingFills, pending_fills};
 use dex_movements::Amounts;

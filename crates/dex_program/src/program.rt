@@ -138,7 +138,12 @@ pub fn plain<S: Source, K: Sink>(
 }
 
 // Runs one command on one thread.
-fn run_plain<S: Source, K: Sink>(alloc: Global, command: Command, source: &mut S, sink: &mut K) -> Status
+fn run_plain<S: Source, K: Sink>(
+    alloc: Global,
+    command: Command,
+    source: &mut S,
+    sink: &mut K,
+) -> Status
     requires within { IsWithin command }
     requires plain { IsPlain command }
     ensures { Ends (Some command)

@@ -14,9 +14,9 @@ ghost use Rattle.dex_run.specs.Turns.{AreInHand, AreReady, HasCall, HasEntry, Ha
 ghost use Rattle.dex_run.specs.Turns.{MayCall, MayEnter, world_in};
 
 use crate::bank::Bank;
-use crate::stamped_record::StampedRecord;
 use crate::seat::LaneSeat;
 use crate::seeing::{last_entry, role_at};
+use crate::stamped_record::StampedRecord;
 use crate::turns::{first_of, leave_wallet, put_in_hand, take_from_hand, take_market, take_wallet};
 use dex_gate::{Gate, Pass};
 use dex_io::Pace;
