@@ -10,3 +10,4 @@ pub mod Holding
 pub mod Outcomes
 pub mod Showing
 pub mod Markets
+pub mod Flows

@@ -6,3 +6,4 @@ pub mod Entries
 pub mod Holdings
 pub mod Rows
 pub mod WorthText
+pub mod Flows

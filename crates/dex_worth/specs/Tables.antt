@@ -14,9 +14,10 @@ use Rattle.dex_report.specs.Outcomes.{PlainMarketJournal, PlainOutcome}
 use Rattle.dex_script.specs.Drafts.{PlainScript}
 use Rattle.dex_calls.specs.EntryCalls.{TellsHistory, calls_told}
 use Rattle.dex_eager.specs.Eager.{Worths}
-use Rattle.dex_eager.specs.Histories.{counted, eager_end, eager_fills, eager_start, fills_of, moves_of}
+use Rattle.dex_eager.specs.Histories.{Trade, counted, eager_end, eager_fills, eager_start, fills_of, moves_of, trades}
 use Rattle.dex_eager.specs.Slots.{without_slots}
 use Rattle.dex_eager.specs.Worth.{Worth, held_for, takings_of, worth_of}
+use Rattle.dex_worth.specs.Flows.{AddUp}
 use Rattle.dex_worth.specs.Rows.{PlainWorthRow}
 use Rattle.dex_worth.specs.Told.{told_in, told_out}
 
@@ -56,6 +57,10 @@ tables_told script _ _ = []
 abbrev pub table_told : PlainScript → PlainOutcome → List PlainWorthRow
 table_told script outcome = tables_told script outcome.accounts.markets outcome.markets
 
+-- what the trades of each market go by, as its journal tells them: its accepted rows but cranks, with their tiers and program
+abbrev pub trades_told : PlainScript → List PlainMarketJournal → List (List Trade)
+trades_told script journals = map (λ (journal : PlainMarketJournal). trades (calls_of script journal)) journals
+
 -- the journal tells a legal history from the market's first accounts, which are those of a sound market
 pub record IsTold (script : PlainScript) (first last : PlainMarketAccounts) (journal : PlainMarketJournal) : Type 0 where
   pub tells : TellsHistory script first last journal
@@ -77,7 +82,8 @@ worth_in_row row = (row.account, row.worth)
 
 -- what a market left is what one leaves that pays each fill at once: the worth of each account, which is also the sum of what is free,
 -- resting and owed at the end, less deposits, plus settlements, over the steps of the calls that the journal tells; both sides but for
--- slots; the fills of resting orders; and what the market took, with what was swept and paid to referrers
+-- slots; the fills of resting orders; and what the market took, with what was swept and paid to referrers. And of each token nothing was made
+-- or lost
 pub record PaysAtOnce (script : PlainScript) (first last : PlainMarketAccounts) (journal : PlainMarketJournal) : Type 0 where
   pub calls : List Call
   pub told : calls_told script journal.address journal.entries ≡ Some calls
@@ -90,3 +96,4 @@ pub record PaysAtOnce (script : PlainScript) (first last : PlainMarketAccounts) 
   pub asks : without_slots (market_after (market_in first) calls).asks ≡ (eager_end (market_in first) calls).asks
   pub fills : fills_of (market_in first) calls ≡ eager_fills (eager_start (market_in first)) (counted calls)
   pub takings : takings_of (market_after (market_in first) calls) (moves_of (market_in first) calls) ≡ (eager_end (market_in first) calls).takings
+  pub kept : (token : Token) → AddUp token (market_in first) calls

@@ -11,13 +11,14 @@ ghost use Rattle.dex_replay.specs.Lawful.{AllThree, IsLawful};
 ghost use Rattle.dex_report.specs.Outcomes.{PlainMarketJournal, PlainOutcome};
 ghost use Rattle.dex_script.specs.Facts.{IsScript};
 ghost use Rattle.dex_script.specs.Drafts.{PlainScript};
-ghost use Rattle.dex_worth.specs.Tables.{PaysAtOnce, rows_told, worth_in_row, worths_told};
+ghost use Rattle.dex_worth.specs.Tables.{PaysAtOnce, rows_told, table_told, trades_told, worth_in_row, worths_told};
 ghost use Rattle.dex_types.specs.Side.{Token};
 ghost use Rattle.dex_types.specs.Soundness.{IsSound};
 ghost use Rattle.dex_types.specs.Totals.{total};
 ghost use Rattle.dex_history.specs.Journal.{Call, IsLegal, Stands, step_of};
 ghost use Rattle.dex_eager.specs.Histories.{moves_of};
 ghost use Rattle.dex_worth.specs.Debits.{debits_in};
+ghost use Rattle.dex_worth.specs.Flows.{AddUp};
 ghost use Rattle.dex_worth.specs.Told.{told_in, told_out};
 
 use dex_calls::laws::an_entry_tells_its_call;
@@ -51,11 +52,24 @@ pub fn a_table_tells_what_a_market_pays_at_once()
     an_entry_tells_its_call();
 }
 
-/// However late cranks come, and in whatever order lanes act: where the journals of two lawful outcomes of one market
-/// tell the same accepted rows but cranks, in one order, with the same tiers and program, its rows are the same.
+/// Nothing is made or lost: of each token of a market, what all accounts are worth at the end of a history, what the market
+/// has taken, and what takes took away, is what stood in the vault at the start and what takes brought.
+pub fn nothing_is_made_or_lost()
+    ensures { (token : Token) (m : Market) (calls : List Call) → IsSound m → IsLegal m calls → AddUp token m calls }
+{}
+
+/// However late cranks come, and in whatever order lanes act: where the journals of a market in two lawful outcomes tell the
+/// same accepted rows but cranks, in one order, with the same tiers and program, its rows are the same. Where this is so of
+/// each market, the two outcomes have one table.
 pub fn equal_trades_give_one_table()
-    ensures { (script other : PlainScript) (first last late : PlainMarketAccounts)
+    ensures market { (script other : PlainScript) (first last late : PlainMarketAccounts)
         (journal second : PlainMarketJournal) → (one : PaysAtOnce script first last journal)
         → (two : PaysAtOnce other first late second) → trades one.calls ≡ trades two.calls
         → map worth_in_row (rows_told script last journal) ≡ map worth_in_row (rows_told other late second) }
-{}
+    ensures table { (script other : PlainScript) (outcome second : PlainOutcome) → IsScript script → IsScript other
+        → IsLawful script outcome → IsLawful other second → script.start.markets ≡ other.start.markets
+        → trades_told script outcome.markets ≡ trades_told other second.markets
+        → table_told script outcome ≡ table_told other second }
+{
+    an_entry_tells_its_call();
+}
