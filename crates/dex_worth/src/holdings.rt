@@ -87,7 +87,8 @@ fn add_locks(held: &mut Vec<Amounts>, owners: &[Address], orders: &[Order], side
     requires { length held.old.items ≡ length owners.now }
     ensures long { length held.new.items ≡ length owners.now }
     ensures locks { (before : AddressOf → AmountsOf) → tally.AreSums before owners.now held.old.items
-        → tally.AreSums (λ of. tally.both (before of) (holds.locks_of side sizes orders.now of)) owners.now held.new.items }
+        → tally.AreSums (λ of. tally.both (before of) (holds.locks_of side sizes orders.now of)) owners.now
+        held.new.items }
 {
     for place in 0..orders.len() {
         let lock = lock_of(side, sizes, &orders[place]);

@@ -21,8 +21,9 @@ pub fn place_of(rows: &[Row], market: Address, number: u32) -> Option<usize>
     requires { AllPairs (λ (one other : PlainRow). one.number ≤ other.number) (map row_of rows.now) }
     ensures { MatchOption result
         (first_of (is_row_on market number) (λ (row : PlainRow). row) (map row_of rows.now) ≡ None)
-        (λ place. (place < length rows.now) × ((d : RowOf) → first_of (is_row_on market number) (λ (row : PlainRow). row)
-        (map row_of rows.now) ≡ Some (row_of (get_or rows.now place d)))) }
+        (λ place. (place < length rows.now) × ((d : RowOf)
+        → first_of (is_row_on market number) (λ (row : PlainRow). row) (map row_of rows.now)
+        ≡ Some (row_of (get_or rows.now place d)))) }
 {
     let before = rows.partition_point(|row| row.number < number);
     for place in before..rows.len() {
