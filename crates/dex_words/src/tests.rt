@@ -71,6 +71,8 @@ const NEAR_MISSES: [&str; 40] = [
     "replay replay",
     "replay 1 2",
     "dump 1",
+    "worth 1",
+    "worth worth",
     "audit audit audit",
     "-",
     "--",
