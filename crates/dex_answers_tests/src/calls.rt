@@ -1,6 +1,6 @@
 //! Each call once, with memory enough: none always answers that memory is wanting.
 
-use dex_call::{audit, bulk, dump, make, migrate, replay};
+use dex_call::{audit, bulk, dump, make, migrate, replay, worth};
 use std::alloc::Global;
 use std::test::Fail;
 
@@ -50,6 +50,13 @@ fn scripts_are_answered(rt: HostRuntime) -> Result<(), Fail> {
     let (mut text, mut size) = (room(rt.alloc())?, 0);
     let status = replay(rt.alloc(), SCRIPT, &mut text, &mut size);
     tells(status, &text, size, REPORT)
+}
+
+#[test]
+fn worths_are_told(rt: HostRuntime) -> Result<(), Fail> {
+    let (mut text, mut size) = (room(rt.alloc())?, 0);
+    let status = worth(rt.alloc(), SCRIPT, &mut text, &mut size);
+    tells(status, &text, size, b"worth 1\ntrader m amy 0 0\nend\n")
 }
 
 #[test]
