@@ -12,7 +12,7 @@ use Rattle.dex_types.specs.Why.{why}
 use Rattle.dex_laws.proofs.TraderLaws.{is_same-true}
 use Rattle.dex_history.specs.Journal.{Sees, asked_of, request_of, row_step}
 use Rattle.dex_cell.specs.CellState as market
-use Rattle.dex_cell.specs.CellState.{CanHold, IsFor, IsMarketCell, MarketCellState}
+use Rattle.dex_cell.specs.CellState.{CanHold, IsMarketCell, MarketCellState}
 use Rattle.dex_wallet.specs.CellState.{CellState}
 use Rattle.dex_fold.specs.Fold.{act, acted, markets_acted, wallet_acted}
 use Rattle.dex_fold.specs.Items.{why_in, why_on}

@@ -3,3 +3,4 @@ pub mod GroupLaws
 pub mod ItemLaws
 pub mod NameLaws
 pub mod FarLaws
+pub mod OnceLaws

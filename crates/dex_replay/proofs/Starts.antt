@@ -5,9 +5,9 @@ use Rattle.std.proofs.lemmas.List.{map-id}
 use Rattle.std.proofs.lemmas.List.Elements.{All-map}
 use Rattle.dex_types.specs.Accounts.{PlainAccount, PlainMarketAccounts}
 use Rattle.dex_cell.specs.CellState as market
-use Rattle.dex_cell.specs.CellState.{IsMarketCell, MarketCellState}
+use Rattle.dex_cell.specs.CellState.{MarketCellState}
 use Rattle.dex_wallet.specs.CellState as wallet
-use Rattle.dex_wallet.specs.CellState.{CellState, IsWalletCell}
+use Rattle.dex_wallet.specs.CellState.{CellState}
 use Rattle.dex_dump.specs.Accepted.{address_of}
 use Rattle.dex_script.specs.Drafts.{PlainScript}
 use Rattle.dex_act.specs.Wallets.{wallet_state_of}

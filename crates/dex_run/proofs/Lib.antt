@@ -6,7 +6,6 @@ pub mod Seating
 pub mod Apart
 pub mod LaneRows
 pub mod Jobs
-mod Once
 mod Counts
 mod Growing
 mod Distinct

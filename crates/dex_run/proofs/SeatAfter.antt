@@ -1,5 +1,5 @@
 -- A seat before and after a row.
-use Rattle.std.proofs.Common.{◌≡◌, ℕ, zero, suc, ◌<◌, ◌≤◌, ◌==◌, Bool, true, false, ◌||◌, cond, List, [], ◌∷◌, ◌++◌, length, map, set, get_or, take, Some, refl, sym, ap, ◌∙◌, subst, arith}
+use Rattle.std.proofs.Common.{◌≡◌, ℕ, zero, suc, ◌<◌, ◌≤◌, ◌==◌, Bool, true, false, cond, List, [], ◌∷◌, ◌++◌, length, set, get_or, take, Some, refl, sym, ap, ◌∙◌, subst, arith}
 use Rattle.std.specs.List.{All, AllZip, list_any}
 use Rattle.std.proofs.lemmas.Bool.{eqb-true}
 use Rattle.std.proofs.lemmas.List.{append-nil, append_assoc, get_or-map, length-map}
@@ -22,6 +22,7 @@ use Rattle.dex_script.specs.Drafts.{PlainScript}
 use Rattle.dex_script.specs.Facts.{IsRowOf, IsScript}
 use Rattle.dex_script.specs.Known.{has_market}
 use Rattle.dex_replay.specs.Lawful.{AllThree, IsSight}
+use Rattle.dex_replay.proofs.MappedLists.{list_any-map}
 use Rattle.dex_wallet.specs.CellState.{balance_of}
 use Rattle.dex_stamps.specs.Stamped.{Stamped, items_of}
 use Rattle.dex_journals.specs.Journals.{MarketOrigin}
@@ -41,11 +42,6 @@ use Rattle.dex_run.proofs.RowMore.{row-more}
 use Rattle.dex_run.proofs.Taking.{all-midst, same-get, zip-at}
 
 -- ---- before
-
-any-markets : (address : Address) (markets : List PlainMarketAccounts)
-    → list_any (is_same address) (map (λ (accounts : PlainMarketAccounts). accounts.address) markets) ≡ has_market address markets
-any-markets address [] = refl
-any-markets address (market ∷ markets) = ap (λ (b : Bool). is_same address market.address || b) (any-markets address markets)
 
 draws : (lane other : ℕ) (calls : List (Stamped Call)) (others : List Address) (starts : List PlainAccount) (passes : List WalletPass) → other ≡ lane
     → AllZip (IsWalletPass lane calls) starts passes → AllZip (MayDraw other calls others) starts passes
@@ -91,7 +87,7 @@ module _ (bank : BankState) (row : PlainRow) (before : SeatState) (next : IsNext
 
   pub market-known : list_any (is_same row.market) (market_addresses bank.script) ≡ true
   market-known =
-      any-markets row.market bank.script.start.markets
+      list_any-map (is_same row.market) (λ (accounts : PlainMarketAccounts). accounts.address) bank.script.start.markets
       ∙ subst (λ (s : PlainScript). has_market row.market s.start.markets ≡ true) of.script row-fits.market
 
   module _ (kept : IsSeat before) where
