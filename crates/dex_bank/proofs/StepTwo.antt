@@ -1,32 +1,13 @@
 -- Two rows that share nothing, one behind the other.
 use Rattle.std.proofs.Common.{◌≡◌, ℕ, ◌<◌, ◌||◌, ◌&&◌, not, Bool, true, false, cond, List, [], ◌∷◌, length, map, is_some, Option, Some, None, refl, sym, ap, ◌∙◌, subst, ⊎_elim}
+use Rattle.dex_fold.proofs.Common.{Address, All-cons, All-head, All-nil, All-tail, Market, PlainRow, Refusal, Reply, Seen, ShareNothing, Transfers, WalletEntry, WalletState, World, act, acted, cases_Bool, chosen, decoded, false≢true, idle_row, is_refusal, is_same, is_same-refl, is_same-true, is_take, movement_of, names, request_of, row_step, row_wallets, seen_by, step-refused, wallet_acted, wallet_moved, why-far, why_in, why_on}
+use Rattle.dex_bank.proofs.Common.{AreCells, CanAct, CanWait, CellState, CellsState, IsMarketCell, IsReply, MarketCellState, OthersStay, made_of, opened_of, wallet_state_of, world_of}
 use Rattle.std.specs.List.{All}
-use Rattle.std.proofs.lemmas.List.Elements.{All-nil, All-cons, All-head, All-tail}
-use Rattle.std.proofs.lemmas.Bool.{cases_Bool, false≢true}
-use Rattle.dex_types.specs.declared.addresses.Address.{Address}
-use Rattle.dex_types.specs.declared.movements.WalletEntry.{WalletEntry}
-use Rattle.dex_types.specs.declared.refusals.Refusal.{Refusal}
-use Rattle.dex_types.specs.declared.replies.Reply.{Reply}
-use Rattle.dex_types.specs.declared.rows.Seen.{Seen}
-use Rattle.dex_types.specs.Addresses.{is_same}
-use Rattle.dex_types.specs.Market.{Market}
-use Rattle.dex_types.specs.Rows.{PlainRow}
-use Rattle.dex_types.specs.Transfers.{Transfers}
-use Rattle.dex_types.specs.Wallets.{movement_of, row_wallets}
-use Rattle.dex_laws.proofs.TraderLaws.{is_same-refl, is_same-true}
-use Rattle.dex_instruction.specs.Reading.{decoded}
-use Rattle.dex_history.specs.Journal.{is_refusal, is_take, request_of, row_step}
-use Rattle.dex_history.proofs.RefusalLaws.{step-refused}
 use Rattle.dex_cell.specs.CellState as market
-use Rattle.dex_cell.specs.CellState.{IsMarketCell, MarketCellState}
 use Rattle.dex_wallet.specs.CellState as wallet
-use Rattle.dex_wallet.specs.CellState.{CellState}
-use Rattle.dex_fold.specs.Fold.{act, acted, names, wallet_acted, wallet_moved}
-use Rattle.dex_fold.specs.Items.{ShareNothing, chosen, idle_row, why_in, why_on}
-use Rattle.dex_fold.specs.World.{WalletState, World, market_at, seen_by}
-use Rattle.dex_fold.proofs.FarLaws.{market-far, seen-far, why-far}
-use Rattle.dex_act.specs.Wallets.{made_of, wallet_state_of}
-use Rattle.dex_bank.specs.Cells.{AreCells, CanAct, CanWait, CellsState, IsReply, IsTakeOrRefused, OthersStay, OthersThanTwoStay, opened_of, world_of}
+use Rattle.dex_fold.specs.World.{market_at}
+use Rattle.dex_fold.proofs.FarLaws.{market-far, seen-far}
+use Rattle.dex_bank.specs.Cells.{IsTakeOrRefused, OthersThanTwoStay}
 use Rattle.dex_bank.specs.Stepping.{doing}
 use Rattle.dex_bank.proofs.StepWorld.{opened_market, same-markets, same-wallets}
 

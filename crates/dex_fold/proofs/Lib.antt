@@ -1,3 +1,4 @@
+pub mod Common
 pub mod FoldLaws
 pub mod GroupLaws
 pub mod ItemLaws

@@ -1,26 +1,12 @@
 -- The entries that the call of a row makes: one in the journal of each wallet that the row names.
 use Rattle.std.proofs.Common.{◌≡◌, Bool, true, false, cond, List, [], ◌∷◌, map, refl, sym, ap, ◌∙◌}
-use Rattle.std.specs.List.{filter}
+use Rattle.dex_fold.proofs.Common.{Address, Call, Entry, Market, Movement, PlainRow, Seen, Sees, Transfers, WalletEntry, asked-once, asked_of, balance_seen, brought_to, filter, is_same, movement_of, names, places-movements, row_step, row_wallets, seen-wallets, seen_wallets, taken_from, wallet-movement_by, wallet_entry_by, wallet_entry_of}
+use Rattle.dex_order.proofs.Common.{Stamped, entries_in, entry_made, filter-of, map-map}
 use Rattle.std.proofs.lemmas.List.Elements.{filter_agree}
-use Rattle.dex_types.specs.declared.addresses.Address.{Address}
-use Rattle.dex_types.specs.declared.movements.Entry.{Entry}
-use Rattle.dex_types.specs.declared.movements.Movement.{Movement}
-use Rattle.dex_types.specs.declared.movements.WalletEntry.{WalletEntry}
-use Rattle.dex_types.specs.declared.rows.Seen.{Seen}
-use Rattle.dex_types.specs.Addresses.{is_same}
-use Rattle.dex_types.specs.Market.{Market}
-use Rattle.dex_types.specs.Rows.{PlainRow}
-use Rattle.dex_types.specs.Transfers.{Transfers}
-use Rattle.dex_types.specs.Wallets.{balance_seen, brought_to, movement_of, movements, row_wallets, seen_wallets, taken_from}
-use Rattle.dex_history.specs.Journal.{Call, Sees, asked_of, front, row_step, wallet_entry_of}
-use Rattle.dex_history.proofs.WalletLaws.{places-movements, wallet-movement_by}
-use Rattle.dex_movements.specs.Entries.{wallet_entry_by}
-use Rattle.dex_movements.proofs.PlaceLaws.{seen-wallets}
-use Rattle.dex_fold.specs.Fold.{names}
-use Rattle.dex_fold.proofs.OnceLaws.{asked-once, one-kept}
-use Rattle.dex_stamps.specs.Stamped.{Stamped, items_of}
-use Rattle.dex_journals.specs.StampedCalls.{entries_in, entry_made}
-use Rattle.dex_replay.proofs.MappedLists.{filter-of, map-map}
+use Rattle.dex_types.specs.Wallets.{movements}
+use Rattle.dex_history.specs.Journal.{front}
+use Rattle.dex_fold.proofs.OnceLaws.{one-kept}
+use Rattle.dex_stamps.specs.Stamped.{items_of}
 use Rattle.dex_order.proofs.Acts.{Acts}
 
 -- ---- of the movements of a row, those of one wallet

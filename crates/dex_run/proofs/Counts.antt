@@ -1,27 +1,14 @@
 -- How many calls a lane has made on a market and on a wallet, before one of its rows.
 use Rattle.std.proofs.Common.{◌≡◌, ℕ, ◌+◌, ◌<◌, ◌==◌, Bool, true, false, cond, List, [], ◌∷◌, ◌++◌, length, map, take, refl, sym, ap, ◌∙◌, subst, arith, ⊎_elim}
-use Rattle.std.specs.List.{All, filter, list_any}
-use Rattle.std.proofs.lemmas.Bool.{cases_Bool, cond-true, cond-false}
-use Rattle.std.proofs.lemmas.List.{length-append, length-map}
-use Rattle.std.proofs.lemmas.List.Elements.{All-head, All-tail, filter-append}
-use Rattle.dex_types.specs.declared.addresses.Address.{Address}
-use Rattle.dex_types.specs.declared.movements.Movement.{Movement}
-use Rattle.dex_types.specs.Addresses.{is_same}
-use Rattle.dex_types.specs.Rows.{PlainRow}
-use Rattle.dex_laws.proofs.TraderLaws.{is_same-sym}
-use Rattle.dex_history.specs.Journal.{Asked, Call, asked_of, asked_wallets, front}
+use Rattle.dex_fold.proofs.Common.{Address, All-head, All-tail, Asked, Call, Movement, PlainRow, asked-once, asked_of, asked_wallets, cases_Bool, cond-false, cond-true, filter, filter-append, is_same, is_same-sym, length-map, list_any, names, rows_of_lane}
+use Rattle.dex_replay.proofs.Common.{PlainScript, rows_of_market, rows_of_wallet}
+use Rattle.dex_order.proofs.Common.{MovesEach, Stamped, calls_on, entries_in, entries_on, entry_made, filter-of, filter-swap, items_of-stamped, stamped}
+use Rattle.dex_run.proofs.Common.{IsDue}
+use Rattle.std.specs.List.{All}
+use Rattle.std.proofs.lemmas.List.{length-append}
+use Rattle.dex_history.specs.Journal.{front}
 use Rattle.dex_history.proofs.AddressOrder.{times}
-use Rattle.dex_fold.specs.Fold.{names}
-use Rattle.dex_fold.proofs.OnceLaws.{asked-once, times-any}
-use Rattle.dex_replay.specs.Lawful.{rows_of_market, rows_of_wallet}
-use Rattle.dex_script.specs.Drafts.{PlainScript}
-use Rattle.dex_stamps.specs.Stamped.{Stamped, stamped}
-use Rattle.dex_replay.proofs.MappedLists.{filter-of, filter-swap}
-use Rattle.dex_journals.proofs.StampedLists.{items_of-stamped}
-use Rattle.dex_journals.specs.StampedCalls.{calls_on, entries_in, entries_on, entry_made}
-use Rattle.dex_fold.specs.Items.{rows_of_lane}
-use Rattle.dex_order.specs.Lanes.{MovesEach}
-use Rattle.dex_run.specs.Turns.{IsDue}
+use Rattle.dex_fold.proofs.OnceLaws.{times-any}
 
 -- ---- filters
 

@@ -1,40 +1,18 @@
 -- The cells in hand, when they are those of all wallets that a row names: what it sees, and what it leaves.
 use Rattle.std.proofs.Common.{◌≡◌, ℕ, true, List, [], ◌∷◌, ◌++◌, length, map, Option, Some, None, refl, sym, ap, ◌∙◌, subst, arith}
-use Rattle.std.specs.List.{All, AllZip, Any, filter, list_any}
-use Rattle.std.proofs.lemmas.Bool.{cond_both, cond-true, or_left, or_right}
+use Rattle.dex_fold.proofs.Common.{Address, All-cons, All-head, All-nil, All-tail, All-weaker, AllZip, Call, Movement, PlainAccount, PlainRow, Reply, Seen, Sees, Transfers, WalletSeen, WalletState, asked-once, asked_of, cond-true, cond_both, entry_by, filter, is_same, is_same-refl, list_any, movement_of, names, once-head, or_left, or_right, places-movements, role_at, row_wallets, seen_by, wallet_acted, wallet_at, wallet_entry_by, wallet_moved}
+use Rattle.dex_replay.proofs.Common.{CellState, Fits, IsSight, IsWalletCell, IsWalletSeen, PlainScript, SeesCells, WalletWords, balance_of, is_among, made_of, roles_of, wallet_state_of, wallet_words, wallet_words-with_amount}
+use Rattle.dex_order.proofs.Common.{All-unmap, MovesEach, Stamped, any-here, any-there, entries_in, entry_made}
+use Rattle.dex_run.proofs.Common.{AreInHand, HasEntry, IsReady, world_in}
+use Rattle.std.specs.List.{All, Any}
 use Rattle.std.proofs.lemmas.List.{append-nil}
-use Rattle.std.proofs.lemmas.List.Elements.{All-nil, All-cons, All-head, All-tail, All-weaker}
-use Rattle.dex_types.specs.declared.addresses.Address.{Address}
-use Rattle.dex_types.specs.declared.movements.Movement.{Movement}
-use Rattle.dex_types.specs.declared.replies.Reply.{Reply}
-use Rattle.dex_types.specs.declared.rows.Seen.{Seen}
-use Rattle.dex_types.specs.declared.rows.WalletSeen.{WalletSeen}
-use Rattle.dex_types.specs.Accounts.{PlainAccount}
-use Rattle.dex_types.specs.Addresses.{is_same}
-use Rattle.dex_types.specs.Rows.{PlainRow}
-use Rattle.dex_types.specs.Transfers.{Transfers}
-use Rattle.dex_types.specs.Wallets.{movement_of, row_wallets}
-use Rattle.dex_laws.proofs.TraderLaws.{is_same-refl}
-use Rattle.dex_token.specs.TokenAccount.{WalletWords, wallet_words}
-use Rattle.dex_token.proofs.AmountWrites.{wallet_words-with_amount}
-use Rattle.dex_history.specs.Journal.{Call, Sees, asked_of}
-use Rattle.dex_history.proofs.WalletLaws.{movements-named, places-movements}
-use Rattle.dex_movements.specs.Entries.{entry_by, wallet_entry_by}
-use Rattle.dex_wallet.specs.CellState.{CellState, HasSpare, IsWalletCell, balance_of, seen_of}
-use Rattle.dex_fold.specs.Fold.{names, wallet_acted, wallet_moved}
-use Rattle.dex_fold.specs.World.{WalletState, role_at, seen_by, wallet_at}
-use Rattle.dex_act.specs.Wallets.{AreApart, Fits, SeesCells, is_among, made_of, roles_of, wallet_state_of}
+use Rattle.dex_history.proofs.WalletLaws.{movements-named}
+use Rattle.dex_wallet.specs.CellState.{HasSpare, seen_of}
+use Rattle.dex_act.specs.Wallets.{AreApart}
 use Rattle.dex_act.proofs.Sights.{row-sees, sees-cells}
-use Rattle.dex_script.specs.Drafts.{PlainScript}
-use Rattle.dex_replay.specs.Lawful.{IsSight, IsWalletSeen}
-use Rattle.dex_replay.proofs.MappedLists.{All-unmap, any-here, any-there}
 use Rattle.dex_replay.proofs.Room.{is_among-any}
-use Rattle.dex_stamps.specs.Stamped.{Stamped}
-use Rattle.dex_journals.specs.StampedCalls.{entries_in, entry_made}
-use Rattle.dex_order.specs.Lanes.{MovesEach}
 use Rattle.dex_order.proofs.CallEntries.{moves-kept}
-use Rattle.dex_run.specs.Turns.{AreInHand, HasEntry, IsReady, world_in}
-use Rattle.dex_fold.proofs.OnceLaws.{AreOnce, asked-once, once-head, once-tail}
+use Rattle.dex_fold.proofs.OnceLaws.{AreOnce, once-tail}
 
 abbrev address_in : CellState → Address
 address_in cell = cell.address

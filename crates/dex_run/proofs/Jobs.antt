@@ -1,15 +1,10 @@
 -- The jobs of all lanes, and their seats.
 use Rattle.std.proofs.Common.{◌≡◌, List, [], ◌∷◌, map, sym, ap, ◌∙◌, subst}
-use Rattle.std.specs.List.{All, AllZip}
-use Rattle.std.proofs.lemmas.List.Elements.{All-cons, All-head, All-nil, All-tail}
-use Rattle.dex_types.specs.declared.rows.Row.{Row}
-use Rattle.dex_types.specs.Rows.{row_of}
-use Rattle.dex_script.specs.Drafts.{PlainScript}
+use Rattle.dex_fold.proofs.Common.{All-cons, All-head, All-nil, All-tail, AllZip, Row, row_of}
+use Rattle.dex_replay.proofs.Common.{PlainScript}
+use Rattle.dex_run.proofs.Common.{BankState, CanRun, HasRun, IsDone, IsJobOf, IsSeatOf, LaneJob, SeatState}
+use Rattle.std.specs.List.{All}
 use Rattle.dex_replay.proofs.MappedLists.{zip-map}
-use Rattle.dex_run.specs.declared.lane.LaneJob.{LaneJob}
-use Rattle.dex_run.specs.Bank.{BankState}
-use Rattle.dex_run.specs.Running.{CanRun, HasRun, IsJobOf}
-use Rattle.dex_run.specs.Seats.{IsDone, IsSeatOf, SeatState}
 use Rattle.dex_run.proofs.ColumnLists.{All-second}
 
 module _ {R P : Type 0} where

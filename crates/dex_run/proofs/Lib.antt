@@ -1,3 +1,4 @@
+pub mod Common
 pub mod ColumnLists
 pub mod ClosingPasses
 pub mod ClosingLaws

@@ -1,38 +1,18 @@
 -- The turn of a row's next wallet: what is known when it is taken, and when it is left.
 use Rattle.std.proofs.Common.{◌≡◌, ℕ, zero, suc, ◌+◌, ◌-◌, ◌<◌, ◌==◌, true, false, List, [], ◌∷◌, ◌++◌, drop, length, map, set, take, get_or, Option, Some, None, refl, sym, ap, ◌∙◌, subst, arith}
-use Rattle.std.specs.List.{All, AllZip, list_any}
-use Rattle.std.proofs.lemmas.Bool.{or_left, or_right}
-use Rattle.std.proofs.lemmas.List.{get_or-map, length-map}
-use Rattle.std.proofs.lemmas.List.Elements.{All-head, All-tail, All-push}
+use Rattle.dex_fold.proofs.Common.{Address, All-head, All-push, All-tail, AllZip, AllZip-long, Call, PlainAccount, PlainRow, WalletEntry, asked-once, asked_of, get_or-map, is_same, is_same-refl, length-map, list_any, names, once-head, or_left, or_right}
+use Rattle.dex_replay.proofs.Common.{AllThree, CellState, PlainScript, has_account, rows_of_wallet}
+use Rattle.dex_order.proofs.Common.{Stamped, TrailState, WalletOrigin, entries_by, entries_on, left_by, list_any-map, roles-all, wallet_entries}
+use Rattle.dex_run.proofs.Common.{AreInHand, AreReady, BankState, GateView, HasEntry, HasLeft, HasMoved, HaveGrown, Idle, IsBank, IsDue, IsPlace, IsReady, IsWalletGate, MayDraw, MayLeave, OneGrows, added, of_lane}
+use Rattle.std.specs.List.{All}
 use Rattle.std.proofs.Math.Seq.{take-length}
-use Rattle.std.proofs.lemmas.Slice.Zip.{AllZip-long}
-use Rattle.dex_types.specs.declared.addresses.Address.{Address}
-use Rattle.dex_types.specs.declared.movements.WalletEntry.{WalletEntry}
-use Rattle.dex_types.specs.Accounts.{PlainAccount}
-use Rattle.dex_types.specs.Addresses.{is_same}
-use Rattle.dex_types.specs.Rows.{PlainRow}
-use Rattle.dex_laws.proofs.TraderLaws.{is_same-refl}
-use Rattle.dex_gate.specs.GateView.{GateView}
-use Rattle.dex_gate.specs.History.{added, of_lane}
-use Rattle.dex_gate.specs.declared.stage.Stage.TheVariants.{Idle, Out}
-use Rattle.dex_history.specs.Journal.{Call, asked_of}
+use Rattle.dex_gate.specs.declared.stage.Stage.TheVariants.{Out}
 use Rattle.dex_locks.specs.Places.{front}
-use Rattle.dex_places.specs.Places.{IsPlace}
-use Rattle.dex_fold.specs.Fold.{names}
-use Rattle.dex_fold.proofs.OnceLaws.{AreOnce, asked-once, once-behind, once-head}
-use Rattle.dex_wallet.specs.CellState.{CellState}
-use Rattle.dex_script.specs.Drafts.{PlainScript}
-use Rattle.dex_script.specs.Known.{has_account}
-use Rattle.dex_replay.specs.Lawful.{AllThree, rows_of_wallet}
-use Rattle.dex_replay.proofs.MappedLists.{list_any-map}
-use Rattle.dex_replay.proofs.Room.{roles-all}
-use Rattle.dex_stamps.specs.Stamped.{Stamped}
-use Rattle.dex_journals.specs.Journals.{TrailState, WalletOrigin, entries_by, left_by, wallet_entries, wallet_origin}
-use Rattle.dex_journals.specs.StampedCalls.{entries_on}
+use Rattle.dex_fold.proofs.OnceLaws.{AreOnce, once-behind}
+use Rattle.dex_journals.specs.Journals.{wallet_origin}
 use Rattle.dex_journals.proofs.WalletLaws.{spare-wallet}
-use Rattle.dex_run.specs.Bank.{BankState, IsBank, IsWalletGate, wallet_addresses}
-use Rattle.dex_run.specs.Submitted.{HasMoved}
-use Rattle.dex_run.specs.Turns.{AreInHand, AreReady, HasEntry, HasLeft, HaveGrown, IsDue, IsOut, IsReady, MayDraw, MayLeave, OneGrows, first_in}
+use Rattle.dex_run.specs.Bank.{wallet_addresses}
+use Rattle.dex_run.specs.Turns.{IsOut, first_in}
 use Rattle.dex_run.proofs.Counts.{entries-left, length-stamped}
 use Rattle.dex_run.proofs.Distinct.{wallets-differ}
 use Rattle.dex_run.proofs.Growing.{Differ, IsAtGate, WalletPass, drawn-ready, gates-set, one-grows, still-out}

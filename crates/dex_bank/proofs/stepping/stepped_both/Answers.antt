@@ -1,10 +1,6 @@
 use Rattle.std.proofs.Common.{◌≡◌, ◌||◌, ◌&&◌, Bool, true, false, not, is_some, List, [], ◌∷◌, Option, sym, ap, ◌∙◌, subst}
-use Rattle.std.specs.List.{AllZip}
-use Rattle.dex_types.specs.declared.refusals.Refusal.{Refusal}
-use Rattle.dex_types.specs.Rows.{PlainRow, row_of}
-use Rattle.dex_fold.specs.Fold.{act, fold}
-use Rattle.dex_fold.specs.Items.{why_in}
-use Rattle.dex_bank.specs.Cells.{CellsState, IsReply, world_of}
+use Rattle.dex_fold.proofs.Common.{AllZip, PlainRow, Refusal, act, fold, row_of, why_in}
+use Rattle.dex_bank.proofs.Common.{CellsState, IsReply, world_of}
 use Rattle.dex_bank.specs.Stepping.{doing}
 use Rattle.dex_bank.proofs.StepTwo.{both-stay, can-behind, can-wait, chosen-two, not-refused, reply-still, waits-or-refused, why-still}
 use Rattle.dex_bank.proofs.stepping.stepped_both.Goals as goal

@@ -1,17 +1,11 @@
 use Rattle.std.proofs.Common.{◌≡◌, ℕ, ◌+◌, [], ◌∷◌, ◌++◌, List, Some, length, map, set, refl, sym, ap, ◌∙◌, subst, arith}
-use Rattle.std.specs.List.{AllZip}
+use Rattle.dex_fold.proofs.Common.{Address, AllZip, AllZip-long, Call, le-max_left, row_of}
+use Rattle.dex_replay.proofs.Common.{CellState}
+use Rattle.dex_order.proofs.Common.{Stamped, left_by, wallet_entries}
+use Rattle.dex_run.proofs.Common.{AreInHand, AreReady, HasEntry, HaveGrown, MayDraw, call_made}
 use Rattle.std.proofs.lemmas.List.{length-append}
-use Rattle.std.proofs.Math.Nat.{le-max_left, le-max_right}
-use Rattle.std.proofs.lemmas.Slice.Zip.{AllZip-long}
-use Rattle.dex_types.specs.declared.addresses.Address.{Address}
-use Rattle.dex_types.specs.Rows.{row_of}
-use Rattle.dex_history.specs.Journal.{Call}
+use Rattle.std.proofs.Math.Nat.{le-max_right}
 use Rattle.dex_locks.specs.Places.{front}
-use Rattle.dex_stamps.specs.Stamped.{Stamped}
-use Rattle.dex_wallet.specs.CellState.{CellState}
-use Rattle.dex_journals.specs.Journals.{left_by, wallet_entries}
-use Rattle.dex_run.specs.Inside.{call_made}
-use Rattle.dex_run.specs.Turns.{AreInHand, AreReady, HasEntry, HaveGrown, MayDraw}
 use Rattle.dex_run.proofs.ColumnLists.{AllZip-last}
 use Rattle.dex_run.proofs.Growing.{WalletPass}
 use Rattle.dex_run.proofs.Taking.{Facts, facts-grown, facts-hand, facts-leave, facts-mid, facts-number, facts-ready, front-none, front-some, grown-none, rest-long, rest_of}
