@@ -25,6 +25,6 @@ TellsChecked (checked.Refused told) bytes = IsNotClean bytes told.status told.te
 
 -- the bytes are a script with this outcome, whose report tells of so many rows; or the text says why they are none
 abbrev pub TellsPlayed : Played → List ℕ → Type 0
-TellsPlayed (played.Left rows outcome) bytes =
+TellsPlayed (played.AllRows rows outcome) bytes =
     (script : PlainScript) × Reads bytes script × IsPlayed script (outcome_of outcome) × (rows ≡ rows_told script)
 TellsPlayed (played.Refused told) bytes = IsNoScript bytes told.status told.text.items

@@ -26,7 +26,7 @@ pub(crate) fn bulk_answer(alloc: Global, number: u64, rows: u32) -> Result<Statu
     ensures { IfOk result (λ told. Answers (Bulk number rows) [] told.status told.text.items) }
 {
     let script = make_script(alloc, number, rows)?;
-    let Played::Left { rows: _, outcome } = play_script(alloc, &script)? else {
+    let Played::AllRows { rows: _, outcome } = play_script(alloc, &script)? else {
         return Err(NoMemory);
     };
     if !is_of_made(&outcome) {

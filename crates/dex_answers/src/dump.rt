@@ -20,7 +20,7 @@ pub(crate) fn dump_answer(alloc: Global, bytes: &[u8]) -> Result<StatusText, NoM
     ensures { IfOk result (λ told. Answers Dump bytes.now told.status told.text.items) }
 {
     match play_script(alloc, bytes)? {
-        Played::Left { rows: _, outcome } => dump_of(alloc, &outcome.accounts),
+        Played::AllRows { rows: _, outcome } => dump_of(alloc, &outcome.accounts),
         Played::Refused(told) => Ok(told),
     }
 }

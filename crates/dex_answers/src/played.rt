@@ -20,7 +20,7 @@ use std::alloc::Global;
 #[derive(Drop)]
 pub(crate) enum Played {
     /// All its rows, of which a report tells so many, have acted, and left this.
-    Left { rows: u32, outcome: Outcome },
+    AllRows { rows: u32, outcome: Outcome },
     /// The bytes are no script: the text that tells why.
     Refused(StatusText),
 }
@@ -34,7 +34,7 @@ pub(crate) fn play_script(alloc: Global, bytes: &[u8]) -> Result<Played, NoMemor
             let rows = items_in(&script.rows);
             let outcome = replay(alloc, script)?;
             without_swaps_rows_act_one_by_one();
-            Ok(Played::Left { rows, outcome })
+            Ok(Played::AllRows { rows, outcome })
         }
         Err(error) => Ok(Played::Refused(no_script(alloc, error)?)),
     }

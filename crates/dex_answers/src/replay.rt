@@ -20,7 +20,7 @@ pub(crate) fn replay_answer(alloc: Global, bytes: &[u8]) -> Result<StatusText, N
     ensures { IfOk result (λ told. Answers Replay bytes.now told.status told.text.items) }
 {
     match play_script(alloc, bytes)? {
-        Played::Left { rows, outcome } => report_of(alloc, &outcome, rows),
+        Played::AllRows { rows, outcome } => report_of(alloc, &outcome, rows),
         Played::Refused(told) => Ok(told),
     }
 }

@@ -19,7 +19,7 @@ use crate::pending::tell_astray;
 use crate::resting::tell_homeless;
 use crate::slots::{tell_repeated, tell_ungiven, tell_unpaired};
 use crate::taken::taken_slots;
-use crate::totals::{coin_deposits, pc_deposits, rebates, tell_differs, tell_totals, with_leaving};
+use crate::totals::{coin_deposits, pc_deposits, rebates, tell_differs, tell_totals, with_pending};
 use dex_fields::get_u64;
 use dex_fields::request_queue::NEXT_SEQ_NUM;
 use dex_market::MarketRef;
@@ -178,8 +178,8 @@ fn tell_beyond(
     let pc_vault = WalletRef {
         bytes: &market.pc_vault,
     };
-    let coin = with_leaving(book, coin_vault.amount(), Weight::LeavingCoin);
-    let pc = with_leaving(book, pc_vault.amount(), Weight::LeavingPc);
+    let coin = with_pending(book, coin_vault.amount(), Weight::LeavingCoin);
+    let pc = with_pending(book, pc_vault.amount(), Weight::LeavingPc);
     tell_exceeds(found, 11, words.coin_vault(), 64, coin)?;
     tell_exceeds(found, 11, words.pc_vault(), 64, pc)
 }

@@ -95,7 +95,7 @@ pub fn rebates(book: &Book<'_>) -> u128
 }
 
 /// What a vault and the pending makers' fills that pay out of totals come to.
-pub fn with_leaving(book: &Book<'_>, amount: u64, weight: Weight) -> u128
+pub fn with_pending(book: &Book<'_>, amount: u64, weight: Weight) -> u128
     requires { IsBook book.now }
     ensures { (m : Market) → IsOf book.now m → result ≡ capped (amount + total (weight_of weight) m.events) }
 {

@@ -8,7 +8,7 @@ ghost use Rattle.dex_report.specs.Outcomes.{market_journal_of, outcome_of, walle
 ghost use Rattle.dex_bank.specs.Closed as left;
 
 use crate::cells::Cells;
-use crate::room::{Left, Room};
+use crate::room::{OutcomeParts, Room};
 use dex_cell::MarketCell;
 use dex_report::{MarketJournal, Outcome, WalletJournal};
 use dex_types::{Accounts, MarketAccounts, Named, NoMemory};
@@ -37,15 +37,15 @@ fn market_left(cell: MarketCell) -> (MarketAccounts, MarketJournal)
 /// What the cells of markets leave, written into the room for it.
 fn markets_left(
     cells: Vec<MarketCell>,
-    room: Left<MarketAccounts, MarketJournal>,
-) -> Left<MarketAccounts, MarketJournal>
+    room: OutcomeParts<MarketAccounts, MarketJournal>,
+) -> OutcomeParts<MarketAccounts, MarketJournal>
     requires accounts { (room.accounts.items ≡ []) × (vec_len cells ≤ vec_capacity room.accounts) }
     requires journals { (room.journals.items ≡ []) × (vec_len cells ≤ vec_capacity room.journals) }
     ensures accounts { map market_accounts_of result.accounts.items
         ≡ map (λ (cell : MarketCellState). cell.accounts) cells.items }
     ensures journals { map market_journal_of result.journals.items ≡ map left.market_journal_in cells.items }
 {
-    let Left {
+    let OutcomeParts {
         mut accounts,
         mut journals,
     } = room;
@@ -54,7 +54,7 @@ fn markets_left(
         append(&mut accounts, own);
         append(&mut journals, journal);
     }
-    Left { accounts, journals }
+    OutcomeParts { accounts, journals }
 }
 
 /// What a wallet's cell leaves.
@@ -70,14 +70,14 @@ fn wallet_left(cell: WalletCell) -> (Named, WalletJournal)
 /// What the cells of wallets leave, written into the room for it.
 fn wallets_left(
     cells: Vec<WalletCell>,
-    room: Left<Named, WalletJournal>,
-) -> Left<Named, WalletJournal>
+    room: OutcomeParts<Named, WalletJournal>,
+) -> OutcomeParts<Named, WalletJournal>
     requires accounts { (room.accounts.items ≡ []) × (vec_len cells ≤ vec_capacity room.accounts) }
     requires journals { (room.journals.items ≡ []) × (vec_len cells ≤ vec_capacity room.journals) }
     ensures accounts { map named_of result.accounts.items ≡ map left.account_in cells.items }
     ensures journals { map wallet_journal_of result.journals.items ≡ map left.wallet_journal_in cells.items }
 {
-    let Left {
+    let OutcomeParts {
         mut accounts,
         mut journals,
     } = room;
@@ -86,7 +86,7 @@ fn wallets_left(
         append(&mut accounts, own);
         append(&mut journals, journal);
     }
-    Left { accounts, journals }
+    OutcomeParts { accounts, journals }
 }
 
 /// What all cells leave, written into the room for it.

@@ -9,26 +9,26 @@ use std::marker::Model;
 
 /// What cells leave, or room for it: the accounts of each, and its journal.
 #[derive(Drop)]
-pub(crate) struct Left<A, J> {
+pub(crate) struct OutcomeParts<A, J> {
     pub(crate) accounts: Vec<A>,
     pub(crate) journals: Vec<J>,
 }
 
 /// Room for what so many cells leave, if there is memory for it.
-fn room_for<A: Drop, J: Drop>(alloc: Global, count: usize) -> Option<Left<A, J>>
+fn room_for<A: Drop, J: Drop>(alloc: Global, count: usize) -> Option<OutcomeParts<A, J>>
     ensures accounts { IfSome result (λ room. (room.accounts.items ≡ []) × (count ≤ vec_capacity room.accounts)) }
     ensures journals { IfSome result (λ room. (room.journals.items ≡ []) × (count ≤ vec_capacity room.journals)) }
 {
     let accounts = Vec::with_capacity(alloc, count).ok()?;
     let journals = Vec::with_capacity(alloc, count).ok()?;
-    Some(Left { accounts, journals })
+    Some(OutcomeParts { accounts, journals })
 }
 
 /// Room for what the cells of so many markets and wallets leave.
 #[derive(Drop)]
 pub struct Room {
-    pub(crate) of_markets: Left<MarketAccounts, MarketJournal>,
-    pub(crate) of_wallets: Left<Named, WalletJournal>,
+    pub(crate) of_markets: OutcomeParts<MarketAccounts, MarketJournal>,
+    pub(crate) of_wallets: OutcomeParts<Named, WalletJournal>,
 }
 
 impl Model for Room {

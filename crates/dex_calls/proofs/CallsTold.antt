@@ -20,7 +20,7 @@ use Rattle.dex_script.specs.Firsts.{first_of}
 use Rattle.dex_replay.specs.Lawful.{AllThree, IsLawful, IsLawfulMarket, IsSight, rows_of_market}
 use Rattle.dex_replay.proofs.LastAccounts.{listing-in}
 use Rattle.dex_replay.proofs.MappedLists.{All-across}
-use Rattle.dex_calls.specs.Told.{IsCallOf, TellsHistory, call_by, call_told, calls_told, is_row_on, with_call}
+use Rattle.dex_calls.specs.EntryCalls.{IsCallOf, TellsHistory, call_by, call_told, calls_told, is_row_on, with_call}
 use Rattle.dex_calls.proofs.Finding.{row-found, wallets-once}
 use Rattle.dex_calls.proofs.SightTold.{sight-told}
 

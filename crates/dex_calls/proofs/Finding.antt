@@ -11,7 +11,7 @@ use Rattle.dex_dump.specs.Accepted.{AreAccepted, address_of, all_of_market, time
 use Rattle.dex_dump.proofs.TakenLaws.{times-append, times-cons}
 use Rattle.dex_script.specs.Facts.{AreLegs}
 use Rattle.dex_script.specs.Firsts.{first_of}
-use Rattle.dex_calls.specs.Told.{is_row_on}
+use Rattle.dex_calls.specs.EntryCalls.{is_row_on}
 
 -- ---- a row
 

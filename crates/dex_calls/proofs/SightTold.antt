@@ -25,7 +25,7 @@ use Rattle.dex_act.proofs.Seeing.{any-seen}
 use Rattle.dex_dump.specs.Accepted.{address_of, times}
 use Rattle.dex_script.specs.Drafts.{PlainScript}
 use Rattle.dex_replay.specs.Lawful.{IsSight, IsWalletSeen}
-use Rattle.dex_calls.specs.Told.{before_of, role_told, seen_told, wallet_told}
+use Rattle.dex_calls.specs.EntryCalls.{before_of, role_told, seen_told, wallet_told}
 use Rattle.dex_calls.proofs.Finding.{wallet-found}
 
 -- ---- the balance before, in movements

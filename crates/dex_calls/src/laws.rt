@@ -10,7 +10,7 @@ ghost use Rattle.dex_report.specs.Outcomes.{PlainMarketJournal, PlainOutcome};
 ghost use Rattle.dex_replay.specs.Lawful.{AllThree, IsLawful, IsLawfulMarket};
 ghost use Rattle.dex_script.specs.Drafts.{PlainScript};
 ghost use Rattle.dex_script.specs.Facts.{IsScript};
-ghost use Rattle.dex_calls.specs.Told.{IsCallOf, TellsHistory, call_told, calls_told};
+ghost use Rattle.dex_calls.specs.EntryCalls.{IsCallOf, TellsHistory, call_told, calls_told};
 
 /// The call of an entry of a lawful journal is the one that the script, the market and the entry tell.
 pub fn an_entry_tells_its_call()

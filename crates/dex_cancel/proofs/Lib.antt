@@ -1,6 +1,6 @@
 pub mod WalkSteps
 pub mod OwnLaws
-pub mod LeavingLaws
+pub mod TakenOffLaws
 pub mod PruneLaws
 pub mod ListedLaws
 pub mod MarketLaws

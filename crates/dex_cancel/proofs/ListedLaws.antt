@@ -14,8 +14,8 @@ use Rattle.dex_types.specs.Tokens.{is_same_side}
 use Rattle.dex_sound.specs.Cancels.{AreApart}
 use Rattle.dex_sound.proofs.CancelledLaws.{without_taken-apart, taken_by-All}
 use Rattle.dex_cancel.specs.Counting.{count_of_client, count_among}
-use Rattle.dex_cancel.specs.Leaving.{Queue, with_outs, without_all}
-use Rattle.dex_cancel.proofs.LeavingLaws.{IsLeft, left-more}
+use Rattle.dex_cancel.specs.TakenOff.{Queue, with_outs, without_all}
+use Rattle.dex_cancel.proofs.TakenOffLaws.{IsLeft, left-more}
 use Rattle.dex_cancel.proofs.OwnLaws.{IsMine, same-self}
 use Rattle.dex_cancel.proofs.WalkSteps.{count_of_client-append}
 

@@ -23,9 +23,9 @@ use Rattle.dex_types.specs.Why.{why_cancelling, why_unnamed}
 use Rattle.dex_market.specs.MarketAccount.{market_words, sizes_of}
 use Rattle.dex_accounts.specs.Parts.{AreOf, MarketParts}
 use Rattle.dex_accounts.proofs.PartLaws.{AreOf-events, sizes_in-parts}
-use Rattle.dex_cancel.specs.Leaving.{CanLeave, CancelGiven, DoLocksFit, HaveLeft, Queue, outs_of, queue_of, with_outs, without_all}
+use Rattle.dex_cancel.specs.TakenOff.{CanLeave, CancelGiven, DoLocksFit, HaveLeft, Queue, outs_of, queue_of, with_outs, without_all}
 use Rattle.dex_cancel.specs.Parts.{AreOfSoundMarket, cancel_given, left_by, named_in, with_cancelled}
-use Rattle.dex_cancel.proofs.LeavingLaws.{bytes-with_outs, capacity-with_outs, list-with_outs, market-left, market_queue}
+use Rattle.dex_cancel.proofs.TakenOffLaws.{bytes-with_outs, capacity-with_outs, list-with_outs, market-left, market_queue}
 
 -- what orders of a sound market lock fits
 pub locks-of : (m : Market) → IsSound m → DoLocksFit m.listing.sizes m.bids m.asks

@@ -17,7 +17,7 @@ use Rattle.dex_laws.proofs.IdLaws.{precedes-apart}
 use Rattle.dex_sound.specs.Cancels.{AreApart}
 use Rattle.dex_sound.proofs.CancelledLaws.{AreApart-append, oldest-All, at_most_one-All}
 use Rattle.dex_sound.proofs.WithoutLaws.{order_with-first, order_with-behind, found-All, found-id, found-induction}
-use Rattle.dex_cancel.specs.Leaving.{DoRest, without_all}
+use Rattle.dex_cancel.specs.TakenOff.{DoRest, without_all}
 use Rattle.dex_cancel.proofs.WalkSteps.{on, orders_of-own, orders_of-other}
 
 -- an order of a side: found there by its id, and the owner's

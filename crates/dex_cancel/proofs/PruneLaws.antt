@@ -21,8 +21,8 @@ use Rattle.dex_laws.proofs.BookSideLaws.{Rests, rests, order_with-between, order
 use Rattle.dex_laws.proofs.SideLaws.{InBookOrder-without}
 use Rattle.dex_laws.proofs.WalkLaws.{from_id-between, walk-step}
 use Rattle.dex_sound.proofs.WithoutLaws.{found-All}
-use Rattle.dex_cancel.specs.Leaving.{DoOrdersFit, Queue, with_outs, without_all}
-use Rattle.dex_cancel.proofs.LeavingLaws.{All-without_all, without-on, without_all-append, with_outs-append}
+use Rattle.dex_cancel.specs.TakenOff.{DoOrdersFit, Queue, with_outs, without_all}
+use Rattle.dex_cancel.proofs.TakenOffLaws.{All-without_all, without-on, without_all-append, with_outs-append}
 use Rattle.dex_cancel.proofs.WalkSteps.{on, length-orders_of, orders_of-own, orders_of-other, stepped}
 
 -- the first of the orders behind others is reached, with all of them before it

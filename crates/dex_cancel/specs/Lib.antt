@@ -1,5 +1,5 @@
 pub mod Cancelling
-pub mod Leaving
+pub mod TakenOff
 pub mod Finding
 pub mod Counting
 pub mod Parts

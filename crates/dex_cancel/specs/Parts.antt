@@ -6,7 +6,7 @@ use Rattle.dex_types.specs.Cancel.{CancelBy, RestingOrder, cancelled}
 use Rattle.dex_market.specs.MarketAccount.{market_words, sizes_of}
 use Rattle.dex_accounts.specs.Parts.{AreSoundParts, MarketParts}
 use Rattle.dex_ring.specs.Appended.{pushed_all}
-use Rattle.dex_cancel.specs.Leaving.{CancelGiven, outs_of, without_all}
+use Rattle.dex_cancel.specs.TakenOff.{CancelGiven, outs_of, without_all}
 
 -- what a cancel is handed of a market's parts
 abbrev pub cancel_given : MarketParts → CancelGiven

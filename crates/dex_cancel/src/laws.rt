@@ -8,7 +8,7 @@ ghost use Rattle.dex_types.specs.Reasons.{event_room};
 ghost use Rattle.dex_types.specs.Why.{why_cancelled, why_cancelling};
 ghost use Rattle.dex_ring.specs.Ring.{IsEventQueue, ring_of};
 ghost use Rattle.dex_accounts.specs.Parts.{AreOf, MarketParts};
-ghost use Rattle.dex_cancel.specs.Leaving.{queue_of, with_outs};
+ghost use Rattle.dex_cancel.specs.TakenOff.{queue_of, with_outs};
 ghost use Rattle.dex_cancel.specs.Parts.{cancel_given, left_by, named_in, with_cancelled};
 
 /// Why a cancel is refused in a market depends on its sides and the free places of its event queue alone, and the orders that it

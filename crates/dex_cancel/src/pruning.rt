@@ -4,7 +4,7 @@ ghost use Rattle.std.specs.Prelude.{◌≡◌, ◌<◌, ◌^◌, [], ◌∷◌, 
 ghost use Rattle.dex_types.specs.Cancel.{all_orders_of, order_with, orders_of};
 ghost use Rattle.dex_types.specs.Owed.{order_lock};
 ghost use Rattle.dex_accounts.specs.Keeps.{KeepsSide};
-ghost use Rattle.dex_cancel.specs.Leaving.{CanLeave, CanLeaveSide, DoOrdersFit, HaveLeft, HaveLeftSide, handed, side_handed};
+ghost use Rattle.dex_cancel.specs.TakenOff.{CanLeave, CanLeaveSide, DoOrdersFit, HaveLeft, HaveLeftSide, handed, side_handed};
 
 use crate::taking::take_off;
 use dex_ring::RingView;

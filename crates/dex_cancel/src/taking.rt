@@ -4,7 +4,7 @@ ghost use Rattle.std.specs.Prelude.{◌≡◌, ◌<◌, ◌^◌, [], ◌∷◌, 
 ghost use Rattle.dex_types.specs.Cancel.{order_with};
 ghost use Rattle.dex_types.specs.Owed.{order_lock};
 ghost use Rattle.dex_accounts.specs.Keeps.{KeepsSide};
-ghost use Rattle.dex_cancel.specs.Leaving.{CanLeaveSide, HaveLeftSide, side_handed};
+ghost use Rattle.dex_cancel.specs.TakenOff.{CanLeaveSide, HaveLeftSide, side_handed};
 
 use dex_meet::ring_events::push_releasing_out;
 use dex_ring::RingView;

@@ -4,10 +4,10 @@ ghost use Rattle.dex_types.specs.Owed.{order_lock};
 ghost use Rattle.dex_types.specs.declared.terms.Side.TheVariants as sides;
 ghost use Rattle.dex_book.specs.ListSide.{IsListed};
 ghost use Rattle.dex_ring.specs.Ring.{IsEventQueue};
-ghost use Rattle.dex_cancel.specs.Leaving.{DoLocksFit};
+ghost use Rattle.dex_cancel.specs.TakenOff.{DoLocksFit};
 
 use super::*;
-use crate::leaving::cancel_all;
+use crate::applying::cancel_all;
 use dex_book::ListSide;
 use dex_fields::event_queue::ACCOUNT_FLAGS;
 use dex_fields::{END_TEXT, FRONT_TEXT, put_u64};

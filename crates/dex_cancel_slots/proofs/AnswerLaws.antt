@@ -17,7 +17,7 @@ use Rattle.dex_types.specs.Trader.{Holding}
 use Rattle.dex_laws.proofs.BestFirstLaws.{All-PrecedesAll}
 use Rattle.dex_sound.proofs.PlaceLaws.{is_same_side-refl}
 use Rattle.dex_cancel.specs.Counting.{count_of_client}
-use Rattle.dex_cancel.specs.Leaving.{without_one}
+use Rattle.dex_cancel.specs.TakenOff.{without_one}
 use Rattle.dex_cancel.proofs.OwnLaws.{IsMine, all-mine, all-without, same-self}
 use Rattle.dex_cancel.proofs.WalkSteps.{on}
 use Rattle.dex_cancel_slots.specs.Slots.{DoSlotsName, any_holding, has_client, in_book_order, is_on, oldest_of, orders_in}

@@ -20,9 +20,9 @@ use Rattle.dex_accounts.proofs.PartLaws.{trader_at-open}
 use Rattle.dex_laws.proofs.TraderLaws.{is_same-true, is_same-refl}
 use Rattle.dex_sound.proofs.PlaceLaws.{is_same_side-true}
 use Rattle.dex_sound.proofs.WithoutLaws.{All-without, InBookOrder-without_order}
-use Rattle.dex_cancel.specs.Leaving.{CancelGiven, Queue, without_all, without_one}
+use Rattle.dex_cancel.specs.TakenOff.{CancelGiven, Queue, without_all, without_one}
 use Rattle.dex_cancel.specs.Parts.{AreOfSoundMarket, cancel_given}
-use Rattle.dex_cancel.proofs.LeavingLaws.{IsLeft}
+use Rattle.dex_cancel.proofs.TakenOffLaws.{IsLeft}
 use Rattle.dex_cancel_slots.specs.Given.{IsGiven, TwoSides, sides_by, sides_given}
 use Rattle.dex_cancel_slots.specs.Slots.{DoSlotsName, DoSlotsNameOn, IsAsHeld, IsHeldIn, held_in}
 

@@ -17,8 +17,8 @@ use Rattle.dex_types.specs.Trader.{Holding}
 use Rattle.dex_laws.proofs.BestFirstLaws.{All-PrecedesAll}
 use Rattle.dex_laws.proofs.IdLaws.{precedes-apart, precedes-total}
 use Rattle.dex_sound.proofs.WithoutLaws.{All-without, found-All, found-induction}
-use Rattle.dex_cancel.specs.Leaving.{DoOrdersFit, Queue, with_outs, without_all}
-use Rattle.dex_cancel.proofs.LeavingLaws.{All-without_all, with_outs-append, without-on, without_all-append}
+use Rattle.dex_cancel.specs.TakenOff.{DoOrdersFit, Queue, with_outs, without_all}
+use Rattle.dex_cancel.proofs.TakenOffLaws.{All-without_all, with_outs-append, without-on, without_all-append}
 use Rattle.dex_cancel.proofs.PruneLaws.{IsNext, next-taken}
 use Rattle.dex_cancel.proofs.WalkSteps.{on, orders_of-other, orders_of-own}
 use Rattle.dex_cancel_slots.specs.FirstOwn.{IsFirstOwn, StandsBehind, StandsNotAhead}

@@ -2,7 +2,7 @@
 use Rattle.std.specs.Prelude.{◌≡◌, ℕ, List, length}
 use Rattle.dex_types.specs.declared.addresses.Address.{Address}
 use Rattle.dex_types.specs.Cancel.{RestingOrder, all_orders_of, at_most_one, taken_by}
-use Rattle.dex_cancel.specs.Leaving.{CancelGiven, HaveLeft}
+use Rattle.dex_cancel.specs.TakenOff.{CancelGiven, HaveLeft}
 
 -- these orders left, each with an out, and they are as many as told
 pub record HaveLeftSo (gone : List RestingOrder) (before after : CancelGiven) (told : ℕ) : Type 0 where

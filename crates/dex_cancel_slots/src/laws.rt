@@ -14,7 +14,7 @@ ghost use Rattle.dex_types.specs.Trader.{Account, Open, trader_at};
 ghost use Rattle.dex_orders.specs.OrdersAccount.{account_of};
 ghost use Rattle.dex_accounts.specs.Parts.{AreSoundParts, HasOpen, MarketParts};
 ghost use Rattle.dex_cancel.specs.Counting.{count_of_client};
-ghost use Rattle.dex_cancel.specs.Leaving.{without_all, without_one};
+ghost use Rattle.dex_cancel.specs.TakenOff.{without_all, without_one};
 ghost use Rattle.dex_cancel_slots.specs.Slots.{DoSlotsName, WhereNamed, any_holding, has_client, in_book_order, is_on};
 ghost use Rattle.dex_cancel_slots.specs.Slots.{oldest_of, orders_in};
 

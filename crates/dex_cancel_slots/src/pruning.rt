@@ -5,7 +5,7 @@ ghost use Rattle.dex_types.specs.Cancel as cancel;
 ghost use Rattle.dex_types.specs.Cancel.{orders_of};
 ghost use Rattle.dex_orders.specs.OrdersAccount.{IsOpen};
 ghost use Rattle.dex_accounts.specs.Keeps.{KeepsSide};
-ghost use Rattle.dex_cancel.specs.Leaving.{CanLeave, CanLeaveSide, DoOrdersFit, HaveLeftSide, handed, side_handed};
+ghost use Rattle.dex_cancel.specs.TakenOff.{CanLeave, CanLeaveSide, DoOrdersFit, HaveLeftSide, handed, side_handed};
 ghost use Rattle.dex_cancel.specs.Parts.{named_in};
 ghost use Rattle.dex_cancel_slots.specs.Cancels.{HaveLeftSo};
 ghost use Rattle.dex_cancel_slots.specs.Given.{slots_in};

@@ -14,8 +14,8 @@ use Rattle.dex_history.specs.Journal.{Call, Sees, Stands, asked_of, is_held, mar
 use Rattle.dex_history.proofs.HeldLaws.{held-stands, held-step, own-stands, own-step}
 use Rattle.dex_history.proofs.HistoryLaws.{IsLegal-one, market_after-one}
 use Rattle.dex_history.proofs.PriceLaws.{decoded-priced}
-use Rattle.dex_ring.specs.declared.leaving.Leaving.{Leaving}
-use Rattle.dex_ring.specs.Leaving.{leaving_of}
+use Rattle.dex_ring.specs.declared.pending_fills.PendingFills.{PendingFills}
+use Rattle.dex_ring.specs.PendingFills.{pending_fills_of}
 use Rattle.dex_step.specs.Acting.{HasStepped}
 use Rattle.dex_wallet.specs.TokenAmount.{TokenAmount, held_in}
 use Rattle.dex_cell.specs.CellState.{CanHold, HasSpare, IsFor, IsMarketCell, MarketCellState, call_made, call_on, held_made, held_on, market_at, refused_on, step_on}
@@ -25,11 +25,11 @@ stands : (row : PlainRow) (seen : Seen) (m : Market) → row.market ≡ m.listin
 stands row seen m market sees = own-stands (call_made row seen m) m market (decoded-priced row.bytes) sees refl
 
 -- the cell after the step of a row
-pub called : (cell : MarketCellState) (row : Row) (seen : Seen) (accounts : PlainMarketAccounts) (reply : Reply) (leaving : Leaving) (coin pc : TokenAmount)
-    → IsMarketCell cell → IsFor row seen cell → HasSpare cell → HasStepped cell.accounts accounts reply leaving (step_on row seen cell)
+pub called : (cell : MarketCellState) (row : Row) (seen : Seen) (accounts : PlainMarketAccounts) (reply : Reply) (pending : PendingFills) (coin pc : TokenAmount)
+    → IsMarketCell cell → IsFor row seen cell → HasSpare cell → HasStepped cell.accounts accounts reply pending (step_on row seen cell)
     → coin ≡ held_in accounts.coin_vault → pc ≡ held_in accounts.pc_vault
     → IsMarketCell (record cell { accounts = accounts; coin = coin; pc = pc; calls = cell.calls ++ call_on row seen cell ∷ [] })
-called cell row seen accounts reply leaving coin pc is for spare stepped coin_is pc_is =
+called cell row seen accounts reply pending coin pc is for spare stepped coin_is pc_is =
     let m : Market = market_in cell.accounts in
     let call : Call = call_on row seen cell in
     let standing : Stands call (market_after (market_in cell.start) cell.calls) =
@@ -53,14 +53,14 @@ called cell row seen accounts reply leaving coin pc is for spare stepped coin_is
     }
 
 -- the cell after a refusal
-pub refused-called : (cell : MarketCellState) (row : Row) (seen : Seen) (refusal : Refusal) (leaving : Leaving) → IsMarketCell cell → IsFor row seen cell → HasSpare cell
+pub refused-called : (cell : MarketCellState) (row : Row) (seen : Seen) (refusal : Refusal) (pending : PendingFills) → IsMarketCell cell → IsFor row seen cell → HasSpare cell
     → step_on row seen cell ≡ refused refusal (market_at cell) → IsMarketCell (refused_on row seen cell)
-refused-called cell row seen refusal leaving is for spare refuses =
-    called cell row seen cell.accounts (Refused refusal) (leaving_of (market_at cell).events) cell.coin cell.pc is for spare (record {
+refused-called cell row seen refusal pending is for spare refuses =
+    called cell row seen cell.accounts (Refused refusal) (pending_fills_of (market_at cell).events) cell.coin cell.pc is for spare (record {
       reply_is = sym (ap (λ (s : Step). s.reply) refuses);
       market = sym (ap (λ (s : Step). s.market) refuses);
       sound = is.sound;
-      leaving_is = refl;
+      pending_is = refl;
       kept = record { address = refl; authority = refl; addresses = refl; accepted = λ accepted. accepted };
     }) is.coin is.pc
 

@@ -7,12 +7,12 @@ use Rattle.dex_types.specs.declared.rows.Seen.{Seen}
 use Rattle.dex_types.specs.Rows.{row_of}
 use Rattle.dex_history.specs.Journal.{Call}
 use Rattle.dex_movements.specs.Entries.{entry_by}
-use Rattle.dex_cell.specs.declared.told.Told.{Told}
+use Rattle.dex_cell.specs.declared.call_record.CallRecord.{CallRecord}
 use Rattle.dex_cell.specs.CellInside.{call_of}
 use Rattle.dex_cell.specs.CellState.{MarketCellState, call_on, step_on}
 
 -- the call of a row at the end, told with its entry, stands behind the others
-pub calls-grow : (told more : List (Row × Told)) (row : Row) (seen : Seen) (entry : Entry) (cell : MarketCellState)
+pub calls-grow : (told more : List (Row × CallRecord)) (row : Row) (seen : Seen) (entry : Entry) (cell : MarketCellState)
     → more ≡ told ++ (row, record { seen = seen; entry = entry }) ∷ []
     → entry ≡ entry_by (row_of row) seen (step_on row seen cell).reply (step_on row seen cell).transfers
     → map call_of more ≡ map call_of told ++ call_on row seen cell ∷ []

@@ -130,8 +130,8 @@ enters-pc Bid amount got = refl
 enters-pc Ask amount got = refl
 
 pub coin-enters : (plan : Plan) → (plan_transfers plan).coin_in ≡ (deposit_of plan).coin
-coin-enters (plans.Order taker plan leaving) = enters-on taker.id_side plan.deposit 0
-coin-enters (plans.Take taker plan leaving) = enters-on taker.id_side plan.deposit plan.payout
+coin-enters (plans.Order taker plan pending) = enters-on taker.id_side plan.deposit 0
+coin-enters (plans.Take taker plan pending) = enters-on taker.id_side plan.deposit plan.payout
 coin-enters (plans.Settle plan) = refl
 coin-enters (plans.Sweep fees) = refl
 coin-enters plans.Nothing = refl
@@ -142,8 +142,8 @@ coin-enters plans.Close = refl
 coin-enters plans.Init = refl
 
 pub pc-enters : (plan : Plan) → (plan_transfers plan).pc_in ≡ (deposit_of plan).pc
-pc-enters (plans.Order taker plan leaving) = enters-pc taker.id_side plan.deposit 0
-pc-enters (plans.Take taker plan leaving) = enters-pc taker.id_side plan.deposit plan.payout
+pc-enters (plans.Order taker plan pending) = enters-pc taker.id_side plan.deposit 0
+pc-enters (plans.Take taker plan pending) = enters-pc taker.id_side plan.deposit plan.payout
 pc-enters (plans.Settle plan) = refl
 pc-enters (plans.Sweep fees) = refl
 pc-enters plans.Nothing = refl

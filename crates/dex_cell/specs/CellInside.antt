@@ -5,13 +5,13 @@ use Rattle.dex_types.specs.Accounts.{market_accounts_of}
 use Rattle.dex_types.specs.Rows.{row_of}
 use Rattle.dex_accounts.specs.Decoded.{market_in}
 use Rattle.dex_history.specs.Journal.{Call, asked_of}
-use Rattle.dex_ring.specs.Leaving.{leaving_of}
-use Rattle.dex_cell.specs.declared.told.Told.{Told}
+use Rattle.dex_ring.specs.PendingFills.{pending_fills_of}
+use Rattle.dex_cell.specs.declared.call_record.CallRecord.{CallRecord}
 use Rattle.dex_cell.specs.declared.market_cell.MarketCell.TheInside.{Inside}
 use Rattle.dex_cell.specs.CellState.{IsMarketCell, MarketCellState, entries_of}
 
 -- the call of a row and of what is told beside it
-abbrev pub call_of : Row × Told → Call
+abbrev pub call_of : Row × CallRecord → Call
 call_of told = record { asked = asked_of (row_of told.0); seen = told.1.seen; entry = told.1.entry }
 
 -- the cell that the fields stand for
@@ -30,4 +30,4 @@ pub record IsKept (inside : Inside) : Type 0 where
   pub cell : IsMarketCell (cell_inside inside)
   pub journal : inside.entries.items ≡ entries_of (cell_inside inside)
   pub reserved : inside.room ≤ vec_capacity inside.entries
-  pub leaving : inside.leaving ≡ leaving_of (market_in (market_accounts_of inside.accounts)).events
+  pub pending : inside.pending ≡ pending_fills_of (market_in (market_accounts_of inside.accounts)).events

@@ -2,10 +2,10 @@
 #![tactic(auto)]
 
 mod amounts;
+mod call_record;
 mod journal;
 mod market_cell;
 mod payouts;
-mod told;
 
 pub use dex_decide::{Deposit, Plan};
 pub use market_cell::MarketCell;

@@ -1,21 +1,21 @@
 //! A market's cell.
 
 ghost use Rattle.std.specs.Prelude.{◌≡◌, IfOk, Ok, Err, false, length, ◌-◌};
-ghost use Rattle.dex_ring.specs.Leaving.{leaving_of};
+ghost use Rattle.dex_ring.specs.PendingFills.{pending_fills_of};
 ghost use Rattle.dex_ring.specs.Ring.{IsEventQueue, ring_of};
 
 use crate::amounts::amounts_of;
+use crate::call_record::CallRecord;
 use crate::journal::{append, entry_of};
 use crate::payouts::{Payouts, pay};
-use crate::told::Told;
 use dex_decide::Plan;
-use dex_meet::{Leaving, pending_leaving};
+use dex_meet::{PendingFills, pending_fills};
 use dex_movements::Amounts;
 use dex_ring::RingRef;
 use dex_stamps::Kept;
 use dex_types::{Entry, MarketAccounts, NoMemory, Refusal, Reply, Row, Seen};
 use dex_wallet::Parcel;
-use http_server::Log;
+use http_server::Log as CallLog;
 use std::alloc::Global;
 use std::marker::Model;
 
@@ -28,8 +28,8 @@ pub struct MarketCell {
     accounts: MarketAccounts,
     coin: Parcel,
     pc: Parcel,
-    leaving: Leaving,
-    calls: Log<Row, Told>,
+    pending: PendingFills,
+    calls: CallLog<Row, CallRecord>,
     entries: Vec<Entry>,
     room: usize,
 }
@@ -53,7 +53,7 @@ impl Drop for MarketCell {
             accounts: _,
             coin,
             pc,
-            leaving: _,
+            pending: _,
             calls: _,
             entries: _,
             room: _,
@@ -64,11 +64,11 @@ impl Drop for MarketCell {
 }
 
 /// The two sums of pending events.
-fn leaving_in(events: &[u8]) -> Leaving
+fn pending_in(events: &[u8]) -> PendingFills
     requires { IsEventQueue events.now }
-    ensures { result ≡ leaving_of (ring_of events.now).events }
+    ensures { result ≡ pending_fills_of (ring_of events.now).events }
 {
-    pending_leaving(&RingRef { bytes: events })
+    pending_fills(&RingRef { bytes: events })
 }
 
 impl MarketCell {
@@ -102,14 +102,14 @@ impl MarketCell {
         match Vec::with_capacity(alloc, room) {
             Ok(entries) => {
                 let start = Kept::of(&accounts);
-                let leaving = leaving_in(&accounts.events);
+                let pending = pending_in(&accounts.events);
                 Ok(MarketCell {
                     start,
                     accounts,
                     coin,
                     pc,
-                    leaving,
-                    calls: Log::new(),
+                    pending,
+                    calls: CallLog::new(),
                     entries,
                     room,
                 })
@@ -152,7 +152,7 @@ impl MarketCell {
         requires { IsFor row.now seen.now self.now }
         ensures { result ≡ answer_on row.entry.now seen.now self.now }
     {
-        dex_decide::decide(&self.accounts, row, seen, &self.leaving)
+        dex_decide::decide(&self.accounts, row, seen, &self.pending)
     }
 
     /// Does a row as it was decided, with the parcels of the plan's deposit, and answers its reply, which is no refusal, and
@@ -177,10 +177,10 @@ impl MarketCell {
         ensures cell { IsMarketCell self.new }
     {
         let amounts = amounts_of(&plan);
-        let reply = dex_step::apply(&mut self.accounts, row, seen, &plan, &mut self.leaving);
+        let reply = dex_step::apply(&mut self.accounts, row, seen, &plan, &mut self.pending);
         let payouts = pay(&mut self.coin, &mut self.pc, &amounts, coin, pc);
         let entry = entry_of(row, seen, reply, &amounts);
-        self.calls = self.calls.and(row, &Told { seen: *seen, entry });
+        self.calls = self.calls.and(row, &CallRecord { seen: *seen, entry });
         append(&mut self.entries, entry);
         (reply, payouts)
     }
@@ -197,7 +197,7 @@ impl MarketCell {
         ensures cell { IsMarketCell self.new }
     {
         let entry = entry_of(row, seen, Reply::Refused(refusal), &Amounts::none());
-        self.calls = self.calls.and(row, &Told { seen: *seen, entry });
+        self.calls = self.calls.and(row, &CallRecord { seen: *seen, entry });
         append(&mut self.entries, entry);
     }
 
@@ -212,7 +212,7 @@ impl MarketCell {
         ensures cell { IsMarketCell self.new }
     {
         let entry = entry_of(row, seen, Reply::Done, &Amounts::none());
-        self.calls = self.calls.and(row, &Told { seen: *seen, entry });
+        self.calls = self.calls.and(row, &CallRecord { seen: *seen, entry });
         append(&mut self.entries, entry);
         Reply::Done
     }
@@ -228,7 +228,7 @@ impl MarketCell {
             accounts,
             coin,
             pc,
-            leaving: _,
+            pending: _,
             calls: _,
             entries,
             room: _,

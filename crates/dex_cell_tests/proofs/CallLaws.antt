@@ -8,7 +8,7 @@ use Rattle.dex_types.specs.Accounts.{PlainMarketAccounts}
 use Rattle.dex_types.specs.Side.{opposite}
 use Rattle.dex_accounts.specs.Decoded.{AreSound}
 use Rattle.dex_accounts.specs.Parts.{HasOpen, parts_of}
-use Rattle.dex_cancel.specs.Leaving.{CancelGiven}
+use Rattle.dex_cancel.specs.TakenOff.{CancelGiven}
 use Rattle.dex_cancel.specs.Parts.{AreOfSoundMarket}
 use Rattle.dex_crank.specs.Parts as crank
 use Rattle.dex_decide.specs.Given.{bytes_on}

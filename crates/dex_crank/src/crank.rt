@@ -12,16 +12,16 @@ ghost use Rattle.dex_crank.specs.PaidBytes.{crank_bytes, paid_bytes, paid_first}
 ghost use Rattle.dex_crank.specs.Parts.{AreCrankedIn, AreOfSoundMarket, Keeps};
 
 use crate::accounts::pay_owner;
-use crate::kinds::with_leaving;
+use crate::kinds::with_fill;
 use crate::queue::{goes_on, take_first};
-use dex_ring::{Leaving, RingView};
+use dex_ring::{PendingFills, RingView};
 use dex_types::{Address, Event, OrdersAccount};
 
 /// What a crank consumed: how many events, and what these were still to take off totals.
 #[derive(Clone, Copy, Debug, PartialEq, Eq)]
 pub struct Consumed {
     pub count: u32,
-    pub leaving: Leaving,
+    pub fills: PendingFills,
 }
 
 /// Pays the first event to its owner and takes it off the queue.
@@ -46,26 +46,26 @@ pub(crate) fn consume_from(
     requires { (m : Market) × AreCrankedIn m (crank_bytes queue.old accounts.old) }
     ensures count { result.count ≡ consumable limit named.now (events_of queue.old) }
     ensures coin { all_leaving Coin (events_of queue.old)
-        ≡ result.leaving.coin + all_leaving Coin (events_of queue.new) }
-    ensures pc { all_leaving Pc (events_of queue.old) ≡ result.leaving.pc + all_leaving Pc (events_of queue.new) }
+        ≡ result.fills.coin + all_leaving Coin (events_of queue.new) }
+    ensures pc { all_leaving Pc (events_of queue.old) ≡ result.fills.pc + all_leaving Pc (events_of queue.new) }
     ensures does { crank_bytes queue.new accounts.new ≡ paid_bytes result.count (crank_bytes queue.old accounts.old) }
 {
-    let mut leaving = Leaving { coin: 0, pc: 0 };
+    let mut fills = PendingFills { coin: 0, pc: 0 };
     for count in 0..limit {
         if !goes_on(queue, named) {
             let count = u32::from(count);
-            return Consumed { count, leaving };
+            return Consumed { count, fills };
         }
         let event = pay_first(queue, accounts);
-        leaving = with_leaving(leaving, &event);
+        fills = with_fill(fills, &event);
     }
     let count = u32::from(limit);
-    Consumed { count, leaving }
+    Consumed { count, fills }
 }
 
 /// Consumes events as `consume` does, and tells what they were still to take off totals: the sums over the events that
 /// are pending afterwards are those before less these. So who keeps the two sums needs no pass over the queue.
-pub fn consume_with_leaving(
+pub fn consume_with_pending(
     ring: &mut RingView<'_>,
     accounts: &mut [OrdersAccount],
     named: &[Address],
@@ -74,9 +74,9 @@ pub fn consume_with_leaving(
     requires { AreOfSoundMarket (crank_bytes ring.old.bytes.now accounts.old) }
     ensures count { result.count ≡ consumable limit named.now (events_of ring.old.bytes.now) }
     ensures coin { all_leaving Coin (events_of ring.old.bytes.now)
-        ≡ result.leaving.coin + all_leaving Coin (events_of ring.new.bytes.now) }
+        ≡ result.fills.coin + all_leaving Coin (events_of ring.new.bytes.now) }
     ensures pc { all_leaving Pc (events_of ring.old.bytes.now)
-        ≡ result.leaving.pc + all_leaving Pc (events_of ring.new.bytes.now) }
+        ≡ result.fills.pc + all_leaving Pc (events_of ring.new.bytes.now) }
     ensures does { crank_bytes ring.new.bytes.now accounts.new
         ≡ paid_bytes result.count (crank_bytes ring.old.bytes.now accounts.old) }
     ensures ring { KeepsEvents ring.old ring.new }
@@ -105,5 +105,5 @@ pub fn consume(
     ensures ring { KeepsEvents ring.old ring.new }
     ensures kept { Keeps (crank_bytes ring.old.bytes.now accounts.old) (crank_bytes ring.new.bytes.now accounts.new) }
 {
-    consume_with_leaving(ring, accounts, named, limit).count
+    consume_with_pending(ring, accounts, named, limit).count
 }

@@ -7,7 +7,7 @@ ghost use Rattle.dex_types.specs.Side.{Coin, Pc};
 ghost use Rattle.dex_types.specs.Soundness.{is_final};
 ghost use Rattle.dex_crank.specs.Funds.{told_kind};
 
-use dex_ring::Leaving;
+use dex_ring::PendingFills;
 use dex_types::{Event, EventFlags, Side};
 
 const FILLED_ASK: u8 = EventFlags::MAKER_FILL_OF_ASK.0;
@@ -64,7 +64,7 @@ pub fn is_final(event: &Event) -> bool
 }
 
 /// The sums with what the event is still to take off its owner's total: what a filled maker pays.
-pub fn with_leaving(sums: Leaving, event: &Event) -> Leaving
+pub fn with_fill(sums: PendingFills, event: &Event) -> PendingFills
     requires coin { sums.coin < 2 ^ 127 }
     requires pc { sums.pc < 2 ^ 127 }
     ensures coin { result.coin ≡ sums.coin + leaving Coin (decoded_event event.now) }
@@ -74,11 +74,11 @@ pub fn with_leaving(sums: Leaving, event: &Event) -> Leaving
 {
     let paid = u128::from(event.paid);
     match kind_of(event.flags) {
-        Kind::MakerFill(Side::Ask) => Leaving {
+        Kind::MakerFill(Side::Ask) => PendingFills {
             coin: sums.coin + paid,
             ..sums
         },
-        Kind::MakerFill(Side::Bid) => Leaving {
+        Kind::MakerFill(Side::Bid) => PendingFills {
             pc: sums.pc + paid,
             ..sums
         },

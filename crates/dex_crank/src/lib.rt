@@ -9,7 +9,7 @@ pub mod laws;
 mod payment;
 mod queue;
 
-pub use crank::{Consumed, consume, consume_with_leaving};
+pub use crank::{Consumed, consume, consume_with_pending};
 pub use kinds::{Kind, is_final, kind_of};
 
 #[cfg(test)]

@@ -13,7 +13,7 @@ use Rattle.dex_types.specs.Reasons.{first_of, missing, not_person, not_signed_by
 use Rattle.dex_types.specs.Requests.{Party, Request}
 use Rattle.dex_types.specs.Side.{opposite}
 use Rattle.dex_types.specs.Why.{order_reading, payer, payer_mint, why_order_early, why_order_of, why_ordering}
-use Rattle.dex_ring.specs.Leaving.{leaving_of}
+use Rattle.dex_ring.specs.PendingFills.{pending_fills_of}
 use Rattle.dex_ring.specs.Ring.{Ring}
 use Rattle.dex_match.specs.declared.order_plan.Decided.{Decided}
 use Rattle.dex_match.specs.OrderParts.{IsGiven, OrderGiven, given_by, order_given}
@@ -83,12 +83,12 @@ module _ (accounts : PlainMarketAccounts) (sound : AreSound accounts) where
   pub order-decided : (side : Side) (n : NewOrder) (bytes : List ℕ) → HasOpen n.owner bytes (parts_of accounts)
       → (let parts = orders.parts_of (order_given side bytes (parts_of accounts)) in
       let o = ordering_in side n parts in
-      let decided : Decided = record { plan = plan_by n o; leaving = sums_after parts o } in
+      let decided : Decided = record { plan = plan_by n o; pending = sums_after parts o } in
       let on = order_on side (market_in accounts) (account_of bytes) n in
-      decided ≡ record { plan = plan_by n on; leaving = sums_with on.events (market_in accounts) })
+      decided ≡ record { plan = plan_by n on; pending = sums_with on.events (market_in accounts) })
   order-decided side n bytes has =
       let parts = orders.parts_of (order_given side bytes (parts_of accounts)) in
-      let made : Ordering → Ring → Decided = λ o r. record { plan = plan_by n o; leaving = leaving_of (r.events ++ o.events) } in
+      let made : Ordering → Ring → Decided = λ o r. record { plan = plan_by n o; pending = pending_fills_of (r.events ++ o.events) } in
       ap (λ (o : Ordering). made o parts.ring) (order-planned side n bytes has)
       ∙ ap (made (order_on side (market_in accounts) (account_of bytes) n)) sound.stands.events.ring
 

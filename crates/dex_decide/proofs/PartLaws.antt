@@ -17,8 +17,8 @@ use Rattle.dex_market.specs.MarketAccount.{MarketWords, market_words}
 use Rattle.dex_market.specs.StandsFor.{words_of}
 use Rattle.dex_orders.specs.OrdersAccount.{IsOrders}
 use Rattle.dex_orders.specs.StandsFor.{IsOnMarket, trader_of, traders_of}
-use Rattle.dex_ring.specs.Leaving.{leaving_of}
-use Rattle.dex_ring.specs.declared.leaving.Leaving.{Leaving}
+use Rattle.dex_ring.specs.PendingFills.{pending_fills_of}
+use Rattle.dex_ring.specs.declared.pending_fills.PendingFills.{PendingFills}
 use Rattle.dex_ring.specs.Ring.{Ring, ring_of, room_of}
 use Rattle.dex_slab.specs.Slab.{resting}
 use Rattle.dex_settle.specs.Refusing.{close_reason, disable_reason, init_reason, settle_reason, sweep_reason}
@@ -102,12 +102,12 @@ module _ (accounts : PlainMarketAccounts) (sound : AreSound accounts) where
   }
 
   -- what pending fills are to take off totals, as the queue tells it
-  pub sums-told : (sums : Leaving) (bytes : List ℕ) → sums ≡ leaving_of (market_in accounts).events → bytes ≡ accounts.events
-      → sums ≡ leaving_of (ring_of bytes).events
+  pub sums-told : (sums : PendingFills) (bytes : List ℕ) → sums ≡ pending_fills_of (market_in accounts).events → bytes ≡ accounts.events
+      → sums ≡ pending_fills_of (ring_of bytes).events
   sums-told sums bytes known is =
       known
-      ∙ ap (λ (r : Ring). leaving_of r.events) (sym sound.stands.events.ring)
-      ∙ ap (λ (b : List ℕ). leaving_of (ring_of b).events) (sym is)
+      ∙ ap (λ (r : Ring). pending_fills_of r.events) (sym sound.stands.events.ring)
+      ∙ ap (λ (b : List ℕ). pending_fills_of (ring_of b).events) (sym is)
 
   -- what each call answers by the accounts' bytes is what is answered on the market
   module _ (request : Request) (market : List ℕ) (is : market ≡ accounts.market) where

@@ -16,8 +16,8 @@ use Rattle.dex_types.specs.Steps as steps
 use Rattle.dex_types.specs.Steps.{act_cancel, act_close, act_decoded, act_init, act_order, act_settle, refused, step, unless_refused}
 use Rattle.dex_types.specs.Terms.{terms_order}
 use Rattle.dex_types.specs.Why.{why}
-use Rattle.dex_ring.specs.declared.leaving.Leaving.{Leaving}
-use Rattle.dex_ring.specs.Leaving.{leaving_of}
+use Rattle.dex_ring.specs.declared.pending_fills.PendingFills.{PendingFills}
+use Rattle.dex_ring.specs.PendingFills.{pending_fills_of}
 use Rattle.dex_decide.specs.declared.plan.Plan.{Plan}
 use Rattle.dex_decide.specs.declared.plan.Deposit.{Deposit}
 use Rattle.dex_decide.specs.Owing.{deposit_of, entering, sums_told}
@@ -84,18 +84,18 @@ plan-owes (Ok (CancelOrdersByClientIds ids)) request seen m = cancel-owes (ByCli
 some-same : {X : Type 0} {x y : X} → Some x ≡ Some y → y ≡ x
 some-same e = cc
 
-settle-sums : (seen : Seen) (m : Market) (party : Option Party) (sums : Leaving) → sums_told (by_party (settle_plan seen) party) ≡ Some sums
-    → sums ≡ leaving_of (steps.by_party (act_settle seen m) m party).market.events
+settle-sums : (seen : Seen) (m : Market) (party : Option Party) (sums : PendingFills) → sums_told (by_party (settle_plan seen) party) ≡ Some sums
+    → sums ≡ pending_fills_of (steps.by_party (act_settle seen m) m party).market.events
 settle-sums seen m None sums told = absurd (cc)
 settle-sums seen m (Some party) sums told = absurd (cc)
 
-order-sums : (side : Side) (order : Address → NewOrder) (m : Market) (party : Option Party) (sums : Leaving) → sums_told (by_party (order_plan side order m) party) ≡ Some sums
-    → sums ≡ leaving_of (steps.by_party (act_order side order m) m party).market.events
+order-sums : (side : Side) (order : Address → NewOrder) (m : Market) (party : Option Party) (sums : PendingFills) → sums_told (by_party (order_plan side order m) party) ≡ Some sums
+    → sums ≡ pending_fills_of (steps.by_party (act_order side order m) m party).market.events
 order-sums side order m None sums told = absurd (cc)
 order-sums side order m (Some party) sums told = some-same told
 
-pub plan-sums : (instruction : Result Ix BadData) (request : Request) (seen : Seen) (m : Market) (sums : Leaving) → sums_told (plan_decoded instruction request seen m) ≡ Some sums
-    → sums ≡ leaving_of (act_decoded instruction request seen m).market.events
+pub plan-sums : (instruction : Result Ix BadData) (request : Request) (seen : Seen) (m : Market) (sums : PendingFills) → sums_told (plan_decoded instruction request seen m) ≡ Some sums
+    → sums ≡ pending_fills_of (act_decoded instruction request seen m).market.events
 plan-sums (Err rule) request seen m sums told = absurd (cc)
 plan-sums (Ok (InitializeMarket coin_lot pc_lot fee_rate_bps nonce dust)) request seen m sums told = absurd (cc)
 plan-sums (Ok (MatchOrders limit)) request seen m sums told = absurd (cc)

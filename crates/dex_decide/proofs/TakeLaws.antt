@@ -49,9 +49,9 @@ module _ (accounts : PlainMarketAccounts) (sound : AreSound accounts) where
       → (let read = read_of (take_given side (parts_of accounts)) in
       let m = market_in accounts in
       let met = take_meeting side m.listing.sizes t (orders (opposite side) m) in
-      let decided : DecidedTake = record { plan = plan_in side t read; leaving = left_in side t read } in
-      decided ≡ record { plan = plan_by side m.listing.sizes t met; leaving = sums_with met.events m })
+      let decided : DecidedTake = record { plan = plan_in side t read; pending = left_in side t read } in
+      decided ≡ record { plan = plan_by side m.listing.sizes t met; pending = sums_with met.events m })
   take-decided side t =
       let m = market_in accounts in
-      ap (λ (r : TakeRead). let decided : DecidedTake = record { plan = plan_in side t r; leaving = left_in side t r } in decided)
+      ap (λ (r : TakeRead). let decided : DecidedTake = record { plan = plan_in side t r; pending = left_in side t r } in decided)
       (read-of side (take_given side (parts_of accounts)) m (given-of side (parts_of accounts) m (are accounts sound)))

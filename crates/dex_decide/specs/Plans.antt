@@ -20,13 +20,13 @@ use Rattle.dex_types.specs.Take.{Take, take_meeting}
 use Rattle.dex_types.specs.Terms.{terms_order, terms_take}
 use Rattle.dex_types.specs.Trader.{Account}
 use Rattle.dex_types.specs.Why.{of_party, why, why_order, why_take}
-use Rattle.dex_ring.specs.declared.leaving.Leaving.{Leaving}
-use Rattle.dex_ring.specs.Leaving.{leaving_of}
+use Rattle.dex_ring.specs.declared.pending_fills.PendingFills.{PendingFills}
+use Rattle.dex_ring.specs.PendingFills.{pending_fills_of}
 use Rattle.dex_cancel.specs.declared.what.CancelWhat.TheVariants as cancels
 use Rattle.dex_match.specs.declared.order_terms.Taker.{Taker}
 use Rattle.dex_match.specs.Ordering as ordering
 use Rattle.dex_match.specs.OrderTerms.{order_of}
-use Rattle.dex_settle.specs.Leaving.{plan_of}
+use Rattle.dex_settle.specs.PayingOut.{plan_of}
 use Rattle.dex_take.specs.Taking as taking
 use Rattle.dex_decide.specs.declared.plan.Plan.{Plan}
 use Rattle.dex_decide.specs.declared.plan.Plan.TheVariants as plans
@@ -85,8 +85,8 @@ abbrev pub settle_plan : Seen → Party → Plan
 settle_plan seen party = plans.Settle (plan_of (settlement (is_some seen.referrer) party.account))
 
 -- what makers' fills are to take off totals, once these events are pending behind those of the market
-abbrev pub sums_with : List QueuedEvent → Market → Leaving
-sums_with events m = leaving_of (m.events ++ events)
+abbrev pub sums_with : List QueuedEvent → Market → PendingFills
+sums_with events m = pending_fills_of (m.events ++ events)
 
 -- a new order of an account, what it does on the market, and what the sums are after it
 abbrev pub order_planned : Side → NewOrder → Market → Account → Plan

@@ -7,8 +7,8 @@ ghost use Rattle.dex_types.specs.declared.rows.Seen.{Seen};
 ghost use Rattle.dex_types.specs.Market.{Market};
 ghost use Rattle.dex_types.specs.Requests.{Request};
 ghost use Rattle.dex_types.specs.Steps.{refused, step};
-ghost use Rattle.dex_ring.specs.declared.leaving.Leaving.{Leaving};
-ghost use Rattle.dex_ring.specs.Leaving.{leaving_of};
+ghost use Rattle.dex_ring.specs.declared.pending_fills.PendingFills.{PendingFills};
+ghost use Rattle.dex_ring.specs.PendingFills.{pending_fills_of};
 ghost use Rattle.dex_decide.specs.declared.plan.Plan.{Plan};
 ghost use Rattle.dex_decide.specs.Owing.{deposit_of, entering, sums_told};
 ghost use Rattle.dex_decide.specs.Plans.{decided};
@@ -21,7 +21,7 @@ pub fn what_is_decided_is_of_the_step()
         decided request seen m ≡ Err why → step request seen m ≡ refused why m }
     ensures deposit { (request : Request) (seen : Seen) (m : Market) (plan : Plan) →
         decided request seen m ≡ Ok plan → deposit_of plan ≡ entering (step request seen m).transfers }
-    ensures sums { (request : Request) (seen : Seen) (m : Market) (plan : Plan) (sums : Leaving) →
+    ensures sums { (request : Request) (seen : Seen) (m : Market) (plan : Plan) (sums : PendingFills) →
         decided request seen m ≡ Ok plan → sums_told plan ≡ Some sums →
-        sums ≡ leaving_of (step request seen m).market.events }
+        sums ≡ pending_fills_of (step request seen m).market.events }
 {}

@@ -5,10 +5,10 @@ ghost use Rattle.dex_types.specs.Accounts.{market_accounts_of};
 ghost use Rattle.dex_types.specs.Reasons as each;
 ghost use Rattle.dex_types.specs.Terms.{tier_seen};
 ghost use Rattle.dex_types.specs.Why as reasons;
-ghost use Rattle.dex_match.specs.Handed.{outcome_in};
+ghost use Rattle.dex_match.specs.LentParts.{outcome_in};
 ghost use Rattle.dex_match.specs.OrderTerms.{order_of};
 ghost use Rattle.dex_orders.specs.OrdersAccount.{IsOpen, account_of};
-ghost use Rattle.dex_ring.specs.Leaving.{leaving_of};
+ghost use Rattle.dex_ring.specs.PendingFills.{pending_fills_of};
 ghost use Rattle.dex_accounts.specs.Decoded.{AreSound};
 ghost use Rattle.dex_decide.specs.Given.{asked_by, bytes_on, given_on, market_of, party_on};
 ghost use Rattle.dex_decide.specs.Named.{IsActing, party_by};
@@ -17,8 +17,8 @@ ghost use Rattle.dex_decide.specs.Plans.{answered_by, order_by, order_plan, orde
 use crate::named::{Acting, open_named};
 use crate::plan::Plan;
 use dex_market::{MarketRef, RequestRef};
-use dex_match::{Decided, Taker, decide_order_with_leaving};
-use dex_meet::Leaving;
+use dex_match::{Decided, Taker, decide_order_with_pending};
+use dex_meet::PendingFills;
 use dex_orders::OrdersRef;
 use dex_reasons::{
     is_mint, missing, not_owner, not_signed, other_discount_mint, other_mint, payer,
@@ -113,13 +113,13 @@ fn decide_order_with(
     acting: Acting<'_>,
     taker: Taker,
     balance: u64,
-    leaving: &Leaving,
+    pending: &PendingFills,
 ) -> Result<Decided, Refusal>
     requires sound { AreSound (market_accounts_of accounts.now) }
     requires acting { IsActing row.now.named.items (market_accounts_of accounts.now).orders
         acting.address acting.bytes.now }
     requires account { taker.account ≡ acting.address }
-    requires leaving { leaving.now ≡ leaving_of (market_of accounts.now).events }
+    requires pending { pending.now ≡ pending_fills_of (market_of accounts.now).events }
     ensures { result ≡ outcome_in taker (given_on taker.id_side acting.entry.bytes.now accounts.now) balance }
 {
     let market = MarketRef {
@@ -136,8 +136,8 @@ fn decide_order_with(
     };
     let own = side_of(accounts, taker.id_side);
     let opposite = side_of(accounts, taker.id_side.opposite());
-    decide_order_with_leaving(
-        &market, &requests, &own, &opposite, &ring, &orders, &taker, balance, leaving,
+    decide_order_with_pending(
+        &market, &requests, &own, &opposite, &ring, &orders, &taker, balance, pending,
     )
 }
 
@@ -149,14 +149,14 @@ fn decide_order_paid(
     acting: Acting<'_>,
     taker: Taker,
     wallet: WalletSeen,
-    leaving: &Leaving,
+    pending: &PendingFills,
 ) -> Result<Plan, Refusal>
     requires sound { AreSound (market_accounts_of accounts.now) }
     requires acting { IsActing row.now.named.items (market_accounts_of accounts.now).orders
         acting.address acting.bytes.now }
     requires account { taker.account ≡ acting.address }
     requires pays { reasons.payer taker.id_side seen.now ≡ Some wallet }
-    requires leaving { leaving.now ≡ leaving_of (market_of accounts.now).events }
+    requires pending { pending.now ≡ pending_fills_of (market_of accounts.now).events }
     ensures { result ≡ each.answered (reasons.why_order_of taker.id_side (order_of taker) (asked_by row.entry.now)
         seen.now (market_of accounts.now) (party_by acting.entry.address acting.entry.bytes.now))
         (order_planned taker.id_side (order_of taker) (market_of accounts.now) (account_of acting.entry.bytes.now)) }
@@ -164,11 +164,11 @@ fn decide_order_paid(
     if let Some(why) = wallet_reason(accounts, row, seen, acting, taker.id_side) {
         return Err(why);
     }
-    match decide_order_with(accounts, row, acting, taker, wallet.balance, leaving) {
+    match decide_order_with(accounts, row, acting, taker, wallet.balance, pending) {
         Ok(decided) => Ok(Plan::Order {
             taker,
             plan: decided.plan,
-            leaving: decided.leaving,
+            pending: decided.pending,
         }),
         Err(why) => Err(why),
     }
@@ -181,20 +181,20 @@ fn decide_order_by(
     seen: &Seen,
     acting: Acting<'_>,
     taker: Taker,
-    leaving: &Leaving,
+    pending: &PendingFills,
 ) -> Result<Plan, Refusal>
     requires sound { AreSound (market_accounts_of accounts.now) }
     requires acting { IsActing row.now.named.items (market_accounts_of accounts.now).orders
         acting.address acting.bytes.now }
     requires account { taker.account ≡ acting.address }
-    requires leaving { leaving.now ≡ leaving_of (market_of accounts.now).events }
+    requires pending { pending.now ≡ pending_fills_of (market_of accounts.now).events }
     ensures { result ≡ each.answered (reasons.why_order_of taker.id_side (order_of taker) (asked_by row.entry.now)
         seen.now (market_of accounts.now) (party_by acting.entry.address acting.entry.bytes.now))
         (order_planned taker.id_side (order_of taker) (market_of accounts.now) (account_of acting.entry.bytes.now)) }
 {
     match payer(taker.id_side, seen) {
         None => Err(Refusal::NoAccount),
-        Some(wallet) => decide_order_paid(accounts, row, seen, acting, taker, wallet, leaving),
+        Some(wallet) => decide_order_paid(accounts, row, seen, acting, taker, wallet, pending),
     }
 }
 
@@ -205,10 +205,10 @@ pub fn decide_order_row(
     row: &Row,
     seen: &Seen,
     taker: Taker,
-    leaving: &Leaving,
+    pending: &PendingFills,
 ) -> Result<Plan, Refusal>
     requires sound { AreSound (market_accounts_of accounts.now) }
-    requires leaving { leaving.now ≡ leaving_of (market_of accounts.now).events }
+    requires pending { pending.now ≡ pending_fills_of (market_of accounts.now).events }
     ensures { result ≡ answered_by (reasons.why_order taker.id_side (order_by taker) (asked_by row.entry.now)
         seen.now (market_of accounts.now)) (order_plan taker.id_side (order_by taker) (market_of accounts.now))
         (party_on (asked_by row.entry.now) (market_of accounts.now)) }
@@ -220,7 +220,7 @@ pub fn decide_order_row(
                 account: acting.address,
                 ..taker
             };
-            decide_order_by(accounts, row, seen, acting, taker, leaving)
+            decide_order_by(accounts, row, seen, acting, taker, pending)
         }
     }
 }

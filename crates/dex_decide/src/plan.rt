@@ -6,7 +6,7 @@ ghost use Rattle.dex_decide.specs.Owing.{deposit_of, owed};
 
 use dex_cancel::CancelWhat;
 use dex_match::{OrderPlan, Taker};
-use dex_meet::Leaving;
+use dex_meet::PendingFills;
 use dex_settle::SettlePlan;
 use dex_take::TakePlan;
 use dex_types::Side;
@@ -31,13 +31,13 @@ pub enum Plan {
     Order {
         taker: Taker,
         plan: OrderPlan,
-        leaving: Leaving,
+        pending: PendingFills,
     },
     /// A take, as its taker states it; what it does; and the same sums once it is done.
     Take {
         taker: Taker,
         plan: TakePlan,
-        leaving: Leaving,
+        pending: PendingFills,
     },
     /// Take these resting orders of the named account off the book.
     Cancel(CancelWhat),

@@ -6,7 +6,7 @@ ghost use Rattle.dex_types.specs.Reasons as each;
 ghost use Rattle.dex_types.specs.Rows.{row_of};
 ghost use Rattle.dex_types.specs.Terms.{terms_order, terms_take};
 ghost use Rattle.dex_types.specs.Why as reasons;
-ghost use Rattle.dex_ring.specs.Leaving.{leaving_of};
+ghost use Rattle.dex_ring.specs.PendingFills.{pending_fills_of};
 ghost use Rattle.dex_accounts.specs.Decoded.{AreSound};
 ghost use Rattle.dex_history.specs.Journal.{Sees, asked_of};
 ghost use Rattle.dex_decide.specs.Given.{asked_by, market_of, party_on};
@@ -22,7 +22,7 @@ use crate::taking::{decide_take_row, is_disabled};
 use dex_cancel::CancelWhat;
 use dex_instruction::decode;
 use dex_match::Taker;
-use dex_meet::Leaving;
+use dex_meet::PendingFills;
 use dex_types::{Ix, MarketAccounts, OrderType, Refusal, Row, Seen, SelfTrade, Side};
 
 /// A new order.
@@ -31,16 +31,16 @@ fn decide_new_order(
     row: &Row,
     seen: &Seen,
     taker: Taker,
-    leaving: &Leaving,
+    pending: &PendingFills,
 ) -> Result<Plan, Refusal>
     requires sound { AreSound (market_accounts_of accounts.now) }
-    requires leaving { leaving.now ≡ leaving_of (market_of accounts.now).events }
+    requires pending { pending.now ≡ pending_fills_of (market_of accounts.now).events }
     ensures { result ≡ planning.order_answer taker.id_side (planning.order_by taker) (asked_by row.entry.now)
         seen.now (market_of accounts.now) }
 {
     match is_disabled(accounts) {
         Some(why) => Err(why),
-        None => decide_order_row(accounts, row, seen, taker, leaving),
+        None => decide_order_row(accounts, row, seen, taker, pending),
     }
 }
 
@@ -114,11 +114,11 @@ fn decide_instruction(
     row: &Row,
     seen: &Seen,
     ix: Ix,
-    leaving: &Leaving,
+    pending: &PendingFills,
 ) -> Result<Plan, Refusal>
     requires sound { AreSound (market_accounts_of accounts.now) }
     requires sees { Sees (asked_of (row_of row.now)) seen.now }
-    requires leaving { leaving.now ≡ leaving_of (market_of accounts.now).events }
+    requires pending { pending.now ≡ pending_fills_of (market_of accounts.now).events }
     ensures { result ≡ each.answered
         (reasons.why_instruction ix (asked_by row.entry.now) seen.now (market_of accounts.now))
         (planning.plan_on ix (asked_by row.entry.now) seen.now (market_of accounts.now)) }
@@ -155,7 +155,7 @@ fn decide_instruction(
                 limit,
                 max_ts,
             );
-            decide_new_order(accounts, row, seen, taker, leaving)
+            decide_new_order(accounts, row, seen, taker, pending)
         }
         Ix::CancelOrderV2 { side, order_id } => {
             let what = CancelWhat::ById { side, id: order_id };
@@ -182,7 +182,7 @@ fn decide_instruction(
                 taker,
                 min_coin_qty,
                 min_native_pc_qty,
-                leaving,
+                pending,
             )
         }
         Ix::CloseOpenOrders => decide_close_row(accounts, row),
@@ -194,7 +194,7 @@ fn decide_instruction(
     }
 }
 
-/// Whether the row is refused by its market, or what it is to do there. It reads only. `leaving` are the native base
+/// Whether the row is refused by its market, or what it is to do there. It reads only. `pending` are the native base
 /// and the native quote that pending makers' fills are still to take off their owners' totals, so that no row goes
 /// through the event queue for them.
 ///
@@ -204,15 +204,15 @@ pub fn decide(
     accounts: &MarketAccounts,
     row: &Row,
     seen: &Seen,
-    leaving: &Leaving,
+    pending: &PendingFills,
 ) -> Result<Plan, Refusal>
     requires sound { AreSound (market_accounts_of accounts.now) }
     requires sees { Sees (asked_of (row_of row.now)) seen.now }
-    requires leaving { leaving.now ≡ leaving_of (market_of accounts.now).events }
+    requires pending { pending.now ≡ pending_fills_of (market_of accounts.now).events }
     ensures { result ≡ planning.decided (asked_by row.entry.now) seen.now (market_of accounts.now) }
 {
     match decode(&row.bytes) {
-        Ok(ix) => decide_instruction(accounts, row, seen, ix, leaving),
+        Ok(ix) => decide_instruction(accounts, row, seen, ix, pending),
         Err(rule) => Err(Refusal::BadData(rule)),
     }
 }

@@ -4,7 +4,7 @@ ghost use Rattle.std.specs.Prelude.{◌≡◌};
 ghost use Rattle.dex_types.specs.Accounts.{market_accounts_of};
 ghost use Rattle.dex_types.specs.Reasons as each;
 ghost use Rattle.dex_types.specs.Why as reasons;
-ghost use Rattle.dex_ring.specs.Leaving.{leaving_of};
+ghost use Rattle.dex_ring.specs.PendingFills.{pending_fills_of};
 ghost use Rattle.dex_take.specs.TakeGiven.{read_of};
 ghost use Rattle.dex_take.specs.TakeTerms.{take_of};
 ghost use Rattle.dex_take.specs.Taking.{take_outcome};
@@ -16,10 +16,10 @@ use crate::ordering::{payer_seen, side_of};
 use crate::plan::Plan;
 use dex_market::MarketRef;
 use dex_match::Taker;
-use dex_meet::Leaving;
+use dex_meet::PendingFills;
 use dex_reasons::{disabled, missing, not_signed, other_discount_mint, other_mint};
 use dex_ring::RingRef;
-use dex_take::{DecidedTake, decide_take_with_leaving};
+use dex_take::{DecidedTake, decide_take_with_pending};
 use dex_types::{MarketAccounts, Refusal, Row, Seen, Side};
 
 /// The market is disabled.
@@ -59,10 +59,10 @@ fn decide_take_with(
     min_lots: u64,
     min_pc: u64,
     seen: &Seen,
-    leaving: &Leaving,
+    pending: &PendingFills,
 ) -> Result<DecidedTake, Refusal>
     requires sound { AreSound (market_accounts_of accounts.now) }
-    requires leaving { leaving.now ≡ leaving_of (market_of accounts.now).events }
+    requires pending { pending.now ≡ pending_fills_of (market_of accounts.now).events }
     ensures { result ≡ take_outcome taker.id_side (take_of taker min_lots min_pc)
         (read_of (take_given_on taker.id_side accounts.now)) seen.now }
 {
@@ -73,8 +73,8 @@ fn decide_take_with(
         bytes: &accounts.events,
     };
     let opposite = side_of(accounts, taker.id_side.opposite());
-    decide_take_with_leaving(
-        &market, &opposite, &ring, &taker, min_lots, min_pc, seen, leaving,
+    decide_take_with_pending(
+        &market, &opposite, &ring, &taker, min_lots, min_pc, seen, pending,
     )
 }
 
@@ -87,21 +87,21 @@ pub fn decide_take_row(
     taker: Taker,
     min_lots: u64,
     min_pc: u64,
-    leaving: &Leaving,
+    pending: &PendingFills,
 ) -> Result<Plan, Refusal>
     requires sound { AreSound (market_accounts_of accounts.now) }
-    requires leaving { leaving.now ≡ leaving_of (market_of accounts.now).events }
+    requires pending { pending.now ≡ pending_fills_of (market_of accounts.now).events }
     ensures { result ≡ take_answer taker (take_of taker min_lots min_pc) (asked_by row.entry.now)
         seen.now (market_of accounts.now) }
 {
     if let Some(why) = wallet_reason(accounts, row, seen, taker.id_side) {
         return Err(why);
     }
-    match decide_take_with(accounts, taker, min_lots, min_pc, seen, leaving) {
+    match decide_take_with(accounts, taker, min_lots, min_pc, seen, pending) {
         Ok(decided) => Ok(Plan::Take {
             taker,
             plan: decided.plan,
-            leaving: decided.leaving,
+            pending: decided.pending,
         }),
         Err(why) => Err(why),
     }

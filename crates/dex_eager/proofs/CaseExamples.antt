@@ -37,7 +37,7 @@ busy = record {
 }
 
 -- of each side ids and lots, the next sequence number, the worth of both and the takings
-pub record Shown : Type 0 where
+pub record StepParts : Type 0 where
   pub bids : List (List ℕ)
   pub asks : List (List ℕ)
   pub sequence : ℕ
@@ -49,7 +49,7 @@ pub record Shown : Type 0 where
 abbrev amounts : List QueuedEvent → List (List ℕ)
 amounts fills = map (λ (fill : QueuedEvent). fill.released ∷ fill.paid ∷ fill.fee_or_rebate ∷ fill.client ∷ []) fills
 
-abbrev shown : EagerStep → Shown
+abbrev shown : EagerStep → StepParts
 shown s = record {
   bids = resting s.market.bids;
   asks = resting s.market.asks;
@@ -60,7 +60,7 @@ shown s = record {
 }
 
 -- with nothing changed
-abbrev same : Shown
+abbrev same : StepParts
 same = record {
   bids = (21267647932558653984907657038195064831 ∷ 4 ∷ []) ∷ (940783947759187132414 ∷ 3 ∷ []) ∷ [];
   asks = (42535295865117307932921825928971026434 ∷ 5 ∷ []) ∷ [];
@@ -70,7 +70,7 @@ same = record {
   fills = [];
 }
 
-abbrev on_busy : Ix → Address → List Address → Shown
+abbrev on_busy : Ix → Address → List Address → StepParts
 on_busy ix signer named = shown (eager_step (row ix signer named) nothing busy)
 
 -- data that does not decode, an account that is not named, and one that the market does not have

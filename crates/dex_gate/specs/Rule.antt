@@ -3,6 +3,7 @@ use Rattle.std.specs.Prelude.{◌≡◌, ℕ, ◌+◌, ◌-◌, ◌<◌, ◌≤�
 use mathlib.Core.Option.{some}
 use lib.ListN.{get_elem?}
 use Rattle.atomic_table.specs.Table.{State}
+use Rattle.dex_gate.specs.declared.TheConstants.{PASSES}
 use Rattle.dex_gate.specs.declared.board.Card.{Card}
 use Rattle.dex_gate.specs.declared.board.View.{View}
 use Rattle.dex_gate.specs.declared.stage.Stage.{Stage}
@@ -111,7 +112,7 @@ module _ {V E O : Type 0} (entries : V → List E) (lane : E → ℕ) (origin : 
   -- The value is at home, with the whole history, unless a turn is out
   pub record Kept (s : State (Option V) (View E O)) : Type 0 where
     pub history : List E
-    pub few : passes ≤ 16
+    pub few : passes ≤ PASSES
     pub bounded : length history < 9223372036854775808
     pub begins : Extends (entries opened) history
     pub lanes : All (λ e. lane e < passes) (added (entries opened) history)

@@ -1,11 +1,12 @@
 //! Bells: who waits for a turn sleeps on a bell of its own, so that the end of a turn wakes only the two who are next.
+use crate::PASSES;
 use std::sync::Wait;
 use std::sync::atomic::{AtomicU64, Ordering};
 
 /// What a bell holds while somebody may sleep on it, and still where a waiter found its turn come before it slept. Else it holds 0.
 const SET: u64 = 1;
 
-/// A bell for each ticket that can be out at once: there are at most sixteen passes, and the tickets that are out follow each other.
+/// A bell for each ticket that can be out at once: a pass has at most one, and the tickets that are out follow each other.
 ///
 /// No waiter is left asleep. All steps on words are sequentially consistent. Who waits sets its bell and then looks at the turn; who leaves
 /// passes the turn on and then looks at the bell of the next ticket. So the one finds its turn come, or the other finds the bell
@@ -13,20 +14,20 @@ const SET: u64 = 1;
 /// a bell back wakes, also one who comes late and takes back the bell of a later ticket. Who is woken looks again from the start.
 #[derive(Drop)]
 pub(crate) struct Bells {
-    words: [AtomicU64; 16],
+    words: [AtomicU64; PASSES],
 }
 
 impl Bells {
     /// Bells of which none is set.
     pub(crate) fn new() -> Bells {
         Bells {
-            words: [0; 16].map(|zero| AtomicU64::new(zero)),
+            words: [0; PASSES].map(|zero| AtomicU64::new(zero)),
         }
     }
 
     /// The bell of a ticket.
     fn of(&self, ticket: u64) -> &AtomicU64 {
-        &self.words[(ticket % 16) as usize]
+        &self.words[(ticket % PASSES as u64) as usize]
     }
 
     /// Sets the bell of a ticket, before the last look at the turn and the sleep.

@@ -1,5 +1,6 @@
 //! The gate.
 ghost use Rattle.std.specs.Prelude.{◌≡◌, ◌+◌, ◌<◌, ◌≤◌, ◌++◌, map, All, IfOk, MatchResult, vec_len};
+ghost use Rattle.dex_gate.specs.declared.TheConstants.{PASSES};
 ghost use Rattle.dex_gate.specs.declared.stage.Stage.TheVariants.{Idle, Waiting, Out};
 ghost use Rattle.dex_gate.specs.History.{added, Extends, of_lane, AddsOne};
 ghost use Rattle.dex_gate.specs.PassView.{first_pass, next_pass, AreAll};
@@ -54,7 +55,7 @@ impl<V: Journaled> Gate<V> {
     pub fn open(alloc: Global, value: V, passes: u32) -> Result<(Gate<V>, Pass<V>), NoMemory>
     where
         V: Drop,
-        requires { (1 ≤ passes) × (passes ≤ 16) }
+        requires { (1 ≤ passes) × (passes ≤ PASSES) }
         ensures gate { IfOk result (λ r. (r.0.passes ≡ passes) × (r.0.origin ≡ V.origin value)
             × (r.0.opening ≡ V.entries value)) }
         ensures pass { IfOk result (λ r. r.1 ≡ first_pass r.0) }

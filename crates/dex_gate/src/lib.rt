@@ -26,3 +26,6 @@ pub use no_memory::NoMemory;
 pub use pass::Pass;
 pub use stage::Stage;
 pub use turn::{Away, Turn};
+
+/// The most passes that a gate may have. It has as many bells, so that each ticket that is out has one of its own.
+pub const PASSES: usize = 16;

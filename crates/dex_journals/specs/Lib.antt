@@ -1,4 +1,4 @@
-pub mod Made
+pub mod StampedCalls
 pub mod Journals
 pub mod Items
 pub mod Inside

@@ -21,7 +21,7 @@ use dex_script::Script;
 use dex_stamps::{Kept, Stamp};
 use dex_types::{Reply, Row, Seen};
 use dex_wallet::WalletCell;
-use http_server::Log;
+use http_server::Log as StampLog;
 use std::marker::Model;
 
 /// A market's cell with its journal's stamps, as the value of a gate. Each lane makes at most as many calls as it has rows on
@@ -29,7 +29,7 @@ use std::marker::Model;
 #[derive(Drop)]
 pub struct BankMarket {
     cell: MarketCell,
-    stamps: Log<Stamp, ()>,
+    stamps: StampLog<Stamp, ()>,
     last: Stamp,
     script: Kept<Script>,
 }
@@ -72,7 +72,7 @@ impl BankMarket {
     {
         BankMarket {
             cell,
-            stamps: Log::new(),
+            stamps: StampLog::new(),
             last: Stamp::first(),
             script,
         }

@@ -9,7 +9,7 @@ use dex_gate::Journaled;
 use dex_script::Script;
 use dex_stamps::{Kept, Stamp};
 use dex_wallet::WalletCell;
-use http_server::Log;
+use http_server::Log as StampLog;
 use std::marker::Model;
 
 /// A wallet's cell with its journal's stamps, as the value of a gate. Each lane makes at most as many entries as it has rows that
@@ -17,7 +17,7 @@ use std::marker::Model;
 #[derive(Drop)]
 pub struct BankWallet {
     cell: WalletCell,
-    stamps: Log<Stamp, ()>,
+    stamps: StampLog<Stamp, ()>,
     last: Stamp,
     script: Kept<Script>,
 }
@@ -55,7 +55,7 @@ impl Journaled for BankWallet {
 #[derive(Drop)]
 pub struct WalletTrail {
     before: Kept<WalletCell>,
-    stamps: Log<Stamp, ()>,
+    stamps: StampLog<Stamp, ()>,
     last: Stamp,
     script: Kept<Script>,
 }
@@ -80,7 +80,7 @@ impl BankWallet {
     {
         BankWallet {
             cell,
-            stamps: Log::new(),
+            stamps: StampLog::new(),
             last: Stamp::first(),
             script,
         }

@@ -33,7 +33,7 @@ use Rattle.dex_match.specs.declared.intake.Intake.{Intake}
 use Rattle.dex_match.specs.declared.order_plan.OrderPlan.{OrderPlan}
 use Rattle.dex_match.specs.declared.order_terms.Taker.{Taker}
 use Rattle.dex_match.specs.Applying.{account_bytes_after, bytes_with, funds_by, intake_of, ordering_over, requests_after, words_with}
-use Rattle.dex_match.specs.Handed.{IsDone, ordered, with_ordered}
+use Rattle.dex_match.specs.LentParts.{IsDone, ordered, with_ordered}
 use Rattle.dex_match.specs.OrderParts.{OrderGiven, order_given, parts_of}
 use Rattle.dex_match.specs.Ordering.{plan_by}
 use Rattle.dex_match.specs.OrderTerms.{order_of}

@@ -12,7 +12,7 @@ use Rattle.dex_types.specs.Why.{ordering_reasons, standing_reasons}
 use Rattle.dex_market.specs.MarketAccount.{sizes_of, vault_of}
 use Rattle.dex_market.specs.declared.funds.Vaults.{Vaults}
 use Rattle.dex_reasons.proofs.FirstReasons.{first_of-early, first_of-late, first_of-one}
-use Rattle.dex_ring.specs.declared.leaving.Leaving.{Leaving}
+use Rattle.dex_ring.specs.declared.pending_fills.PendingFills.{PendingFills}
 use Rattle.dex_ring.specs.Ring.{room_of}
 use Rattle.dex_match.specs.declared.foreseeing.Foreseen.{Foreseen}
 use Rattle.dex_match.specs.declared.order_plan.Decided.{Decided}
@@ -95,27 +95,27 @@ refused-late parts taker balance foreseen sizes sequence room early late why rea
     ∙ first_of-early (without_vaults o parts balance) later why (sym (late-read parts taker balance foreseen sizes sequence room early read) ∙ sym is ∙ some)
 
 -- the vaults and the sums that were read are those after the order
-pub record AreSums (parts : OrderParts) (side : Side) (foreseen : Foreseen) (sizes : Lots) (vaults : Vaults) (leaving : Leaving) : Type 0 where
+pub record AreSums (parts : OrderParts) (side : Side) (foreseen : Foreseen) (sizes : Lots) (vaults : Vaults) (pending : PendingFills) : Type 0 where
   pub coin_put : vaults.coin ≡ vault_of Coin parts.words + by_side side 0 foreseen.plan.deposit
   pub pc_put : vaults.pc ≡ vault_of Pc parts.words + by_side side foreseen.plan.deposit 0
-  pub coin_left : leaving.coin ≡ all_leaving Coin parts.ring.events + by_side side (foreseen.sums.lots * sizes.coin) 0
-  pub pc_left : leaving.pc ≡ all_leaving Pc parts.ring.events + by_side side 0 (foreseen.sums.pc - foreseen.sums.rebates)
+  pub coin_left : pending.coin ≡ all_leaving Coin parts.ring.events + by_side side (foreseen.sums.lots * sizes.coin) 0
+  pub pc_left : pending.pc ≡ all_leaving Pc parts.ring.events + by_side side 0 (foreseen.sums.pc - foreseen.sums.rebates)
 
 last-same : (coin coin' pc pc' coin_left coin_left' pc_left pc_left' : ℕ) → coin ≡ coin' → pc ≡ pc' → coin_left ≡ coin_left' → pc_left ≡ pc_left'
     → first_of (beyond coin coin_left ∷ beyond pc pc_left ∷ []) ≡ first_of (beyond coin' coin_left' ∷ beyond pc' pc_left' ∷ [])
 last-same coin coin' pc pc' coin_left coin_left' pc_left pc_left' a b c d = rw (a, b, c, d) refl
 
 outcome-same : (reason reason' : Option Refusal) (plan plan' : OrderPlan) (coin coin' pc pc' : ℕ) → reason ≡ reason' → plan ≡ plan' → coin ≡ coin' → pc ≡ pc'
-    → answered {X = Decided} reason (record { plan = plan; leaving = record { coin = coin; pc = pc } }) ≡ answered {X = Decided} reason' (record { plan = plan'; leaving = record { coin = coin'; pc = pc' } })
+    → answered {X = Decided} reason (record { plan = plan; pending = record { coin = coin; pc = pc } }) ≡ answered {X = Decided} reason' (record { plan = plan'; pending = record { coin = coin'; pc = pc' } })
 outcome-same reason reason' plan plan' coin coin' pc pc' a b c d = rw (a, b, c, d) refl
 
 -- else the vaults decide
-pub answers : (parts : OrderParts) (taker : Taker) (balance : ℕ) (foreseen : Foreseen) (sizes : Lots) (sequence room : ℕ) (early late last : Option Refusal) (vaults : Vaults) (leaving : Leaving)
+pub answers : (parts : OrderParts) (taker : Taker) (balance : ℕ) (foreseen : Foreseen) (sizes : Lots) (sequence room : ℕ) (early late last : Option Refusal) (vaults : Vaults) (pending : PendingFills)
     → AreRead parts taker foreseen sizes sequence room early → early ≡ None
     → late ≡ first_of (would_self_trade foreseen.aborts ∷ no_room foreseen.plan.needed room ∷ short_by foreseen.plan.deposit (Some balance) ∷ []) → late ≡ None
-    → AreSums parts taker.id_side foreseen sizes vaults leaving → last ≡ first_of (beyond vaults.coin leaving.coin ∷ beyond vaults.pc leaving.pc ∷ [])
-    → answered {X = Decided} last (record { plan = foreseen.plan; leaving = leaving }) ≡ order_outcome taker.id_side (order_of taker) parts balance
-answers parts taker balance foreseen sizes sequence room early late last vaults leaving read none is still sums last_is =
+    → AreSums parts taker.id_side foreseen sizes vaults pending → last ≡ first_of (beyond vaults.coin pending.coin ∷ beyond vaults.pc pending.pc ∷ [])
+    → answered {X = Decided} last (record { plan = foreseen.plan; pending = pending }) ≡ order_outcome taker.id_side (order_of taker) parts balance
+answers parts taker balance foreseen sizes sequence room early late last vaults pending read none is still sums last_is =
     let side : Side = taker.id_side in
     let n : NewOrder = order_of taker in
     let s : Standing = standing_in parts in
@@ -125,9 +125,9 @@ answers parts taker balance foreseen sizes sequence room early late last vaults 
     let deposit : foreseen.plan.deposit ≡ o.deposit = ap (λ (p : OrderPlan). p.deposit) told_is.plan in
     let base : foreseen.sums.lots * sizes.coin ≡ met.lots * s.sizes.coin = ap (λ k. k * sizes.coin) told_is.lots ∙ ap (λ (z : Lots). met.lots * z.coin) read.sizes_read in
     let quote : foreseen.sums.pc - foreseen.sums.rebates ≡ met.pc - met.rebates = ap (λ k. k - foreseen.sums.rebates) told_is.pc ∙ ap (λ k. met.pc - k) told_is.rebates in
-    let coin_left : leaving.coin ≡ (sums_after parts o).coin =
+    let coin_left : pending.coin ≡ (sums_after parts o).coin =
     sums.coin_left ∙ ap (λ k. all_leaving Coin parts.ring.events + by_side side k 0) base ∙ sym (leaving-after Coin parts.ring.events s parts.account taker) in
-    let pc_left : leaving.pc ≡ (sums_after parts o).pc =
+    let pc_left : pending.pc ≡ (sums_after parts o).pc =
     sums.pc_left ∙ ap (λ k. all_leaving Pc parts.ring.events + by_side side 0 k) quote ∙ sym (leaving-after Pc parts.ring.events s parts.account taker) in
     let later : List (Option Refusal) = beyond (vault_after Coin side parts o) (sums_after parts o).coin ∷ beyond (vault_after Pc side parts o) (sums_after parts o).pc ∷ [] in
     let last_same : last ≡ first_of later = last_is ∙ last-same _ _ _ _ _ _ _ _
@@ -136,5 +136,5 @@ answers parts taker balance foreseen sizes sequence room early late last vaults 
     first-late (standing_reasons side n (sizes_of parts.words) parts.next_sequence parts.account) (ordering_reasons o (limits_in side parts o balance))
     (sym (early-same parts sizes taker read.sizes_read) ∙ sym read.early_is ∙ none)
     ∙ first_of-late (without_vaults o parts balance) later (sym (late-read parts taker balance foreseen sizes sequence room early read) ∙ sym is ∙ still) in
-    outcome-same last (order_reason side n parts balance) foreseen.plan (plan_by n o) leaving.coin (sums_after parts o).coin leaving.pc (sums_after parts o).pc
+    outcome-same last (order_reason side n parts balance) foreseen.plan (plan_by n o) pending.coin (sums_after parts o).coin pending.pc (sums_after parts o).pc
     (last_same ∙ sym all) told_is.plan coin_left pc_left

@@ -11,7 +11,7 @@ use Rattle.dex_orders.specs.OrdersAccount.{account_of, added, funded, funds_of}
 use Rattle.dex_match.specs.declared.order_plan.OrderPlan.{OrderPlan}
 use Rattle.dex_match.specs.Applying.{bytes_with, events_by, intake_by, ordering_over, posted_by}
 use Rattle.dex_match.specs.declared.order_terms.Taker.{Taker}
-use Rattle.dex_match.specs.Handed.{events_in, ordered}
+use Rattle.dex_match.specs.LentParts.{events_in, ordered}
 use Rattle.dex_match.specs.OrderParts.{OrderGiven, parts_of}
 use Rattle.dex_match.specs.OrderTerms.{order_of}
 use Rattle.dex_match.specs.Ordering.{IsDecided}

@@ -3,7 +3,7 @@ use Rattle.std.specs.Prelude.{ℕ, ◌≡◌, ◌*◌, ◌^◌, ◌<◌, ◌≤�
 use Rattle.dex_types.specs.declared.orders.Order.{Order}
 use Rattle.dex_types.specs.declared.terms.Lots.{Lots}
 use Rattle.dex_types.specs.NewOrder.{Ordering, Standing, meeting_of, ordering_of}
-use Rattle.dex_ring.specs.declared.leaving.Leaving.{Leaving}
+use Rattle.dex_ring.specs.declared.pending_fills.PendingFills.{PendingFills}
 use Rattle.dex_types.specs.QueuedEvent.{QueuedEvent}
 use Rattle.dex_types.specs.Side.{Coin, Pc}
 use Rattle.dex_types.specs.Solvency.{all_leaving}
@@ -39,7 +39,7 @@ pub record Foretells (foreseen : Foreseen) (s : Standing) (account : Account) (t
   pub rebates_within : foreseen.sums.rebates ≤ foreseen.sums.pc
 
 -- the sums are what makers' fills among these events are to take off totals, and are below 2^80, so that adding to them fits
-pub record IsKnown (sums : Leaving) (events : List QueuedEvent) : Type 0 where
+pub record IsKnown (sums : PendingFills) (events : List QueuedEvent) : Type 0 where
   pub coin : sums.coin ≡ all_leaving Coin events
   pub pc : sums.pc ≡ all_leaving Pc events
   pub coin_small : sums.coin < 2 ^ 80

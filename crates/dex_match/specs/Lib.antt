@@ -1,7 +1,7 @@
 pub mod Applying
 pub mod Deciding
 pub mod Foretold
-pub mod Handed
+pub mod LentParts
 pub mod OrderParts
 pub mod OrderTerms
 pub mod Ordering

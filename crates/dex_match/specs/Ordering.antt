@@ -9,8 +9,8 @@ use Rattle.dex_types.specs.Solvency.{all_leaving}
 use Rattle.dex_types.specs.Why.{Limits, OrderReading, why_ordering}
 use Rattle.dex_market.specs.MarketAccount.{sizes_of, vault_of}
 use Rattle.dex_ring.specs.Ring.{room_of}
-use Rattle.dex_ring.specs.declared.leaving.Leaving.{Leaving}
-use Rattle.dex_ring.specs.Leaving.{leaving_of}
+use Rattle.dex_ring.specs.declared.pending_fills.PendingFills.{PendingFills}
+use Rattle.dex_ring.specs.PendingFills.{pending_fills_of}
 use Rattle.dex_match.specs.declared.order_plan.Decided.{Decided}
 use Rattle.dex_match.specs.declared.order_plan.OrderPlan.{OrderPlan}
 use Rattle.dex_match.specs.OrderParts.{OrderParts, standing_in}
@@ -68,14 +68,14 @@ abbrev pub order_answer : Side → NewOrder → OrderParts → ℕ → Result Or
 order_answer side n parts balance = answered (order_reason side n parts balance) (plan_by n (ordering_in side n parts))
 
 -- what pending makers' fills are to take off totals after it
-abbrev pub sums_after : OrderParts → Ordering → Leaving
-sums_after parts o = leaving_of (parts.ring.events ++ o.events)
+abbrev pub sums_after : OrderParts → Ordering → PendingFills
+sums_after parts o = pending_fills_of (parts.ring.events ++ o.events)
 
 -- what deciding answers, with the sums after the order beside the plan
 abbrev pub order_outcome : Side → NewOrder → OrderParts → ℕ → Result Decided Refusal
 order_outcome side n parts balance =
     let o = ordering_in side n parts in
-    answered (order_reason side n parts balance) (record { plan = plan_by n o; leaving = sums_after parts o })
+    answered (order_reason side n parts balance) (record { plan = plan_by n o; pending = sums_after parts o })
 
 -- the plan was decided on these parts, with some balance
 pub record IsDecided (plan : OrderPlan) (side : Side) (n : NewOrder) (parts : OrderParts) : Type 0 where

@@ -3,7 +3,7 @@
 ghost use Rattle.std.specs.Prelude.{◌≡◌, ◌≤◌, ◌<◌, ◌^◌};
 ghost use Rattle.dex_types.specs.declared.replies.Reply.TheVariants as replies;
 ghost use Rattle.dex_accounts.specs.Keeps.{KeepsEvents, KeepsMarket, KeepsOpen, KeepsRequests, KeepsSide};
-ghost use Rattle.dex_match.specs.Handed.{events_in, handed, ordered, reply_in};
+ghost use Rattle.dex_match.specs.LentParts.{events_in, handed, ordered, reply_in};
 ghost use Rattle.dex_match.specs.Ordering.{IsDecided};
 ghost use Rattle.dex_match.specs.OrderParts.{IsGiven, parts_of};
 ghost use Rattle.dex_match.specs.OrderTerms.{order_of};

@@ -4,11 +4,11 @@ ghost use Rattle.std.specs.Prelude.{◌≡◌, ◌+◌, ◌^◌, ◌<◌, ◌≤
 ghost use Rattle.dex_laws.specs.Locks.{locked};
 ghost use Rattle.dex_market.specs.MarketAccount.{IsMarket, market_words};
 ghost use Rattle.dex_market.specs.RequestQueue.{IsRequestQueue};
-ghost use Rattle.dex_match.specs.Handed.{decided_in, outcome_in, shown};
+ghost use Rattle.dex_match.specs.LentParts.{decided_in, outcome_in, shown};
 ghost use Rattle.dex_match.specs.OrderParts.{IsGiven};
 ghost use Rattle.dex_market.specs.MarketAccount.{sizes_of};
 ghost use Rattle.dex_match.specs.Deciding.{IsKnown};
-ghost use Rattle.dex_ring.specs.Leaving.{leaving_of};
+ghost use Rattle.dex_ring.specs.PendingFills.{pending_fills_of};
 ghost use Rattle.dex_types.specs.declared.refusals.Refusal.{Refusal};
 ghost use Rattle.dex_match.specs.declared.order_plan.Decided.{Decided};
 ghost use Rattle.dex_market.specs.MarketAccount.{vault_of};
@@ -22,7 +22,7 @@ use crate::order_plan::{Decided, OrderPlan};
 use crate::order_refusals::{refused_early, sequence_of};
 use crate::order_terms::Taker;
 use dex_market::{MarketRef, RequestRef, Vaults};
-use dex_meet::{Leaving, pending_leaving, with_fills};
+use dex_meet::{PendingFills, pending_fills, with_fills};
 use dex_orders::OrdersRef;
 use dex_reasons::{beyond, no_room, short_by};
 use dex_ring::RingRef;
@@ -62,24 +62,24 @@ fn refused_late(foreseen: &Foreseen, room: u32, balance: u64) -> Option<Refusal>
 }
 
 /// Why an order is refused by the vaults and what is to leave them, as they would be then.
-fn refused_beyond(vaults: Vaults, leaving: Leaving) -> Option<Refusal>
-    requires coin { vaults.coin + leaving.coin < 2 ^ 128 }
-    requires pc { vaults.pc + leaving.pc < 2 ^ 128 }
-    ensures { result ≡ reasons.first_of (reasons.beyond vaults.coin leaving.coin ∷ reasons.beyond vaults.pc leaving.pc
+fn refused_beyond(vaults: Vaults, pending: PendingFills) -> Option<Refusal>
+    requires coin { vaults.coin + pending.coin < 2 ^ 128 }
+    requires pc { vaults.pc + pending.pc < 2 ^ 128 }
+    ensures { result ≡ reasons.first_of (reasons.beyond vaults.coin pending.coin ∷ reasons.beyond vaults.pc pending.pc
         ∷ []) }
 {
-    beyond(vaults.coin, leaving.coin).or(beyond(vaults.pc, leaving.pc))
+    beyond(vaults.coin, pending.coin).or(beyond(vaults.pc, pending.pc))
 }
 
 /// What pending makers' fills are to take off totals: as it is known, or else by a pass over the queue.
-fn pending(known: Option<Leaving>, ring: &RingRef<'_>) -> Leaving
+fn fills_now(known: Option<PendingFills>, ring: &RingRef<'_>) -> PendingFills
     requires ring { IsEventQueue ring.now.bytes.now }
     requires known { IfSome known (λ sums. IsKnown sums (ring_of ring.now.bytes.now).events) }
     ensures { IsKnown result (ring_of ring.now.bytes.now).events }
 {
     match known {
-        Some(leaving) => leaving,
-        None => pending_leaving(ring),
+        Some(pending) => pending,
+        None => pending_fills(ring),
     }
 }
 
@@ -117,7 +117,7 @@ fn plan_of(decided: Result<Decided, Refusal>) -> Result<OrderPlan, Refusal>
 /// What is decided, with the sums of what is pending as they are known, where the orders of the other side lock less than 2^64
 /// and the own side has room for one.
 fn decide_with<B: SideRead, A: SideRead>(
-    known: Option<Leaving>,
+    known: Option<PendingFills>,
     market: &MarketRef<'_>,
     requests: &RequestRef<'_>,
     own: &B,
@@ -150,12 +150,12 @@ fn decide_with<B: SideRead, A: SideRead>(
         return Err(why);
     }
     let vaults = vaults_after(market, taker.id_side, foreseen.plan.deposit);
-    let leaving = with_fills(pending(known, ring), taker.id_side, sizes, foreseen.sums);
+    let pending = with_fills(fills_now(known, ring), taker.id_side, sizes, foreseen.sums);
     let decided = Decided {
         plan: foreseen.plan,
-        leaving,
+        pending,
     };
-    answered(refused_beyond(vaults, leaving), decided)
+    answered(refused_beyond(vaults, pending), decided)
 }
 
 /// The plan or the refusal, where the orders of the other side lock less than 2^64 and the own side has room for one.
@@ -218,7 +218,7 @@ pub fn decide_order<B: SideRead>(
 
 /// What a new order does, or why it is refused, where the sums of pending makers' fills are handed in: no event is
 /// read. Beside the plan stand these sums after the order.
-pub fn decide_order_with_leaving<B: SideRead>(
+pub fn decide_order_with_pending<B: SideRead>(
     market: &MarketRef<'_>,
     requests: &RequestRef<'_>,
     own: &B,
@@ -227,17 +227,17 @@ pub fn decide_order_with_leaving<B: SideRead>(
     orders: &OrdersRef<'_>,
     taker: &Taker,
     balance: u64,
-    leaving: &Leaving,
+    pending: &PendingFills,
 ) -> Result<Decided, Refusal>
     requires own { B.holds own.now }
     requires opposite { B.holds opposite.now }
     requires given { IsGiven taker.now.id_side taker.now.account
         (shown B.orders B.room B.orders market.now requests.now ring.now orders.now own.now opposite.now) }
-    requires leaving { leaving.now ≡ leaving_of (ring_of ring.now.bytes.now).events }
+    requires pending { pending.now ≡ pending_fills_of (ring_of ring.now.bytes.now).events }
     ensures { result ≡ outcome_in taker.entry.now
         (shown B.orders B.room B.orders market.now requests.now ring.now orders.now own.now opposite.now) balance }
 {
-    let known = Some(*leaving);
+    let known = Some(*pending);
     decide_with(
         known, market, requests, own, opposite, ring, orders, taker, balance,
     )

@@ -5,7 +5,7 @@ ghost use Rattle.std.specs.Prelude.{◌≡◌, ℕ, List, Some};
 ghost use Rattle.dex_accounts.specs.Parts.{AreOf, HasOpen, MarketParts};
 ghost use Rattle.dex_match.specs.Applying.{ordering_over};
 ghost use Rattle.dex_match.specs.declared.order_terms.Taker.{Taker};
-ghost use Rattle.dex_match.specs.Handed.{IsDone, with_ordered};
+ghost use Rattle.dex_match.specs.LentParts.{IsDone, with_ordered};
 ghost use Rattle.dex_match.specs.OrderTerms.{order_of};
 ghost use Rattle.dex_match.specs.OrderParts.{OrderGiven, order_given, parts_of};
 ghost use Rattle.dex_match.specs.Ordering.{order_reason};

@@ -1,6 +1,6 @@
 //! What was decided of a new order.
 
-use dex_ring::Leaving;
+use dex_ring::PendingFills;
 
 /// What an accepted new order does: the native amount from the payer's wallet into the vault, the number of its events,
 /// the base lots and the native quote that fill, its fee in native quote, the base lots that rest, its slot and its id.
@@ -20,5 +20,5 @@ pub struct OrderPlan {
 #[derive(Clone, Copy, Debug, PartialEq, Eq)]
 pub struct Decided {
     pub plan: OrderPlan,
-    pub leaving: Leaving,
+    pub pending: PendingFills,
 }

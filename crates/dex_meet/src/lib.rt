@@ -14,9 +14,9 @@ mod side_walk;
 pub mod taking;
 mod wants;
 
-pub use dex_ring::Leaving;
+pub use dex_ring::PendingFills;
 pub use met::Met;
-pub use pending::{pending_leaving, with_fills};
+pub use pending::{pending_fills, with_fills};
 pub use side_meeting::meet_side;
 pub use side_posting::post_or_boot;
 pub use side_walk::{Prospect, foresee};

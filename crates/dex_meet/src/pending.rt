@@ -6,7 +6,7 @@ ghost use Rattle.dex_types.specs.Side.{Coin, Pc, by_side};
 ghost use Rattle.dex_types.specs.Solvency.{all_leaving};
 
 use crate::wants::Sums;
-use dex_ring::{Leaving, RingRef};
+use dex_ring::{PendingFills, RingRef};
 use dex_types::{Event, Lots, Side};
 
 /// The flags of the fill of a resting ask, whose owner pays base, and of a resting bid, whose owner pays quote.
@@ -22,7 +22,7 @@ fn paid_by(event: Event, flags: u8) -> u64
 }
 
 /// What the pending fills of an event queue are still to take off totals. Each event is read once.
-pub fn pending_leaving(ring: &RingRef<'_>) -> Leaving
+pub fn pending_fills(ring: &RingRef<'_>) -> PendingFills
     requires { IsEventQueue ring.now.bytes.now }
     ensures coin { result.coin ≡ all_leaving Coin (ring_of ring.now.bytes.now).events }
     ensures pc { result.pc ≡ all_leaving Pc (ring_of ring.now.bytes.now).events }
@@ -36,12 +36,12 @@ pub fn pending_leaving(ring: &RingRef<'_>) -> Leaving
         coin += u128::from(paid_by(event, ASK_FILL));
         pc += u128::from(paid_by(event, BID_FILL));
     }
-    Leaving { coin, pc }
+    PendingFills { coin, pc }
 }
 
 /// What pending makers' fills are still to take off totals, with those of a taker's fills behind them: a bid's makers
 /// pay base, and an ask's makers pay quote less their rebates.
-pub fn with_fills(pending: Leaving, side: Side, sizes: Lots, sums: Sums) -> Leaving
+pub fn with_fills(pending: PendingFills, side: Side, sizes: Lots, sums: Sums) -> PendingFills
     requires base { sums.lots * sizes.coin < 2 ^ 64 }
     requires rebates { sums.rebates ≤ sums.pc }
     requires coin { pending.coin < 2 ^ 80 }
@@ -52,11 +52,11 @@ pub fn with_fills(pending: Leaving, side: Side, sizes: Lots, sums: Sums) -> Leav
     ensures pc_small { result.pc < 2 ^ 81 }
 {
     match side {
-        Side::Bid => Leaving {
+        Side::Bid => PendingFills {
             coin: pending.coin + u128::from(sums.lots * sizes.coin),
             pc: pending.pc,
         },
-        Side::Ask => Leaving {
+        Side::Ask => PendingFills {
             coin: pending.coin,
             pc: pending.pc + u128::from(sums.pc - sums.rebates),
         },

@@ -21,7 +21,7 @@ use Rattle.dex_movements.specs.Entries.{wallet_entry_by}
 use Rattle.dex_movements.proofs.PlaceLaws.{seen-wallets}
 use Rattle.dex_fold.specs.Fold.{names}
 use Rattle.dex_stamps.specs.Stamped.{Stamped, items_of}
-use Rattle.dex_journals.specs.Made.{entries_in, entry_made}
+use Rattle.dex_journals.specs.StampedCalls.{entries_in, entry_made}
 use Rattle.dex_replay.proofs.MappedLists.{filter-of, map-map}
 use Rattle.dex_order.proofs.Acts.{Acts}
 

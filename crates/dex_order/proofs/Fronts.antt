@@ -13,7 +13,7 @@ use Rattle.dex_fold.specs.World.{MarketState, WalletState, World}
 use Rattle.dex_token.specs.TokenAccount.{wallet_words}
 use Rattle.dex_script.specs.Drafts.{PlainScript}
 use Rattle.dex_stamps.specs.Stamped.{Stamped, items_of}
-use Rattle.dex_journals.specs.Made.{calls_on, entries_in, entries_on}
+use Rattle.dex_journals.specs.StampedCalls.{calls_on, entries_in, entries_on}
 use Rattle.dex_replay.proofs.MappedLists.{filter-push_no, filter-push_yes}
 
 -- ---- definitions

@@ -18,7 +18,7 @@ use Rattle.dex_script.specs.Drafts.{PlainScript}
 use Rattle.dex_wallet.specs.CellState.{balance_of}
 use Rattle.dex_stamps.specs.Stamped.{Stamped, items_of}
 use Rattle.dex_journals.specs.Journals.{BankMarketState, BankWalletState, MarketOrigin, WalletOrigin, market_calls, wallet_entries}
-use Rattle.dex_journals.specs.Made.{calls_on, entries_in, entries_on, entry_made}
+use Rattle.dex_journals.specs.StampedCalls.{calls_on, entries_in, entries_on, entry_made}
 use Rattle.dex_journals.proofs.StampedLists.{items_of-stamped}
 use Rattle.dex_replay.proofs.MappedLists.{flat_map-agree}
 use Rattle.dex_order.specs.Lanes.{Lane}

@@ -31,7 +31,7 @@ use Rattle.dex_script.specs.Drafts.{PlainScript}
 use Rattle.dex_token.specs.TokenAccount.{wallet_words}
 use Rattle.dex_wallet.specs.CellState.{balance_of}
 use Rattle.dex_stamps.specs.Stamped.{Stamped, items_of}
-use Rattle.dex_journals.specs.Made.{entries_in}
+use Rattle.dex_journals.specs.StampedCalls.{entries_in}
 use Rattle.dex_replay.specs.Lawful.{IsSight, IsWalletSeen}
 use Rattle.dex_order.proofs.Acts.{Acts}
 use Rattle.dex_order.proofs.CallEntries.{entries-made}

@@ -119,14 +119,14 @@ all-complete (Some command) i o ended end = completes command i o ended end
 -- ---- a run of lanes
 
 -- what a run of lanes answered, where its source told these bytes
-record Told (bytes : List ℕ) (o : Output) : Type 0 where
+record RunAnswer (bytes : List ℕ) (o : Output) : Type 0 where
   script : PlainScript
   outcome : PlainOutcome
   reads : Reads bytes script
   left : HaveRun script outcome
   taken : o.taken_after ≡ append_known o.taken (report_text outcome (rows_told script))
 
-told-end : (i : Input) (o : Output) → Ends (Some Run) i o status.Ok → (bytes : List ℕ) → i.left ≡ Some bytes → Told bytes o
+told-end : (i : Input) (o : Output) → Ends (Some Run) i o status.Ok → (bytes : List ℕ) → i.left ≡ Some bytes → RunAnswer bytes o
 told-end i o end bytes told =
     let a = end.stands in
     let same : a.0 ≡ bytes = rw told at a.1.told in
@@ -138,7 +138,7 @@ told-end i o end bytes told =
       taken = end.taken ∙ ap (append_known o.taken) a.2.4;
     }
 
-told-run : (asked : Option Command) (i : Input) (o : Output) (ended : Status) → Ends asked i o ended → WhereRun Told asked i o ended
+told-run : (asked : Option Command) (i : Input) (o : Output) (ended : Status) → Ends asked i o ended → WhereRun RunAnswer asked i o ended
 told-run asked i o ended end run done =
     let there : Ends asked i o status.Ok = subst (λ (s : Status). Ends asked i o s) done end in
     told-end i o (subst (λ (x : Option Command). Ends x i o status.Ok) run there)

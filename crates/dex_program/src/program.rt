@@ -134,11 +134,16 @@ pub fn plain<S: Source, K: Sink>(
         (input (S.left source.old) (S.left source.new) (S.faults source.old) (S.faults source.new))
         (output (K.taken sink.old) (K.taken sink.new) (K.faults sink.old) (K.faults sink.new)) result }
 {
-    run(alloc, *command, source, sink)
+    run_plain(alloc, *command, source, sink)
 }
 
 // Runs one command on one thread.
-fn run<S: Source, K: Sink>(alloc: Global, command: Command, source: &mut S, sink: &mut K) -> Status
+fn run_plain<S: Source, K: Sink>(
+    alloc: Global,
+    command: Command,
+    source: &mut S,
+    sink: &mut K,
+) -> Status
     requires within { IsWithin command }
     requires plain { IsPlain command }
     ensures { Ends (Some command)

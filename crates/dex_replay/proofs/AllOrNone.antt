@@ -25,7 +25,7 @@ use Rattle.dex_replay.specs.Lawful.{IsAllOrNone, entries_at, is_answered, was_he
 use Rattle.dex_replay.proofs.Items.{IsSettled, is_refused_told, row_told}
 use Rattle.dex_replay.proofs.MappedLists.{head-same, list_any-agree, list_any-map, tail-same}
 use Rattle.dex_replay.proofs.Orders.{OnApart}
-use Rattle.dex_replay.proofs.Runs.{IsHistory, Told, on, said, said_of}
+use Rattle.dex_replay.proofs.Runs.{IsHistory, RowReply, on, said, said_of}
 
 -- ---- the rows of a market, by what is told of them
 
@@ -34,10 +34,10 @@ abbrev told_under : ℕ → (Reply → Bool) → Asked × Reply → Bool
 told_under number test sign = eqb sign.0.number number && test sign.1
 
 -- a row that is told of is that of another: on its market under its number
-abbrev is_it : (Reply → Bool) → Told → Told → Bool
+abbrev is_it : (Reply → Bool) → RowReply → RowReply → Bool
 is_it test one other = is_same other.row.market one.row.market && (eqb other.row.number one.row.number && test other.reply)
 
-apart-not : (test : Reply → Bool) (one other : Told) → OnApart one.row other.row → (is_it test one other ≡ false) × (is_it test other one ≡ false)
+apart-not : (test : Reply → Bool) (one other : RowReply) → OnApart one.row other.row → (is_it test one other ≡ false) × (is_it test other one ≡ false)
 apart-not test one other apart =
     ⊎_elim
     (λ (same : eqb one.row.number other.row.number ≡ true).
@@ -62,10 +62,10 @@ none-of p [] none = refl
 none-of p (x ∷ xs) none = ap (λ (b : Bool). b || list_any p xs) (All-head (λ y. p y ≡ false) x xs none) ∙ none-of p xs (All-tail (λ y. p y ≡ false) x xs none)
 
 -- where no market has two of one number, each is told of once
-pub told-once : (test : Reply → Bool) (all : List Told) → EachTwo OnApart (map row_told all) → All (λ (told : Told). list_any (is_it test told) all ≡ test told.reply) all
+pub told-once : (test : Reply → Bool) (all : List RowReply) → EachTwo OnApart (map row_told all) → All (λ (told : RowReply). list_any (is_it test told) all ≡ test told.reply) all
 told-once test [] apart = All-nil _
 told-once test (first ∷ all) apart =
-    All-cons (λ (told : Told). list_any (is_it test told) (first ∷ all) ≡ test told.reply) first all
+    All-cons (λ (told : RowReply). list_any (is_it test told) (first ∷ all) ≡ test told.reply) first all
     (ap (λ (b : Bool). (b && (eqb first.row.number first.row.number && test first.reply)) || list_any (is_it test first) all) (is_same-refl first.row.market)
     ∙ ap (λ (b : Bool). (b && test first.reply) || list_any (is_it test first) all) (eq-eqb first.row.number first.row.number refl)
     ∙ ap (λ (b : Bool). test first.reply || b) (none-of (is_it test first) all (λ k d within. (away k d within).0))
@@ -77,14 +77,14 @@ told-once test (first ∷ all) apart =
     or-none true = refl
     or-none false = refl
 
-    rows-each : (some : List Told) → All (OnApart first.row) (map row_told some) → All (λ (told : Told). OnApart first.row told.row) some
+    rows-each : (some : List RowReply) → All (OnApart first.row) (map row_told some) → All (λ (told : RowReply). OnApart first.row told.row) some
     rows-each [] each = All-nil _
     rows-each (told ∷ some) each =
-        All-cons (λ (one : Told). OnApart first.row one.row) told some (All-head (OnApart first.row) told.row (map row_told some) each)
+        All-cons (λ (one : RowReply). OnApart first.row one.row) told some (All-head (OnApart first.row) told.row (map row_told some) each)
         (rows-each some (All-tail (OnApart first.row) told.row (map row_told some) each))
 
-    away : All (λ (other : Told). (is_it test first other ≡ false) × (is_it test other first ≡ false)) all
-    away = All-weaker (λ (other : Told). OnApart first.row other.row) (λ (other : Told). (is_it test first other ≡ false) × (is_it test other first ≡ false))
+    away : All (λ (other : RowReply). (is_it test first other ≡ false) × (is_it test other first ≡ false)) all
+    away = All-weaker (λ (other : RowReply). OnApart first.row other.row) (λ (other : RowReply). (is_it test first other ≡ false) × (is_it test other first ≡ false))
         (λ other far. apart-not test first other far) all (rows-each all apart.0)
 
 -- ---- the journals
@@ -104,13 +104,13 @@ entries-told number test (call ∷ calls) m legal =
     ap (λ (entry : Entry). (eqb entry.row number && test call.entry.reply) || list_any (λ (one : Entry). eqb one.row number && test one.reply) (map (λ (one : Call). one.entry) calls)) legal.0.entry
     ∙ ap (λ (b : Bool). told_under number test (said call) || b) (entries-told number test calls (step_of call m).market legal.1)
 
-module _ (script : PlainScript) (all : List Told) where
-  abbrev Says : (Reply → Bool) → Told → List Entry → Type 0
+module _ (script : PlainScript) (all : List RowReply) where
+  abbrev Says : (Reply → Bool) → RowReply → List Entry → Type 0
   Says test told entries =
       list_any (λ (entry : Entry). eqb entry.row told.row.number && test entry.reply) entries ≡ list_any (is_it test told) all
 
   -- the journal of a row's market tells of the row what is told
-  history-says : (test : Reply → Bool) (told : Told) (first : PlainMarketAccounts) (state : MarketState) → IsHistory script all first state
+  history-says : (test : Reply → Bool) (told : RowReply) (first : PlainMarketAccounts) (state : MarketState) → IsHistory script all first state
       → is_same told.row.market first.address ≡ true → Says test told state.entries
   history-says test told first state is same =
       let number : ℕ = told.row.number in
@@ -118,11 +118,11 @@ module _ (script : PlainScript) (all : List Told) where
       ∙ entries-told number test is.calls (market_in first) is.legal
       ∙ ap (list_any (told_under number test)) is.said
       ∙ list_any-map (told_under number test) said_of (on first.address all)
-      ∙ any-filter (λ (one : Told). is_same one.row.market first.address) (λ (one : Told). told_under number test (said_of one)) all
-      ∙ ap (λ (address : Address). list_any (λ (one : Told). is_same one.row.market address && told_under number test (said_of one)) all)
+      ∙ any-filter (λ (one : RowReply). is_same one.row.market first.address) (λ (one : RowReply). told_under number test (said_of one)) all
+      ∙ ap (λ (address : Address). list_any (λ (one : RowReply). is_same one.row.market address && told_under number test (said_of one)) all)
       (sym (is_same-true told.row.market first.address same))
 
-  pub journal-says : (test : Reply → Bool) (told : Told) (firsts : List PlainMarketAccounts) (states : List MarketState) (journals : List PlainMarketJournal)
+  pub journal-says : (test : Reply → Bool) (told : RowReply) (firsts : List PlainMarketAccounts) (states : List MarketState) (journals : List PlainMarketJournal)
       → AllZip (IsHistory script all) firsts states
       → map (λ (journal : PlainMarketJournal). journal.address) journals ≡ map (λ (first : PlainMarketAccounts). first.address) firsts
       → map (λ (journal : PlainMarketJournal). journal.entries) journals ≡ map (λ (state : MarketState). state.entries) states
@@ -145,21 +145,21 @@ module _ (script : PlainScript) (all : List Told) where
 
 -- ---- the items
 
-module _ (all : List Told) (journals : List PlainMarketJournal) (answered : (test : Reply → Bool) → All (λ (told : Told). is_answered test journals told.row ≡ test told.reply) all) where
+module _ (all : List RowReply) (journals : List PlainMarketJournal) (answered : (test : Reply → Bool) → All (λ (told : RowReply). is_answered test journals told.row ≡ test told.reply) all) where
   -- rows that were settled are told of so
   pub settled-told : (item : Item) → IsSettled all item → IsAllOrNone journals item
   settled-told item is =
       let Right : PlainRow → Type 0 = λ (row : PlainRow).
       was_held journals row ≡ (list_any (is_answered is_refusal journals) (members item) && not (is_answered is_refusal journals row)) in
-      let Answers : (Reply → Bool) → Told → Type 0 = λ (test : Reply → Bool) (told : Told). is_answered test journals told.row ≡ test told.reply in
+      let Answers : (Reply → Bool) → RowReply → Type 0 = λ (test : Reply → Bool) (told : RowReply). is_answered test journals told.row ≡ test told.reply in
       let each : (test : Reply → Bool) → All (Answers test) is.told = λ test k d within. All-contains (Answers test) all (get_or is.told k d) (answered test) (is.inside k d within) in
       let any : list_any (is_answered is_refusal journals) (members item) ≡ list_any is_refused_told is.told =
       ap (list_any (is_answered is_refusal journals)) (sym is.rows) ∙ list_any-map (is_answered is_refusal journals) row_told is.told
-      ∙ list_any-agree (λ (told : Told). is_answered is_refusal journals told.row) is_refused_told is.told (each is_refusal) in
+      ∙ list_any-agree (λ (told : RowReply). is_answered is_refusal journals told.row) is_refused_told is.told (each is_refusal) in
       subst (All Right) is.rows
       (All-map Right row_told is.told
       (λ k d within.
-      let told : Told = get_or is.told k d in
+      let told : RowReply = get_or is.told k d in
       ap (λ (b : Bool). is_take (decoded told.row.bytes) && b) (each is_done k d within)
       ∙ is.held k d within
       ∙ ap (λ (b : Bool). b && not (is_refused_told told)) (sym any)

@@ -30,9 +30,9 @@ use Rattle.dex_replay.proofs.MappedLists.{list_any-agree, list_any-map, map-agre
 use Rattle.dex_replay.proofs.Orders.{IsItemIn, legs-apart}
 use Rattle.dex_replay.proofs.Doing.{Does, does-nothing, does-own, doing}
 use Rattle.dex_replay.proofs.RunSteps.{act-run, found-market}
-use Rattle.dex_replay.proofs.Runs.{IsRun, Told}
+use Rattle.dex_replay.proofs.Runs.{IsRun, RowReply}
 
-abbrev pub row_told : Told → PlainRow
+abbrev pub row_told : RowReply → PlainRow
 row_told told = told.row
 
 -- ---- what a row does in its item
@@ -75,7 +75,7 @@ module _ (row : PlainRow) (seen : Seen) (m : Market) where
 -- ---- the rows of an item
 
 -- in a world, a row that is told of was refused as it would be, and held back where another of its item is refused and it is not
-record IsReplied (before : World) (any : Bool) (told : Told) : Type 0 where
+record IsReplied (before : World) (any : Bool) (told : RowReply) : Type 0 where
   refused : is_refusal told.reply ≡ is_some (why_in before told.row)
   held : (is_take (decoded told.row.bytes) && is_done told.reply) ≡ (any && not (is_some (why_in before told.row)))
 
@@ -87,8 +87,8 @@ CanWait before any row = any ≡ true → is_some (why_in before row) ≡ false 
 abbrev done_in : World → Bool → PlainRow → PlainRow
 done_in before any row = doing row (bytes_by any (is_some (why_in before row)) row)
 
-record HaveRun (script : PlainScript) (before : World) (any : Bool) (rows : List PlainRow) (done : List Told) (world : World) : Type 0 where
-  told : List Told
+record HaveRun (script : PlainScript) (before : World) (any : Bool) (rows : List PlainRow) (done : List RowReply) (world : World) : Type 0 where
+  told : List RowReply
   are : map row_told told ≡ rows
   replied : All (IsReplied before any) told
   run : IsRun script (done ++ told) (fold (map (done_in before any) rows) world)
@@ -98,13 +98,13 @@ module _ (script : PlainScript) (start : IsStart script.start) (before : World) 
   abbrev IsStill : World → PlainRow → Type 0
   IsStill world row = why_in world row ≡ why_in before row
 
-  rows-run : (rows : List PlainRow) (done : List Told) (world : World) → IsRun script done world → EachApart rows → All (IsRowOf script.start) rows
+  rows-run : (rows : List PlainRow) (done : List RowReply) (world : World) → IsRun script done world → EachApart rows → All (IsRowOf script.start) rows
       → All (IsStill world) rows → All (CanWait before any) rows → HaveRun script before any rows done world
   rows-run [] done world run apart fits still can = record {
     told = [];
     are = refl;
     replied = All-nil (IsReplied before any);
-    run = subst (λ (all : List Told). IsRun script all world) (sym (append-nil done)) run;
+    run = subst (λ (all : List RowReply). IsRun script all world) (sym (append-nil done)) run;
   }
   rows-run (row ∷ rows) done world run apart fits still can =
       let seen : Seen = seen_by row world in
@@ -116,7 +116,7 @@ module _ (script : PlainScript) (start : IsStart script.start) (before : World) 
       let why_now : is_some (why (request_of row) seen m) ≡ refused =
       ap is_some (sym (ap (why_on row seen) at.1) ∙ All-head (IsStill world) row rows still) in
       let settled : Settles row bytes seen m any refused = settles row seen m any refused why_now (All-head (CanWait before any) row rows can) in
-      let new : Told = record { row = row; reply = (row_step (doing row bytes) seen m).reply } in
+      let new : RowReply = record { row = row; reply = (row_step (doing row bytes) seen m).reply } in
       let next : World = act (doing row bytes) world in
       let later : HaveRun script before any rows (done ++ new ∷ []) next =
       rows-run rows (done ++ new ∷ []) next (act-run script start done world run row fit bytes m at.1 settled.does) apart.1
@@ -130,7 +130,7 @@ module _ (script : PlainScript) (start : IsStart script.start) (before : World) 
         told = new ∷ later.told;
         are = ap (λ (all : List PlainRow). row ∷ all) later.are;
         replied = All-cons (IsReplied before any) new later.told (record { refused = settled.refused_is; held = settled.held }) later.replied;
-        run = subst (λ (all : List Told). IsRun script all (fold (map (done_in before any) rows) next)) (append_assoc done (new ∷ []) later.told) later.run;
+        run = subst (λ (all : List RowReply). IsRun script all (fold (map (done_in before any) rows) next)) (append_assoc done (new ∷ []) later.told) later.run;
       }
 
 -- ---- an item
@@ -151,20 +151,20 @@ chosen-done world rows = either (list_any (is_refused_in world) rows)
     either false = map-id rows
 
 -- rows that are told of: a row of an item was held back just where it was not refused and another was
-abbrev pub is_refused_told : Told → Bool
+abbrev pub is_refused_told : RowReply → Bool
 is_refused_told told = is_refusal told.reply
 
-abbrev pub IsHeldRight : List Told → Told → Type 0
+abbrev pub IsHeldRight : List RowReply → RowReply → Type 0
 IsHeldRight all told = (is_take (decoded told.row.bytes) && is_done told.reply) ≡ (list_any is_refused_told all && not (is_refused_told told))
 
 -- the rows of an item, among all that are told of
-pub record IsSettled (all : List Told) (item : Item) : Type 0 where
-  pub told : List Told
+pub record IsSettled (all : List RowReply) (item : Item) : Type 0 where
+  pub told : List RowReply
   pub rows : map row_told told ≡ members item
   pub inside : All (Contains all) told
   pub held : All (IsHeldRight told) told
 
-module _ (script : PlainScript) (start : IsStart script.start) (done : List Told) (world : World) (run : IsRun script done world) where
+module _ (script : PlainScript) (start : IsStart script.start) (done : List RowReply) (world : World) (run : IsRun script done world) where
   -- of more rows than one each is a leg, and so a take, unless it is refused
   take-or-refused : (row : PlainRow) → IsRowOf script.start row → IsLeg row → is_some (why_in world row) ≡ false → is_take (decoded row.bytes) ≡ true
   take-or-refused row fits leg spared =
@@ -188,7 +188,7 @@ module _ (script : PlainScript) (start : IsStart script.start) (done : List Told
       take-or-refused (get_or (other ∷ rows) k d) (All-tail (IsRowOf script.start) row (other ∷ rows) fits k d within) (legs.0 k d within).second spared)
 
   record ItemHasRun (item : Item) : Type 0 where
-    told : List Told
+    told : List RowReply
     rows : map row_told told ≡ members item
     held : All (IsHeldRight told) told
     after : IsRun script (done ++ told) (act_item item world)
@@ -199,8 +199,8 @@ module _ (script : PlainScript) (start : IsStart script.start) (done : List Told
       let have : HaveRun script world any (members item) done world =
       rows-run script start world any (members item) done world run (legs-apart (members item) is.legs) is.fits (λ k d within. refl) (can-wait (members item) is.fits is.legs) in
       let same : list_any is_refused_told have.told ≡ any =
-      list_any-agree is_refused_told (λ (told : Told). is_refused_in world told.row) have.told
-      (All-weaker (IsReplied world any) (λ (told : Told). is_refused_told told ≡ is_refused_in world told.row) (λ told replied. replied.refused) have.told have.replied)
+      list_any-agree is_refused_told (λ (told : RowReply). is_refused_in world told.row) have.told
+      (All-weaker (IsReplied world any) (λ (told : RowReply). is_refused_told told ≡ is_refused_in world told.row) (λ told replied. replied.refused) have.told have.replied)
       ∙ sym (list_any-map (is_refused_in world) row_told have.told)
       ∙ ap (list_any (is_refused_in world)) have.are in
       record {
@@ -215,26 +215,26 @@ module _ (script : PlainScript) (start : IsStart script.start) (done : List Told
 
 -- ---- all items
 
-pub record HaveAllRun (script : PlainScript) (items : List Item) (done : List Told) (world : World) : Type 0 where
-  pub told : List Told
+pub record HaveAllRun (script : PlainScript) (items : List Item) (done : List RowReply) (world : World) : Type 0 where
+  pub told : List RowReply
   pub rows : map row_told told ≡ flat_map members items
   pub settled : All (IsSettled told) items
   pub run : IsRun script (done ++ told) (fold_items items world)
 
-pub items-run : (script : PlainScript) → IsStart script.start → (items : List Item) (done : List Told) (world : World)
+pub items-run : (script : PlainScript) → IsStart script.start → (items : List Item) (done : List RowReply) (world : World)
     → All (λ (item : Item). IsItemIn script item.first.lane item) items → IsRun script done world → HaveAllRun script items done world
 items-run script start [] done world are run = record {
   told = [];
   rows = refl;
   settled = All-nil (IsSettled []);
-  run = subst (λ (all : List Told). IsRun script all world) (sym (append-nil done)) run;
+  run = subst (λ (all : List RowReply). IsRun script all world) (sym (append-nil done)) run;
 }
 items-run script start (item ∷ items) done world are run =
     let Is : Item → Type 0 = λ (one : Item). IsItemIn script one.first.lane one in
     let first : ItemHasRun script start done world run item = item-run script start done world run item.first.lane item (All-head Is item items are) in
     let later : HaveAllRun script items (done ++ first.told) (act_item item world) =
     items-run script start items (done ++ first.told) (act_item item world) (All-tail Is item items are) first.after in
-    let all : List Told = first.told ++ later.told in
+    let all : List RowReply = first.told ++ later.told in
     record {
       told = all;
       rows = map-append row_told first.told later.told
@@ -253,5 +253,5 @@ items-run script start (item ∷ items) done world are run =
             inside = All-weaker (Contains later.told) (Contains all) (λ told here. Contains-append_right first.told later.told told here) is.told is.inside;
             held = is.held;
           }) items later.settled);
-      run = subst (λ (some : List Told). IsRun script some (fold_items items (act_item item world))) (append_assoc done first.told later.told) later.run;
+      run = subst (λ (some : List RowReply). IsRun script some (fold_items items (act_item item world))) (append_assoc done first.told later.told) later.run;
     }

@@ -30,17 +30,17 @@ use Rattle.dex_replay.proofs.Items.{HaveAllRun, IsSettled, items-run, row_told}
 use Rattle.dex_replay.proofs.MappedLists.{All-across, All-unmap, Any-across, both-same, filter-across, filter-of, filter-swap, head-same, map-map, tail-same, zip-map}
 use Rattle.dex_replay.proofs.Orders.{OnApart, order-apart, order-each, order-items, order-lanes}
 use Rattle.dex_replay.proofs.RunSteps.{addresses-kept, history-address, start-run}
-use Rattle.dex_replay.proofs.Runs.{AllStandIn, IsHistory, IsMoved, IsRun, StandsIn, Told, naming, on, origin_of, said, said_of}
+use Rattle.dex_replay.proofs.Runs.{AllStandIn, IsHistory, IsMoved, IsRun, StandsIn, RowReply, naming, on, origin_of, said, said_of}
 
 -- ---- rows lane by lane
 
 -- what is told of a part of the rows, lane by lane, where the rows are the script's lane by lane
-lane-told : (script : PlainScript) (all : List Told) (test : PlainRow → Bool) (lane : ℕ)
+lane-told : (script : PlainScript) (all : List RowReply) (test : PlainRow → Bool) (lane : ℕ)
     → ((number : ℕ) → rows_of_lane number (map row_told all) ≡ rows_of_lane number script.rows)
-    → map row_told (filter (λ (told : Told). told.row.lane == lane) (filter (λ (told : Told). test told.row) all))
+    → map row_told (filter (λ (told : RowReply). told.row.lane == lane) (filter (λ (told : RowReply). test told.row) all))
     ≡ filter (λ (row : PlainRow). row.lane == lane) (filter test script.rows)
 lane-told script all test lane lanes =
-    filter-of row_told (λ (row : PlainRow). row.lane == lane) (filter (λ (told : Told). test told.row) all)
+    filter-of row_told (λ (row : PlainRow). row.lane == lane) (filter (λ (told : RowReply). test told.row) all)
     ∙ ap (rows_of_lane lane) (filter-of row_told test all)
     ∙ filter-swap (λ (row : PlainRow). row.lane == lane) test (map row_told all)
     ∙ ap (filter test) (lanes lane)
@@ -48,7 +48,7 @@ lane-told script all test lane lanes =
 
 -- ---- a market, and a wallet
 
-module _ (script : PlainScript) (all : List Told) (lanes : (number : ℕ) → rows_of_lane number (map row_told all) ≡ rows_of_lane number script.rows) where
+module _ (script : PlainScript) (all : List RowReply) (lanes : (number : ℕ) → rows_of_lane number (map row_told all) ≡ rows_of_lane number script.rows) where
   lawful-market : (first last : PlainMarketAccounts) (journal : PlainMarketJournal) (state : MarketState) → IsHistory script all first state → StandsFor last state.market
       → journal.entries ≡ state.entries → IsLawfulMarket script first last journal
   lawful-market first last journal state is stands same = record {
@@ -57,8 +57,8 @@ module _ (script : PlainScript) (all : List Told) (lanes : (number : ℕ) → ro
     legal = is.legal;
     stands = subst (StandsFor last) is.end_is stands;
     rows = λ lane.
-        let in_lane : Told → Bool = λ (told : Told). told.row.lane == lane in
-        let some : List Told = on first.address all in
+        let in_lane : RowReply → Bool = λ (told : RowReply). told.row.lane == lane in
+        let some : List RowReply = on first.address all in
         sym (map-map said (λ sign. sign.0) (filter (λ (call : Call). call.asked.lane == lane) is.calls))
         ∙ ap (map (λ sign. sign.0)) (filter-across said said_of (λ sign. sign.0.lane == lane) is.calls some is.said)
         ∙ map-map said_of (λ sign. sign.0) (filter in_lane some)
@@ -75,8 +75,8 @@ module _ (script : PlainScript) (all : List Told) (lanes : (number : ℕ) → ro
         legal = is.legal;
         account = ap (λ (n : ℕ). record first { bytes = with_amount first.bytes n }) is.balance;
         rows = λ lane.
-            let in_lane : Told → Bool = λ (told : Told). told.row.lane == lane in
-            let some : List Told = naming first.address all in
+            let in_lane : RowReply → Bool = λ (told : RowReply). told.row.lane == lane in
+            let some : List RowReply = naming first.address all in
             filter-across origin_of_entry origin_of (λ (origin : Origin). origin.lane == lane) state.entries some is.origins
             ∙ sym (map-map row_told origin_of_row (filter in_lane some))
             ∙ ap (map origin_of_row) (lane-told script all (λ (row : PlainRow). names row first.address) lane lanes);
@@ -116,7 +116,7 @@ module _ (script : PlainScript) (is : IsScript script) (order : List Item) (lane
   all-run = items-run script is.start order [] (start_world script) (order-items script is.rows order lanes) (start-run script)
 
   -- the rows, and what is told of them
-  pub told : List Told
+  pub told : List RowReply
   told = all-run.told
 
   pub order-run : IsRun script told (world_after script order)
@@ -169,7 +169,7 @@ module _ (script : PlainScript) (is : IsScript script) (order : List Item) (lane
         (told-of state.market.listing.address (get_or state.entries k d)) (front (get_or state.entries k d).moves) (stand k d within)) world.markets order-run.stand)
 
     -- each row's reply is in its market's journal
-    answered : (test : Reply → Bool) → All (λ (one : Told). is_answered test outcome.markets one.row ≡ test one.reply) told
+    answered : (test : Reply → Bool) → All (λ (one : RowReply). is_answered test outcome.markets one.row ≡ test one.reply) told
     answered test k d within =
         let known : All (λ (row : PlainRow). has_market row.market script.start.markets ≡ true) (map row_told told) =
         subst (All (λ (row : PlainRow). has_market row.market script.start.markets ≡ true)) (sym rows-told)

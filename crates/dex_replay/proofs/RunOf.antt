@@ -34,7 +34,7 @@ use Rattle.dex_replay.proofs.Lawfulness.{is-lawful, order-run, told}
 use Rattle.dex_replay.proofs.MappedLists.{head-same, tail-same}
 use Rattle.dex_replay.proofs.Orders.{own-order}
 use Rattle.dex_replay.proofs.RunSteps.{history-sound}
-use Rattle.dex_replay.proofs.Runs.{IsHistory, IsMoved, IsRun, Told}
+use Rattle.dex_replay.proofs.Runs.{IsHistory, IsMoved, IsRun, RowReply}
 use Rattle.dex_replay.proofs.Singles.{script-acts}
 use Rattle.dex_replay.proofs.Starts.{are-of-script}
 
@@ -74,7 +74,7 @@ module _ (mint : Address) where
   first-wallets (account ∷ all) = omega (arith, first-wallets all)
 
   -- wallets with the amounts of a world
-  wallets-hold : (done : List Told) (firsts : List PlainAccount) (states : List WalletState) → AllZip (IsMoved done) firsts states
+  wallets-hold : (done : List RowReply) (firsts : List PlainAccount) (states : List WalletState) → AllZip (IsMoved done) firsts states
       → map (λ (account : PlainAccount). balance_of account.bytes) (with_amounts firsts states) ≡ map (λ (state : WalletState). state.seen.balance) states
       → in_wallets mint (with_amounts firsts states) ≡ total (in_wallet mint) states
   wallets-hold done [] [] are same = refl

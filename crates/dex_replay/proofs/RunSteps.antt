@@ -44,18 +44,18 @@ use Rattle.dex_replay.specs.Replays.{market_state, start_world, wallet_state}
 use Rattle.dex_replay.proofs.LastAccounts.{listing-in, market_after-listing}
 use Rattle.dex_replay.proofs.MappedLists.{Any-map, filter-push_no, filter-push_yes, zip-map}
 use Rattle.dex_replay.proofs.Holdings.{CanMoveIt, markets-hold, wallets-hold}
-use Rattle.dex_replay.proofs.Runs.{AllStandIn, IsHistory, IsMoved, IsRun, StandIn, StandsIn, Told, naming, on, origin_of, row-sees, row-sight, said, said_of, still-there}
+use Rattle.dex_replay.proofs.Runs.{AllStandIn, IsHistory, IsMoved, IsRun, StandIn, StandsIn, RowReply, naming, on, origin_of, row-sees, row-sight, said, said_of, still-there}
 use Rattle.dex_replay.proofs.Sights.{AreOnce, address_in, before-movement, sees-balances}
 use Rattle.dex_replay.proofs.Room.{roles-all}
 use Rattle.dex_replay.proofs.Doing.{Does, doing, made, sees-doing}
 use Rattle.dex_replay.proofs.Once.{market-once, wallet-once}
 
 -- a market at the end of its calls is sound
-pub history-sound : (script : PlainScript) (done : List Told) (first : PlainMarketAccounts) (state : MarketState) → AreSound first → IsHistory script done first state
+pub history-sound : (script : PlainScript) (done : List RowReply) (first : PlainMarketAccounts) (state : MarketState) → AreSound first → IsHistory script done first state
     → IsSound state.market
 history-sound script done first state sound is = subst IsSound (sym is.end_is) (calls-sound is.calls (market_in first) sound.sound is.legal)
 
-pub history-address : (script : PlainScript) (done : List Told) (first : PlainMarketAccounts) (state : MarketState) → IsHistory script done first state
+pub history-address : (script : PlainScript) (done : List RowReply) (first : PlainMarketAccounts) (state : MarketState) → IsHistory script done first state
     → state.market.listing.address ≡ first.address
 history-address script done first state is =
     ap (λ (m : Market). m.listing.address) is.end_is
@@ -63,7 +63,7 @@ history-address script done first state is =
     ∙ ap (λ (listing : Listing). listing.address) (listing-in first)
 
 -- a market of the start is still there
-market-there : (script : PlainScript) (done : List Told) (address : Address) (firsts : List PlainMarketAccounts) (states : List MarketState)
+market-there : (script : PlainScript) (done : List RowReply) (address : Address) (firsts : List PlainMarketAccounts) (states : List MarketState)
     → AllZip (IsHistory script done) firsts states
     → list_any (λ (state : MarketState). is_same address state.market.listing.address) states ≡ has_market address firsts
 market-there script done address [] [] are = refl
@@ -87,9 +87,9 @@ found address (state ∷ states) known = either (is_same address state.market.li
 
 -- ---- markets
 
-module _ (script : PlainScript) (done : List Told) (row : PlainRow) (bytes : List ℕ) (seen : Seen) (m : Market) (sees : Sees (asked_of row) seen)
+module _ (script : PlainScript) (done : List RowReply) (row : PlainRow) (bytes : List ℕ) (seen : Seen) (m : Market) (sees : Sees (asked_of row) seen)
     (sight : IsSight script seen) (does : Does row bytes seen m) where
-  abbrev new : Told
+  abbrev new : RowReply
   new = record { row = row; reply = (row_step (doing row bytes) seen m).reply }
 
   -- a row of another market leaves a history
@@ -100,7 +100,7 @@ module _ (script : PlainScript) (done : List Told) (row : PlainRow) (bytes : Lis
     entries = is.entries;
     legal = is.legal;
     end_is = is.end_is;
-    said = is.said ∙ sym (ap (map said_of) (filter-push_no (λ (one : Told). is_same one.row.market first.address) done new apart));
+    said = is.said ∙ sym (ap (map said_of) (filter-push_no (λ (one : RowReply). is_same one.row.market first.address) done new apart));
     sees = is.sees;
   }
 
@@ -123,7 +123,7 @@ module _ (script : PlainScript) (done : List Told) (row : PlainRow) (bytes : Lis
             ∙ ap (λ (all : List (Asked × Reply)). all ++ said call ∷ []) is.said
             ∙ ap (λ (one : Market). map said_of (on first.address done) ++ (asked_of row, (row_step (doing row bytes) seen one).reply) ∷ []) (sym here)
             ∙ sym (map_push said_of (on first.address done) new)
-            ∙ sym (ap (map said_of) (filter-push_yes (λ (one : Told). is_same one.row.market first.address) done new same));
+            ∙ sym (ap (map said_of) (filter-push_yes (λ (one : RowReply). is_same one.row.market first.address) done new same));
         sees = All-push (λ (one : Call). IsSight script one.seen) is.calls call is.sees sight;
       }
 
@@ -191,7 +191,7 @@ module _ (script : PlainScript) (done : List Told) (row : PlainRow) (bytes : Lis
         origins = map_push origin_of_entry state.entries entry
             ∙ ap (λ (origins : List Origin). origins ++ origin_of_row row ∷ []) is.origins
             ∙ sym (map_push origin_of (naming first.address done) new)
-            ∙ sym (ap (map origin_of) (filter-push_yes (λ (one : Told). names one.row first.address) done new (sym here ∙ named)));
+            ∙ sym (ap (map origin_of) (filter-push_yes (λ (one : RowReply). names one.row first.address) done new (sym here ∙ named)));
       })
       (λ apart. record {
         address = is.address;
@@ -199,7 +199,7 @@ module _ (script : PlainScript) (done : List Told) (row : PlainRow) (bytes : Lis
         owner = is.owner;
         legal = is.legal;
         balance = is.balance;
-        origins = is.origins ∙ sym (ap (map origin_of) (filter-push_no (λ (one : Told). names one.row first.address) done new (sym here ∙ apart)));
+        origins = is.origins ∙ sym (ap (map origin_of) (filter-push_no (λ (one : RowReply). names one.row first.address) done new (sym here ∙ apart)));
       })
 
   pub wallets-run : (t : Transfers) (firsts : List PlainAccount) (states : List WalletState) → AllZip (IsMoved done) firsts states → All (FitsIn t) states
@@ -307,7 +307,7 @@ module _ (row : PlainRow) (seen : Seen) (m : Market) (wallets : List WalletState
 
 -- ---- the world
 
-module _ (script : PlainScript) (start : IsStart script.start) (done : List Told) (world : World) (run : IsRun script done world) where
+module _ (script : PlainScript) (start : IsStart script.start) (done : List RowReply) (world : World) (run : IsRun script done world) where
   -- wallets have their addresses, and none stands twice
   pub addresses-kept : map address_in world.wallets ≡ map address_of script.start.wallets
   addresses-kept = zip-map (IsMoved done) address_of address_in (λ first state is. is.address) script.start.wallets world.wallets run.wallets

@@ -30,29 +30,29 @@ use Rattle.dex_replay.proofs.MappedLists.{any-here, any-there}
 -- ---- what a run of rows leaves
 
 -- a row of the script that acted, or was held back, and its reply
-pub record Told : Type 0 where
+pub record RowReply : Type 0 where
   pub row : PlainRow
   pub reply : Reply
 
 -- the rows on the market of an address, and those that name the wallet of one
-abbrev pub on : Address → List Told → List Told
-on address done = filter (λ (told : Told). is_same told.row.market address) done
+abbrev pub on : Address → List RowReply → List RowReply
+on address done = filter (λ (told : RowReply). is_same told.row.market address) done
 
-abbrev pub naming : Address → List Told → List Told
-naming address done = filter (λ (told : Told). names told.row address) done
+abbrev pub naming : Address → List RowReply → List RowReply
+naming address done = filter (λ (told : RowReply). names told.row address) done
 
 -- what a call asked and was answered, and a row
 abbrev pub said : Call → Asked × Reply
 said call = (call.asked, call.entry.reply)
 
-abbrev pub said_of : Told → Asked × Reply
+abbrev pub said_of : RowReply → Asked × Reply
 said_of told = (asked_of told.row, told.reply)
 
-abbrev pub origin_of : Told → Origin
+abbrev pub origin_of : RowReply → Origin
 origin_of told = origin_of_row told.row
 
 -- a market of a script after some rows: its calls are those of the rows on it
-pub record IsHistory (script : PlainScript) (done : List Told) (first : PlainMarketAccounts) (state : MarketState) : Type 0 where
+pub record IsHistory (script : PlainScript) (done : List RowReply) (first : PlainMarketAccounts) (state : MarketState) : Type 0 where
   pub calls : List Call
   pub entries : state.entries ≡ map (λ (call : Call). call.entry) calls
   pub legal : IsLegal (market_in first) calls
@@ -61,7 +61,7 @@ pub record IsHistory (script : PlainScript) (done : List Told) (first : PlainMar
   pub sees : All (λ (call : Call). IsSight script call.seen) calls
 
 -- a wallet after them: its entries are of those that name it, and follow from its first balance
-pub record IsMoved (done : List Told) (first : PlainAccount) (state : WalletState) : Type 0 where
+pub record IsMoved (done : List RowReply) (first : PlainAccount) (state : WalletState) : Type 0 where
   pub address : state.seen.address ≡ first.address
   pub mint : state.seen.mint ≡ (wallet_words first.bytes).mint
   pub owner : state.seen.owner ≡ (wallet_words first.bytes).owner
@@ -81,7 +81,7 @@ StandIn wallets market entry = All (StandsIn wallets market entry) (front entry.
 abbrev pub AllStandIn : List WalletState → MarketState → Type 0
 AllStandIn wallets state = All (StandIn wallets state.market.listing.address) state.entries
 
-pub record IsRun (script : PlainScript) (done : List Told) (world : World) : Type 0 where
+pub record IsRun (script : PlainScript) (done : List RowReply) (world : World) : Type 0 where
   pub srm : world.srm ≡ script.start.srm
   pub msrm : world.msrm ≡ script.start.msrm
   pub program : world.program ≡ script.program
@@ -113,7 +113,7 @@ agree wallets address other None two is is_two at at_two = tt
 agree wallets address other (Some wallet) None is is_two at at_two = tt
 agree wallets address other (Some wallet) (Some second) is is_two at at_two = λ same. cc
 
-module _ (script : PlainScript) (done : List Told) where
+module _ (script : PlainScript) (done : List RowReply) where
   -- an account of the start is still there
   pub still-there : (address : Address) (firsts : List PlainAccount) (states : List WalletState) → AllZip (IsMoved done) firsts states
       → list_any (λ (state : WalletState). is_same address state.seen.address) states ≡ has_account address firsts

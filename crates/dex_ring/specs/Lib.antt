@@ -4,4 +4,4 @@ pub mod Faults
 pub mod StandsFor
 pub mod Blank
 pub mod Appended
-pub mod Leaving
+pub mod PendingFills

@@ -21,7 +21,7 @@ use Rattle.dex_script.specs.Drafts.{PlainScript}
 use Rattle.dex_replay.proofs.MappedLists.{map-map}
 use Rattle.dex_stamps.specs.Stamped.{Stamped}
 use Rattle.dex_journals.specs.Journals.{BankMarketState, BankWalletState, IsBankMarket, IsBankWallet, MarketOrigin, WalletOrigin, market_calls, wallet_entries}
-use Rattle.dex_journals.specs.Made.{calls_of_lane, calls_on, entries_of_lane, entries_on}
+use Rattle.dex_journals.specs.StampedCalls.{calls_of_lane, calls_on, entries_of_lane, entries_on}
 use Rattle.dex_fold.specs.Items.{rows_of_lane}
 use Rattle.dex_order.specs.Lanes.{IsLane, IsLaneDone, Lane}
 use Rattle.dex_order.specs.Merged.{IsMarketMerged, IsWalletMerged}

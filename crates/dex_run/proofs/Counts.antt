@@ -17,7 +17,7 @@ use Rattle.dex_script.specs.Drafts.{PlainScript}
 use Rattle.dex_stamps.specs.Stamped.{Stamped, stamped}
 use Rattle.dex_replay.proofs.MappedLists.{filter-of, filter-swap}
 use Rattle.dex_journals.proofs.StampedLists.{items_of-stamped}
-use Rattle.dex_journals.specs.Made.{calls_on, entries_in, entries_on, entry_made}
+use Rattle.dex_journals.specs.StampedCalls.{calls_on, entries_in, entries_on, entry_made}
 use Rattle.dex_fold.specs.Items.{rows_of_lane}
 use Rattle.dex_order.specs.Lanes.{MovesEach}
 use Rattle.dex_order.proofs.CallEntries.{asked-once}

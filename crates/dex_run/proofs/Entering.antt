@@ -15,11 +15,11 @@ use Rattle.dex_script.specs.Drafts.{PlainScript}
 use Rattle.dex_replay.specs.Lawful.{rows_of_market}
 use Rattle.dex_stamps.specs.Stamped.{Stamped}
 use Rattle.dex_journals.specs.Journals.{BankMarketState, MarketOrigin, calls_by, market_calls}
-use Rattle.dex_journals.specs.Made.{calls_on}
+use Rattle.dex_journals.specs.StampedCalls.{calls_on}
 use Rattle.dex_run.specs.Submitted.{HasCalled}
 use Rattle.dex_run.specs.Turns.{HasCall, IsDue, IsMarketOut, MayCall, MayEnter}
 use Rattle.dex_run.proofs.Counts.{calls-left, length-stamped}
-use Rattle.dex_run.proofs.Leaving.{has-called}
+use Rattle.dex_run.proofs.LeavingTurns.{has-called}
 
 abbrev pub MarketPass : Type 0
 MarketPass = PassView (Stamped Call) MarketOrigin

@@ -30,7 +30,7 @@ use Rattle.dex_act.proofs.Sights.{row-sees, sees-cells}
 use Rattle.dex_script.specs.Drafts.{PlainScript}
 use Rattle.dex_replay.specs.Lawful.{IsSight, IsWalletSeen}
 use Rattle.dex_stamps.specs.Stamped.{Stamped}
-use Rattle.dex_journals.specs.Made.{entries_in, entry_made}
+use Rattle.dex_journals.specs.StampedCalls.{entries_in, entry_made}
 use Rattle.dex_order.specs.Lanes.{MovesEach}
 use Rattle.dex_order.proofs.CallEntries.{asked-once}
 use Rattle.dex_run.specs.Turns.{AreInHand, HasEntry, IsReady, world_in}

@@ -10,7 +10,7 @@ mod Once
 mod Counts
 mod Growing
 mod Distinct
-mod Leaving
+mod LeavingTurns
 mod InHand
 mod Acted
 mod Taking

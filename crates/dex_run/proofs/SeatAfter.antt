@@ -25,7 +25,7 @@ use Rattle.dex_replay.specs.Lawful.{AllThree, IsSight}
 use Rattle.dex_wallet.specs.CellState.{balance_of}
 use Rattle.dex_stamps.specs.Stamped.{Stamped, items_of}
 use Rattle.dex_journals.specs.Journals.{MarketOrigin}
-use Rattle.dex_journals.specs.Made.{calls_on, entries_in, entries_on}
+use Rattle.dex_journals.specs.StampedCalls.{calls_on, entries_in, entries_on}
 use Rattle.dex_fold.specs.Items.{rows_of_lane}
 use Rattle.dex_order.specs.Lanes.{IsLane, MovesEach}
 use Rattle.dex_run.specs.Bank.{BankState, IsBank, IsMarketGate, market_addresses}

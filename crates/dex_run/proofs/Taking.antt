@@ -27,7 +27,7 @@ use Rattle.dex_script.specs.Known.{has_account, is_known_role}
 use Rattle.dex_replay.specs.Lawful.{AllThree, rows_of_wallet}
 use Rattle.dex_stamps.specs.Stamped.{Stamped}
 use Rattle.dex_journals.specs.Journals.{TrailState, WalletOrigin, entries_by, left_by, wallet_entries, wallet_origin}
-use Rattle.dex_journals.specs.Made.{entries_on}
+use Rattle.dex_journals.specs.StampedCalls.{entries_on}
 use Rattle.dex_journals.proofs.WalletLaws.{spare-wallet}
 use Rattle.dex_order.proofs.CallEntries.{asked-once}
 use Rattle.dex_run.specs.Bank.{BankState, IsBank, IsWalletGate, wallet_addresses}
@@ -36,7 +36,7 @@ use Rattle.dex_run.specs.Turns.{AreInHand, AreReady, HasEntry, HasLeft, HaveGrow
 use Rattle.dex_run.proofs.Counts.{entries-left, length-stamped}
 use Rattle.dex_run.proofs.Distinct.{wallets-differ}
 use Rattle.dex_run.proofs.Growing.{Differ, IsAtGate, WalletPass, drawn-ready, gates-set, one-grows, still-out}
-use Rattle.dex_run.proofs.Leaving.{has-moved}
+use Rattle.dex_run.proofs.LeavingTurns.{has-moved}
 use Rattle.dex_run.proofs.Once.{AreOnce, once-behind, once-head}
 
 -- ---- lists

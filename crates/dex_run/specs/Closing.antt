@@ -14,7 +14,7 @@ use Rattle.dex_wallet.specs.CellState.{CellState}
 use Rattle.dex_stamps.specs.Stamped.{Stamped}
 use Rattle.dex_journals.specs.Journals.{BankMarketState, IsBankMarket, MarketOrigin, market_calls, market_origin}
 use Rattle.dex_journals.specs.Journals.{BankWalletState, IsBankWallet, WalletOrigin, wallet_entries, wallet_origin}
-use Rattle.dex_journals.specs.Made.{calls_on, entries_on}
+use Rattle.dex_journals.specs.StampedCalls.{calls_on, entries_on}
 use Rattle.dex_order.specs.Merged.{AreMerged, Histories, left}
 use Rattle.dex_run.specs.declared.closing.ClosingRoom.{ClosingRoom}
 use Rattle.dex_run.specs.declared.closing.GateRoom.{GateRoom}

@@ -7,7 +7,7 @@ use Rattle.dex_history.specs.Journal.{Call, asked_of}
 use Rattle.dex_stamps.specs.Stamped.{Stamped}
 use Rattle.dex_run.specs.declared.bank.Bank.TheInside as bank
 use Rattle.dex_run.specs.declared.seat.LaneSeat.TheInside as seat
-use Rattle.dex_run.specs.declared.made.Made.{Made}
+use Rattle.dex_run.specs.declared.stamped_record.StampedRecord.{StampedRecord}
 use Rattle.dex_run.specs.Bank.{BankState, IsBank}
 use Rattle.dex_run.specs.Seats.{IsSeat, SeatState}
 
@@ -32,7 +32,7 @@ pub record IsBankKept (inside : bank.Inside) : Type 0 where
       ≡ map (λ (account : PlainAccount). account.address) inside.script.value.start.wallets
 
 -- the call of a row, with what it saw, the entry that it made, and its stamp
-abbrev pub call_made : Row × Made → Stamped Call
+abbrev pub call_made : Row × StampedRecord → Stamped Call
 call_made made = record {
   item = record { asked = asked_of (row_of made.0); seen = made.1.seen; entry = made.1.entry };
   stamp = made.1.stamp.number;

@@ -10,7 +10,7 @@ use Rattle.dex_history.specs.Journal.{Call}
 use Rattle.dex_script.specs.Drafts.{PlainScript}
 use Rattle.dex_stamps.specs.Stamped.{Stamped}
 use Rattle.dex_journals.specs.Journals.{MarketOrigin, WalletOrigin}
-use Rattle.dex_journals.specs.Made.{calls_on, entries_on}
+use Rattle.dex_journals.specs.StampedCalls.{calls_on, entries_on}
 use Rattle.dex_fold.specs.Items.{rows_of_lane}
 use Rattle.dex_order.specs.Lanes.{IsLane, Lane}
 use Rattle.dex_run.specs.Bank.{BankState}

@@ -15,7 +15,7 @@ use Rattle.dex_wallet.specs.CellState.{balance_of}
 use Rattle.dex_replay.specs.Lawful.{AllThree, IsSight}
 use Rattle.dex_stamps.specs.Stamped.{Stamped, items_of}
 use Rattle.dex_journals.specs.Journals.{MarketOrigin, WalletOrigin}
-use Rattle.dex_journals.specs.Made.{entries_in}
+use Rattle.dex_journals.specs.StampedCalls.{entries_in}
 use Rattle.dex_fold.specs.Items.{rows_of_lane}
 use Rattle.dex_order.specs.Lanes.{MovesEach}
 use Rattle.dex_run.specs.Seats.{SeatState}

@@ -22,7 +22,7 @@ use Rattle.dex_replay.specs.Lawful.{AllThree, IsSight, rows_of_market, rows_of_w
 use Rattle.dex_stamps.specs.Stamped.{Stamped, items_of}
 use Rattle.dex_journals.specs.Journals.{BankMarketState, IsBankMarket, IsBankWallet, MarketOrigin, TrailState, WalletOrigin}
 use Rattle.dex_journals.specs.Journals.{calls_by, entries_by, left_by, market_calls, market_origin, wallet_entries, wallet_origin}
-use Rattle.dex_journals.specs.Made.{calls_on, entries_in, entries_on}
+use Rattle.dex_journals.specs.StampedCalls.{calls_on, entries_in, entries_on}
 use Rattle.dex_fold.specs.Items.{rows_of_lane}
 use Rattle.dex_order.specs.Lanes.{IsLane, MovesEach}
 use Rattle.dex_run.specs.Bank.{BankState}

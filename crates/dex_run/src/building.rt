@@ -27,7 +27,7 @@ use dex_script::Script;
 use dex_stamps::Stamp;
 use dex_types::{Named, NoMemory};
 use dex_wallet::WalletCell;
-use http_server::Log;
+use http_server::Log as CallLog;
 use std::alloc::Global;
 
 /// Adds an item behind the others.
@@ -177,7 +177,7 @@ fn seat(
         markets,
         wallets,
         hands,
-        calls: Log::new(),
+        calls: CallLog::new(),
         last: Stamp::first(),
         script: outline.kept(),
     })

@@ -6,11 +6,11 @@ mod building;
 mod closing;
 mod columns;
 mod lane;
-mod made;
 mod outline;
 mod running;
 mod seat;
 mod seeing;
+mod stamped_record;
 mod submitting;
 mod turns;
 

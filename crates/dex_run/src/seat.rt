@@ -3,14 +3,14 @@
 ghost use Rattle.std.specs.Prelude.{◌≡◌};
 ghost use Rattle.dex_run.specs.Seats.{IsSeat};
 
-use crate::made::Made;
+use crate::stamped_record::StampedRecord;
 use dex_gate::Pass;
 use dex_journals::{BankMarket, BankWallet};
 use dex_script::Script;
 use dex_stamps::{Kept, Stamp};
 use dex_types::Row;
 use dex_wallet::WalletCell;
-use http_server::Log;
+use http_server::Log as CallLog;
 use std::marker::Model;
 
 /// A lane's seat at a bank: its passes for all markets and wallets, and what it made, which are its lane's first rows, each done
@@ -21,7 +21,7 @@ pub struct LaneSeat {
     pub(crate) markets: Vec<Pass<BankMarket>>,
     pub(crate) wallets: Vec<Pass<BankWallet>>,
     pub(crate) hands: Vec<WalletCell>,
-    pub(crate) calls: Log<Row, Made>,
+    pub(crate) calls: CallLog<Row, StampedRecord>,
     pub(crate) last: Stamp,
     pub(crate) script: Kept<Script>,
 }

@@ -14,9 +14,9 @@ ghost use Rattle.dex_run.specs.Turns.{AreInHand, AreReady, HasCall, HasEntry, Ha
 ghost use Rattle.dex_run.specs.Turns.{MayCall, MayEnter, world_in};
 
 use crate::bank::Bank;
-use crate::made::Made;
 use crate::seat::LaneSeat;
 use crate::seeing::{last_entry, role_at};
+use crate::stamped_record::StampedRecord;
 use crate::turns::{first_of, leave_wallet, put_in_hand, take_from_hand, take_market, take_wallet};
 use dex_gate::{Gate, Pass};
 use dex_io::Pace;
@@ -25,7 +25,7 @@ use dex_locks::plan_locks;
 use dex_stamps::Stamp;
 use dex_types::{Address, Reply, Row, Seen};
 use dex_wallet::WalletCell;
-use http_server::Log;
+use http_server::Log as CallLog;
 use std::sync::Wait;
 
 impl Bank {
@@ -60,7 +60,7 @@ impl Bank {
             pace,
         );
         seat.calls = seat.calls.and(row, &made);
-        let Made {
+        let StampedRecord {
             seen: _,
             entry,
             stamp,
@@ -78,11 +78,11 @@ impl Bank {
         wallets: &[Option<Address>],
         passes: &mut Vec<Pass<BankWallet>>,
         hands: &mut Vec<WalletCell>,
-        calls: &Log<Row, Made>,
+        calls: &CallLog<Row, StampedRecord>,
         last: &Stamp,
         row: &Row,
         pace: &P,
-    ) -> Made
+    ) -> StampedRecord
         requires due { IsDue self.now.script (map call_made calls.now.items) (row_of row.now) }
         requires market { MayEnter self.now.script (row_of row.now) (map call_made calls.now.items) gate.now pass.old }
         requires wallets { front wallets.now ≡ row_wallets (row_of row.now) }
@@ -121,11 +121,11 @@ impl Bank {
         market: &mut BankMarket,
         passes: &mut Vec<Pass<BankWallet>>,
         hands: &mut Vec<WalletCell>,
-        calls: &Log<Row, Made>,
+        calls: &CallLog<Row, StampedRecord>,
         stamp: &Stamp,
         row: &Row,
         pace: &P,
-    ) -> Made
+    ) -> StampedRecord
         requires due { IsDue self.now.script (map call_made calls.now.items) (row_of row.now) }
         requires market { MayCall (row_of row.now) stamp.now.number market.old }
         requires hands { AreInHand self.now.script (row_of row.now) (front others.now) hands.old.items }
@@ -166,7 +166,7 @@ impl Bank {
         stamp: &Stamp,
         row: &Row,
         pace: &P,
-    ) -> Made
+    ) -> StampedRecord
         requires market { MayCall (row_of row.now) stamp.now.number market.old }
         requires hands { AreInHand self.now.script (row_of row.now) [] hands.old.items }
         ensures told { IsTold self.now.script stamp.now.number (call_made (row.entry.now, result)) }
@@ -179,7 +179,7 @@ impl Bank {
         let stamp = stamp.next();
         market.act(hands, row, &seen, &stamp);
         let entry = last_entry(market.cell());
-        Made { seen, entry, stamp }
+        StampedRecord { seen, entry, stamp }
     }
 
     // What the row sees of the wallets in hand.

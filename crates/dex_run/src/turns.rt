@@ -7,7 +7,7 @@ ghost use Rattle.dex_journals.specs.Journals.{IsBankMarket, left_by, market_call
 ghost use Rattle.dex_run.specs.Inside.{call_made};
 ghost use Rattle.dex_run.specs.Turns.{HasLeft, IsMarketOut, IsOut, MayLeave, first_in};
 
-use crate::made::Made;
+use crate::stamped_record::StampedRecord;
 use dex_gate::{Away, Gate, Journaled, Pass, Turn};
 use dex_journals::{BankMarket, BankWallet, WalletTrail};
 use dex_stamps::Stamp;
@@ -91,7 +91,7 @@ pub(crate) fn leave_wallet(
     trail: WalletTrail,
     away: Away<BankWallet>,
     row: &Row,
-    made: &Made,
+    made: &StampedRecord,
 )
     requires entry { MayLeave (call_made (row.now, made.now)) gate.now pass.old trail cell }
     requires away { away ≡ record {

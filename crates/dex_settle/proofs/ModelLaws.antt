@@ -20,7 +20,7 @@ use Rattle.dex_market.specs.StandsFor.{words_of}
 use Rattle.dex_market.proofs.WordWrites.{IsMarket-beside, IsMarket-with_number, account_flags_written, pc_fees_accrued_written}
 use Rattle.dex_orders.specs.OrdersAccount.{IsClosed, IsOpen, account_of, market_of}
 use Rattle.dex_orders.specs.StandsFor.{trader_of}
-use Rattle.dex_settle.specs.Leaving.{swept, with_disabled}
+use Rattle.dex_settle.specs.PayingOut.{swept, with_disabled}
 use Rattle.dex_settle.specs.Refusing.{close_reason, disable_reason, init_reason, settle_reason, sweep_reason}
 use Rattle.dex_settle.proofs.TraderLaws.{trader_of-closed}
 

@@ -17,7 +17,7 @@ use Rattle.dex_orders.proofs.WriteLaws.{IsOpen-funded, account_of-funded, market
 use Rattle.dex_sound.proofs.FieldLaws.{fields-fit}
 use Rattle.dex_sound.proofs.TraderSums.{all_free-put, all_referrers-put}
 use Rattle.dex_settle.specs.declared.plan.SettlePlan.{SettlePlan}
-use Rattle.dex_settle.specs.Leaving.{CanPay, PaysOut, bytes_after, funds_after, market_after, plan_of, settled, settlement_by, words_after}
+use Rattle.dex_settle.specs.PayingOut.{CanPay, PaysOut, bytes_after, funds_after, market_after, plan_of, settled, settlement_by, words_after}
 use Rattle.dex_settle.specs.SettleGiven.{IsOfSound, SettleGiven, settle_given, with_settled}
 
 -- what is paid to the pc wallet and to the referrer fits a field

@@ -1,3 +1,3 @@
 pub mod SettleGiven
 pub mod Refusing
-pub mod Leaving
+pub mod PayingOut

@@ -11,7 +11,7 @@ use Rattle.dex_types.specs.Transfers.{Transfers}
 use Rattle.dex_types.specs.Why.{settling_reasons, sweeping_reasons, why_closing, why_disabling, why_opening}
 use Rattle.dex_market.specs.MarketAccount.{MarketTerms, MarketWords}
 use Rattle.dex_settle.specs.declared.plan.SettlePlan.{SettlePlan}
-use Rattle.dex_settle.specs.Leaving.{plan_of}
+use Rattle.dex_settle.specs.PayingOut.{plan_of}
 
 -- the reasons against settling that ask for wallets, for the signer and for the wallets' mints
 abbrev pub early_settle_reasons : MarketTerms → Address → Seen → Account → List (Option Refusal)

@@ -4,7 +4,7 @@ ghost use Rattle.std.specs.Prelude.{◌≡◌};
 ghost use Rattle.dex_types.specs.Reasons.{answered};
 ghost use Rattle.dex_accounts.specs.Keeps.{KeepsMarket};
 ghost use Rattle.dex_market.specs.MarketAccount.{IsMarket, market_words};
-ghost use Rattle.dex_settle.specs.Leaving.{with_disabled};
+ghost use Rattle.dex_settle.specs.PayingOut.{with_disabled};
 ghost use Rattle.dex_settle.specs.Refusing as refusing;
 
 use dex_market::{MarketRef, MarketView};

@@ -16,7 +16,7 @@ ghost use Rattle.dex_market.specs.MarketAccount.{market_words};
 ghost use Rattle.dex_orders.specs.OrdersAccount.{IsClosed, IsOpen, account_of, market_of};
 ghost use Rattle.dex_orders.specs.StandsFor.{trader_of};
 ghost use Rattle.dex_settle.specs.declared.plan.SettlePlan.{SettlePlan};
-ghost use Rattle.dex_settle.specs.Leaving.{PaysOut, plan_of, settled, settlement_by, swept, with_disabled};
+ghost use Rattle.dex_settle.specs.PayingOut.{PaysOut, plan_of, settled, settlement_by, swept, with_disabled};
 ghost use Rattle.dex_settle.specs.Refusing.{close_reason, disable_reason, init_reason, settle_reason, sweep_reason};
 ghost use Rattle.dex_settle.specs.SettleGiven.{settle_given, with_settled};
 

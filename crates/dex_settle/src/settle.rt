@@ -8,7 +8,7 @@ ghost use Rattle.dex_types.specs.Wallets.{brought_to};
 ghost use Rattle.dex_accounts.specs.Keeps.{KeepsMarket, KeepsOpen};
 ghost use Rattle.dex_market.specs.MarketAccount.{IsMarket, market_words};
 ghost use Rattle.dex_orders.specs.OrdersAccount.{IsOpen, account_of, funded};
-ghost use Rattle.dex_settle.specs.Leaving as leaving;
+ghost use Rattle.dex_settle.specs.PayingOut as paying_out;
 ghost use Rattle.dex_settle.specs.SettleGiven.{HasOneCoinMint, IsOfSound, handed, shown};
 ghost use Rattle.dex_settle.specs.Refusing as refusing;
 
@@ -20,8 +20,8 @@ use dex_types::{Address, Refusal, Seen};
 
 fn plan_of(orders: &OrdersRef<'_>, has_referrer: bool) -> SettlePlan
     requires { IsOpen orders.now.bytes.now }
-    ensures plan { result ≡ leaving.plan_of (settling.settlement has_referrer (account_of orders.now.bytes.now)) }
-    ensures out { leaving.PaysOut result (account_of orders.now.bytes.now) }
+    ensures plan { result ≡ paying_out.plan_of (settling.settlement has_referrer (account_of orders.now.bytes.now)) }
+    ensures out { paying_out.PaysOut result (account_of orders.now.bytes.now) }
 {
     let funds = orders.funds();
     SettlePlan {
@@ -54,8 +54,8 @@ fn early_reason(
 
 /// The first reason that asks for the wallets' balances.
 fn full_reason(seen: &Seen, plan: &SettlePlan) -> Option<Refusal>
-    requires { (address : Address) → brought_to seen.now (leaving.transfers_by plan.now) address < 2 ^ 64 }
-    ensures { result ≡ first_of (refusing.full_reasons seen.now (leaving.transfers_by plan.now)) }
+    requires { (address : Address) → brought_to seen.now (paying_out.transfers_by plan.now) address < 2 ^ 64 }
+    ensures { result ≡ first_of (refusing.full_reasons seen.now (paying_out.transfers_by plan.now)) }
 {
     let paid = Payout {
         coin: plan.coin,
@@ -115,9 +115,9 @@ pub fn decide_settle(
 /// Takes what is paid out from the deposits, and the referrer part from the rebates, to the fees where it stays.
 pub(crate) fn pay(plan: &SettlePlan, market: &mut MarketView<'_>)
     requires accepted { IsMarket market.old.bytes.now }
-    requires can_pay { leaving.CanPay plan.now (market_words market.old.bytes.now) }
+    requires can_pay { paying_out.CanPay plan.now (market_words market.old.bytes.now) }
     ensures place { market.new.bytes.ghost_name ≡ market.old.bytes.ghost_name }
-    ensures bytes { market.new.bytes.now ≡ leaving.bytes_after plan.now market.old.bytes.now }
+    ensures bytes { market.new.bytes.now ≡ paying_out.bytes_after plan.now market.old.bytes.now }
     ensures accepted { IsMarket market.new.bytes.now }
 {
     let rebates = market.referrer_rebates_accrued() - (plan.referrer + plan.to_fees);
@@ -134,7 +134,7 @@ pub(crate) fn pay(plan: &SettlePlan, market: &mut MarketView<'_>)
 pub(crate) fn pay_out(orders: &mut OrdersView<'_>)
     requires { IsOpen orders.old.bytes.now }
     ensures place { orders.new.bytes.ghost_name ≡ orders.old.bytes.ghost_name }
-    ensures bytes { orders.new.bytes.now ≡ funded orders.old.bytes.now (leaving.funds_after
+    ensures bytes { orders.new.bytes.now ≡ funded orders.old.bytes.now (paying_out.funds_after
         (account_of orders.old.bytes.now)) }
     ensures accepted { IsOpen orders.new.bytes.now }
 {
@@ -154,8 +154,8 @@ pub fn apply_settle(plan: &SettlePlan, market: &mut MarketView<'_>, orders: &mut
     requires market { IsMarket market.old.bytes.now }
     requires account { IsOpen orders.old.bytes.now }
     requires parts { IsOfSound (handed market.old orders.old) }
-    requires decided { leaving.PaysOut plan.now (account_of orders.old.bytes.now) }
-    ensures does { handed market.new orders.new ≡ leaving.settled plan.now (handed market.old orders.old) }
+    requires decided { paying_out.PaysOut plan.now (account_of orders.old.bytes.now) }
+    ensures does { handed market.new orders.new ≡ paying_out.settled plan.now (handed market.old orders.old) }
     ensures account { KeepsMarket market.old market.new }
     ensures orders { KeepsOpen orders.old orders.new }
 {

@@ -11,8 +11,8 @@ use Rattle.dex_accounts.specs.Decoded.{AreSound, market_in}
 use Rattle.dex_decide.specs.declared.plan.Plan.{Plan}
 use Rattle.dex_decide.specs.Plans.{decided}
 use Rattle.dex_history.specs.Journal.{request_of, row_step}
-use Rattle.dex_ring.specs.declared.leaving.Leaving.{Leaving}
-use Rattle.dex_ring.specs.Leaving.{leaving_of}
+use Rattle.dex_ring.specs.declared.pending_fills.PendingFills.{PendingFills}
+use Rattle.dex_ring.specs.PendingFills.{pending_fills_of}
 use Rattle.dex_step.specs.Acting.{HasStepped}
 use Rattle.dex_step.specs.Planned.{IsPlanned, OfFirst}
 use Rattle.dex_step.proofs.PlannedLaws.{row-planned}
@@ -26,19 +26,19 @@ planned-as accounts row seen plan kind sound is kind_is =
     (row-planned row seen (market_in accounts) plan sound.sound is)
 
 -- what was done of a kind's step was done of the row's
-pub stepped-as : (before after : PlainMarketAccounts) (reply : Reply) (leaving now : Leaving) (s s' : Step) → HasStepped before after reply leaving s → s' ≡ s → now ≡ leaving
+pub stepped-as : (before after : PlainMarketAccounts) (reply : Reply) (pending now : PendingFills) (s s' : Step) → HasStepped before after reply pending s → s' ≡ s → now ≡ pending
     → HasStepped before after reply now s'
-stepped-as before after reply leaving now s s' stepped same sums =
-    subst (λ (l : Leaving). HasStepped before after reply l s') (sym sums) (subst (HasStepped before after reply leaving) (sym same) stepped)
+stepped-as before after reply pending now s s' stepped same sums =
+    subst (λ (l : PendingFills). HasStepped before after reply l s') (sym sums) (subst (HasStepped before after reply pending) (sym same) stepped)
 
 -- nothing was done
-pub nothing-stepped : (accounts : PlainMarketAccounts) (leaving : Leaving) → AreSound accounts → leaving ≡ leaving_of (market_in accounts).events
-    → HasStepped accounts accounts Done leaving (done (market_in accounts))
-nothing-stepped accounts leaving sound sums = record {
+pub nothing-stepped : (accounts : PlainMarketAccounts) (pending : PendingFills) → AreSound accounts → pending ≡ pending_fills_of (market_in accounts).events
+    → HasStepped accounts accounts Done pending (done (market_in accounts))
+nothing-stepped accounts pending sound sums = record {
   reply_is = refl;
   market = refl;
   sound = sound;
-  leaving_is = sums;
+  pending_is = sums;
   kept = record { address = refl; authority = refl; addresses = refl; accepted = λ was. was };
 }
 

@@ -18,18 +18,18 @@ use Rattle.dex_laws.proofs.TotalLaws.{total-append}
 use Rattle.dex_accounts.specs.Decoded.{AreSound, market_in}
 use Rattle.dex_accounts.specs.Owners.{bytes_at}
 use Rattle.dex_accounts.specs.Parts.{AreOf, HasOpen, parts_of}
-use Rattle.dex_cancel.specs.Leaving.{CancelGiven, out_of, queue_of, with_outs}
+use Rattle.dex_cancel.specs.TakenOff.{CancelGiven, out_of, queue_of, with_outs}
 use Rattle.dex_cancel.specs.Parts.{cancel_given, left_by, named_in, with_cancelled}
-use Rattle.dex_cancel.proofs.LeavingLaws.{market-left}
+use Rattle.dex_cancel.proofs.TakenOffLaws.{market-left}
 use Rattle.dex_cancel.proofs.MarketLaws.{AreOf-left, named-parts}
 use Rattle.dex_market.specs.MarketAccount.{market_words, sizes_of}
-use Rattle.dex_ring.specs.Leaving.{leaving_of}
+use Rattle.dex_ring.specs.PendingFills.{pending_fills_of}
 use Rattle.dex_ring.specs.Ring.{IsEventQueue, Ring, ring_of, room_of}
 use Rattle.dex_slab.specs.Slab.{resting}
 use Rattle.dex_step.specs.Acting.{HasStepped, HaveVaults, coin_held, pc_held}
 use Rattle.dex_step.specs.CancelActs.{CanCancel, HasCancelled, IsCancelDecided, cancel_bytes, cancel_bytes_of, cancel_step}
 use Rattle.dex_step.proofs.OwnerParts.{OpenAt, open-at}
-use Rattle.dex_step.proofs.LeavingLaws.{leaves-stepped}
+use Rattle.dex_step.proofs.SteppedLaws.{leaves-stepped}
 use Rattle.dex_step.proofs.SoundParts.{coin-held, names-same, pc-held, same-parts, sound-are, sound-on, sound-parts}
 
 -- what is not refused is Ok
@@ -51,7 +51,7 @@ leaving-cancels token (first ∷ gone) m =
     let none = out-leaves token m.listing.sizes first in
     omega (arith, rest, one, none)
 
-pub sums-cancels : (gone : List RestingOrder) (m : Market) → leaving_of m.events ≡ leaving_of (after_cancels gone m).events
+pub sums-cancels : (gone : List RestingOrder) (m : Market) → pending_fills_of m.events ≡ pending_fills_of (after_cancels gone m).events
 sums-cancels gone m = rw (leaving-cancels Coin gone m, leaving-cancels Pc gone m) refl
 
 module _ (accounts : PlainMarketAccounts) (by : CancelBy) (owner : Address) (sizes : Lots) (sound : AreSound accounts)
@@ -116,7 +116,7 @@ module _ (accounts : PlainMarketAccounts) (by : CancelBy) (owner : Address) (siz
         same-parts _ _ _ _ _ _ _ _ _ _ _ _ _ _ _ _ market requests queue_is
         (ap (λ (g : CancelGiven). g.bids) done.does) done.bid_room (ap (λ (g : CancelGiven). g.asks) done.does) done.ask_room orders
 
-    pub cancel-stepped : HasStepped accounts after (Cancelled count) (leaving_of (market_in accounts).events) (cancel_step by owner (market_in accounts))
+    pub cancel-stepped : HasStepped accounts after (Cancelled count) (pending_fills_of (market_in accounts).events) (cancel_step by owner (market_in accounts))
     cancel-stepped =
         let m = market_in accounts in
         let taken : List RestingOrder = cancelled by owner m.bids m.asks in

@@ -23,15 +23,15 @@ use Rattle.dex_crank.proofs.CountLaws.{consumable-le}
 use Rattle.dex_crank.proofs.PartLaws.{AreCrankedIn-bytes, AreOf-cranked, crank-sound_of, has_owner, head_of, market-of, pending-count}
 use Rattle.dex_crank.proofs.PaymentLaws.{IsPaid, IsPaid-of}
 use Rattle.dex_orders.specs.OrdersAccount.{IsOpened, market_of}
-use Rattle.dex_ring.specs.declared.leaving.Leaving.{Leaving}
-use Rattle.dex_ring.specs.Leaving.{leaving_of}
+use Rattle.dex_ring.specs.declared.pending_fills.PendingFills.{PendingFills}
+use Rattle.dex_ring.specs.PendingFills.{pending_fills_of}
 use Rattle.dex_ring.specs.Ring.{events_of, popped}
 use Rattle.dex_ring.proofs.PopLaw.{events_of-first}
 use Rattle.dex_slab.specs.Slab.{resting, room_in}
 use Rattle.dex_slab.specs.StandsFor.{IsSideAccount}
 use Rattle.dex_step.specs.Acting.{HasStepped, HaveVaults, KeepNames, addresses_of, coin_held, pc_held}
 use Rattle.dex_step.specs.ConsumeActs.{HasConsumed, consume_step}
-use Rattle.dex_step.proofs.LeavingLaws.{leaves-stepped}
+use Rattle.dex_step.proofs.SteppedLaws.{leaves-stepped}
 use Rattle.dex_step.proofs.SoundParts.{coin-held, pc-held, same-parts, sound-are, sound-on, sound-parts}
 use Rattle.dex_types.specs.declared.terms.Side.TheVariants.{Bid, Ask}
 
@@ -69,18 +69,18 @@ addresses-by : (accounts : List PlainAccount) → addresses_of accounts ≡ map 
 addresses-by [] = refl
 addresses-by (account ∷ others) = ap (λ (l : List Address). account.address ∷ l) (addresses-by others)
 
-module _ (accounts : PlainMarketAccounts) (limit : ℕ) (named : List Address) (leaving : Leaving) (sound : AreSound accounts)
-    (sums : leaving ≡ leaving_of (market_in accounts).events) where
+module _ (accounts : PlainMarketAccounts) (limit : ℕ) (named : List Address) (pending : PendingFills) (sound : AreSound accounts)
+    (sums : pending ≡ pending_fills_of (market_in accounts).events) where
   pub consume-can : AreOfSoundMarket (crank_given (parts_of accounts))
   consume-can = record { whole = parts_of accounts; sound = sound-parts accounts sound; given = refl }
 
   events_are : events_of accounts.events ≡ (market_in accounts).events
   events_are = events_in-parts (parts_of accounts) (market_in accounts) (sound-are accounts sound)
 
-  module _ (after : PlainMarketAccounts) (consumed : Consumed) (now : Leaving) (done : HasConsumed limit named consumed (crank_given (parts_of accounts)) (crank_given (parts_of after)))
+  module _ (after : PlainMarketAccounts) (consumed : Consumed) (now : PendingFills) (done : HasConsumed limit named consumed (crank_given (parts_of accounts)) (crank_given (parts_of after)))
       (vaults : HaveVaults accounts after (coin_held accounts) (pc_held accounts))
       (market : after.market ≡ accounts.market) (requests : after.requests ≡ accounts.requests) (bids : after.bids ≡ accounts.bids) (asks : after.asks ≡ accounts.asks)
-      (coin : now.coin ≡ leaving.coin - consumed.leaving.coin) (pc : now.pc ≡ leaving.pc - consumed.leaving.pc) where
+      (coin : now.coin ≡ pending.coin - consumed.fills.coin) (pc : now.pc ≡ pending.pc - consumed.fills.pc) where
     counted : consumed.count ≡ consumable limit named (market_in accounts).events
     counted = done.count ∙ ap (consumable limit named) events_are
 
@@ -119,13 +119,13 @@ module _ (accounts : PlainMarketAccounts) (limit : ℕ) (named : List Address) (
         ap (λ (p : MarketParts). events_of p.events) parts_is
         ∙ events_in-parts (with_cranked left (parts_of accounts)) (consume_step limit named (market_in accounts)).market are
 
-    sums_are : now ≡ leaving_of (consume_step limit named (market_in accounts)).market.events
+    sums_are : now ≡ pending_fills_of (consume_step limit named (market_in accounts)).market.events
     sums_are =
         let first : now.coin ≡ all_leaving Coin (consume_step limit named (market_in accounts)).market.events =
-        omega (arith, coin, done.coin, ap (λ (l : Leaving). l.coin) sums, ap (all_leaving Coin) events_are, ap (all_leaving Coin) left_events) in
+        omega (arith, coin, done.coin, ap (λ (l : PendingFills). l.coin) sums, ap (all_leaving Coin) events_are, ap (all_leaving Coin) left_events) in
         let second : now.pc ≡ all_leaving Pc (consume_step limit named (market_in accounts)).market.events =
-        omega (arith, pc, done.pc, ap (λ (l : Leaving). l.pc) sums, ap (all_leaving Pc) events_are, ap (all_leaving Pc) left_events) in
-        let by : ℕ → ℕ → Leaving = λ x y. record { coin = x; pc = y } in
+        omega (arith, pc, done.pc, ap (λ (l : PendingFills). l.pc) sums, ap (all_leaving Pc) events_are, ap (all_leaving Pc) left_events) in
+        let by : ℕ → ℕ → PendingFills = λ x y. record { coin = x; pc = y } in
         ap (λ x. by x now.pc) first ∙ ap (λ y. by (all_leaving Coin (consume_step limit named (market_in accounts)).market.events) y) second
 
     pub consume-stepped : HasStepped accounts after (ConsumedReply consumed.count) now (consume_step limit named (market_in accounts))

@@ -24,9 +24,9 @@ use Rattle.dex_accounts.proofs.PartLaws.{StandsForTrader-open, trader_of-open}
 use Rattle.dex_market.specs.StandsFor.{words_of}
 use Rattle.dex_orders.specs.OrdersAccount.{IsBlank, IsEmptyAccount, IsOpened, IsOrders, account_of, market_of}
 use Rattle.dex_orders.specs.StandsFor.{StandsForTrader, trader_of}
-use Rattle.dex_ring.specs.Leaving.{leaving_of}
+use Rattle.dex_ring.specs.PendingFills.{pending_fills_of}
 use Rattle.dex_settle.specs.declared.plan.SettlePlan.{SettlePlan}
-use Rattle.dex_settle.specs.Leaving.{CanPay, PaysOut, settled, settlement_by, swept, with_disabled}
+use Rattle.dex_settle.specs.PayingOut.{CanPay, PaysOut, settled, settlement_by, swept, with_disabled}
 use Rattle.dex_settle.specs.SettleGiven.{SettleGiven, given, settle_given, with_settled}
 use Rattle.dex_settle.proofs.ModelLaws.{close-put, disable-put, open-put, sweep-put}
 use Rattle.dex_settle.proofs.PayLaws.{after-put, can-pay}
@@ -38,7 +38,7 @@ use Rattle.dex_token.specs.TokenAccount.{wallet_words}
 use Rattle.dex_step.specs.Acting.{HasStepped, HaveVaults, Holds, KeepNames, Leaves, coin_held, pc_held}
 use Rattle.dex_step.specs.FundActs.{IsCloseDecided, IsDisableDecided, IsInitDecided, IsSettleDecided, IsSweepDecided, close_step, disable_step, init_step, settle_step, sweep_step}
 use Rattle.dex_step.specs.FundBytes.{CanChange, CanClose, CanSettle, HasChanged, HasClosed, HasOpened, HasSettled}
-use Rattle.dex_step.proofs.LeavingLaws.{leaves-stepped}
+use Rattle.dex_step.proofs.SteppedLaws.{leaves-stepped}
 use Rattle.dex_step.proofs.OwnerParts.{OpenAt, names-changed, open-at, open-named}
 use Rattle.dex_step.proofs.SoundParts.{coin-held, names-same, pc-fits, pc-held, same-parts, sound-are, sound-on, sound-parts}
 
@@ -164,12 +164,12 @@ module _ (accounts : PlainMarketAccounts) (plan : SettlePlan) (owner : Address) 
         open-named (market_in accounts).listing.address owner own.bytes done.now accounts.orders _ own.has.found are.traders done.has.opened
         ∙ sym sound.stands.address))
 
-    pub settle-stepped : HasStepped accounts after (Settled plan.coin plan.pc plan.referrer) (leaving_of (market_in accounts).events) (settle_step plan owner (market_in accounts))
+    pub settle-stepped : HasStepped accounts after (Settled plan.coin plan.pc plan.referrer) (pending_fills_of (market_in accounts).events) (settle_step plan owner (market_in accounts))
     settle-stepped =
         let m = market_in accounts in
         let reply = Settled plan.coin plan.pc plan.referrer in
-        subst (HasStepped accounts after reply (leaving_of m.events)) (sym step_is)
-        (leaves-stepped accounts after (with_settled owner left (parts_of accounts)) _ _ reply (leaving_of m.events) _ sound sound_after
+        subst (HasStepped accounts after reply (pending_fills_of m.events)) (sym step_is)
+        (leaves-stepped accounts after (with_settled owner left (parts_of accounts)) _ _ reply (pending_fills_of m.events) _ sound sound_after
         (record {
           vaults = vaults;
           parts_are = parts_is;
@@ -207,10 +207,10 @@ module _ (accounts after : PlainMarketAccounts) (sound : AreSound accounts) (req
 
   pub sweep-stepped : (fees : ℕ) → IsSweepDecided fees (market_in accounts) → after.market ≡ swept accounts.market → after.orders ≡ accounts.orders
       → HaveVaults accounts after (coin_held accounts) (pc_held accounts - fees)
-      → HasStepped accounts after (Swept fees) (leaving_of (market_in accounts).events) (sweep_step (market_in accounts))
+      → HasStepped accounts after (Swept fees) (pending_fills_of (market_in accounts).events) (sweep_step (market_in accounts))
   sweep-stepped fees decided written orders vaults =
       let m = market_in accounts in
-      leaves-stepped accounts after _ _ _ (Swept fees) (leaving_of m.events) (sweep_step m) sound decided.sound
+      leaves-stepped accounts after _ _ _ (Swept fees) (pending_fills_of m.events) (sweep_step m) sound decided.sound
       (market_left (swept accounts.market) written orders _ _ vaults)
       (sweep-put (parts_of accounts) m (sound-are accounts sound)) refl
       (omega (arith, coin-held accounts sound))
@@ -220,10 +220,10 @@ module _ (accounts after : PlainMarketAccounts) (sound : AreSound accounts) (req
 
   pub disable-stepped : IsDisableDecided (market_in accounts) → after.market ≡ with_disabled accounts.market → after.orders ≡ accounts.orders
       → HaveVaults accounts after (coin_held accounts) (pc_held accounts)
-      → HasStepped accounts after Done (leaving_of (market_in accounts).events) (disable_step (market_in accounts))
+      → HasStepped accounts after Done (pending_fills_of (market_in accounts).events) (disable_step (market_in accounts))
   disable-stepped decided written orders vaults =
       let m = market_in accounts in
-      leaves-stepped accounts after _ _ _ Done (leaving_of m.events) (disable_step m) sound decided.sound
+      leaves-stepped accounts after _ _ _ Done (pending_fills_of m.events) (disable_step m) sound decided.sound
       (market_left (with_disabled accounts.market) written orders _ _ vaults)
       (disable-put (parts_of accounts) m (sound-are accounts sound)) refl
       (sym (coin-held accounts sound))
@@ -250,10 +250,10 @@ module _ (accounts after : PlainMarketAccounts) (sound : AreSound accounts) (req
 
   pub init-stepped : (owner signer : Address) → IsInitDecided owner signer (market_in accounts) → HasChanged owner (HasOpened accounts.address signer) accounts.orders after.orders
       → after.market ≡ accounts.market → HaveVaults accounts after (coin_held accounts) (pc_held accounts)
-      → HasStepped accounts after Done (leaving_of (market_in accounts).events) (init_step owner signer (market_in accounts))
+      → HasStepped accounts after Done (pending_fills_of (market_in accounts).events) (init_step owner signer (market_in accounts))
   init-stepped owner signer decided done market vaults =
       let m = market_in accounts in
-      leaves-stepped accounts after _ _ _ Done (leaving_of m.events) (init_step owner signer m) sound decided.sound
+      leaves-stepped accounts after _ _ _ Done (pending_fills_of m.events) (init_step owner signer m) sound decided.sound
       (account_left owner done.now market done.changed vaults done.was done.found (λ opened. done.has.market_is))
       (open-put (parts_of accounts) m (sound-are accounts sound) owner signer done.was done.now done.found done.has.opened
       (done.has.market_is ∙ sound.stands.address) done.has.words)
@@ -265,13 +265,13 @@ module _ (accounts after : PlainMarketAccounts) (sound : AreSound accounts) (req
 
   pub close-stepped : (owner : Address) (decided : IsCloseDecided owner (market_in accounts)) → HasChanged owner HasClosed accounts.orders after.orders
       → after.market ≡ accounts.market → HaveVaults accounts after (coin_held accounts) (pc_held accounts)
-      → HasStepped accounts after Done (leaving_of (market_in accounts).events) (close_step owner (market_in accounts))
+      → HasStepped accounts after Done (pending_fills_of (market_in accounts).events) (close_step owner (market_in accounts))
   close-stepped owner decided done market vaults =
       let m = market_in accounts in
       let own : OpenAt owner decided.account accounts = open-at owner decided.account accounts sound decided.known in
       let same : done.was ≡ own.bytes = one-found done.was own.bytes (sym done.found ∙ own.has.found) in
       let on : market_of own.bytes ≡ m.listing.address = (StandsForTrader-open (parts_of accounts) m (sound-are accounts sound) owner own.bytes own.has).on_market own.has.accepted in
-      leaves-stepped accounts after _ _ _ Done (leaving_of m.events) (close_step owner m) sound decided.sound
+      leaves-stepped accounts after _ _ _ Done (pending_fills_of m.events) (close_step owner m) sound decided.sound
       (account_left owner done.now market done.changed vaults done.was done.found (λ opened. done.has.market_is ∙ ap market_of same ∙ on ∙ sym sound.stands.address))
       (close-put (parts_of accounts) m (sound-are accounts sound) owner done.was done.now done.found done.has.closed)
       refl

@@ -3,7 +3,7 @@ pub mod ApplyLaws
 pub mod CancelRowLaws
 pub mod ConsumeRowLaws
 pub mod FundLaws
-pub mod LeavingLaws
+pub mod SteppedLaws
 pub mod OrderRowLaws
 pub mod OwnerParts
 pub mod PlannedLaws

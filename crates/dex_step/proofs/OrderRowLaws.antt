@@ -18,20 +18,20 @@ use Rattle.dex_accounts.specs.Owners.{IsFirst, bytes_at, changed_at}
 use Rattle.dex_accounts.specs.Parts.{AreOf, parts_of, with_account, with_side}
 use Rattle.dex_match.specs.declared.order_plan.OrderPlan.{OrderPlan}
 use Rattle.dex_match.specs.declared.order_terms.Taker.{Taker}
-use Rattle.dex_match.specs.Handed.{IsDone, events_in, ordered, reply_in, with_ordered}
+use Rattle.dex_match.specs.LentParts.{IsDone, events_in, ordered, reply_in, with_ordered}
 use Rattle.dex_match.specs.OrderParts.{OrderGiven, order_given, parts_of as read_of}
 use Rattle.dex_match.specs.OrderTerms.{order_of}
 use Rattle.dex_match.specs.Ordering.{order_reason, ordering_in, plan_by}
 use Rattle.dex_match.proofs.AfterLaws.{order-leaves}
 use Rattle.dex_match.proofs.PartsLaws.{GivenOf, given-of, ordering-is, reason-is}
-use Rattle.dex_ring.specs.declared.leaving.Leaving.{Leaving}
+use Rattle.dex_ring.specs.declared.pending_fills.PendingFills.{PendingFills}
 use Rattle.dex_ring.specs.Appended.{appended}
 use Rattle.dex_ring.specs.Ring.{ring_of}
 use Rattle.dex_slab.specs.Slab.{resting, room_in}
 use Rattle.dex_step.specs.Acting.{CanTakeIn, HasStepped, HaveTakenIn, KeepNames, bytes_on, coin_held, pc_held}
 use Rattle.dex_step.specs.OrderActs.{CanOrder, CanOrderAt, HasOrderedIn, among_of, bytes_with, given_of}
 use Rattle.dex_step.specs.OrderRows.{IsOrderDecided, order_step}
-use Rattle.dex_step.proofs.LeavingLaws.{leaves-stepped}
+use Rattle.dex_step.proofs.SteppedLaws.{leaves-stepped}
 use Rattle.dex_step.proofs.OwnerParts.{OpenAt, names-changed, open-at, open-named}
 use Rattle.dex_step.proofs.SoundParts.{both-sides, coin-fits, coin-held, pc-fits, pc-held, same-parts, sound-are, sound-on, sound-parts}
 
@@ -75,8 +75,8 @@ pc-after : (side : Side) (account : Account) (n : NewOrder) (o : Ordering) (m : 
 pc-after Bid account n o m held amount held_is amount_is = omega (arith, held_is, amount_is)
 pc-after Ask account n o m held amount held_is amount_is = omega (arith, held_is)
 
-module _ (accounts : PlainMarketAccounts) (taker : Taker) (plan : OrderPlan) (leaving : Leaving) (sound : AreSound accounts)
-    (decided : IsOrderDecided taker plan leaving (market_in accounts)) where
+module _ (accounts : PlainMarketAccounts) (taker : Taker) (plan : OrderPlan) (pending : PendingFills) (sound : AreSound accounts)
+    (decided : IsOrderDecided taker plan pending (market_in accounts)) where
   pub own : OpenAt taker.account decided.account accounts
   own = open-at taker.account decided.account accounts sound decided.known
 
@@ -188,13 +188,13 @@ module _ (accounts : PlainMarketAccounts) (taker : Taker) (plan : OrderPlan) (le
         open-named (market_in accounts).listing.address taker.account own.bytes done.now accounts.orders _ own.has.found are.traders done.done.account
         ∙ sym sound.stands.address))
 
-    pub order-stepped : HasStepped accounts after reply leaving (order_step taker (market_in accounts))
+    pub order-stepped : HasStepped accounts after reply pending (order_step taker (market_in accounts))
     order-stepped =
         let o : Ordering = order_on taker.id_side (market_in accounts) decided.account (order_of taker) in
         let sides = both-sides taker.id_side after done.done.own done.done.met in
         let deposit : plan.deposit ≡ o.deposit = ap (λ (p : OrderPlan). p.deposit) decided.planned in
-        subst (HasStepped accounts after reply leaving) (sym step_is)
-        (leaves-stepped accounts after (with_ordered taker left (parts_of accounts)) _ _ reply leaving _ sound sound_after
+        subst (HasStepped accounts after reply pending) (sym step_is)
+        (leaves-stepped accounts after (with_ordered taker left (parts_of accounts)) _ _ reply pending _ sound sound_after
         (record { vaults = vaults; parts_are = parts_is; bids = sides.0; asks = sides.1; names = names })
         are refl
         (coin-after taker.id_side decided.account (order_of taker) o (market_in accounts) (coin_held accounts) plan.deposit (coin-held accounts sound) deposit)

@@ -32,13 +32,13 @@ use Rattle.dex_sound.proofs.StepSound.{party-found}
 use Rattle.dex_history.specs.Journal.{request_of, row_step}
 use Rattle.dex_history.proofs.PriceLaws.{decoded-priced, row-sound}
 use Rattle.dex_match.specs.declared.order_terms.Taker.{Taker}
-use Rattle.dex_ring.specs.Leaving.{leaving_of}
+use Rattle.dex_ring.specs.PendingFills.{pending_fills_of}
 use Rattle.dex_take.specs.TakeTerms.{bare_take, take_of}
 use Rattle.dex_decide.specs.declared.plan.Plan.{Plan}
 use Rattle.dex_decide.specs.declared.plan.Plan.TheVariants as plans
 use Rattle.dex_decide.specs.Plans as planning
 use Rattle.dex_settle.specs.declared.plan.SettlePlan.{SettlePlan}
-use Rattle.dex_settle.specs.Leaving.{PaysOut, plan_of, settlement_by}
+use Rattle.dex_settle.specs.PayingOut.{PaysOut, plan_of, settlement_by}
 use Rattle.dex_step.specs.CancelActs.{cancel_step}
 use Rattle.dex_step.specs.FundActs.{IsInitDecided, close_step, init_step, settle_step}
 use Rattle.dex_step.specs.OrderRows.{order_step}
@@ -156,7 +156,7 @@ take-planned side t request seen m none sound =
         seen = seen;
         accepted = (take-none side t request seen m none).accepted;
         planned = refl;
-        sums = ap (λ (s : Step). leaving_of s.market.events) same;
+        sums = ap (λ (s : Step). pending_fills_of s.market.events) same;
         sound = subst (λ (s : Step). IsSound s.market) same sound;
       },
       same,

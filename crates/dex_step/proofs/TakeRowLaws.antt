@@ -13,7 +13,7 @@ use Rattle.dex_laws.proofs.MovedLaws.{meet-moved_le}
 use Rattle.dex_accounts.specs.Decoded.{AreSound, market_in}
 use Rattle.dex_accounts.specs.Parts.{AreOf, parts_of}
 use Rattle.dex_match.specs.declared.order_terms.Taker.{Taker}
-use Rattle.dex_ring.specs.declared.leaving.Leaving.{Leaving}
+use Rattle.dex_ring.specs.declared.pending_fills.PendingFills.{PendingFills}
 use Rattle.dex_ring.specs.Appended.{appended}
 use Rattle.dex_ring.specs.Ring.{ring_of}
 use Rattle.dex_slab.specs.Slab.{resting, room_in}
@@ -29,7 +29,7 @@ use Rattle.dex_take.proofs.TakeReasons.{reason-given}
 use Rattle.dex_step.specs.Acting.{CanExchange, HasStepped, HaveExchanged, bytes_on, coin_held, pc_held}
 use Rattle.dex_step.specs.TakeActs.{CanTake, HasTaken, KeepsRest, take_bytes_of, taken_of}
 use Rattle.dex_step.specs.TakeRows.{IsTakeDecided, take_step}
-use Rattle.dex_step.proofs.LeavingLaws.{leaves-stepped}
+use Rattle.dex_step.proofs.SteppedLaws.{leaves-stepped}
 use Rattle.dex_step.proofs.SoundParts.{both-sides, coin-fits, coin-held, names-same, pc-fits, pc-held, same-parts, sound-are, sound-on, sound-parts}
 
 -- what a take of the side is given of a market's parts is what it is given by their bytes
@@ -95,8 +95,8 @@ pc-after : (side : Side) (t : Take) (met : Meeting) (m : Market) (held paid got 
 pc-after Bid t met m held paid got a b c = rw (a, b) (omega arith)
 pc-after Ask t met m held paid got a b c = rw (a, c) (omega arith)
 
-module _ (accounts : PlainMarketAccounts) (taker : Taker) (plan : TakePlan) (leaving : Leaving) (sound : AreSound accounts)
-    (decided : IsTakeDecided taker plan leaving (market_in accounts)) where
+module _ (accounts : PlainMarketAccounts) (taker : Taker) (plan : TakePlan) (pending : PendingFills) (sound : AreSound accounts)
+    (decided : IsTakeDecided taker plan pending (market_in accounts)) where
   given : IsGivenOf taker.id_side (take_given taker.id_side (parts_of accounts)) (market_in accounts)
   given = given-of taker.id_side (parts_of accounts) (market_in accounts) (sound-are accounts sound)
 
@@ -164,13 +164,13 @@ module _ (accounts : PlainMarketAccounts) (taker : Taker) (plan : TakePlan) (lea
         ∙ ap (λ (r : TakeRead). take_reply (bare_take taker) (meeting_in taker.id_side (bare_take taker) r))
         (read-of taker.id_side (take_given taker.id_side (parts_of accounts)) (market_in accounts) given)
 
-    pub take-stepped : HasStepped accounts after reply leaving (take_step taker (market_in accounts))
+    pub take-stepped : HasStepped accounts after reply pending (take_step taker (market_in accounts))
     take-stepped =
         let m = market_in accounts in
         let sides = both-sides taker.id_side after (subst (λ (b : List ℕ). IsSideAccount taker.id_side b) (sym rest.own) (sound-on accounts sound taker.id_side)) done.met in
         let paid : plan.deposit ≡ take_paid taker.id_side m.listing.sizes (bare_take taker) met = ap (λ (p : TakePlan). p.deposit) planned in
         let got : plan.payout ≡ take_got taker.id_side m.listing.sizes (bare_take taker) met = ap (λ (p : TakePlan). p.payout) planned in
-        leaves-stepped accounts after (with_taken taker.id_side left (parts_of accounts)) _ _ reply leaving _ sound decided.sound
+        leaves-stepped accounts after (with_taken taker.id_side left (parts_of accounts)) _ _ reply pending _ sound decided.sound
         (record {
           vaults = vaults;
           parts_are = parts-left taker.id_side accounts after rest done.room;

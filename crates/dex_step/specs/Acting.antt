@@ -11,8 +11,8 @@ use Rattle.dex_types.specs.Steps.{Step}
 use Rattle.dex_accounts.specs.Accepted.{IsAccepted, NamesMarket}
 use Rattle.dex_accounts.specs.Decoded.{AreSound, market_in}
 use Rattle.dex_accounts.specs.Parts.{MarketParts, parts_of}
-use Rattle.dex_ring.specs.declared.leaving.Leaving.{Leaving}
-use Rattle.dex_ring.specs.Leaving.{leaving_of}
+use Rattle.dex_ring.specs.declared.pending_fills.PendingFills.{PendingFills}
+use Rattle.dex_ring.specs.PendingFills.{pending_fills_of}
 use Rattle.dex_slab.specs.StandsFor.{IsSideAccount}
 use Rattle.dex_token.specs.TokenAccount.{IsWallet, wallet_words}
 
@@ -55,11 +55,11 @@ pub record KeepsAccounts (before after : PlainMarketAccounts) : Type 0 where
 
 -- a step of the market was done on its accounts: its reply was answered, they are those of the market that it leaves, which is
 -- sound, and the sums are those of the events that are pending there
-pub record HasStepped (before after : PlainMarketAccounts) (reply : Reply) (leaving : Leaving) (s : Step) : Type 0 where
+pub record HasStepped (before after : PlainMarketAccounts) (reply : Reply) (pending : PendingFills) (s : Step) : Type 0 where
   pub reply_is : reply ≡ s.reply
   pub market : market_in after ≡ s.market
   pub sound : AreSound after
-  pub leaving_is : leaving ≡ leaving_of (market_in after).events
+  pub pending_is : pending ≡ pending_fills_of (market_in after).events
   pub kept : KeepsAccounts before after
 
 -- ---- vaults

@@ -11,7 +11,7 @@ use Rattle.dex_types.specs.Steps.{Step, cancelled_all}
 use Rattle.dex_types.specs.Trader.{Account, Open, trader_at}
 use Rattle.dex_types.specs.Why.{why_cancelled}
 use Rattle.dex_cancel.specs.Cancelling.{decided}
-use Rattle.dex_cancel.specs.Leaving.{CancelGiven, queue_of, with_outs}
+use Rattle.dex_cancel.specs.TakenOff.{CancelGiven, queue_of, with_outs}
 use Rattle.dex_cancel.specs.Parts.{cancel_given, left_by, named_in}
 use Rattle.dex_cancel_slots.specs.Given.{IsGiven}
 use Rattle.dex_market.specs.MarketAccount.{market_words, sizes_of}

@@ -15,8 +15,8 @@ use Rattle.dex_ring.specs.Ring.{IsEventQueue, events_of}
 -- queue is accepted, and all else stays
 pub record HasConsumed (limit : ℕ) (named : List Address) (consumed : Consumed) (before after : CrankBytes) : Type 0 where
   pub count : consumed.count ≡ consumable limit named (events_of before.queue)
-  pub coin : all_leaving Coin (events_of before.queue) ≡ consumed.leaving.coin + all_leaving Coin (events_of after.queue)
-  pub pc : all_leaving Pc (events_of before.queue) ≡ consumed.leaving.pc + all_leaving Pc (events_of after.queue)
+  pub coin : all_leaving Coin (events_of before.queue) ≡ consumed.fills.coin + all_leaving Coin (events_of after.queue)
+  pub pc : all_leaving Pc (events_of before.queue) ≡ consumed.fills.pc + all_leaving Pc (events_of after.queue)
   pub does : after ≡ paid_bytes consumed.count before
   pub queue : IsEventQueue after.queue
   pub kept : Keeps before after

@@ -9,7 +9,7 @@ use Rattle.dex_types.specs.Steps.{Step, act_sweep, by_party, done, settled}
 use Rattle.dex_types.specs.Trader.{Account, Blank, Open, trader_at}
 use Rattle.dex_types.specs.Upkeep.{after_close, after_disable, after_init}
 use Rattle.dex_settle.specs.declared.plan.SettlePlan.{SettlePlan}
-use Rattle.dex_settle.specs.Leaving.{PaysOut, settlement_by}
+use Rattle.dex_settle.specs.PayingOut.{PaysOut, settlement_by}
 
 -- the step of settling the open account at an address, as it was planned
 abbrev pub settle_step : SettlePlan → Address → Market → Step

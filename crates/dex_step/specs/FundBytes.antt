@@ -7,7 +7,7 @@ use Rattle.dex_accounts.specs.Owners.{bytes_at, changed_at}
 use Rattle.dex_market.specs.MarketAccount.{IsMarket}
 use Rattle.dex_orders.specs.OrdersAccount.{IsClosed, IsEmptyAccount, IsOpen, account_of, market_of}
 use Rattle.dex_settle.specs.declared.plan.SettlePlan.{SettlePlan}
-use Rattle.dex_settle.specs.Leaving.{PaysOut, settled}
+use Rattle.dex_settle.specs.PayingOut.{PaysOut, settled}
 use Rattle.dex_settle.specs.SettleGiven.{IsOfSound, given}
 
 -- the owner's account is there, and meets the condition `Can`

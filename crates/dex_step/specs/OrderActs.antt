@@ -7,7 +7,7 @@ use Rattle.dex_types.specs.Side.{opposite}
 use Rattle.dex_accounts.specs.Owners.{IsFirst, bytes_at, changed_at}
 use Rattle.dex_match.specs.declared.order_plan.OrderPlan.{OrderPlan}
 use Rattle.dex_match.specs.declared.order_terms.Taker.{Taker}
-use Rattle.dex_match.specs.Handed.{events_in, ordered, reply_in}
+use Rattle.dex_match.specs.LentParts.{events_in, ordered, reply_in}
 use Rattle.dex_match.specs.OrderTerms.{order_of}
 use Rattle.dex_match.specs.Ordering.{IsDecided}
 use Rattle.dex_match.specs.OrderParts.{IsGiven, OrderGiven, given_by, parts_of}

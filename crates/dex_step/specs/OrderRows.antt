@@ -13,8 +13,8 @@ use Rattle.dex_match.specs.declared.order_plan.OrderPlan.{OrderPlan}
 use Rattle.dex_match.specs.declared.order_terms.Taker.{Taker}
 use Rattle.dex_match.specs.OrderTerms.{order_of}
 use Rattle.dex_match.specs.Ordering.{plan_by}
-use Rattle.dex_ring.specs.declared.leaving.Leaving.{Leaving}
-use Rattle.dex_ring.specs.Leaving.{leaving_of}
+use Rattle.dex_ring.specs.declared.pending_fills.PendingFills.{PendingFills}
+use Rattle.dex_ring.specs.PendingFills.{pending_fills_of}
 
 -- the step of a new order as its trader states it, for the account at `taker.account`, if that is open
 abbrev pub order_step : Taker → Market → Step
@@ -24,7 +24,7 @@ order_step taker m =
 
 -- the order was decided on the market: its account is open, no reason holds against it with the wallet that pays for it as some
 -- row saw it, and the plan and the sums are those of what it does; and the market after it is sound
-pub record IsOrderDecided (taker : Taker) (plan : OrderPlan) (leaving : Leaving) (m : Market) : Type 0 where
+pub record IsOrderDecided (taker : Taker) (plan : OrderPlan) (pending : PendingFills) (m : Market) : Type 0 where
   pub account : Account
   pub known : trader_at taker.account m.traders ≡ Some (Open account)
   pub price : 1 ≤ taker.price
@@ -33,5 +33,5 @@ pub record IsOrderDecided (taker : Taker) (plan : OrderPlan) (leaving : Leaving)
   pub pays : payer taker.id_side seen ≡ Some wallet
   pub accepted : why_ordering taker.id_side (order_of taker) (order_reading taker.id_side (order_of taker) seen m account) ≡ None
   pub planned : plan ≡ plan_by (order_of taker) (order_on taker.id_side m account (order_of taker))
-  pub sums : leaving ≡ leaving_of (m.events ++ (order_on taker.id_side m account (order_of taker)).events)
+  pub sums : pending ≡ pending_fills_of (m.events ++ (order_on taker.id_side m account (order_of taker)).events)
   pub sound : IsSound (order_step taker m).market

@@ -24,8 +24,8 @@ pub record OfFirst (named : List Address) (P : Address → Type 0) : Type 0 wher
 abbrev pub IsPlanned : Plan → Request → Market → Step → Type 0
 IsPlanned plans.Nothing request m s = s ≡ done m
 IsPlanned (plans.Consume limit) request m s = s ≡ consume_step limit request.named m
-IsPlanned (plans.Order taker plan leaving) request m s = IsOrderDecided taker plan leaving m × (s ≡ order_step taker m)
-IsPlanned (plans.Take taker plan leaving) request m s = IsTakeDecided taker plan leaving m × (s ≡ take_step taker m)
+IsPlanned (plans.Order taker plan pending) request m s = IsOrderDecided taker plan pending m × (s ≡ order_step taker m)
+IsPlanned (plans.Take taker plan pending) request m s = IsTakeDecided taker plan pending m × (s ≡ take_step taker m)
 IsPlanned (plans.Cancel what) request m s =
     OfFirst request.named (λ owner. IsCancelDecided (named_by what) owner m × (s ≡ cancel_step (named_by what) owner m))
 IsPlanned (plans.Settle plan) request m s = OfFirst request.named (λ owner. IsSettleDecided plan owner m × (s ≡ settle_step plan owner m))

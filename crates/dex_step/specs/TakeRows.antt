@@ -8,8 +8,8 @@ use Rattle.dex_types.specs.Steps.{Step, act_take}
 use Rattle.dex_types.specs.Take.{take_meeting}
 use Rattle.dex_types.specs.Why.{take_reading, why_taking}
 use Rattle.dex_match.specs.declared.order_terms.Taker.{Taker}
-use Rattle.dex_ring.specs.declared.leaving.Leaving.{Leaving}
-use Rattle.dex_ring.specs.Leaving.{leaving_of}
+use Rattle.dex_ring.specs.declared.pending_fills.PendingFills.{PendingFills}
+use Rattle.dex_ring.specs.PendingFills.{pending_fills_of}
 use Rattle.dex_take.specs.declared.plan.TakePlan.{TakePlan}
 use Rattle.dex_take.specs.TakeTerms.{bare_take, take_of}
 use Rattle.dex_take.specs.Taking.{plan_by}
@@ -20,12 +20,12 @@ take_step taker m = act_take taker.id_side (bare_take taker) m
 
 -- the take was decided on the market: with some least fill no reason holds against it, with the wallets as some row saw them, and
 -- the plan and the sums are those of what it does; and the market after it is sound
-pub record IsTakeDecided (taker : Taker) (plan : TakePlan) (leaving : Leaving) (m : Market) : Type 0 where
+pub record IsTakeDecided (taker : Taker) (plan : TakePlan) (pending : PendingFills) (m : Market) : Type 0 where
   pub min_lots : ℕ
   pub min_pc : ℕ
   pub seen : Seen
   pub accepted : why_taking taker.id_side (take_of taker min_lots min_pc) seen (take_reading taker.id_side (take_of taker min_lots min_pc) seen m) ≡ None
   pub planned : plan ≡ plan_by taker.id_side m.listing.sizes (take_of taker min_lots min_pc)
       (take_meeting taker.id_side m.listing.sizes (take_of taker min_lots min_pc) (orders (opposite taker.id_side) m))
-  pub sums : leaving ≡ leaving_of (take_step taker m).market.events
+  pub sums : pending ≡ pending_fills_of (take_step taker m).market.events
   pub sound : IsSound (take_step taker m).market

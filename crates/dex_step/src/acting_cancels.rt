@@ -4,7 +4,7 @@ ghost use Rattle.dex_accounts.specs.Owners.{bytes_at};
 ghost use Rattle.dex_accounts.specs.Decoded.{AreSound, market_in};
 ghost use Rattle.dex_cancel.specs.Cancelling.{named_by};
 ghost use Rattle.dex_market.specs.MarketAccount.{IsMarket, market_words, sizes_of};
-ghost use Rattle.dex_ring.specs.Leaving.{leaving_of};
+ghost use Rattle.dex_ring.specs.PendingFills.{pending_fills_of};
 ghost use Rattle.dex_step.specs.Acting.{HasStepped};
 ghost use Rattle.dex_step.specs.CancelActs.{CanCancel, HasCancelled, IsCancelDecided, cancel_bytes, cancel_step};
 ghost use Rattle.dex_types.specs.Accounts.{market_accounts_of, orders_account_of};
@@ -76,8 +76,8 @@ pub(crate) fn cancel_row(accounts: &mut MarketAccounts, owner: Address, what: &C
     requires sound { AreSound (market_accounts_of accounts.old) }
     requires decided { IsCancelDecided (named_by what.now) owner (market_in (market_accounts_of accounts.old)) }
     ensures { let m = market_in (market_accounts_of accounts.old) in
-        HasStepped (market_accounts_of accounts.old) (market_accounts_of accounts.new) result (leaving_of m.events)
-        (cancel_step (named_by what.entry.now) owner m) }
+        HasStepped (market_accounts_of accounts.old) (market_accounts_of accounts.new) result
+        (pending_fills_of m.events) (cancel_step (named_by what.entry.now) owner m) }
 {
     let sizes = sizes_in(&accounts.market);
     let held = bytes_of(&accounts.orders, owner);

@@ -4,8 +4,8 @@ ghost use Rattle.std.specs.Prelude.{◌≡◌, map};
 ghost use Rattle.dex_accounts.specs.Decoded.{AreSound, market_in};
 ghost use Rattle.dex_market.specs.MarketAccount.{IsMarket};
 ghost use Rattle.dex_orders.specs.OrdersAccount.{IsBlank};
-ghost use Rattle.dex_ring.specs.Leaving.{leaving_of};
-ghost use Rattle.dex_settle.specs.Leaving.{swept, with_disabled};
+ghost use Rattle.dex_ring.specs.PendingFills.{pending_fills_of};
+ghost use Rattle.dex_settle.specs.PayingOut.{swept, with_disabled};
 ghost use Rattle.dex_step.specs.Acting.{HasStepped};
 ghost use Rattle.dex_step.specs.FundActs as acts;
 ghost use Rattle.dex_step.specs.FundBytes.{
@@ -67,8 +67,8 @@ pub(crate) fn settle_row(accounts: &mut MarketAccounts, owner: Address, plan: &S
     requires sound { AreSound (market_accounts_of accounts.old) }
     requires decided { acts.IsSettleDecided plan.now owner (market_in (market_accounts_of accounts.old)) }
     ensures { let m = market_in (market_accounts_of accounts.old) in
-        HasStepped (market_accounts_of accounts.old) (market_accounts_of accounts.new) result (leaving_of m.events)
-        (acts.settle_step plan.entry.now owner m) }
+        HasStepped (market_accounts_of accounts.old) (market_accounts_of accounts.new) result
+        (pending_fills_of m.events) (acts.settle_step plan.entry.now owner m) }
 {
     settle_among(plan, owner, &mut accounts.market, &mut accounts.orders);
     take_out(&mut accounts.coin_vault, plan.coin);
@@ -93,8 +93,8 @@ pub(crate) fn sweep_row(accounts: &mut MarketAccounts, fees: u64) -> Reply
     requires sound { AreSound (market_accounts_of accounts.old) }
     requires decided { acts.IsSweepDecided fees (market_in (market_accounts_of accounts.old)) }
     ensures { let m = market_in (market_accounts_of accounts.old) in
-        HasStepped (market_accounts_of accounts.old) (market_accounts_of accounts.new) result (leaving_of m.events)
-        (acts.sweep_step m) }
+        HasStepped (market_accounts_of accounts.old) (market_accounts_of accounts.new) result
+        (pending_fills_of m.events) (acts.sweep_step m) }
 {
     sweep_on_bytes(&mut accounts.market);
     take_out(&mut accounts.pc_vault, fees);
@@ -114,8 +114,8 @@ pub(crate) fn disable_row(accounts: &mut MarketAccounts) -> Reply
     requires sound { AreSound (market_accounts_of accounts.old) }
     requires decided { acts.IsDisableDecided (market_in (market_accounts_of accounts.old)) }
     ensures { let m = market_in (market_accounts_of accounts.old) in
-        HasStepped (market_accounts_of accounts.old) (market_accounts_of accounts.new) result (leaving_of m.events)
-        (acts.disable_step m) }
+        HasStepped (market_accounts_of accounts.old) (market_accounts_of accounts.new) result
+        (pending_fills_of m.events) (acts.disable_step m) }
 {
     disable_on_bytes(&mut accounts.market);
     Reply::Done
@@ -144,8 +144,8 @@ pub(crate) fn init_row(accounts: &mut MarketAccounts, owner: Address, signer: Ad
     requires sound { AreSound (market_accounts_of accounts.old) }
     requires decided { acts.IsInitDecided owner signer (market_in (market_accounts_of accounts.old)) }
     ensures { let m = market_in (market_accounts_of accounts.old) in
-        HasStepped (market_accounts_of accounts.old) (market_accounts_of accounts.new) result (leaving_of m.events)
-        (acts.init_step owner signer m) }
+        HasStepped (market_accounts_of accounts.old) (market_accounts_of accounts.new) result
+        (pending_fills_of m.events) (acts.init_step owner signer m) }
 {
     init_among(owner, accounts.address, signer, &mut accounts.orders);
     Reply::Done
@@ -174,8 +174,8 @@ pub(crate) fn close_row(accounts: &mut MarketAccounts, owner: Address) -> Reply
     requires sound { AreSound (market_accounts_of accounts.old) }
     requires decided { acts.IsCloseDecided owner (market_in (market_accounts_of accounts.old)) }
     ensures { let m = market_in (market_accounts_of accounts.old) in
-        HasStepped (market_accounts_of accounts.old) (market_accounts_of accounts.new) result (leaving_of m.events)
-        (acts.close_step owner m) }
+        HasStepped (market_accounts_of accounts.old) (market_accounts_of accounts.new) result
+        (pending_fills_of m.events) (acts.close_step owner m) }
 {
     close_among(owner, &mut accounts.orders);
     Reply::Done

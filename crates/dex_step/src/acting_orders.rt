@@ -21,7 +21,7 @@ use dex_accounts::place_of;
 use dex_market::{MarketView, RequestView};
 use dex_match::{OrderPlan, Taker, apply_order};
 use dex_orders::OrdersView;
-use dex_ring::{Leaving, RingView};
+use dex_ring::{PendingFills, RingView};
 use dex_slab::SlabView;
 use dex_types::{MarketAccounts, OrdersAccount, Reply, Side};
 
@@ -178,18 +178,18 @@ fn order_at(accounts: &mut MarketAccounts, plan: &OrderPlan, taker: Taker, place
 /// answered what it did. `left` is what makers' fills are to take off totals after it.
 pub(crate) fn order_row(
     accounts: &mut MarketAccounts,
-    leaving: &mut Leaving,
+    pending: &mut PendingFills,
     taker: Taker,
     plan: &OrderPlan,
-    left: Leaving,
+    left: PendingFills,
 ) -> Reply
     requires sound { AreSound (market_accounts_of accounts.old) }
     requires decided { IsOrderDecided taker plan.now left (market_in (market_accounts_of accounts.old)) }
-    ensures { HasStepped (market_accounts_of accounts.old) (market_accounts_of accounts.new) result leaving.new
+    ensures { HasStepped (market_accounts_of accounts.old) (market_accounts_of accounts.new) result pending.new
         (order_step taker (market_in (market_accounts_of accounts.old))) }
 {
     let place = place_of(&accounts.orders, taker.account);
     let reply = order_at(accounts, plan, taker, place);
-    *leaving = left;
+    *pending = left;
     reply
 }

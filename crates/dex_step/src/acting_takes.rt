@@ -11,7 +11,7 @@ ghost use Rattle.dex_types.specs.declared.terms.Side.TheVariants as sides;
 use crate::vaults::{bring, take_out};
 use dex_market::MarketView;
 use dex_match::Taker;
-use dex_ring::{Leaving, RingView};
+use dex_ring::{PendingFills, RingView};
 use dex_slab::SlabView;
 use dex_take::{TakePlan, apply_take};
 use dex_types::{MarketAccounts, Reply, Side};
@@ -106,17 +106,17 @@ fn take_by_side(accounts: &mut MarketAccounts, plan: &TakePlan, taker: Taker) ->
 /// other, and it is answered what it filled. `left` is what makers' fills are to take off totals after it.
 pub(crate) fn take_row(
     accounts: &mut MarketAccounts,
-    leaving: &mut Leaving,
+    pending: &mut PendingFills,
     taker: Taker,
     plan: &TakePlan,
-    left: Leaving,
+    left: PendingFills,
 ) -> Reply
     requires sound { AreSound (market_accounts_of accounts.old) }
     requires decided { IsTakeDecided taker plan.now left (market_in (market_accounts_of accounts.old)) }
-    ensures { HasStepped (market_accounts_of accounts.old) (market_accounts_of accounts.new) result leaving.new
+    ensures { HasStepped (market_accounts_of accounts.old) (market_accounts_of accounts.new) result pending.new
         (take_step taker (market_in (market_accounts_of accounts.old))) }
 {
     let reply = take_by_side(accounts, plan, taker);
-    *leaving = left;
+    *pending = left;
     reply
 }

@@ -4,7 +4,7 @@ ghost use Rattle.dex_accounts.specs.Decoded.{AreSound};
 ghost use Rattle.dex_decide.specs.Given.{asked_by, market_of};
 ghost use Rattle.dex_decide.specs.Plans.{decided};
 ghost use Rattle.dex_history.specs.Journal.{row_step};
-ghost use Rattle.dex_ring.specs.Leaving.{leaving_of};
+ghost use Rattle.dex_ring.specs.PendingFills.{pending_fills_of};
 ghost use Rattle.dex_step.specs.Acting.{HasStepped, KeepsAccounts};
 ghost use Rattle.dex_types.specs.Accounts.{market_accounts_of};
 ghost use Rattle.dex_types.specs.Rows.{row_of};
@@ -16,7 +16,7 @@ use crate::acting_funds::{close_row, disable_row, init_row, settle_row, sweep_ro
 use crate::acting_orders::order_row;
 use crate::acting_takes::take_row;
 use dex_decide::Plan;
-use dex_ring::Leaving;
+use dex_ring::PendingFills;
 use dex_types::{Address, MarketAccounts, Reply, Row, Seen};
 
 /// The open-orders account that a row names first.
@@ -34,30 +34,30 @@ fn do_plan(
     row: &Row,
     seen: &Seen,
     plan: Plan,
-    leaving: &mut Leaving,
+    pending: &mut PendingFills,
 ) -> Reply
     requires sound { AreSound (market_accounts_of accounts.old) }
     requires decided { Ok plan ≡ decided (asked_by row.now) seen.now (market_of accounts.old) }
-    requires leaving { leaving.old ≡ leaving_of (market_of accounts.old).events }
-    ensures { HasStepped (market_accounts_of accounts.old) (market_accounts_of accounts.new) result leaving.new
+    requires pending { pending.old ≡ pending_fills_of (market_of accounts.old).events }
+    ensures { HasStepped (market_accounts_of accounts.old) (market_accounts_of accounts.new) result pending.new
         (row_step (row_of row.entry.now) seen.entry.now (market_of accounts.old)) }
 {
     match plan {
         Plan::Nothing => Reply::Done,
-        Plan::Consume { limit } => consume_row(accounts, leaving, &row.named, limit),
+        Plan::Consume { limit } => consume_row(accounts, pending, &row.named, limit),
         Plan::Settle(paid) => settle_row(accounts, first_named(row), &paid),
         Plan::Disable => disable_row(accounts),
         Plan::Sweep(fees) => sweep_row(accounts, fees),
         Plan::Order {
             taker,
             plan,
-            leaving: left,
-        } => order_row(accounts, leaving, taker, &plan, left),
+            pending: left,
+        } => order_row(accounts, pending, taker, &plan, left),
         Plan::Take {
             taker,
             plan,
-            leaving: left,
-        } => take_row(accounts, leaving, taker, &plan, left),
+            pending: left,
+        } => take_row(accounts, pending, taker, &plan, left),
         Plan::Cancel(what) => cancel_row(accounts, first_named(row), &what),
         Plan::Close => close_row(accounts, first_named(row)),
         Plan::Init => init_row(accounts, first_named(row), row.signer),
@@ -65,7 +65,7 @@ fn do_plan(
 }
 
 /// Does on a market's accounts what was decided of a row, and answers its reply. The accounts are then those of the
-/// market that the row's step leaves, which is sound; and `leaving`, what pending makers' fills are still to take off
+/// market that the row's step leaves, which is sound; and `pending`, what pending makers' fills are still to take off
 /// totals, is what it is there. Addresses and the authority stay, and accounts that were accepted are accepted still.
 /// It is never refused.
 pub fn apply(
@@ -73,17 +73,17 @@ pub fn apply(
     row: &Row,
     seen: &Seen,
     plan: &Plan,
-    leaving: &mut Leaving,
+    pending: &mut PendingFills,
 ) -> Reply
     requires sound { AreSound (market_accounts_of accounts.old) }
     requires decided { Ok plan.now ≡ decided (asked_by row.now) seen.now (market_of accounts.old) }
-    requires leaving { leaving.old ≡ leaving_of (market_of accounts.old).events }
+    requires pending { pending.old ≡ pending_fills_of (market_of accounts.old).events }
     ensures reply { result ≡ (row_step (row_of row.entry.now) seen.entry.now (market_of accounts.old)).reply }
     ensures market { market_of accounts.new
         ≡ (row_step (row_of row.entry.now) seen.entry.now (market_of accounts.old)).market }
     ensures sound { AreSound (market_accounts_of accounts.new) }
-    ensures leaving { leaving.new ≡ leaving_of (market_of accounts.new).events }
+    ensures pending { pending.new ≡ pending_fills_of (market_of accounts.new).events }
     ensures kept { KeepsAccounts (market_accounts_of accounts.old) (market_accounts_of accounts.new) }
 {
-    do_plan(accounts, row, seen, *plan, leaving)
+    do_plan(accounts, row, seen, *plan, pending)
 }

@@ -4,8 +4,8 @@
 ghost use Rattle.std.specs.Prelude.{◌≡◌, ℕ, Ok};
 ghost use Rattle.dex_accounts.specs.Decoded.{AreSound, market_in};
 ghost use Rattle.dex_accounts.specs.Parts.{AreOf, MarketParts};
-ghost use Rattle.dex_ring.specs.declared.leaving.Leaving.{Leaving};
-ghost use Rattle.dex_ring.specs.Leaving.{leaving_of};
+ghost use Rattle.dex_ring.specs.declared.pending_fills.PendingFills.{PendingFills};
+ghost use Rattle.dex_ring.specs.PendingFills.{pending_fills_of};
 ghost use Rattle.dex_decide.specs.declared.plan.Plan.{Plan};
 ghost use Rattle.dex_decide.specs.Plans.{decided};
 ghost use Rattle.dex_history.specs.Journal.{request_of, row_step};
@@ -23,10 +23,10 @@ ghost use Rattle.dex_types.specs.Steps.{Step};
 /// listing, and the step's reply was answered, the step was done.
 pub fn what_is_left_is_the_steps()
     ensures { (before after : PlainMarketAccounts) (parts : MarketParts) (coin pc : ℕ) (reply : Reply)
-        (leaving : Leaving) (s : Step) → AreSound before → IsSound s.market → Leaves before after parts coin pc
+        (pending : PendingFills) (s : Step) → AreSound before → IsSound s.market → Leaves before after parts coin pc
         → AreOf parts s.market → s.market.listing ≡ (market_in before).listing → s.market.coin_vault ≡ coin
-        → s.market.pc_vault ≡ pc → reply ≡ s.reply → leaving ≡ leaving_of s.market.events
-        → HasStepped before after reply leaving s }
+        → s.market.pc_vault ≡ pc → reply ≡ s.reply → pending ≡ pending_fills_of s.market.events
+        → HasStepped before after reply pending s }
 {}
 
 /// A plan that was decided of a row on a sound market says what its kind needs there, and the row's step is that of its

@@ -21,8 +21,8 @@ use Rattle.dex_make.specs.MarketBytes.{blank_orders}
 use Rattle.dex_make.specs.MarketSet.{CanTrade, IsMarketSet, listing_of}
 use Rattle.dex_make.specs.declared.market.MarketSet.{MarketSet}
 use Rattle.dex_make.proofs.MadeLaws.{IsSound-made, StandsFor-with_blanks}
-use Rattle.dex_ring.specs.declared.leaving.Leaving.{Leaving}
-use Rattle.dex_ring.specs.Leaving.{leaving_of}
+use Rattle.dex_ring.specs.declared.pending_fills.PendingFills.{PendingFills}
+use Rattle.dex_ring.specs.PendingFills.{pending_fills_of}
 use Rattle.dex_sound.specs.Made.{blanks, made_market}
 use Rattle.dex_step_bench.specs.Ready.{AreBlank, AreBlankBelow, IsReady, number_told}
 
@@ -101,5 +101,5 @@ made-ready set made after accounts is trade stands blank after_is =
     subst (λ (a : PlainMarketAccounts). StandsFor a m) (sym same) (StandsFor-with_blanks (market_accounts_of made) (listing_of set) addresses stands) in
     record {
       sound = AreSound-of (market_accounts_of after) m (IsSound-made set addresses is trade blank.distinct) stand;
-      sums = ap (λ (n : Market). leaving_of n.events) (sym (told (market_accounts_of after) m stand));
+      sums = ap (λ (n : Market). pending_fills_of n.events) (sym (told (market_accounts_of after) m stand));
     }

@@ -13,14 +13,14 @@ use Rattle.dex_accounts.specs.Decoded.{AreSound}
 use Rattle.dex_decide.specs.Given.{market_of}
 use Rattle.dex_history.specs.Journal.{Agree, Sees, asked_of}
 use Rattle.dex_make.specs.MarketBytes.{blank_orders}
-use Rattle.dex_ring.specs.declared.leaving.Leaving.{Leaving}
-use Rattle.dex_ring.specs.Leaving.{leaving_of}
+use Rattle.dex_ring.specs.declared.pending_fills.PendingFills.{PendingFills}
+use Rattle.dex_ring.specs.PendingFills.{pending_fills_of}
 use Rattle.dex_sound.specs.Made.{blanks}
 
 -- the accounts are those of a sound market, and the sums those of its pending events
-pub record IsReady (accounts : MarketAccounts) (leaving : Leaving) : Type 0 where
+pub record IsReady (accounts : MarketAccounts) (pending : PendingFills) : Type 0 where
   pub sound : AreSound (market_accounts_of accounts)
-  pub sums : leaving ≡ leaving_of (market_of accounts).events
+  pub sums : pending ≡ pending_fills_of (market_of accounts).events
 
 -- the number that an address of the timings tells
 abbrev pub number_told : Address → ℕ

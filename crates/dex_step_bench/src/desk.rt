@@ -8,7 +8,7 @@ use crate::making::new_market;
 use crate::rows::{Stage, rows};
 use anyhow::Error;
 use dex_decide::decide;
-use dex_ring::Leaving;
+use dex_ring::PendingFills;
 use dex_step::apply;
 use dex_types::{MarketAccounts, Row, Seen};
 use std::alloc::Global;
@@ -17,7 +17,7 @@ use std::alloc::Global;
 #[derive(Drop)]
 pub struct Desk {
     pub accounts: MarketAccounts,
-    pub leaving: Leaving,
+    pub pending: PendingFills,
 }
 
 impl Desk {
@@ -27,22 +27,22 @@ impl Desk {
         requires few_nodes { nodes ≤ 65536 }
         requires some_events { 1 ≤ events }
         requires few_events { events ≤ 65535 }
-        ensures { IfOk result (λ desk. IsReady desk.accounts desk.leaving) }
+        ensures { IfOk result (λ desk. IsReady desk.accounts desk.pending) }
     {
         let accounts = new_market(alloc, nodes, events, accounts)?;
-        let leaving = Leaving { coin: 0, pc: 0 };
-        Ok(Desk { accounts, leaving })
+        let pending = PendingFills { coin: 0, pc: 0 };
+        Ok(Desk { accounts, pending })
     }
 
     /// Does the row unless it is refused, and tells whether it was done.
     pub fn submit(&mut self, row: &Row, seen: &Seen) -> bool
-        requires ready { IsReady self.old.accounts self.old.leaving }
+        requires ready { IsReady self.old.accounts self.old.pending }
         requires seen { NamesSeen seen.now row.now }
-        ensures { IsReady self.new.accounts self.new.leaving }
+        ensures { IsReady self.new.accounts self.new.pending }
     {
-        match decide(&self.accounts, row, seen, &self.leaving) {
+        match decide(&self.accounts, row, seen, &self.pending) {
             Ok(plan) => {
-                apply(&mut self.accounts, row, seen, &plan, &mut self.leaving);
+                apply(&mut self.accounts, row, seen, &plan, &mut self.pending);
                 true
             }
             Err(_) => false,
@@ -51,9 +51,9 @@ impl Desk {
 
     /// Does these rows, and tells how many were done.
     pub fn submit_all(&mut self, rows: &[Row], seen: &Seen) -> usize
-        requires ready { IsReady self.old.accounts self.old.leaving }
+        requires ready { IsReady self.old.accounts self.old.pending }
         requires seen { All (NamesSeen seen.now) rows.now }
-        ensures ready { IsReady self.new.accounts self.new.leaving }
+        ensures ready { IsReady self.new.accounts self.new.pending }
         ensures count { result ≤ length rows.now }
     {
         let mut done = 0;
@@ -74,9 +74,9 @@ impl Desk {
         first: u32,
         end: u32,
     ) -> Result<usize, Error>
-        requires ready { IsReady self.old.accounts self.old.leaving }
+        requires ready { IsReady self.old.accounts self.old.pending }
         requires agreed { AreAgreed seen.now }
-        ensures { IsReady self.new.accounts self.new.leaving }
+        ensures { IsReady self.new.accounts self.new.pending }
     {
         let rows = rows(alloc, seen, stage, first, end)?;
         Ok(self.submit_all(&rows, seen))

@@ -31,10 +31,10 @@ fn time_stage<R: Clock + AllocGlobal>(
     stage: Stage,
     first: u32,
 ) -> Result<u128, Error>
-    requires ready { IsReady desk.old.accounts desk.old.leaving }
+    requires ready { IsReady desk.old.accounts desk.old.pending }
     requires agreed { AreAgreed seen.now }
     requires few { first < 100000 }
-    ensures { IsReady desk.new.accounts desk.new.leaving }
+    ensures { IsReady desk.new.accounts desk.new.pending }
 {
     let rows = rows(rt.alloc(), seen, stage, first, first + BATCH)?;
     let start = Instant::now(rt)?;
@@ -51,10 +51,10 @@ pub fn time_rows<R: Clock + AllocGlobal>(
     seen: &Seen,
     account: u16,
 ) -> Result<Times, Error>
-    requires ready { IsReady desk.old.accounts desk.old.leaving }
+    requires ready { IsReady desk.old.accounts desk.old.pending }
     requires agreed { AreAgreed seen.now }
     requires few { account < 500 }
-    ensures { IsReady desk.new.accounts desk.new.leaving }
+    ensures { IsReady desk.new.accounts desk.new.pending }
 {
     let mut times = Times {
         order: u128::MAX,

@@ -28,7 +28,7 @@ use Rattle.dex_ring.specs.Ring.{ring_of}
 use Rattle.dex_sound.proofs.OrderSoundReasons.{queue_full-none, refused_where-none, taking-none}
 use Rattle.dex_sound.proofs.TakeSound.{met_of, taken_market, taking-sound}
 use Rattle.dex_take.specs.declared.plan.TakePlan.{TakePlan}
-use Rattle.dex_take.specs.Leaving.{CanExchange, bytes_after, funds_after, kept_of, words_after}
+use Rattle.dex_take.specs.Exchanging.{CanExchange, bytes_after, funds_after, kept_of, words_after}
 use Rattle.dex_take.specs.TakeGiven.{TakeGiven, TakeRead, read_of, take_given, with_taken}
 use Rattle.dex_take.specs.TakeTerms.{bare_take, take_of}
 use Rattle.dex_take.specs.Taking.{CanBeDone, IsDecided, meeting_in, moved_in, plan_in, reading_in, take_answer, take_reason, transfers_by}

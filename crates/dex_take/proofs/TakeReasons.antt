@@ -24,8 +24,8 @@ use Rattle.dex_ring.specs.Ring.{room_of}
 use Rattle.dex_reasons.proofs.FirstReasons.{first_of-early, first_of-late, first_of-one}
 use Rattle.dex_sound.proofs.FillLaws.{meet-leaving}
 use Rattle.dex_take.specs.declared.outlook.TakeOutlook.{TakeOutlook}
-use Rattle.dex_ring.specs.declared.leaving.Leaving.{Leaving}
-use Rattle.dex_ring.specs.Leaving.{leaving_of}
+use Rattle.dex_ring.specs.declared.pending_fills.PendingFills.{PendingFills}
+use Rattle.dex_ring.specs.PendingFills.{pending_fills_of}
 use Rattle.dex_take.specs.declared.plan.DecidedTake.{DecidedTake}
 use Rattle.dex_take.specs.declared.plan.TakePlan.{TakePlan}
 use Rattle.dex_take.specs.TakeGiven.{TakeGiven, TakeRead, read_of}
@@ -122,21 +122,21 @@ answer-early side t parts seen why size is =
     ∙ first_of-one (first_of (taking_reasons side t seen (reading_in side t seen parts)))
     ∙ ap first_of (sym (reasons-in side t parts seen)) ∙ first_of-early early late why is
 
-abbrev the_sums : ℕ → ℕ → Leaving
+abbrev the_sums : ℕ → ℕ → PendingFills
 the_sums coin pc = record { coin = coin; pc = pc }
 
-abbrev pub decided_as : TakePlan → Leaving → DecidedTake
-decided_as plan left = record { plan = plan; leaving = left }
+abbrev pub decided_as : TakePlan → PendingFills → DecidedTake
+decided_as plan left = record { plan = plan; pending = left }
 
 -- what is pending with the take's own fills
-pub left-is : (side : Side) (t : Take) (parts : TakeRead) (now left : Leaving) (base quote : ℕ) → now ≡ leaving_of parts.ring.events
+pub left-is : (side : Side) (t : Take) (parts : TakeRead) (now left : PendingFills) (base quote : ℕ) → now ≡ pending_fills_of parts.ring.events
     → base ≡ (meeting_in side t parts).lots * (sizes_of parts.words).coin → quote ≡ (meeting_in side t parts).pc - (meeting_in side t parts).rebates
     → left.coin ≡ now.coin + by_side side base 0 → left.pc ≡ now.pc + by_side side 0 quote → left ≡ left_in side t parts
 left-is side t parts now left base quote is base_is quote_is coin pc =
     let coin_is : left.coin ≡ all_leaving Coin parts.ring.events + by_side side ((meeting_in side t parts).lots * (sizes_of parts.words).coin) 0 =
-    coin ∙ ap (λ (l : Leaving). l.coin + by_side side base 0) is ∙ ap (λ k. all_leaving Coin parts.ring.events + by_side side k 0) base_is in
+    coin ∙ ap (λ (l : PendingFills). l.coin + by_side side base 0) is ∙ ap (λ k. all_leaving Coin parts.ring.events + by_side side k 0) base_is in
     let pc_is : left.pc ≡ all_leaving Pc parts.ring.events + by_side side 0 ((meeting_in side t parts).pc - (meeting_in side t parts).rebates) =
-    pc ∙ ap (λ (l : Leaving). l.pc + by_side side 0 quote) is ∙ ap (λ k. all_leaving Pc parts.ring.events + by_side side 0 k) quote_is in
+    pc ∙ ap (λ (l : PendingFills). l.pc + by_side side 0 quote) is ∙ ap (λ k. all_leaving Pc parts.ring.events + by_side side 0 k) quote_is in
     both left.coin left.pc (coin_is ∙ sym (leaving-base side t parts)) (pc_is ∙ sym (leaving-quote side t parts))
   where
     both : (x y : ℕ) → x ≡ leaving_after Coin parts (meeting_in side t parts) → y ≡ leaving_after Pc parts (meeting_in side t parts)
@@ -144,7 +144,7 @@ left-is side t parts now left base quote is base_is quote_is coin pc =
     both x y one two = rw (one, two) refl
 
 -- and else for the bound alone
-pub outcome-late : (side : Side) (t : Take) (parts : TakeRead) (seen : Seen) (outlook : TakeOutlook) (left : Leaving)
+pub outcome-late : (side : Side) (t : Take) (parts : TakeRead) (seen : Seen) (outlook : TakeOutlook) (left : PendingFills)
     → IsWithin side t parts seen → IsForeseen side t parts outlook → left ≡ left_in side t parts
     → answered (first_of (at_bound side outlook.plan parts.words left)) (decided_as outlook.plan left) ≡ take_outcome side t parts seen
 outcome-late side t parts seen outlook left within is left_is =

@@ -1,5 +1,5 @@
 pub mod TakeGiven
 pub mod TakeTerms
-pub mod Leaving
+pub mod Exchanging
 pub mod Taking
 pub mod Taken

@@ -8,7 +8,7 @@ use Rattle.dex_match.specs.declared.order_terms.Taker.{Taker}
 use Rattle.dex_ring.specs.Appended.{appended, pushed_all}
 use Rattle.dex_ring.specs.Ring.{IsEventQueue, ring_of}
 use Rattle.dex_take.specs.declared.plan.TakePlan.{TakePlan}
-use Rattle.dex_take.specs.Leaving.{bytes_after, kept_of}
+use Rattle.dex_take.specs.Exchanging.{bytes_after, kept_of}
 use Rattle.dex_take.specs.TakeGiven.{TakeGiven, read_of}
 use Rattle.dex_take.specs.TakeTerms.{bare_take}
 use Rattle.dex_take.specs.Taking.{IsDecided, meeting_in, moved_in}

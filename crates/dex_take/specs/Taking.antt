@@ -15,13 +15,13 @@ use Rattle.dex_laws.specs.Locks.{locked}
 use Rattle.dex_market.specs.MarketAccount.{MarketWords, sizes_of, vault_of}
 use Rattle.dex_match.specs.declared.order_terms.Taker.{Taker}
 use Rattle.dex_ring.specs.Appended.{HasRoom}
-use Rattle.dex_ring.specs.declared.leaving.Leaving.{Leaving}
-use Rattle.dex_ring.specs.Leaving.{leaving_of}
+use Rattle.dex_ring.specs.declared.pending_fills.PendingFills.{PendingFills}
+use Rattle.dex_ring.specs.PendingFills.{pending_fills_of}
 use Rattle.dex_ring.specs.Ring.{room_of}
 use Rattle.dex_take.specs.declared.outlook.TakeOutlook.{TakeOutlook}
 use Rattle.dex_take.specs.declared.plan.DecidedTake.{DecidedTake}
 use Rattle.dex_take.specs.declared.plan.TakePlan.{TakePlan}
-use Rattle.dex_take.specs.Leaving.{CanExchange, kept_of}
+use Rattle.dex_take.specs.Exchanging.{CanExchange, kept_of}
 use Rattle.dex_take.specs.TakeGiven.{TakeRead}
 use Rattle.dex_take.specs.TakeTerms.{bare_take, take_of}
 
@@ -93,12 +93,12 @@ abbrev pub take_answer : Side → Take → TakeRead → Seen → Result TakePlan
 take_answer side t read seen = answered (take_reason side t read seen) (plan_in side t read)
 
 -- what pending makers' fills are still to take off totals once those of the take are pending too
-abbrev pub left_in : Side → Take → TakeRead → Leaving
-left_in side t read = leaving_of (read.ring.events ++ (meeting_in side t read).events)
+abbrev pub left_in : Side → Take → TakeRead → PendingFills
+left_in side t read = pending_fills_of (read.ring.events ++ (meeting_in side t read).events)
 
 -- what deciding answers, with the sums after the take beside the plan
 abbrev pub take_outcome : Side → Take → TakeRead → Seen → Result DecidedTake Refusal
-take_outcome side t read seen = answered (take_reason side t read seen) (record { plan = plan_in side t read; leaving = left_in side t read })
+take_outcome side t read seen = answered (take_reason side t read seen) (record { plan = plan_in side t read; pending = left_in side t read })
 
 -- what the side that is met locks fits 64 bits, and is in its vault
 pub record IsBacked (side : Side) (read : TakeRead) : Type 0 where
@@ -141,10 +141,10 @@ before_bound side plan min_lots min_pc events room seen =
     ∷ []
 
 -- the reasons against a take that ask for the bound, by the sums after it
-abbrev pub at_bound : Side → TakePlan → MarketWords → Leaving → List (Option Refusal)
-at_bound side plan words leaving =
-    beyond (vault_after Coin (transfers_by side plan) words) leaving.coin
-    ∷ beyond (vault_after Pc (transfers_by side plan) words) leaving.pc
+abbrev pub at_bound : Side → TakePlan → MarketWords → PendingFills → List (Option Refusal)
+at_bound side plan words pending =
+    beyond (vault_after Coin (transfers_by side plan) words) pending.coin
+    ∷ beyond (vault_after Pc (transfers_by side plan) words) pending.pc
     ∷ []
 
 -- no reason before the bound holds against a take

@@ -5,7 +5,7 @@ ghost use Rattle.dex_accounts.specs.Keeps.{KeepsEvents, KeepsMarket, KeepsSide};
 ghost use Rattle.dex_market.specs.MarketAccount.{IsMarket, market_words};
 ghost use Rattle.dex_ring.specs.Appended.{appended};
 ghost use Rattle.dex_ring.specs.Ring.{IsEventQueue, ring_of};
-ghost use Rattle.dex_take.specs.Leaving as leaving;
+ghost use Rattle.dex_take.specs.Exchanging as exchanging;
 ghost use Rattle.dex_take.specs.TakeGiven.{IsOfSound, handed, read_of};
 ghost use Rattle.dex_take.specs.Taken.{met_in, reply_in, taken};
 ghost use Rattle.dex_take.specs.Taking.{CanBeDone, IsBacked, IsDecided};
@@ -21,9 +21,9 @@ use dex_types::{Reply, SideBook};
 /// Takes in and pays out what a take moves, and keeps so much quote for the market's fees.
 fn pay(market: &mut MarketView<'_>, moved: Exchange, kept: u64)
     requires accepted { IsMarket market.old.bytes.now }
-    requires can { leaving.CanExchange (leaving.moves moved) kept (market_words market.old.bytes.now) }
+    requires can { exchanging.CanExchange (exchanging.moves moved) kept (market_words market.old.bytes.now) }
     ensures place { market.new.bytes.ghost_name ≡ market.old.bytes.ghost_name }
-    ensures bytes { market.new.bytes.now ≡ leaving.bytes_after (leaving.moves moved) kept market.old.bytes.now }
+    ensures bytes { market.new.bytes.now ≡ exchanging.bytes_after (exchanging.moves moved) kept market.old.bytes.now }
     ensures accepted { IsMarket market.new.bytes.now }
 {
     let funds = MarketFunds {

@@ -2,7 +2,7 @@
 
 ghost use Rattle.std.specs.Prelude.{◌≡◌, ◌<◌, ◌^◌, IfErr, IfOk, Option, Some};
 ghost use Rattle.dex_market.specs.MarketAccount.{IsMarket};
-ghost use Rattle.dex_ring.specs.Leaving.{leaving_of};
+ghost use Rattle.dex_ring.specs.PendingFills.{pending_fills_of};
 ghost use Rattle.dex_ring.specs.Ring.{IsEventQueue, ring_of};
 ghost use Rattle.dex_types.specs.declared.refusals.Refusal.{Refusal};
 ghost use Rattle.dex_types.specs.Reasons.{answered};
@@ -16,9 +16,9 @@ use crate::plan::{DecidedTake, TakePlan};
 use crate::reasons::{LeastFill, bound_reason, fill_reason};
 use dex_market::MarketRef;
 use dex_match::Taker;
-use dex_meet::{pending_leaving, with_fills};
+use dex_meet::{pending_fills, with_fills};
 use dex_reasons::ask_too_large;
-use dex_ring::{Leaving, RingRef};
+use dex_ring::{PendingFills, RingRef};
 use dex_types::{Refusal, Seen, SideRead};
 
 /// What becomes of a take, where no reason before the bound is against it.
@@ -62,7 +62,7 @@ fn bounded<B: SideRead>(
     least: LeastFill,
     seen: &Seen,
     outlook: &TakeOutlook,
-    leaving: Leaving,
+    pending: PendingFills,
 ) -> Result<DecidedTake, Refusal>
     requires market { IsMarket market.now.bytes.now }
     requires backed { IsBacked taker.id_side (read_of (shown B.orders market.now opposite.now ring.now)) }
@@ -70,18 +70,18 @@ fn bounded<B: SideRead>(
         (shown B.orders market.now opposite.now ring.now)) outlook.now }
     requires within { IsWithin taker.id_side (take_of taker least.lots least.pc) (read_of
         (shown B.orders market.now opposite.now ring.now)) seen.now }
-    requires pending { leaving ≡ leaving_of (ring_of ring.now.bytes.now).events }
-    requires coin_small { leaving.coin < 2 ^ 80 }
-    requires pc_small { leaving.pc < 2 ^ 80 }
+    requires pending { pending ≡ pending_fills_of (ring_of ring.now.bytes.now).events }
+    requires coin_small { pending.coin < 2 ^ 80 }
+    requires pc_small { pending.pc < 2 ^ 80 }
     ensures { result ≡ take_outcome taker.id_side (take_of taker least.lots least.pc) (read_of
         (shown B.orders market.now opposite.now ring.now)) seen.now }
 {
-    let left = with_fills(leaving, taker.id_side, market.sizes(), outlook.sums);
+    let left = with_fills(pending, taker.id_side, market.sizes(), outlook.sums);
     match bound_reason(market, taker.id_side, &outlook.plan, left) {
         Some(why) => Err(why),
         None => Ok(DecidedTake {
             plan: outlook.plan,
-            leaving: left,
+            pending: left,
         }),
     }
 }
@@ -123,7 +123,7 @@ pub(crate) fn decide<B: SideRead>(
             least,
             seen,
             &outlook,
-            pending_leaving(ring),
+            pending_fills(ring),
         )),
     }
 }
@@ -161,7 +161,7 @@ pub fn decide_take<B: SideRead>(
 
 /// What a take does, or why it is refused, where the sums of pending makers' fills are handed in, in native base and
 /// native quote: no event is read. Beside the plan stand these sums after the take.
-pub fn decide_take_with_leaving<B: SideRead>(
+pub fn decide_take_with_pending<B: SideRead>(
     market: &MarketRef<'_>,
     opposite: &B,
     ring: &RingRef<'_>,
@@ -169,11 +169,11 @@ pub fn decide_take_with_leaving<B: SideRead>(
     min_lots: u64,
     min_pc: u64,
     seen: &Seen,
-    leaving: &Leaving,
+    pending: &PendingFills,
 ) -> Result<DecidedTake, Refusal>
     requires holds { B.holds opposite.now }
     requires parts { IsOfSound taker.now.id_side (shown B.orders market.now opposite.now ring.now) }
-    requires leaving { leaving.now ≡ leaving_of (ring_of ring.now.bytes.now).events }
+    requires pending { pending.now ≡ pending_fills_of (ring_of ring.now.bytes.now).events }
     ensures { result ≡ take_outcome taker.entry.now.id_side (take_of taker.entry.now min_lots min_pc)
         (read_of (shown B.orders market.now opposite.now ring.now)) seen.now }
 {
@@ -184,7 +184,7 @@ pub fn decide_take_with_leaving<B: SideRead>(
     match foreseen(market, opposite, ring, *taker, least, seen) {
         Err(why) => Err(why),
         Ok(outlook) => bounded(
-            market, opposite, ring, *taker, least, seen, &outlook, *leaving,
+            market, opposite, ring, *taker, least, seen, &outlook, *pending,
         ),
     }
 }

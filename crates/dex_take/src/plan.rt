@@ -1,12 +1,12 @@
 //! What was decided of a take.
 
 ghost use Rattle.std.specs.Prelude.{◌≡◌, ◌+◌, ◌-◌, ◌*◌, ◌<◌, ◌≤◌, ◌^◌, if◌then◌else◌};
-ghost use Rattle.dex_take.specs.Leaving.{moves};
+ghost use Rattle.dex_take.specs.Exchanging.{moves};
 ghost use Rattle.dex_take.specs.Taking.{transfers_by};
 ghost use Rattle.dex_types.specs.Side.{by_side};
 
 use dex_meet::Sums;
-use dex_ring::Leaving;
+use dex_ring::PendingFills;
 use dex_types::{Lots, Side};
 
 /// What an accepted take does: the native amount from the paying wallet into its vault and the one from the other vault to
@@ -25,7 +25,7 @@ pub struct TakePlan {
 #[derive(Clone, Copy, Debug, PartialEq, Eq)]
 pub struct DecidedTake {
     pub plan: TakePlan,
-    pub leaving: Leaving,
+    pub pending: PendingFills,
 }
 
 /// What a take moves between wallets and vaults, in native amounts, into the vaults and out of them.

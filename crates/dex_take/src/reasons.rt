@@ -10,7 +10,7 @@ use crate::outlook::TakeOutlook;
 use crate::plan::{TakePlan, exchange_of};
 use dex_market::MarketRef;
 use dex_reasons::{Payout, beyond, no_room, payer, short_of, too_full};
-use dex_ring::Leaving;
+use dex_ring::PendingFills;
 use dex_types::{Refusal, Seen, Side};
 
 /// What a take has to fill at least, in base lots and in native quote with its fee.
@@ -67,18 +67,18 @@ pub(crate) fn bound_reason(
     market: &MarketRef<'_>,
     side: Side,
     plan: &TakePlan,
-    leaving: Leaving,
+    pending: PendingFills,
 ) -> Option<Refusal>
     requires market { IsMarket market.now.bytes.now }
     requires coin { (transfers_by side plan.now).coin_out ≤ vault_of Coin (market_words market.now.bytes.now) }
     requires pc { (transfers_by side plan.now).pc_out ≤ vault_of Pc (market_words market.now.bytes.now) }
-    requires coin_small { leaving.coin < 2 ^ 81 }
-    requires pc_small { leaving.pc < 2 ^ 81 }
-    ensures { result ≡ reasons.first_of (at_bound side plan.now (market_words market.now.bytes.now) leaving) }
+    requires coin_small { pending.coin < 2 ^ 81 }
+    requires pc_small { pending.pc < 2 ^ 81 }
+    ensures { result ≡ reasons.first_of (at_bound side plan.now (market_words market.now.bytes.now) pending) }
 {
     let moved = exchange_of(side, plan);
     let vaults = market.vaults();
     let coin = vaults.coin + u128::from(moved.coin_in) - u128::from(moved.coin_out);
     let pc = vaults.pc + u128::from(moved.pc_in) - u128::from(moved.pc_out);
-    beyond(coin, leaving.coin).or(beyond(pc, leaving.pc))
+    beyond(coin, pending.coin).or(beyond(pc, pending.pc))
 }

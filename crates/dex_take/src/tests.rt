@@ -1,6 +1,6 @@
 ghost use Rattle.std.specs.Prelude.{◌≡◌, ℕ, ◌*◌, ◌≤◌, ◌∷◌, [], IfOk, true};
 ghost use Rattle.dex_market.specs.MarketAccount.{IsMarket, market_words};
-ghost use Rattle.dex_take.specs.Leaving.{CanExchange, moves};
+ghost use Rattle.dex_take.specs.Exchanging.{CanExchange, moves};
 ghost use Rattle.dex_types.specs.declared.terms.Side.TheVariants as sides;
 ghost use Rattle.dex_types.specs.Owed.{order_lock};
 ghost use Rattle.dex_book.specs.ListSide.{IsListed};

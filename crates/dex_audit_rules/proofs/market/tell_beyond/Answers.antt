@@ -16,11 +16,11 @@ pub returns : goal.returns
 unfolding market_in
 returns c =
     let m = market_in (market_accounts_of c.args.market.now) in
-    let coin_sum : c.with_leaving-coin.result ≡ capped (vault Coin m + all_leaving Coin m.events) =
-    c.with_leaving-coin.ensures m c.requires.of
+    let coin_sum : c.with_pending-coin.result ≡ capped (vault Coin m + all_leaving Coin m.events) =
+    c.with_pending-coin.ensures m c.requires.of
     ∙ ap (λ n. capped (n + all_leaving Coin m.events)) (c.amount.ensures ∙ ap (λ b. (wallet_words b).amount) c.deref-2.ensures.value) in
-    let pc_sum : c.with_leaving-pc.result ≡ capped (vault Pc m + all_leaving Pc m.events) =
-    c.with_leaving-pc.ensures m c.requires.of
+    let pc_sum : c.with_pending-pc.result ≡ capped (vault Pc m + all_leaving Pc m.events) =
+    c.with_pending-pc.ensures m c.requires.of
     ∙ ap (λ n. capped (n + all_leaving Pc m.events)) (c.amount-2.ensures ∙ ap (λ b. (wallet_words b).amount) c.deref-3.ensures.value) in
     let first =
     exceeds-one 11 64 (vault Coin m + all_leaving Coin m.events) c.coin_vault.result m.listing.coin_vault c.args.found.now.items c.tell_exceeds.new.found.items

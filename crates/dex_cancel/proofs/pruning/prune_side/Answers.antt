@@ -2,8 +2,8 @@ use Rattle.std.proofs.Common.{◌+◌, [], ◌∷◌, length, take, sym, ap, ◌
 use Rattle.std.proofs.lemmas.List.{length-take, length-take-le}
 use Rattle.dex_types.specs.Cancel.{orders_of}
 use Rattle.dex_laws.specs.Walks.{IsReached}
-use Rattle.dex_cancel.specs.Leaving.{queue_of, with_outs, without_all}
-use Rattle.dex_cancel.proofs.LeavingLaws.{room-now}
+use Rattle.dex_cancel.specs.TakenOff.{queue_of, with_outs, without_all}
+use Rattle.dex_cancel.proofs.TakenOffLaws.{room-now}
 use Rattle.dex_cancel.proofs.PruneLaws.{fits-now, one-own, pruned-all, pruned-more, pruned-next, pruned-shorter}
 use Rattle.dex_cancel.proofs.pruning.prune_side.Goals as goal
 

@@ -1,7 +1,7 @@
 use Rattle.std.proofs.Common.{◌≡◌, ◌≤◌, length}
 use Rattle.dex_ring.specs.Ring.{IsEventQueue}
 use Rattle.dex_accounts.specs.Keeps.{KeepsSide}
-use Rattle.dex_cancel.specs.Leaving.{queue_of}
+use Rattle.dex_cancel.specs.TakenOff.{queue_of}
 use Rattle.dex_laws.specs.Walks.{orders_from}
 use Rattle.dex_cancel.proofs.PruneLaws.{IsPruned}
 use Rattle.dex_cancel.proofs.pruning.prune_side.Given as goal

@@ -1,7 +1,7 @@
 use Rattle.std.proofs.Common.{sym, ◌∙◌}
 use Rattle.dex_types.specs.BookSide.{CanRest}
 use Rattle.dex_sound.proofs.WithoutLaws.{found-All}
-use Rattle.dex_cancel.proofs.LeavingLaws.{queue-by, without-on}
+use Rattle.dex_cancel.proofs.TakenOffLaws.{queue-by, without-on}
 use Rattle.dex_cancel.proofs.taking.take_off.Goals as goal
 
 pub push_releasing_out-requires-clause-slot : goal.push_releasing_out-requires-clause-slot

@@ -3,7 +3,7 @@ use Rattle.dex_types.specs.declared.terms.Side.TheVariants.{Bid, Ask}
 use Rattle.dex_types.specs.Cancel.{cancelled}
 use Rattle.dex_ring.specs.Ring.{ring_of}
 use Rattle.dex_cancel.specs.Cancelling.{decided, named_by}
-use Rattle.dex_cancel.proofs.LeavingLaws.{fit-left}
+use Rattle.dex_cancel.proofs.TakenOffLaws.{fit-left}
 use Rattle.dex_cancel.proofs.MarketLaws.{decided-within}
 use Rattle.dex_cancel.proofs.tests.cancel.Goals as goal
 

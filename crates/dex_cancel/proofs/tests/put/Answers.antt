@@ -1,4 +1,4 @@
-use Rattle.dex_cancel.proofs.LeavingLaws.{fit-posted}
+use Rattle.dex_cancel.proofs.TakenOffLaws.{fit-posted}
 use Rattle.dex_cancel.proofs.tests.put.Goals as goal
 
 pub returns-then-count-capacity-clause-fit : goal.returns-then-count-capacity-clause-fit

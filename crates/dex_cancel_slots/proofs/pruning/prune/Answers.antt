@@ -2,8 +2,8 @@ use Rattle.std.proofs.Common.{◌-◌, length-append, take, sym, ap, ◌∙◌, 
 use Rattle.std.proofs.lemmas.List.{length-take}
 use Rattle.dex_types.specs.declared.terms.Side.TheVariants.{Bid, Ask}
 use Rattle.dex_types.specs.Cancel.{all_orders_of, orders_of}
-use Rattle.dex_cancel.specs.Leaving.{queue_of, with_outs, without_all}
-use Rattle.dex_cancel.proofs.LeavingLaws.{room-now}
+use Rattle.dex_cancel.specs.TakenOff.{queue_of, with_outs, without_all}
+use Rattle.dex_cancel.proofs.TakenOffLaws.{room-now}
 use Rattle.dex_cancel.proofs.PruneLaws.{asks_of_first, asks_of_first-left, bids-pruned, asks-pruned, outs-pruned}
 use Rattle.dex_cancel_slots.proofs.pruning.prune.Goals as goal
 

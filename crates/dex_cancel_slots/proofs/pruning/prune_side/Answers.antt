@@ -4,8 +4,8 @@ use Rattle.dex_types.specs.declared.orders.Order.{Order}
 use Rattle.dex_types.specs.Cancel.{orders_of}
 use Rattle.dex_types.specs.Owed.{order_lock}
 use Rattle.dex_sound.proofs.WithoutLaws.{found-All}
-use Rattle.dex_cancel.specs.Leaving.{queue_of, with_outs, without_all}
-use Rattle.dex_cancel.proofs.LeavingLaws.{room-now}
+use Rattle.dex_cancel.specs.TakenOff.{queue_of, with_outs, without_all}
+use Rattle.dex_cancel.proofs.TakenOffLaws.{room-now}
 use Rattle.dex_cancel.proofs.WalkSteps.{on}
 use Rattle.dex_cancel_slots.specs.Given.{slots_in}
 use Rattle.dex_cancel_slots.proofs.PruneLaws.{fit-now, pruned-all, pruned-more, pruned-next, pruned-none}

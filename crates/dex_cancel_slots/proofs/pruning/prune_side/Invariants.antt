@@ -1,7 +1,7 @@
 use Rattle.std.proofs.Common.{◌≡◌, ◌≤◌, ◌-◌}
 use Rattle.dex_ring.specs.Ring.{IsEventQueue}
 use Rattle.dex_accounts.specs.Keeps.{KeepsSide}
-use Rattle.dex_cancel.specs.Leaving.{queue_of}
+use Rattle.dex_cancel.specs.TakenOff.{queue_of}
 use Rattle.dex_cancel_slots.specs.Given.{slots_in}
 use Rattle.dex_cancel_slots.proofs.PruneLaws.{IsPrunedTo}
 use Rattle.dex_cancel_slots.proofs.pruning.prune_side.Given as goal

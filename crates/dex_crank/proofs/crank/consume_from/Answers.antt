@@ -50,10 +50,10 @@ loop-count-preserved c =
           let same : consumable (left - 1) c.args.named.now (events_of c.pay_first-event.new.queue) ≡ consumable (c.args.limit - (count + 1)) c.args.named.now (events_of c.pay_first-event.new.queue) =
           ap (λ (n : ℕ). consumable n c.args.named.now (events_of c.pay_first-event.new.queue)) less in
           omega (arith, c.loop-count.invariant.consumed, more, rest, same);
-      coin = omega (arith, c.loop-count.invariant.coin, coin, c.with_leaving-leaving.ensures.coin);
-      pc = omega (arith, c.loop-count.invariant.pc, pc, c.with_leaving-leaving.ensures.pc);
-      coin_small = omega (arith, c.loop-count.invariant.coin_small, c.with_leaving-leaving.ensures.coin_small);
-      pc_small = omega (arith, c.loop-count.invariant.pc_small, c.with_leaving-leaving.ensures.pc_small);
+      coin = omega (arith, c.loop-count.invariant.coin, coin, c.with_fill-fills.ensures.coin);
+      pc = omega (arith, c.loop-count.invariant.pc, pc, c.with_fill-fills.ensures.pc);
+      coin_small = omega (arith, c.loop-count.invariant.coin_small, c.with_fill-fills.ensures.coin_small);
+      pc_small = omega (arith, c.loop-count.invariant.pc_small, c.with_fill-fills.ensures.pc_small);
     }
 
 pub returns-clause-count : goal.returns-clause-count

@@ -10,8 +10,8 @@ abbrev pub invariant-loop-count : goal.invariant-loop-count
 invariant-loop-count l = record {
   bytes : crank_bytes l.queue l.accounts ≡ paid_bytes l.count (crank_bytes l.initial.queue l.initial.accounts);
   consumed : consumable l.limit l.named (events_of l.initial.queue) ≡ l.count + consumable (l.limit - l.count) l.named (events_of l.queue);
-  coin : all_leaving Coin (events_of l.initial.queue) ≡ l.leaving.coin + all_leaving Coin (events_of l.queue);
-  pc : all_leaving Pc (events_of l.initial.queue) ≡ l.leaving.pc + all_leaving Pc (events_of l.queue);
-  coin_small : l.leaving.coin ≤ l.count * 2 ^ 64;
-  pc_small : l.leaving.pc ≤ l.count * 2 ^ 64;
+  coin : all_leaving Coin (events_of l.initial.queue) ≡ l.fills.coin + all_leaving Coin (events_of l.queue);
+  pc : all_leaving Pc (events_of l.initial.queue) ≡ l.fills.pc + all_leaving Pc (events_of l.queue);
+  coin_small : l.fills.coin ≤ l.count * 2 ^ 64;
+  pc_small : l.fills.pc ≤ l.count * 2 ^ 64;
 }

@@ -6,7 +6,7 @@ use Rattle.dex_types.specs.Rows.{row_of}
 use Rattle.dex_types.specs.Settle.{settlement}
 use Rattle.dex_types.specs.Why.{why_settle}
 use Rattle.dex_settle.specs.declared.plan.SettlePlan.{SettlePlan}
-use Rattle.dex_settle.specs.Leaving.{plan_of}
+use Rattle.dex_settle.specs.PayingOut.{plan_of}
 use Rattle.dex_history.specs.Journal.{asked_of}
 use Rattle.dex_decide.specs.declared.plan.Plan.TheVariants as plans
 use Rattle.dex_decide.specs.Given.{asked_by, market_of}

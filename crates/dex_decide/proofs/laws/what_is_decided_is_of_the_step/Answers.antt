@@ -1,7 +1,7 @@
 use Rattle.std.proofs.Common.{sym, ap, ◌∙◌}
 use Rattle.dex_types.specs.Steps.{Step}
 use Rattle.dex_types.specs.Why.{why}
-use Rattle.dex_ring.specs.Leaving.{leaving_of}
+use Rattle.dex_ring.specs.PendingFills.{pending_fills_of}
 use Rattle.dex_decide.specs.Owing.{deposit_of, entering, sums_told}
 use Rattle.dex_decide.specs.Plans.{plan_decoded}
 use Rattle.dex_decide.proofs.StepLaws.{plan-owes, plan-sums, step-acted, step-refused, told-plan}
@@ -21,4 +21,4 @@ pub returns-clause-sums : goal.returns-clause-sums
 returns-clause-sums c request seen m plan sums told sums_is =
     let planned = plan_decoded request.instruction request seen m in
     plan-sums request.instruction request seen m sums (ap sums_told (told-plan (why request seen m) planned plan told) ∙ sums_is)
-    ∙ ap (λ (s : Step). leaving_of s.market.events) (sym (step-acted request seen m plan told))
+    ∙ ap (λ (s : Step). pending_fills_of s.market.events) (sym (step-acted request seen m plan told))

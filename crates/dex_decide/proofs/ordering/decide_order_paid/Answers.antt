@@ -42,15 +42,15 @@ returns-in-Ok c =
     let m = market_of c.args.accounts.now in
     let parts = parts_of (given_on side bytes c.args.accounts.now) in
     let o = ordering_in side n parts in
-    let decided : Decided = record { plan = plan_by n o; leaving = sums_after parts o } in
+    let decided : Decided = record { plan = plan_by n o; pending = sums_after parts o } in
     let on = order_on side m party.account n in
-    let told : Decided = record { plan = plan_by n on; leaving = sums_with on.events m } in
+    let told : Decided = record { plan = plan_by n on; pending = sums_with on.events m } in
     let why = why_order_of side n request c.args.seen.now m party in
     let has : HasOpen n.owner bytes (whole.parts_of accounts) =
     subst (λ (a : Address). HasOpen a bytes (whole.parts_of accounts)) (sym c.requires.account)
     (has-open accounts c.requires.sound request.named party.address bytes c.requires.acting) in
     let none : why_order_early side request c.args.seen.now m party ≡ None = sym c.wallet_reason.ensures ∙ c.in_default.is in
-    ok-planned (λ (d : Decided). plans.Order c.args.taker d.plan d.leaving) why told c.in-Ok.decided
+    ok-planned (λ (d : Decided). plans.Order c.args.taker d.plan d.pending) why told c.in-Ok.decided
     (sym c.in-Ok.is ∙ c.decide_order_with.ensures
     ∙ ap (λ (r : Option Refusal). answered r decided)
     (order-late accounts c.requires.sound side n request c.args.seen.now party.address bytes c.args.wallet has c.requires.pays none)
@@ -67,7 +67,7 @@ returns-in-Err c =
     let m = market_of c.args.accounts.now in
     let parts = parts_of (given_on side bytes c.args.accounts.now) in
     let o = ordering_in side n parts in
-    let decided : Decided = record { plan = plan_by n o; leaving = sums_after parts o } in
+    let decided : Decided = record { plan = plan_by n o; pending = sums_after parts o } in
     let why = why_order_of side n request c.args.seen.now m party in
     let has : HasOpen n.owner bytes (whole.parts_of accounts) =
     subst (λ (a : Address). HasOpen a bytes (whole.parts_of accounts)) (sym c.requires.account)

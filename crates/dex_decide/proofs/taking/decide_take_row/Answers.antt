@@ -35,12 +35,12 @@ returns-in-Ok c =
     let request = asked_by c.args.row.now in
     let m = market_of c.args.accounts.now in
     let read = read_of (take_given_on side c.args.accounts.now) in
-    let decided : DecidedTake = record { plan = plan_in side t read; leaving = left_in side t read } in
+    let decided : DecidedTake = record { plan = plan_in side t read; pending = left_in side t read } in
     let met = take_meeting side m.listing.sizes t (orders (opposite side) m) in
-    let told : DecidedTake = record { plan = plan_by side m.listing.sizes t met; leaving = sums_with met.events m } in
+    let told : DecidedTake = record { plan = plan_by side m.listing.sizes t met; pending = sums_with met.events m } in
     let why = why_take side t request c.args.seen.now m in
     let none : why_take_early side request c.args.seen.now m ≡ None = sym c.wallet_reason.ensures ∙ c.in_default.is in
-    ok-planned (λ (d : DecidedTake). plans.Take c.args.taker d.plan d.leaving) why told c.in-Ok.decided
+    ok-planned (λ (d : DecidedTake). plans.Take c.args.taker d.plan d.pending) why told c.in-Ok.decided
     (sym c.in-Ok.is ∙ c.decide_take_with.ensures
     ∙ ap (λ (r : Option Refusal). answered r decided) (take-late accounts c.requires.sound side t request c.args.seen.now none)
     ∙ ap (λ (d : DecidedTake). answered why d) (take-decided accounts c.requires.sound side t))
@@ -53,7 +53,7 @@ returns-in-Err c =
     let request = asked_by c.args.row.now in
     let m = market_of c.args.accounts.now in
     let read = read_of (take_given_on side c.args.accounts.now) in
-    let decided : DecidedTake = record { plan = plan_in side t read; leaving = left_in side t read } in
+    let decided : DecidedTake = record { plan = plan_in side t read; pending = left_in side t read } in
     let why = why_take side t request c.args.seen.now m in
     let none : why_take_early side request c.args.seen.now m ≡ None = sym c.wallet_reason.ensures ∙ c.in_default.is in
     err-planned why decided (take_planned side c.args.taker t m) c.in-Err.why

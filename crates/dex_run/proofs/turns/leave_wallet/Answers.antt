@@ -9,7 +9,7 @@ use Rattle.dex_history.specs.Journal.{Call}
 use Rattle.dex_stamps.specs.Stamped.{Stamped}
 use Rattle.dex_journals.specs.Journals.{BankWalletState, IsBankWallet, WalletOrigin, left_by, wallet_entries}
 use Rattle.dex_run.specs.Inside.{call_made}
-use Rattle.dex_run.proofs.Leaving.{comes-back, has-left, put_back, wallet-adds}
+use Rattle.dex_run.proofs.LeavingTurns.{comes-back, has-left, put_back, wallet-adds}
 use Rattle.dex_run.proofs.turns.leave_wallet.Goals as goal
 
 pub with-wallet-requires-clause-entry : goal.with-wallet-requires-clause-entry

@@ -3,7 +3,7 @@ use Rattle.dex_types.specs.Settle.{settlement, settle_transfers}
 use Rattle.dex_market.specs.MarketAccount.{market_words}
 use Rattle.dex_orders.specs.OrdersAccount.{account_of}
 use Rattle.dex_sound.proofs.OrderSoundReasons.{NoneOf, first_of-none}
-use Rattle.dex_settle.specs.Leaving.{plan_of, transfers_by}
+use Rattle.dex_settle.specs.PayingOut.{plan_of, transfers_by}
 use Rattle.dex_types.specs.Reasons.{answered}
 use Rattle.dex_settle.specs.Refusing.{early_settle_reasons, full_reasons}
 use Rattle.dex_reasons.proofs.FirstReasons.{first_of-early}

@@ -1,6 +1,6 @@
 use Rattle.std.proofs.Common.{rules, ◌∙◌, ◌≡◌, ◌∷◌, []}
 use Rattle.dex_types.specs.Reasons.{too_full}
-use Rattle.dex_settle.specs.Leaving.{transfers_by}
+use Rattle.dex_settle.specs.PayingOut.{transfers_by}
 use Rattle.dex_reasons.proofs.FirstReasons.{joined, joined-first}
 use Rattle.dex_settle.proofs.settle.full_reason.Goals as goal
 

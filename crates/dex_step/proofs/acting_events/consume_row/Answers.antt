@@ -8,14 +8,14 @@ use Rattle.dex_step.proofs.acting_events.consume_row.Goals as goal
 
 pub consume_on_bytes-consumed-requires : goal.consume_on_bytes-consumed-requires
 consume_on_bytes-consumed-requires c =
-    let can = consume-can (market_accounts_of c.args.accounts.now) c.args.limit c.args.named.now c.args.leaving.now c.requires.sound c.requires.sums in
+    let can = consume-can (market_accounts_of c.args.accounts.now) c.args.limit c.args.named.now c.args.pending.now c.requires.sound c.requires.sums in
     search (rules, can)
 
 pub returns : goal.returns
 returns c =
     let old = c.args.accounts.now in
     let did = c.consume_on_bytes-consumed in
-    consume-stepped (market_accounts_of old) c.args.limit c.args.named.now c.args.leaving.now c.requires.sound c.requires.sums
+    consume-stepped (market_accounts_of old) c.args.limit c.args.named.now c.args.pending.now c.requires.sound c.requires.sums
     _ c.consume_on_bytes-consumed.result _
     (consumed-same _ _ _ _ _ _ _ c.consume_on_bytes-consumed.ensures (search rules)
     (crank-bytes-same _ _ _ _

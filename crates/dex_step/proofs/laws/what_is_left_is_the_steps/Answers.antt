@@ -1,4 +1,4 @@
-use Rattle.dex_step.proofs.LeavingLaws.{leaves-stepped}
+use Rattle.dex_step.proofs.SteppedLaws.{leaves-stepped}
 use Rattle.dex_step.proofs.laws.what_is_left_is_the_steps.Goals as goal
 
 pub returns : goal.returns

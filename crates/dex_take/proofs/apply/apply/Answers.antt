@@ -8,7 +8,7 @@ use Rattle.dex_types.specs.declared.terms.Lots.{Lots}
 use Rattle.dex_types.specs.Meeting.{Meeting, meet}
 use Rattle.dex_types.specs.Transfers.{Transfers}
 use Rattle.dex_take.specs.declared.plan.TakePlan.{TakePlan}
-use Rattle.dex_take.specs.Leaving.{CanExchange, bytes_after, kept_of, moves}
+use Rattle.dex_take.specs.Exchanging.{CanExchange, bytes_after, kept_of, moves}
 use Rattle.dex_take.specs.Taking.{transfers_by}
 use Rattle.dex_take.specs.TakeTerms.{bare_take, meeting_with}
 use Rattle.dex_take.proofs.TakeAmounts.{fits-take, lock-fits, take-covers}

@@ -52,7 +52,7 @@ returns-in-Some g c =
     ap (λ k. k * c.sizes.result.coin) c.requires.foreseen.lots ∙ ap (λ (s : Lots). (meeting_in taker.id_side t read).lots * s.coin) c.sizes.ensures in
     let quote : o.sums.pc - o.sums.rebates ≡ (meeting_in taker.id_side t read).pc - (meeting_in taker.id_side t read).rebates =
     ap (λ k. k - o.sums.rebates) c.requires.foreseen.pc ∙ ap (λ k. (meeting_in taker.id_side t read).pc - k) c.requires.foreseen.rebates in
-    let is = left-is taker.id_side t read c.args.leaving left (o.sums.lots * c.sizes.result.coin) (o.sums.pc - o.sums.rebates) c.requires.pending base quote
+    let is = left-is taker.id_side t read c.args.pending left (o.sums.lots * c.sizes.result.coin) (o.sums.pc - o.sums.rebates) c.requires.pending base quote
     c.with_fills-left.ensures.coin c.with_fills-left.ensures.pc in
     ap (λ (r : Option Refusal). answered r (decided_as o.plan left)) (sym c.in-Some.is ∙ c.bound_reason.ensures)
     ∙ outcome-late taker.id_side t read c.args.seen.now o left c.requires.within c.requires.foreseen is
@@ -68,7 +68,7 @@ returns-in-None g c =
     ap (λ k. k * c.sizes.result.coin) c.requires.foreseen.lots ∙ ap (λ (s : Lots). (meeting_in taker.id_side t read).lots * s.coin) c.sizes.ensures in
     let quote : o.sums.pc - o.sums.rebates ≡ (meeting_in taker.id_side t read).pc - (meeting_in taker.id_side t read).rebates =
     ap (λ k. k - o.sums.rebates) c.requires.foreseen.pc ∙ ap (λ k. (meeting_in taker.id_side t read).pc - k) c.requires.foreseen.rebates in
-    let is = left-is taker.id_side t read c.args.leaving left (o.sums.lots * c.sizes.result.coin) (o.sums.pc - o.sums.rebates) c.requires.pending base quote
+    let is = left-is taker.id_side t read c.args.pending left (o.sums.lots * c.sizes.result.coin) (o.sums.pc - o.sums.rebates) c.requires.pending base quote
     c.with_fills-left.ensures.coin c.with_fills-left.ensures.pc in
     ap (λ (r : Option Refusal). answered r (decided_as o.plan left)) (sym c.in-None.is ∙ c.bound_reason.ensures)
     ∙ outcome-late taker.id_side t read c.args.seen.now o left c.requires.within c.requires.foreseen is

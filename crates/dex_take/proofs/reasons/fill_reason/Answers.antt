@@ -2,7 +2,7 @@ use Rattle.std.proofs.Common.{◌∙◌, ◌≡◌, ◌∷◌, [], refl}
 use Rattle.dex_types.specs.Reasons.{below_minimum, no_room, short_of, too_full}
 use Rattle.dex_types.specs.Why.{payer}
 use Rattle.dex_reasons.proofs.FirstReasons.{joined, joined-first}
-use Rattle.dex_take.specs.Leaving.{moves}
+use Rattle.dex_take.specs.Exchanging.{moves}
 use Rattle.dex_take.specs.Taking.{too_little_by, transfers_by}
 use Rattle.dex_take.proofs.TakeReasons.{too_full-paid}
 use Rattle.dex_take.proofs.reasons.fill_reason.Goals as goal

@@ -99,19 +99,19 @@ pc c =
     c.pay-payouts.ensures.pc ∙ ap (λ (t : Transfers). moved_share c.self.inside.pc (t.pc_out + t.referrer_out) t.pc_in) (moved c)
     ∙ pc-moved (before c) c.args.row.now c.args.seen.now (market_accounts_of c.apply-reply.new.accounts) c.self.invariant.cell c.apply-reply.ensures.sound c.apply-reply.ensures.market
 
-done : (c : goal.After-append) → HasStepped (market_accounts_of c.self.inside.accounts) (market_accounts_of c.apply-reply.new.accounts) c.apply-reply.result c.apply-reply.new.leaving (stepped c)
+done : (c : goal.After-append) → HasStepped (market_accounts_of c.self.inside.accounts) (market_accounts_of c.apply-reply.new.accounts) c.apply-reply.result c.apply-reply.new.pending (stepped c)
 done c = record {
   reply_is = c.apply-reply.ensures.reply;
   market = c.apply-reply.ensures.market;
   sound = c.apply-reply.ensures.sound;
-  leaving_is = c.apply-reply.ensures.leaving;
+  pending_is = c.apply-reply.ensures.pending;
   kept = c.apply-reply.ensures.kept;
 }
 
 kept : (c : goal.After-append) → IsMarketCell (after c)
 kept c =
     subst (λ (cs : List Call). IsMarketCell (record (after c) { calls = cs })) (sym (calls c))
-    (called (before c) c.args.row.now c.args.seen.now (market_accounts_of c.apply-reply.new.accounts) c.apply-reply.result c.apply-reply.new.leaving
+    (called (before c) c.args.row.now c.args.seen.now (market_accounts_of c.apply-reply.new.accounts) c.apply-reply.result c.apply-reply.new.pending
     c.pay-payouts.new.coin c.pay-payouts.new.pc c.self.invariant.cell (subst (IsFor c.args.row.now c.args.seen.now) (sym c.self.view_is) c.requires.row) (subst HasSpare (sym c.self.view_is) c.requires.spare) (done c) (coin c) (pc c))
 
 pub invariant_of-self : goal.invariant_of-self
@@ -121,7 +121,7 @@ invariant_of-self c = record {
       (c.append.ensures.items ∙ ap (λ (e : Entry). c.self.inside.entries.items ++ e ∷ []) (entry-made c))
       ∙ sym (ap (map (λ (call : Call). call.entry)) (calls c));
   reserved = omega (arith, c.append.ensures.reserved, c.self.invariant.reserved);
-  leaving = c.apply-reply.ensures.leaving;
+  pending = c.apply-reply.ensures.pending;
 }
 
 pub returns-clause-paid : goal.returns-clause-paid

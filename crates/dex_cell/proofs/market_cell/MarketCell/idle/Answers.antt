@@ -43,7 +43,7 @@ invariant_of-self c = record {
       (c.append.ensures.items ∙ ap (λ e. c.self.inside.entries.items ++ e ∷ []) (entry-made c))
       ∙ sym (ap (map (λ call. call.entry)) (calls c));
   reserved = omega (arith, c.append.ensures.reserved, c.self.invariant.reserved);
-  leaving = c.self.invariant.leaving;
+  pending = c.self.invariant.pending;
 }
 
 pub returns-clause-held : goal.returns-clause-held

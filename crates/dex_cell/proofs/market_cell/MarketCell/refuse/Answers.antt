@@ -42,7 +42,7 @@ after c = ap (λ (cs : List _). record (before c) { calls = cs }) (calls c)
 
 kept : (c : goal.After-append) → IsMarketCell (refused_on c.args.row.now c.args.seen.now (before c))
 kept c =
-    refused-called (before c) c.args.row.now c.args.seen.now c.args.refusal c.self.inside.leaving c.self.invariant.cell
+    refused-called (before c) c.args.row.now c.args.seen.now c.args.refusal c.self.inside.pending c.self.invariant.cell
     (subst (IsFor c.args.row.now c.args.seen.now) (sym c.self.view_is) c.requires.row)
     (subst HasSpare (sym c.self.view_is) c.requires.spare) (refused-there c)
 
@@ -53,7 +53,7 @@ invariant_of-self c = record {
       (c.append.ensures.items ∙ ap (λ e. c.self.inside.entries.items ++ e ∷ []) (entry-made c))
       ∙ sym (ap (map (λ call. call.entry)) (calls c));
   reserved = omega (arith, c.append.ensures.reserved, c.self.invariant.reserved);
-  leaving = c.self.invariant.leaving;
+  pending = c.self.invariant.pending;
 }
 
 pub returns-clause-refused : goal.returns-clause-refused

@@ -9,7 +9,7 @@ use Rattle.dex_stamps.specs.Stamped.{Stamped}
 use Rattle.dex_journals.specs.Journals.{BankMarketState, MarketOrigin, market_calls}
 use Rattle.dex_run.specs.Inside.{call_made}
 use Rattle.dex_run.proofs.Entering.{MarketPass, called, may-call}
-use Rattle.dex_run.proofs.Leaving.{market-adds}
+use Rattle.dex_run.proofs.LeavingTurns.{market-adds}
 use Rattle.dex_run.proofs.bank.Bank.in_market.Goals as goal
 
 pub with_wallets-made-requires-clause-market : goal.with_wallets-made-requires-clause-market

@@ -1,8 +1,0 @@
-//! What events are still to take off totals.
-
-/// What makers' fills are still to take off their owners' totals, in native base and in native quote.
-#[derive(Clone, Copy, Debug, PartialEq, Eq)]
-pub struct Leaving {
-    pub coin: u128,
-    pub pc: u128,
-}

@@ -1,0 +1,12 @@
+//! What is told of a call beside its row.
+
+use dex_stamps::Stamp;
+use dex_types::{Entry, Seen};
+
+/// What the row of a call saw, the entry that it made in its market's journal, and its stamp.
+#[derive(Drop)]
+pub struct StampedRecord {
+    pub seen: Seen,
+    pub entry: Entry,
+    pub stamp: Stamp,
+}
