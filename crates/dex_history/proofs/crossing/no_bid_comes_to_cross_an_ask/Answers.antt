@@ -13,7 +13,7 @@ pub returns-clause-places : goal.returns-clause-places
 returns-clause-places c = λ m calls count sound none legal. none-after (take count calls) m sound none (IsLegal-front count calls m legal)
 
 pub returns-clause-end : goal.returns-clause-end
-returns-clause-end c = none-after
+returns-clause-end c = λ m calls. none-after calls m
 
 pub returns-clause-made : goal.returns-clause-made
 returns-clause-made c =

@@ -10,4 +10,4 @@ pub returns-clause-places : goal.returns-clause-places
 returns-clause-places c = λ m calls count sound legal. rested-after (take count calls) m sound (IsLegal-front count calls m legal)
 
 pub returns-clause-end : goal.returns-clause-end
-returns-clause-end c = rested-after
+returns-clause-end c = λ m calls. rested-after calls m
