@@ -6,6 +6,3 @@ mod calls;
 mod writing;
 
 pub use calls::{audit, bulk, dump, make, migrate, replay};
-
-#[cfg(test)]
-mod tests;

@@ -87,7 +87,7 @@ impl From<NoMemory> for Stop {
 
 /// Runs the program on these words, those after its name: the command that they are, or the line that tells how the
 /// program is used. The whole text is built before the first byte is written. Only `run` has lanes, which wait for each
-/// other: what is promised of it holds where it returns. The pace is asked once for each row of a lane.
+/// other: what is promised of it holds where it returns. The pace is for tests, and no clause says when it is called.
 pub fn dex_main<R: Threads + Wait + Sync, S: Source, K: Sink, P: Pace + Sync>(
     rt: &R,
     alloc: Global,

@@ -31,6 +31,3 @@ pub use replies::Reply;
 pub use rows::{Row, Seen, WalletSeen};
 pub use sides::{SideBook, SideRead};
 pub use terms::{Lots, NoMemory, OrderType, Program, SelfTrade, Side, Tier};
-
-#[cfg(test)]
-mod tests;
