@@ -86,10 +86,5 @@ fn scripts_are_made(rt: HostRuntime) -> Result<(), Fail> {
 fn runs_are_summed_up(rt: HostRuntime) -> Result<(), Fail> {
     let (mut text, mut size) = (room(rt.alloc())?, 0);
     let status = bulk(rt.alloc(), 7, 1, &mut text, &mut size);
-    tells(
-        status,
-        &text,
-        size,
-        b"bulk 7 1\naccepted 17\nrefused 0\n",
-    )
+    tells(status, &text, size, b"bulk 7 1\naccepted 17\nrefused 0\n")
 }
