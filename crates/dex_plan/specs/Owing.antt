@@ -3,9 +3,9 @@ use Rattle.std.specs.Prelude.{ℕ, Option, Some, None}
 use Rattle.dex_types.specs.Side.{Token, Coin, by_token, locked_token}
 use Rattle.dex_types.specs.Transfers.{Transfers}
 use Rattle.dex_ring.specs.declared.pending_fills.PendingFills.{PendingFills}
-use Rattle.dex_decide.specs.declared.plan.Deposit.{Deposit}
-use Rattle.dex_decide.specs.declared.plan.Plan.{Plan}
-use Rattle.dex_decide.specs.declared.plan.Plan.TheVariants as plans
+use Rattle.dex_plan.specs.declared.plan.Deposit.{Deposit}
+use Rattle.dex_plan.specs.declared.plan.Plan.{Plan}
+use Rattle.dex_plan.specs.declared.plan.Plan.TheVariants as plans
 
 -- an amount of one token, and none of the other
 abbrev pub owed : Token → ℕ → Deposit

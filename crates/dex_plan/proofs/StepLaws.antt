@@ -18,10 +18,10 @@ use Rattle.dex_types.specs.Terms.{terms_order}
 use Rattle.dex_types.specs.Why.{why}
 use Rattle.dex_ring.specs.declared.pending_fills.PendingFills.{PendingFills}
 use Rattle.dex_ring.specs.PendingFills.{pending_fills_of}
-use Rattle.dex_decide.specs.declared.plan.Plan.{Plan}
-use Rattle.dex_decide.specs.declared.plan.Deposit.{Deposit}
-use Rattle.dex_decide.specs.Owing.{deposit_of, entering, sums_told}
-use Rattle.dex_decide.specs.Plans.{by_party, decided, order_plan, plan_decoded, settle_plan}
+use Rattle.dex_plan.specs.declared.plan.Plan.{Plan}
+use Rattle.dex_plan.specs.declared.plan.Deposit.{Deposit}
+use Rattle.dex_plan.specs.Owing.{deposit_of, entering, sums_told}
+use Rattle.dex_plan.specs.Plans.{by_party, decided, order_plan, plan_decoded, settle_plan}
 
 -- what is answered tells the reason, and where there is none, what is planned
 pub told-reason : {X : Type 0} (reason : Option Refusal) (x : X) (refusal : Refusal) → answered reason x ≡ Err refusal → reason ≡ Some refusal

@@ -28,8 +28,8 @@ use Rattle.dex_match.specs.Ordering as ordering
 use Rattle.dex_match.specs.OrderTerms.{order_of}
 use Rattle.dex_settle.specs.PayingOut.{plan_of}
 use Rattle.dex_take.specs.Taking as taking
-use Rattle.dex_decide.specs.declared.plan.Plan.{Plan}
-use Rattle.dex_decide.specs.declared.plan.Plan.TheVariants as plans
+use Rattle.dex_plan.specs.declared.plan.Plan.{Plan}
+use Rattle.dex_plan.specs.declared.plan.Plan.TheVariants as plans
 
 -- a new order as its trader states it
 abbrev pub taker_of : Side → NewOrder → Taker

@@ -9,9 +9,9 @@ ghost use Rattle.dex_types.specs.Requests.{Request};
 ghost use Rattle.dex_types.specs.Steps.{refused, step};
 ghost use Rattle.dex_ring.specs.declared.pending_fills.PendingFills.{PendingFills};
 ghost use Rattle.dex_ring.specs.PendingFills.{pending_fills_of};
-ghost use Rattle.dex_decide.specs.declared.plan.Plan.{Plan};
-ghost use Rattle.dex_decide.specs.Owing.{deposit_of, entering, sums_told};
-ghost use Rattle.dex_decide.specs.Plans.{decided};
+ghost use Rattle.dex_plan.specs.declared.plan.Plan.{Plan};
+ghost use Rattle.dex_plan.specs.Owing.{deposit_of, entering, sums_told};
+ghost use Rattle.dex_plan.specs.Plans.{decided};
 
 /// A row that is refused leaves its market, and is answered by the refusal. One that is not takes exactly the deposit
 /// of its plan into the vaults; and where its plan tells what pending makers' fills are to take off totals after it,

@@ -2,7 +2,7 @@
 
 ghost use Rattle.std.specs.Prelude.{◌≡◌};
 ghost use Rattle.dex_types.specs.Side.{locked_token};
-ghost use Rattle.dex_decide.specs.Owing.{deposit_of, owed};
+ghost use Rattle.dex_plan.specs.Owing.{deposit_of, owed};
 
 use dex_cancel::CancelWhat;
 use dex_match::{OrderPlan, Taker};

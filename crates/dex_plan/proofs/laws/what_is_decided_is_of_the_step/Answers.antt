@@ -2,10 +2,10 @@ use Rattle.std.proofs.Common.{sym, ap, ◌∙◌}
 use Rattle.dex_types.specs.Steps.{Step}
 use Rattle.dex_types.specs.Why.{why}
 use Rattle.dex_ring.specs.PendingFills.{pending_fills_of}
-use Rattle.dex_decide.specs.Owing.{deposit_of, entering, sums_told}
-use Rattle.dex_decide.specs.Plans.{plan_decoded}
-use Rattle.dex_decide.proofs.StepLaws.{plan-owes, plan-sums, step-acted, step-refused, told-plan}
-use Rattle.dex_decide.proofs.laws.what_is_decided_is_of_the_step.Goals as goal
+use Rattle.dex_plan.specs.Owing.{deposit_of, entering, sums_told}
+use Rattle.dex_plan.specs.Plans.{plan_decoded}
+use Rattle.dex_plan.proofs.StepLaws.{plan-owes, plan-sums, step-acted, step-refused, told-plan}
+use Rattle.dex_plan.proofs.laws.what_is_decided_is_of_the_step.Goals as goal
 
 pub returns-clause-refused : goal.returns-clause-refused
 returns-clause-refused c = step-refused
