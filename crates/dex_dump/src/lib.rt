@@ -20,6 +20,3 @@ pub use laws::{
 };
 pub use reader::{DumpRead, read_dump, read_rows};
 pub use writing::{append_dump, write_dump};
-
-#[cfg(test)]
-mod tests;
