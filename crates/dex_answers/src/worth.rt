@@ -43,8 +43,7 @@ pub(crate) fn worth_answer(alloc: Global, bytes: &[u8]) -> Result<StatusText, No
 /// What every script is.
 fn is_script(script: &Script)
     ensures { IsScript script.now }
-{
-}
+{}
 
 /// What is left when all rows of a script have acted in their order, and the rows.
 fn play_rows(alloc: Global, script: Script) -> Result<(Outcome, Vec<Row>), NoMemory>

@@ -33,8 +33,7 @@ returns-in_ok-outcome-in-Ok c =
     let text : List ℕ = worth_text (length script.start.markets) (table_told script outcome) in
     says c.table_of.result (Answers Worth c.args.bytes.now) status.Ok text
     (IfOk-weaker c.table_of.result _ _
-    (λ told tells. subst (λ (n : ℕ). IsText told status.Ok (worth_text n (table_told script outcome))) many (tells script is are run.lawful)) c.table_of.ensures)
-    (
+    (λ told tells. subst (λ (n : ℕ). IsText told status.Ok (worth_text n (table_told script outcome))) many (tells script is are run.lawful)) c.table_of.ensures) (
       script,
       outcome,
       c.in-Ok.ensures,
