@@ -7,3 +7,4 @@ pub mod Digits
 pub mod Entries
 pub mod Journals
 pub mod Written
+pub mod Fronts
