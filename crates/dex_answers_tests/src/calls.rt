@@ -1,6 +1,6 @@
 //! Each call once, with memory enough: none always answers that memory is wanting.
 
-use dex_call::{audit, bulk, dump, make, migrate, replay};
+use dex_call::{audit, bulk, dump, make, migrate, replay, worth};
 use std::alloc::Global;
 use std::test::Fail;
 
@@ -53,6 +53,13 @@ fn scripts_are_answered(rt: HostRuntime) -> Result<(), Fail> {
 }
 
 #[test]
+fn worths_are_told(rt: HostRuntime) -> Result<(), Fail> {
+    let (mut text, mut size) = (room(rt.alloc())?, 0);
+    let status = worth(rt.alloc(), SCRIPT, &mut text, &mut size);
+    tells(status, &text, size, b"worth 1\ntrader m amy 0 0\nend\n")
+}
+
+#[test]
 fn dumps_are_audited(rt: HostRuntime) -> Result<(), Fail> {
     let dump = dumped(rt.alloc())?;
     let (mut text, mut size) = (room(rt.alloc())?, 0);
@@ -79,10 +86,5 @@ fn scripts_are_made(rt: HostRuntime) -> Result<(), Fail> {
 fn runs_are_summed_up(rt: HostRuntime) -> Result<(), Fail> {
     let (mut text, mut size) = (room(rt.alloc())?, 0);
     let status = bulk(rt.alloc(), 7, 1, &mut text, &mut size);
-    tells(
-        status,
-        &text,
-        size,
-        b"bulk 7 1\naccepted 17\nrefused 0\n",
-    )
+    tells(status, &text, size, b"bulk 7 1\naccepted 17\nrefused 0\n")
 }

@@ -5,4 +5,4 @@ mod calling;
 mod calls;
 mod writing;
 
-pub use calls::{audit, bulk, dump, make, migrate, replay};
+pub use calls::{audit, bulk, dump, make, migrate, replay, worth};

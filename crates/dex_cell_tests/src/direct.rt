@@ -198,7 +198,14 @@ fn orders_are_cancelled_by_client_ids(rt: HostRuntime) -> Result<(), Fail> {
 #[test]
 fn orders_are_pruned(rt: HostRuntime) -> Result<(), Fail> {
     let row = b"do,1,m,admin,ben,-,-,-,-,prune 3";
-    cancels(&rt, rt.alloc(), ben(), CancelWhat::Prune(3), Ok((1, 1)), row)
+    cancels(
+        &rt,
+        rt.alloc(),
+        ben(),
+        CancelWhat::Prune(3),
+        Ok((1, 1)),
+        row,
+    )
 }
 
 /// So many events are consumed, which leaves all account bytes as its row does.

@@ -23,7 +23,8 @@ fn a_full_wallet_is_paid_nothing(rt: HostRuntime) -> Result<(), Fail> {
     let before = opened(rt.alloc())?;
     let mut exchange = opened(rt.alloc())?;
     let line = exchange.run(b"do,0,m,ann,amy,ann_coin,ann_usd,-,-,settle")?;
-    let told = "0 15 refused 23 BalanceTooLarge 18446744073709551615 100 ann_coin probe 0 18446744073709551615 ann_usd probe 0 0\n";
+    let told =
+        "0 15 refused 23 BalanceTooLarge 18446744073709551615 100 ann_coin probe 0 18446744073709551615 ann_usd probe 0 0\n";
     assert_eq!(rt; line.as_str(), told);
     assert!(rt; *before.cell.accounts() == *exchange.cell.accounts());
     Ok(())

@@ -17,6 +17,7 @@ mod replies;
 mod rows;
 mod sides;
 mod terms;
+mod texts;
 
 pub use account_bytes::{Accounts, MarketAccounts, Named, OrdersAccount};
 pub use addresses::{Address, is_same};

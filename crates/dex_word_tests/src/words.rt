@@ -18,6 +18,7 @@ const COMMANDS: &str = "replay
 run
 dump
 audit
+worth
 make 0 1
 make 18446744073709551615 20000
 bulk 7 300
@@ -34,7 +35,7 @@ fn each_command_is_read(rt: HostRuntime) -> Result<(), Fail> {
 }
 
 const NEAR_MISSES: &str =
-    "\n \nrun 1\nhelp\nReplay\nreplay \n replay\nreplay replay\nreplay 1 2\ndump 1\naudit audit audit
+    "\n \nrun 1\nhelp\nReplay\nreplay \n replay\nreplay replay\nreplay 1 2\ndump 1\nworth 1\naudit audit audit
 -\n--\n-h\n--help\n-- replay\nreplay --\nreplay -x\nreplay --help\nrun -x
 make\nmake 1\nmake -1 5\nmake 1 -5\nmake +1 5\nmake 01 5\nmake 1 05\nmake 1 0\nmake 1 20001\nmake 1 4294967297
 make 18446744073709551616 5\nmake 1 5 6\nmake 1 5 6 7\nmake one 5\nmake 1  5
