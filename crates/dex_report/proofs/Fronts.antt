@@ -1,14 +1,14 @@
 -- the movements of each entry of a legal history stand from the front
-use Rattle.std.proofs.Common.{ℕ, zero, suc, ◌≡◌, ◌++◌, true, List, [], ◌∷◌, Option, Some, None, map, take, replicate, is_none, refl, sym, subst}
-use Rattle.std.specs.List.{All, list_all}
+use Rattle.std.proofs.Common.{ℕ, zero, suc, ◌≡◌, ◌++◌, true, List, [], ◌∷◌, Option, Some, None, map, take, replicate, refl, sym, subst}
+use Rattle.std.specs.List.{All}
 use Rattle.std.proofs.lemmas.List.Elements.{All-nil, All-cons}
 use Rattle.dex_types.specs.declared.movements.Entry.{Entry}
 use Rattle.dex_types.specs.declared.movements.Movement.{Movement}
 use Rattle.dex_types.specs.Market.{Market}
 use Rattle.dex_types.specs.Wallets.{movements}
 use Rattle.dex_history.specs.Journal.{Call, IsLegal, step_of}
-use Rattle.dex_report.specs.Outcomes.{PlainMarketJournal, PlainOutcome}
-use Rattle.dex_report.specs.Telling.{AreInFront, FitMarket, FitOutcome, IsToldOutcome, stand_from_front}
+use Rattle.dex_report.specs.Outcomes.{PlainOutcome}
+use Rattle.dex_report.specs.Telling.{AreInFront, FitOutcome, IsToldOutcome, stand_from_front}
 
 -- in a front of four empty places none is taken
 none-taken : (count : ℕ) → stand_from_front (take count (replicate 4 None)) ≡ true
@@ -16,7 +16,8 @@ none-taken zero = refl
 none-taken (suc zero) = refl
 none-taken (suc (suc zero)) = refl
 none-taken (suc (suc (suc zero))) = refl
-none-taken (suc (suc (suc (suc count)))) = refl
+none-taken (suc (suc (suc (suc zero)))) = refl
+none-taken (suc (suc (suc (suc (suc count))))) = refl
 
 -- movements, and empty places behind them, stand from the front
 in-front : (count : ℕ) (moves : List Movement) → stand_from_front (take count (map (λ move. Some move) moves ++ replicate 4 None)) ≡ true

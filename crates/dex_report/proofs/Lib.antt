@@ -8,3 +8,4 @@ pub mod Entries
 pub mod Journals
 pub mod Written
 pub mod Fronts
+mod Collected

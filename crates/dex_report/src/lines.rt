@@ -155,7 +155,7 @@ fn refusal_fits(why: Refusal)
 }
 
 /// An address has 32 bytes.
-fn address_fits(address: Address)
+pub(crate) fn address_fits(address: Address)
     ensures { IsAddress address }
 {}
 

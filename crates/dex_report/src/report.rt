@@ -7,7 +7,7 @@ ghost use Rattle.dex_report.specs.Outcomes.{market_journal_of, outcome_of, walle
 ghost use Rattle.dex_report.specs.Report as texts;
 ghost use Rattle.dex_report.specs.Telling.{FitMarket, FitOutcome, IsToldWallet};
 
-use crate::lines::{write_entry, write_move};
+use crate::lines::{address_fits, write_entry, write_move};
 use crate::outcome::{MarketJournal, Outcome, WalletJournal};
 use dex_dump::append_dump;
 use dex_types::NoMemory;
@@ -56,6 +56,7 @@ fn write_market(text: &mut String, journal: &MarketJournal) -> Result<(), AllocE
         OnOk result (string_bytes text.new ≡ string_bytes text.old ++ lines) }
 {
     let market = journal.address;
+    address_fits(market);
     let count = journal.entries.len();
     write!(text, "market {market} {count}\n")?;
     'entries: for entry in &journal.entries {
@@ -81,6 +82,7 @@ fn write_wallet(text: &mut String, journal: &WalletJournal) -> Result<(), AllocE
         OnOk result (string_bytes text.new ≡ string_bytes text.old ++ lines) }
 {
     let wallet = journal.address;
+    address_fits(wallet);
     let count = journal.entries.len();
     write!(text, "wallet {wallet} {count}\n")?;
     'moves: for entry in &journal.entries {
