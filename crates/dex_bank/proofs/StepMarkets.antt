@@ -1,7 +1,8 @@
 -- Cells of markets, the first of whose at an address acts.
 use Rattle.std.proofs.Common.{◌≡◌, ℕ, zero, suc, true, false, List, [], ◌∷◌, ◌++◌, map, set, get_or, Some, refl, sym, ap, ◌∙◌, subst, arith}
 use Rattle.dex_fold.proofs.Common.{Address, Call, Entry, Market, MarketState, PlainMarketAccounts, PlainRow, Row, Seen, Step, cond-false, cond-true, entry_by, false≢true, idle-step, idle_row, is_same, market_acted, markets_acted, row_of}
-use Rattle.dex_bank.proofs.Common.{HasBecomeAt, IsFirstAt, IsMarketCell, MarketCellState, OthersStay, accounts_in, call_on, entries_of, market_in, market_state_of, step_on}
+use Rattle.dex_bank.proofs.Common.{HasBecomeAt, IsFirstAt, IsMarketCell, MarketCellState, OthersStay, accounts_in, call_on, entries_of, market_state_of, step_on}
+use Rattle.dex_accounts.specs.Decoded.{market_in}
 use Rattle.std.specs.List.{All}
 use Rattle.std.proofs.lemmas.List.{map-append}
 use Rattle.std.proofs.lemmas.List.Elements.{All-set}
