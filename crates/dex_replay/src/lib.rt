@@ -2,6 +2,7 @@
 #![tactic(auto)]
 
 pub mod laws;
+pub mod reports;
 mod replaying;
 
 pub use replaying::{replay, replay_with_rows};
