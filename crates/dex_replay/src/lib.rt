@@ -2,7 +2,7 @@
 #![tactic(auto)]
 
 pub mod laws;
-pub mod reports;
 mod replaying;
+pub mod reports;
 
 pub use replaying::{replay, replay_with_rows};
