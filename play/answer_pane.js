@@ -13,6 +13,12 @@ import { COMMANDS, numberOfWord } from './commands.js';
 import { Deeds } from './deeds.js';
 import { Working } from './working.js';
 
+// The views that show answers of each kind first.
+const FIRST_VIEWS = { report: '#book', dump: '#book', answer: '#answer', script: '#script', worth: '#worth' };
+
+// The name of the moment at which something is shown first.
+const FIRST = 'first answer';
+
 // How long a time is, in words.
 function timeText(milliseconds) { return milliseconds < 1000 ? `${milliseconds.toFixed(milliseconds < 10 ? 1 : 0)} ms` : `${(milliseconds / 1000).toFixed(1)} s`; }
 
@@ -25,8 +31,9 @@ export class AnswerPane {
     // Each answer that is waited for has a number; an older one is not shown any more.
     this.round = 0;
     this.last = null;
+    this.left = {};
     this.words = new Map();
-    this.commandHolder = element('span', {});
+    this.commandHolder = element('span', { class: 'command' });
     this.numbers = element('span', { class: 'numbers' });
     this.told = element('p', { 'class': 'file', 'role': 'status', 'data-name': 'told' }, 'Loading the module…');
     this.faults = element('div', { class: 'faults' });
@@ -147,10 +154,20 @@ export class AnswerPane {
   takeShown(shown, command, answer) {
     if (command.gives === 'report' && answer.status === 0) shown.deeds = new Deeds(shown, (row) => this.pane.write(row));
     frame.shown = shown;
-    this.isOf = answer.status === 0 ? command.gives : 'answer';
+    this.goToView(answer.status === 0 ? command.gives : 'answer');
     delete frame.main.dataset.stale;
+    if (performance.getEntriesByName(FIRST).length === 0) performance.mark(FIRST);
     if (command.gives === 'report' && answer.status === 0) this.pane.takeShown(shown);
     drawView();
+  }
+
+  // Goes to the view that was left when such an answer was shown last, where the answer is of another kind than the one before it.
+  goToView(kind) {
+    if (this.isOf !== undefined && this.isOf !== kind) {
+      this.left[this.isOf] = window.location.hash;
+      window.history.replaceState(null, '', this.left[kind] || FIRST_VIEWS[kind]);
+    }
+    this.isOf = kind;
   }
 
   // What was answered, in a line.

@@ -36,8 +36,8 @@ function noteExchange(known, exchange) {
 /** What is known of a text of rows beside the accounts of the last report, where there is one; labels stand by their words. */
 export function knownOf(text, exchange) {
   const known = { mints: new Set(), discounts: new Set(), wallets: new Map(), markets: new Map(), accounts: new Map(), exchange };
-  if (exchange !== null) noteExchange(known, exchange);
   noteText(known, text);
+  if (exchange !== null) noteExchange(known, exchange);
   return known;
 }
 

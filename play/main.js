@@ -3,7 +3,7 @@
 import { faultNode, hearKeys, KEYS, keysNode, skipLink, themeChoice, unitsChoice } from '../page/bar.js';
 import { element } from '../page/elements.js';
 import { givenTexts, hearFiles } from '../page/given.js';
-import { frame } from '../page/navigation.js';
+import { drawView, frame } from '../page/navigation.js';
 import { searchField } from '../page/search.js';
 import { hearPrinting } from '../page/table.js';
 import { AnswerPane } from './answer_pane.js';
@@ -44,6 +44,7 @@ function beginPlay() {
   hearFiles(file, ([first]) => sources.open(first), bytesOfFile);
   hearKeys(search.field, () => file.click());
   hearPrinting();
+  window.addEventListener('hashchange', drawView);
   if (window.location.hash === '') window.history.replaceState(null, '', '#book');
   runner.ready.then(() => answers.offerCommands(), (fault) => frame.main.replaceChildren(faultNode({ name: 'The module', fault })));
   sources.takeExample(examples[0]);

@@ -1,6 +1,7 @@
 /* What the library's module asks of its surroundings, for a browser: memory from the page's WebAssembly memory, and numbers of 128 bits.
- * None of it is proved. tests/play tries it in the very module that the page has: the functions marked so are exported for that. */
+ * None of it is proved. tests/play tries it in the very module that the page has, which shows these functions for that. */
 typedef __UINT64_TYPE__ uint64_t;
+typedef __UINT32_TYPE__ uint32_t;
 typedef __UINTPTR_TYPE__ uintptr_t;
 
 /* ---- memory: blocks of some hundred sizes, each behind a head that tells its size, with a list of free blocks for each size */
@@ -114,3 +115,59 @@ uint64_t play_realloc(void *place, uint64_t bytes) {
 }
 
 void play_free(void *place) { rattle_dealloc(place); }
+
+/* ---- numbers of 128 bits, as compilers call for them: the product, the quotient and the rest, none of which may use its own operator */
+
+typedef unsigned __int128 wide;
+
+static uint64_t low_of(wide number) { return (uint64_t)number; }
+
+static uint64_t high_of(wide number) { return (uint64_t)(number >> 64); }
+
+static wide wide_of(uint64_t high, uint64_t low) { return ((wide)high << 64) | low; }
+
+/* The whole product of two numbers of 64 bits, by halves. */
+static wide product(uint64_t one, uint64_t other) {
+  uint64_t one_low = (uint32_t)one, one_high = one >> 32, other_low = (uint32_t)other, other_high = other >> 32;
+  uint64_t low = one_low * other_low, first = one_high * other_low + (low >> 32), second = one_low * other_high + (uint32_t)first;
+  return wide_of(one_high * other_high + (first >> 32) + (second >> 32), (second << 32) | (uint32_t)low);
+}
+
+wide __multi3(wide one, wide other) {
+  return product(low_of(one), low_of(other)) + wide_of(low_of(one) * high_of(other) + high_of(one) * low_of(other), 0);
+}
+
+/* The bit of a number at a place. */
+static uint64_t bit_of(wide number, int place) { return (place < 64 ? low_of(number) >> place : high_of(number) >> (place - 64)) & 1; }
+
+/* The quotient and the rest, digit by digit from the first that can be set; of numbers below 2^64 by the machine's own. A divisor is not 0. */
+static wide divide(wide number, wide divisor, wide *rest) {
+  wide quotient = 0, left = 0;
+  int place;
+  if (high_of(number) == 0 && high_of(divisor) == 0) {
+    *rest = low_of(number) % low_of(divisor);
+    return low_of(number) / low_of(divisor);
+  }
+  for (place = high_of(number) == 0 ? 63 : 127 - __builtin_clzll(high_of(number)); place >= 0; place -= 1) {
+    uint64_t carried = high_of(left) >> 63;
+    left = left + left + bit_of(number, place);
+    quotient += quotient;
+    if (carried != 0 || left >= divisor) {
+      left -= divisor;
+      quotient += 1;
+    }
+  }
+  *rest = left;
+  return quotient;
+}
+
+wide __udivti3(wide number, wide divisor) {
+  wide rest;
+  return divide(number, divisor, &rest);
+}
+
+wide __umodti3(wide number, wide divisor) {
+  wide rest;
+  divide(number, divisor, &rest);
+  return rest;
+}

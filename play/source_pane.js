@@ -71,6 +71,7 @@ export class SourcePane {
     if (this.source.setRows(this.editor.text)) this.drawSource();
     this.shownBelongs = false;
     this.drawPartWords();
+    document.body.dataset.busy = '';
     clearTimeout(this.timer);
     this.timer = setTimeout(() => this.onChange(), this.source.rows.length > LONG ? PATIENCE_OF_LONG : 0);
   }

@@ -1,4 +1,5 @@
-// What is told while something runs: for how long, and a button that stops it. It shows only where it takes a while.
+// What is told while something runs: for how long, and a button that stops it. It shows only where it takes a while. Tests wait for the
+// body's `data-busy` to go.
 
 import { element } from '../page/elements.js';
 
@@ -18,6 +19,7 @@ export class Working {
     this.end();
     this.words = words;
     this.from = performance.now();
+    document.body.dataset.busy = '';
     this.timer = setInterval(() => this.draw(), PATIENCE);
   }
 
@@ -29,6 +31,7 @@ export class Working {
     clearInterval(this.timer);
     this.node.hidden = true;
     this.text.textContent = '';
+    delete document.body.dataset.busy;
   }
 
   // Tells for how long it runs.
