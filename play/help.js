@@ -29,10 +29,10 @@ export class Help {
     this.go = go;
     this.offers = [];
     this.faultNode = element('div', { 'class': 'row-fault', 'role': 'status', 'data-name': 'row fault' });
-    this.fields = element('p', { class: 'row-fields' });
+    this.fields = element('p', { class: 'row-fields', id: 'help' });
     this.chips = element('div', { class: 'offers' });
     this.reply = element('div', { class: 'row-reply' });
-    this.node = element('div', { class: 'help', id: 'help' }, this.faultNode, this.fields, this.chips, this.reply);
+    this.node = element('div', { class: 'help' }, this.faultNode, this.fields, this.chips, this.reply);
   }
 
   /** Tells which row is at fault, or none. */

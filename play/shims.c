@@ -27,18 +27,19 @@ extern unsigned char __heap_base;
 static struct block *free_blocks[SIZES];
 static uint64_t top;
 
-/* The number of the smallest size that has room for so many bytes: four sizes between each power of two and the next, from 32 on. */
+/* The number of the smallest size that has room for so many bytes: four sizes from each power of two to the next, from 64 on, so that all
+ * are multiples of 16. */
 static uint64_t number_of(uint64_t bytes) {
   uint64_t power, step;
-  if (bytes <= 32) return 0;
+  if (bytes <= 64) return 0;
   power = 63 - (uint64_t)__builtin_clzll(bytes - 1);
   step = (bytes - 1 - (1ull << power)) >> (power - 2);
-  return 4 * (power - 5) + step + 1;
+  return 4 * (power - 6) + step + 1;
 }
 
 /* How many bytes the size of a number has, with its head. */
 static uint64_t bytes_of(uint64_t number) {
-  uint64_t power = 5 + number / 4;
+  uint64_t power = 6 + number / 4;
   return (1ull << power) + (number % 4) * (1ull << (power - 2));
 }
 
@@ -116,7 +117,7 @@ uint64_t play_realloc(void *place, uint64_t bytes) {
 
 void play_free(void *place) { rattle_dealloc(place); }
 
-/* ---- numbers of 128 bits, as compilers call for them: the product, the quotient and the rest, none of which may use its own operator */
+/* ---- numbers of 128 bits, as compilers call for them: product, shifts, quotient, rest; none may use its own operator */
 
 typedef unsigned __int128 wide;
 
@@ -135,6 +136,21 @@ static wide product(uint64_t one, uint64_t other) {
 
 wide __multi3(wide one, wide other) {
   return product(low_of(one), low_of(other)) + wide_of(low_of(one) * high_of(other) + high_of(one) * low_of(other), 0);
+}
+
+/* A number shifted by 0 to 127 places. */
+wide __ashlti3(wide number, int places) {
+  uint64_t low = low_of(number), high = high_of(number);
+  if (places == 0) return number;
+  if (places >= 64) return wide_of(low << (places - 64), 0);
+  return wide_of((high << places) | (low >> (64 - places)), low << places);
+}
+
+wide __lshrti3(wide number, int places) {
+  uint64_t low = low_of(number), high = high_of(number);
+  if (places == 0) return number;
+  if (places >= 64) return wide_of(0, high >> (places - 64));
+  return wide_of(high >> places, (low >> places) | (high << (64 - places)));
 }
 
 /* The bit of a number at a place. */

@@ -28,8 +28,8 @@ function checkNumbers() {
   const shims = instance(65536);
   const out = shims.play_alloc(16n);
   const halves = (number) => [BigInt.asIntN(64, number), BigInt.asIntN(64, number >> 64n)];
-  const result = (name, one, other) => {
-    shims[name](out, ...halves(one), ...halves(other));
+  const result = (name, ...words) => {
+    shims[name](out, ...words);
     const view = new DataView(shims.memory.buffer, Number(out), 16);
     return view.getBigUint64(0, true) + (view.getBigUint64(8, true) << 64n);
   };
@@ -39,11 +39,14 @@ function checkNumbers() {
     const wide = () => ((drawn() << 64n) + drawn()) >> (drawn() % 128n);
     pairs.push([wide(), wide()]);
   }
-  const wrong = { __multi3: 0, __udivti3: 0, __umodti3: 0 };
+  const wrong = { __multi3: 0, __udivti3: 0, __umodti3: 0, __ashlti3: 0, __lshrti3: 0 };
   for (const [one, other] of pairs) {
-    if (result('__multi3', one, other) !== (one * other) % WIDE) wrong.__multi3 += 1;
-    if (other !== 0n && result('__udivti3', one, other) !== one / other) wrong.__udivti3 += 1;
-    if (other !== 0n && result('__umodti3', one, other) !== one % other) wrong.__umodti3 += 1;
+    const places = Number(other % 128n);
+    if (result('__ashlti3', ...halves(one), places) !== (one << BigInt(places)) % WIDE) wrong.__ashlti3 += 1;
+    if (result('__lshrti3', ...halves(one), places) !== one >> BigInt(places)) wrong.__lshrti3 += 1;
+    if (result('__multi3', ...halves(one), ...halves(other)) !== (one * other) % WIDE) wrong.__multi3 += 1;
+    if (other !== 0n && result('__udivti3', ...halves(one), ...halves(other)) !== one / other) wrong.__udivti3 += 1;
+    if (other !== 0n && result('__umodti3', ...halves(one), ...halves(other)) !== one % other) wrong.__umodti3 += 1;
   }
   for (const [name, count] of Object.entries(wrong)) holds(`${name} of ${pairs.length} pairs`, count === 0, `${count} are wrong`);
 }
