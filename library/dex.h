@@ -29,7 +29,7 @@ extern "C" {
 
 /* What a call returns: the exit status of the program. */
 enum {
-  DEX_OK = 0,              /* the report, the dump, the made script, the summary, or that an audit found nothing */
+  DEX_OK = 0,              /* the report, the dump, the worths, the made script, the summary, or that an audit found nothing */
   DEX_USAGE = 1,           /* a number is not within its limits: no text */
   DEX_SCRIPT_REFUSED = 2,  /* a row of the script is at fault: the line that names it */
   DEX_DUMP_REFUSED = 3,    /* a row of the dump is at fault, or its accounts have findings: the lines that tell them */
@@ -46,6 +46,9 @@ uint8_t dex_dump(const uint8_t *script, size_t length, uint8_t *room, size_t roo
 /* What an audit of a dump finds. */
 uint8_t dex_audit(const uint8_t *dump, size_t length, uint8_t *room, size_t room_size, size_t *size);
 
+/* What each account of each market is worth when all rows of a script have acted. */
+uint8_t dex_worth(const uint8_t *script, size_t length, uint8_t *room, size_t room_size, size_t *size);
+
 /* The dump of the same accounts with sides of so many nodes (1 to 65536) and event queues for so many events (1 to 65535). */
 uint8_t dex_migrate(uint32_t nodes, uint32_t events, const uint8_t *dump, size_t length, uint8_t *room, size_t room_size,
                     size_t *size);
@@ -58,7 +61,7 @@ uint8_t dex_bulk(uint64_t number, uint32_t rows, uint8_t *room, size_t room_size
 
 /* ---- with memory from malloc: nothing below is proved */
 
-/* A function of bytes alone: dex_replay, dex_dump or dex_audit. */
+/* A function of bytes alone: dex_replay, dex_dump, dex_audit or dex_worth. */
 typedef uint8_t dex_command(const uint8_t *bytes, size_t length, uint8_t *room, size_t room_size, size_t *size);
 
 /* Room that is enough for most texts of so many bytes of input. */

@@ -16,18 +16,19 @@ The module keeps nothing between calls, so threads may call it at once; they run
 """
 
 from .accounts import Accounts, Depth, Event, Level, Market, Mint, OpenOrders, Order, Wallet
-from .commands import Exchange, accounts, audit, bulk, dump, make, migrate, replay
+from .commands import Exchange, accounts, audit, bulk, dump, make, migrate, replay, worth
 from .errors import AuditFailed, DexError, DumpRefused, Finding, MigrateRefused, OutOfLimits, OutOfMemory, ScriptRefused
 from .report import (
     Cancelled, Consumed, Done, Entry, Move, Ordered, Refused, Reply, Report, Settled, Swept, Took, WalletEntry,
 )
 from .summary import MarketSummary, Summary
+from .worth import Worth, Worths
 
 __all__ = [
-    'replay', 'dump', 'audit', 'migrate', 'make', 'bulk', 'accounts', 'Exchange',
+    'replay', 'dump', 'audit', 'worth', 'migrate', 'make', 'bulk', 'accounts', 'Exchange',
     'Report', 'Entry', 'Move', 'WalletEntry',
     'Reply', 'Ordered', 'Took', 'Cancelled', 'Consumed', 'Settled', 'Swept', 'Done', 'Refused',
     'Accounts', 'Market', 'Mint', 'Wallet', 'Order', 'Event', 'OpenOrders', 'Depth', 'Level',
-    'Summary', 'MarketSummary',
+    'Summary', 'MarketSummary', 'Worth', 'Worths',
     'DexError', 'ScriptRefused', 'DumpRefused', 'AuditFailed', 'MigrateRefused', 'OutOfLimits', 'OutOfMemory', 'Finding',
 ]

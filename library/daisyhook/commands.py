@@ -7,6 +7,7 @@ from .errors import Finding, OutOfLimits, findings_of, refusal_of
 from .native import call
 from .report import Report
 from .summary import Summary, summary_of
+from .worth import Worths
 
 Text = bytes | bytearray | memoryview | str
 
@@ -41,6 +42,11 @@ def replay(script: Text) -> Report:
 def dump(script: Text) -> bytes:
     """The dump of the accounts that a script leaves. Raises what `replay` raises."""
     return done(*call('dex_dump', bytes_of(script)))
+
+
+def worth(script: Text) -> Worths:
+    """What each account of each market is worth when all rows of a script have acted. Raises what `replay` raises."""
+    return Worths(done(*call('dex_worth', bytes_of(script))))
 
 
 def audit(dump: Text) -> list[Finding]:

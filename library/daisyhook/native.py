@@ -13,7 +13,7 @@ INPUT = (NOTHING, SIZE)
 SIZES = (ctypes.c_uint32, ctypes.c_uint32)
 MADE = (ctypes.c_uint64, ctypes.c_uint32)
 FRONTS = {
-    'dex_replay': INPUT, 'dex_dump': INPUT, 'dex_audit': INPUT,
+    'dex_replay': INPUT, 'dex_dump': INPUT, 'dex_audit': INPUT, 'dex_worth': INPUT,
     'dex_migrate': SIZES + INPUT, 'dex_make': MADE, 'dex_bulk': MADE,
 }
 ROOM = (ctypes.POINTER(ctypes.c_char), SIZE, ctypes.POINTER(SIZE))

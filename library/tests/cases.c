@@ -69,6 +69,7 @@ static int call(const stored_case *it, uint8_t *room, size_t room_size, size_t *
   if (strcmp(it->command, "replay") == 0) return dex_replay(bytes, length, room, room_size, size);
   if (strcmp(it->command, "dump") == 0) return dex_dump(bytes, length, room, room_size, size);
   if (strcmp(it->command, "audit") == 0) return dex_audit(bytes, length, room, room_size, size);
+  if (strcmp(it->command, "worth") == 0) return dex_worth(bytes, length, room, room_size, size);
   if (strcmp(it->command, "migrate") == 0)
     return dex_migrate((uint32_t)it->numbers[0], (uint32_t)it->numbers[1], bytes, length, room, room_size, size);
   if (strcmp(it->command, "make") == 0) return dex_make(it->numbers[0], (uint32_t)it->numbers[1], room, room_size, size);
@@ -152,6 +153,7 @@ int main(int count, char **words) {
   try_limits();
   try_text("replay of nothing", dex_replay, "report 0\ndump\nenddump\nend\n", DEX_OK);
   try_text("dump of nothing", dex_dump, "dump\nenddump\n", DEX_OK);
+  try_text("worth of nothing", dex_worth, "worth 0\nend\n", DEX_OK);
   try_text("audit of nothing", dex_audit, "dump refused row 1: 1 Grammar - 0 0 0\n", DEX_DUMP_REFUSED);
   for (int at = 0; at < case_count; at++) {
     free(cases[at].input.bytes);

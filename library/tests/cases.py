@@ -33,6 +33,7 @@ def called(words: list[str], script: bytes) -> tuple[int, bytes]:
         match words[0]:
             case 'replay': return 0, daisyhook.replay(script).text
             case 'dump': return 0, daisyhook.dump(script)
+            case 'worth': return 0, daisyhook.worth(script).text
             case 'migrate': return 0, daisyhook.migrate(script, *numbers)
             case 'make': return 0, daisyhook.make(*numbers)
             case 'bulk': return 0, daisyhook.bulk(*numbers).text
@@ -123,5 +124,6 @@ for name in ('two_traders', 'deep_book', 'discount_and_referrer'):
 traders = daisyhook.replay((root / 'examples' / 'two_traders.csv').read_text())
 same('what rests in two_traders', traders.markets['m'].depth, daisyhook.Depth((), (daisyhook.Level(50, 1, 1),)))
 same('what Ann holds', traders.wallets['ann_usd'].amount, 1500)
+same('what Ann is worth', daisyhook.worth((root / 'examples' / 'two_traders.csv').read_text()).markets['m']['amy'], daisyhook.Worth(-300, 1500))
 print(f'{passed} passed, {failed} failed')
 sys.exit(failed > 0)

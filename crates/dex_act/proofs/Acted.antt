@@ -1,5 +1,5 @@
 -- What a row does to cells is what it does to their wallets.
-use Rattle.std.proofs.Common.{◌≡◌, ℕ, zero, suc, ◌<◌, ◌≤◌, ◌^◌, Bool, true, false, ◌&&◌, ◌||◌, ltb, cond, List, [], ◌∷◌, map, Option, Some, None, refl, sym, ap, ◌∙◌, subst, arith, ⊎_elim}
+use Rattle.std.proofs.Common.{◌≡◌, ℕ, zero, suc, ◌<◌, ◌≤◌, ◌^◌, Bool, true, false, ◌&&◌, ◌||◌, ltb, cond, List, [], ◌∷◌, map, refl, sym, ap, ◌∙◌, subst, arith, ⊎_elim}
 use Rattle.std.specs.List.{All, list_any}
 use Rattle.std.proofs.lemmas.Bool.{cases_Bool, cases_lt, cond-true, cond-false, cond_both, false≢true}
 use Rattle.dex_types.specs.declared.addresses.Address.{Address}
@@ -11,50 +11,20 @@ use Rattle.dex_types.specs.Addresses.{is_same}
 use Rattle.dex_types.specs.Market.{Market}
 use Rattle.dex_types.specs.Rows.{PlainRow}
 use Rattle.dex_types.specs.Transfers.{Transfers}
-use Rattle.dex_types.specs.Wallets.{address_seen, balance_seen, brought_to, movement_by, movement_of, movements, seen_wallets, taken_from, with_role}
+use Rattle.dex_types.specs.Wallets.{address_seen, balance_seen, brought_to, movement_by, movement_of, movements, seen_wallets, taken_from}
 use Rattle.dex_types.specs.WalletJournal.{CanMove}
 use Rattle.dex_laws.proofs.TraderLaws.{is_same-true, is_same-sym}
 use Rattle.dex_history.specs.Journal.{front, places}
-use Rattle.dex_history.proofs.AddressOrder.{AreRising, times, with_address-rising, with_address-times}
+use Rattle.dex_history.proofs.AddressOrder.{times}
 use Rattle.dex_history.proofs.WalletLaws.{places-movements, wallet-movement_by}
 use Rattle.dex_fold.specs.Fold.{names, wallet_acted, wallet_moved}
+use Rattle.dex_fold.proofs.OnceLaws.{none-any, roles-once}
 use Rattle.dex_wallet.specs.CellState.{CellState, HasSpare, IsWalletCell, balance_of}
 use Rattle.dex_wallet.proofs.CellLaws.{IsWalletCell-with_entry}
 use Rattle.dex_act.specs.Wallets.{CanLook, Fits, IsRight, any_hit, cell_acted, cell_moved, cell_paid, is_probe, move_probed, moved_some, moves_probed, probes, roles_of, wallet_state_of}
 use Rattle.dex_act.proofs.Acting.{CellMoves, IsPossible, credits-as, debits-as, nothing-brought, nothing-taken, paid-debit, paid-not, probes-as, state-moved}
 use Rattle.dex_act.proofs.Probing.{move_probed-address}
 use Rattle.dex_act.proofs.Seeing.{any-seen, balance-fits, balance-hit}
-
--- ---- the wallets that a row sees stand once
-
-at-most : (owner : Address) (role : Option Address) (addresses : List Address) → AreRising addresses → times owner addresses ≤ 1
-    → AreRising (with_role role addresses) × (times owner (with_role role addresses) ≤ 1)
-at-most owner None addresses rising once = (rising, once)
-at-most owner (Some address) addresses rising once = (
-  with_address-rising address addresses rising,
-  subst (λ (n : ℕ). n ≤ 1) (sym (with_address-times owner address addresses rising))
-      (cond_both (is_same owner address) 1 (times owner addresses) (λ (n : ℕ). n ≤ 1) (λ same. omega arith) (λ apart. once)),
-)
-
-seen-once : (owner : Address) (seen : Seen) → times owner (seen_wallets seen) ≤ 1
-seen-once owner seen =
-    let one = at-most owner (address_seen seen.referrer) [] tt (omega arith) in
-    let two = at-most owner (address_seen seen.discount) (with_role (address_seen seen.referrer) []) one.0 one.1 in
-    let three = at-most owner (address_seen seen.pc) (with_role (address_seen seen.discount) (with_role (address_seen seen.referrer) [])) two.0 two.1 in
-    (at-most owner (address_seen seen.coin) (with_role (address_seen seen.pc) (with_role (address_seen seen.discount) (with_role (address_seen seen.referrer) []))) three.0 three.1).1
-
--- one that stands nowhere is none of them
-times-none : (owner : Address) (addresses : List Address) → times owner addresses ≡ 0 → list_any (is_same owner) addresses ≡ false
-times-none owner [] none = refl
-times-none owner (first ∷ others) none =
-    ⊎_elim
-    (λ (same : is_same owner first ≡ true).
-    let counted : ◌≡◌ {A = ℕ} (cond (is_same owner first) 1 0) 1 = ap (λ (b : Bool). cond b 1 0) same in
-    absurd (omega (arith, none, counted)))
-    (λ (apart : is_same owner first ≡ false).
-    let counted : ◌≡◌ {A = ℕ} (cond (is_same owner first) 1 0) 0 = ap (λ (b : Bool). cond b 1 0) apart in
-    ap (λ (b : Bool). b || list_any (is_same owner) others) apart ∙ times-none owner others (omega (arith, none, counted)))
-    (cases_Bool (is_same owner first))
 
 -- ---- probes, one after another
 
@@ -100,7 +70,7 @@ probed-once row move (first ∷ others) cell wallet once spare =
     (λ (own : is_same cell.address first ≡ true).
     let is : cell.address ≡ first = is_same-true cell.address first own in
     let counted : ◌≡◌ {A = ℕ} (cond (is_same cell.address first) 1 0) 1 = ap (λ (b : Bool). cond b 1 0) own in
-    let none : list_any (is_same cell.address) others ≡ false = times-none cell.address others (omega (arith, once, counted)) in
+    let none : list_any (is_same cell.address) others ≡ false = none-any cell.address others (omega (arith, once, counted)) in
     let here : is_same (move first).wallet cell.address ≡ true = ap (λ (a : Address). is_same a cell.address) (wallet first) ∙ is_same-sym first cell.address ∙ own in
     let any : list_any (is_same cell.address) (first ∷ others) ≡ true = ap (λ (b : Bool). b || list_any (is_same cell.address) others) own in
     let kinds : is_probe (move first).kind ≡ is_probe (move cell.address).kind = ap (λ (a : Address). is_probe (move a).kind) (sym is) in
@@ -184,7 +154,7 @@ module _ (row : PlainRow) (seen : Seen) (m : Market) (t : Transfers) (cell : Cel
       × CanLook row (movements seen t) x in
       let seen_here : list_any (is_same address) (seen_wallets seen) ≡ any_hit address (roles_of seen) = any-seen address seen in
       let once : Once c address = subst (Once c) at
-      (probed-once row (movement_of seen t) (seen_wallets seen) c wallets (seen-once c.address seen)
+      (probed-once row (movement_of seen t) (seen_wallets seen) c wallets (roles-once (address_seen seen.coin) (address_seen seen.pc) (address_seen seen.discount) (address_seen seen.referrer) c.address)
       (λ hit probe.
       spare_of (sym seen_here ∙ ap (λ (a : Address). list_any (is_same a) (seen_wallets seen)) (sym at) ∙ hit)
       (ap (λ (a : Address). is_probe (movement_of seen t a).kind) (sym at) ∙ probe))) in (

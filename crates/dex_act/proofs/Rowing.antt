@@ -13,9 +13,9 @@ use Rattle.dex_types.specs.Steps.{Step}
 use Rattle.dex_types.specs.Transfers.{Transfers, no_transfers}
 use Rattle.dex_types.specs.Wallets.{amount_at, movements}
 use Rattle.dex_history.specs.Journal.{front, places, request_of}
-use Rattle.dex_decide.specs.declared.plan.Deposit.{Deposit}
-use Rattle.dex_decide.specs.declared.plan.Plan.{Plan}
-use Rattle.dex_decide.specs.Owing.{deposit_of}
+use Rattle.dex_plan.specs.declared.plan.Deposit.{Deposit}
+use Rattle.dex_plan.specs.declared.plan.Plan.{Plan}
+use Rattle.dex_plan.specs.Owing.{deposit_of}
 use Rattle.dex_cell.specs.declared.payouts.Payouts.{Payouts}
 use Rattle.dex_cell.specs.CellState.{IsFor, IsMarketCell, MarketCellState, answer_on, market_at, step_on}
 use Rattle.dex_cell.specs.Paying.{paid_in, paid_out, parcel_of}

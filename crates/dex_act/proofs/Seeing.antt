@@ -1,17 +1,18 @@
 -- What a row sees of cells.
-use Rattle.std.proofs.Common.{◌≡◌, ℕ, ◌<◌, ◌^◌, Bool, true, false, ◌||◌, cond, List, [], ◌∷◌, map, Option, Some, None, refl, sym, ap, ◌∙◌, subst, ⊎_elim}
+use Rattle.std.proofs.Common.{◌≡◌, ℕ, ◌<◌, ◌^◌, Bool, true, false, ◌||◌, List, [], ◌∷◌, map, Option, Some, None, refl, sym, ap, ◌∙◌, subst, ⊎_elim}
 use Rattle.std.specs.List.{All, list_any}
 use Rattle.std.proofs.lemmas.List.Elements.{All-nil, All-cons, All-head, All-tail, All-weaker}
-use Rattle.std.proofs.lemmas.Bool.{cases_Bool, cond-true, cond-false, cond_both, false≢true}
+use Rattle.std.proofs.lemmas.Bool.{cases_Bool, cond-true, cond-false, false≢true}
 use Rattle.dex_types.specs.declared.addresses.Address.{Address}
 use Rattle.dex_types.specs.declared.rows.Seen.{Seen}
 use Rattle.dex_types.specs.declared.rows.WalletSeen.{WalletSeen}
 use Rattle.dex_types.specs.Addresses.{is_same}
-use Rattle.dex_types.specs.Wallets.{address_seen, amount_at, balance_in, is_lower, seen_wallets, with_address, with_role}
+use Rattle.dex_types.specs.Wallets.{address_seen, amount_at, balance_in, seen_wallets, with_role}
 use Rattle.dex_laws.proofs.TraderLaws.{is_same-true, is_same-sym}
 use Rattle.dex_wallet.specs.CellState.{CellState, balance_of, seen_of}
 use Rattle.dex_fold.specs.World.{role_at, wallet_at}
 use Rattle.dex_fold.proofs.NameLaws.{any-with_address}
+use Rattle.dex_fold.proofs.OnceLaws.{with_address-all}
 use Rattle.dex_act.specs.Wallets.{AreApart, Fits, IsHome, IsRight, any_hit, hits, is_among, roles_of, wallet_state_of}
 use Rattle.dex_act.proofs.CellLists.{neither}
 
@@ -142,20 +143,10 @@ balance-fits cell ((Some wallet) ∷ roles) right fits hit =
     (cases_Bool (is_same cell.address wallet.address))
 
 -- the wallets that a row sees are among these cells, where those of its roles are
-all-with_address : (P : Address → Type 0) (address : Address) (addresses : List Address) → P address → All P addresses → All P (with_address address addresses)
-all-with_address P address [] here all = All-cons P address [] here (All-nil P)
-all-with_address P address (first ∷ others) here all =
-    cond_both (is_same address first) (first ∷ others) (cond (is_lower address first) (address ∷ first ∷ others) (first ∷ with_address address others)) (All P)
-    (λ same. all)
-    (λ apart.
-    cond_both (is_lower address first) (address ∷ first ∷ others) (first ∷ with_address address others) (All P)
-    (λ lower. All-cons P address (first ∷ others) here all)
-    (λ higher. All-cons P first (with_address address others) (All-head P first others all) (all-with_address P address others here (All-tail P first others all))))
-
 all-with_role : (cells : List CellState) (role : Option WalletSeen) (addresses : List Address) → IsHome cells role → All (λ (a : Address). is_among a cells ≡ true) addresses
     → All (λ (a : Address). is_among a cells ≡ true) (with_role (address_seen role) addresses)
 all-with_role cells None addresses home all = all
-all-with_role cells (Some wallet) addresses home all = all-with_address (λ (a : Address). is_among a cells ≡ true) wallet.address addresses home all
+all-with_role cells (Some wallet) addresses home all = with_address-all (λ (a : Address). is_among a cells ≡ true) wallet.address addresses home all
 
 pub seen-home : (cells : List CellState) (seen : Seen) → All (IsHome cells) (roles_of seen) → All (λ (a : Address). is_among a cells ≡ true) (seen_wallets seen)
 seen-home cells seen home =

@@ -68,7 +68,8 @@ fn answer(market: &mut MarketCell, wallets: &mut [WalletCell], row: &Row, seen: 
 /// The movements of the last row of a market's journal.
 fn last_moves(market: &MarketCell) -> &[Option<Movement>; 4]
     requires { 0 < length market.now.calls }
-    ensures { (past : List Call) (call : Call) → market.now.calls ≡ past ++ call ∷ [] → result.now ≡ call.entry.moves }
+    ensures { (past : List Call) (call : Call) → market.now.calls ≡ past ++ call ∷ []
+        → result.now ≡ call.entry.moves }
 {
     let entries = market.entries();
     &entries[entries.len() - 1].moves

@@ -70,7 +70,8 @@ fn credit_at(cells: &mut [WalletCell], place: usize, row: &Row, parcel: Parcel)
     requires mint { AtPlace place cells.old (λ cell. parcel.mint ≡ (wallet_words cell.bytes).mint) }
     requires fits { AtPlace place cells.old (λ cell. balance_of cell.bytes + parcel.amount < 2 ^ 64) }
     ensures { AtPlace place cells.old
-        (λ cell. cells.new ≡ slice_set cells.old place (cell_moved (row_of row.entry.now) Credit parcel.amount cell)) }
+        (λ cell. cells.new
+        ≡ slice_set cells.old place (cell_moved (row_of row.entry.now) Credit parcel.amount cell)) }
 {
     let cell = &mut cells[place];
     cell.credit(row.market, row.lane, row.number, parcel);
@@ -98,7 +99,8 @@ fn debit(
     requires home { IsHome cells.old role.now }
     requires named { NamesFor amount role.now }
     requires can { All (λ cell. CanTake (amount_at cell.address role.now amount) cell) cells.old }
-    ensures parcel { (mint : AddressOf) → AreOf mint role.entry.now amount cells.old → result ≡ parcel_of mint amount }
+    ensures parcel { (mint : AddressOf) → AreOf mint role.entry.now amount cells.old
+        → result ≡ parcel_of mint amount }
     ensures moved { cells.new ≡ map (role_moved (row_of row.entry.now) Debit role.entry.now amount) cells.old }
 {
     match role {

@@ -3,7 +3,7 @@ use Rattle.std.proofs.Common.{◌≡◌, ◌∙◌, ◌∷◌, [], ℕ, Bool, tr
 use Rattle.std.proofs.lemmas.Option.{none-some}
 use Rattle.dex_types.specs.Accounts.{PlainAccounts}
 use Rattle.dex_words.specs.declared.command.Command.{Command}
-use Rattle.dex_words.specs.declared.command.Command.TheVariants.{Replay, Run, Dump, Audit, Make, Bulk, Migrate}
+use Rattle.dex_words.specs.declared.command.Command.TheVariants.{Replay, Run, Dump, Audit, Worth, Make, Bulk, Migrate}
 use Rattle.dex_rows.specs.Records.{rows_of}
 use Rattle.dex_statement.specs.Words.{Fields}
 use Rattle.dex_statement.specs.Faults.{◌>>=◌}
@@ -114,6 +114,8 @@ answered Replay bytes stood text suits told = absurd (read-told bytes suits.0 st
 answered Run bytes stood text suits told = absurd told
 answered Dump bytes status.Ok text suits told = refl
 answered Dump bytes stood text suits told = absurd (read-told bytes suits.0 stood text suits.1 told)
+answered Worth bytes status.Ok text suits told = refl
+answered Worth bytes stood text suits told = absurd (read-told bytes suits.0 stood text suits.1 told)
 answered Audit bytes status.Ok text suits told = refl
 answered Audit bytes stood text suits told = absurd (clean-told bytes suits.0 stood text suits.1 told)
 answered (Make number rows) bytes status.Ok text suits told = refl

@@ -2,7 +2,7 @@
 use Rattle.std.specs.Prelude.{ℕ, ◌≡◌, List, [], length, Option, Some, Result, Ok, Err}
 use Rattle.dex_types.specs.Accounts.{PlainAccounts}
 use Rattle.dex_words.specs.declared.command.Command.{Command}
-use Rattle.dex_words.specs.declared.command.Command.TheVariants.{Replay, Run, Dump, Audit, Make, Bulk, Migrate}
+use Rattle.dex_words.specs.declared.command.Command.TheVariants.{Replay, Run, Dump, Audit, Worth, Make, Bulk, Migrate}
 use Rattle.dex_statement.specs.declared.faults.FaultKind.{FaultKind}
 use Rattle.dex_statement.specs.Faults.{code_of, kind_number}
 use Rattle.dex_dump.specs.declared.faults.DumpFault.{DumpFault}
@@ -23,6 +23,8 @@ use Rattle.dex_report.specs.Report.{report_text}
 use Rattle.dex_fold.specs.Items.{items_of}
 use Rattle.dex_replay.specs.Replays.{IsLeftByRows, IsReplayOf}
 use Rattle.dex_replay.specs.Runs.{IsRunOf}
+use Rattle.dex_worth.specs.Tables.{table_told}
+use Rattle.dex_worth.specs.WorthText.{worth_text}
 use Rattle.dex_lines.specs.Lines as lines
 use Rattle.dex_answers.specs.declared.status.Status.{Status}
 use Rattle.dex_answers.specs.declared.status.Status.TheVariants as status
@@ -83,6 +85,9 @@ Answers Audit bytes status.Ok text =
     (accounts : PlainAccounts) × IsClean bytes accounts
     × (text ≡ lines.audit_ok (length accounts.markets) (length accounts.wallets))
 Answers Audit bytes stood text = IsNotClean bytes stood text
+Answers Worth bytes status.Ok text =
+    Replayed bytes (λ script outcome. worth_text (length script.start.markets) (table_told script outcome)) text
+Answers Worth bytes stood text = IsNoScript bytes stood text
 Answers (Make number rows) bytes status.Ok text = text ≡ made_text number rows
 Answers (Make number rows) bytes stood text = ⊥
 Answers (Bulk number rows) bytes status.Ok text =

@@ -2,7 +2,7 @@
 use Rattle.std.specs.Prelude.{ℕ, ◌≡◌, List, None}
 use Rattle.dex_types.specs.Accounts.{PlainAccounts}
 use Rattle.dex_words.specs.declared.command.Command.{Command}
-use Rattle.dex_words.specs.declared.command.Command.TheVariants.{Replay, Run, Dump, Audit, Make, Bulk, Migrate}
+use Rattle.dex_words.specs.declared.command.Command.TheVariants.{Replay, Run, Dump, Audit, Worth, Make, Bulk, Migrate}
 use Rattle.dex_migrate.specs.TooSmall.{first_fault}
 use Rattle.dex_script.specs.Drafts.{PlainScript}
 use Rattle.dex_script.specs.Scripts.{Reads}
@@ -14,6 +14,7 @@ abbrev pub Suits : Command → List ℕ → Type 0
 Suits Replay bytes = (script : PlainScript) × Reads bytes script
 Suits Run bytes = (script : PlainScript) × Reads bytes script
 Suits Dump bytes = (script : PlainScript) × Reads bytes script
+Suits Worth bytes = (script : PlainScript) × Reads bytes script
 Suits Audit bytes = (accounts : PlainAccounts) × IsClean bytes accounts
 Suits (Make number rows) bytes = Unit {0}
 Suits (Bulk number rows) bytes = Unit {0}

@@ -11,6 +11,7 @@ use crate::make::make_answer;
 use crate::migrate::migrate_answer;
 use crate::replay::replay_answer;
 use crate::told::StatusText;
+use crate::worth::worth_answer;
 use dex_types::NoMemory;
 use dex_words::Command;
 use std::alloc::Global;
@@ -27,6 +28,7 @@ pub fn answer_to(alloc: Global, command: Command, bytes: &[u8]) -> Result<Status
         Command::Run => unreachable!(),
         Command::Dump => dump_answer(alloc, bytes),
         Command::Audit => audit_answer(alloc, bytes),
+        Command::Worth => worth_answer(alloc, bytes),
         Command::Make { number, rows } => make_answer(alloc, number, rows),
         Command::Bulk { number, rows } => bulk_answer(alloc, number, rows),
         Command::Migrate { nodes, events } => migrate_answer(alloc, bytes, nodes, events),

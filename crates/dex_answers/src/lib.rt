@@ -15,6 +15,7 @@ mod played;
 mod replay;
 mod status;
 mod told;
+mod worth;
 
 pub use answer::answer_to;
 pub use counting::items_in;

@@ -1,6 +1,5 @@
 //! The calls that only borrow a script come to what those come to that take it.
 
-use crate::answering::{ACCOUNTS, ASK, BOB_USD, USUAL, WALLETS, joined};
 use dex_bank::Cells;
 use dex_report::{Outcome, report_text};
 use dex_run::build;
@@ -8,10 +7,21 @@ use dex_script::{Script, read_script};
 use std::alloc::Global;
 use std::test::Fail;
 
-// The script of two traders, one on each of two lanes, with three rows.
+/// Two traders, one on each of two lanes, with three rows.
+const SCRIPT: &[u8] = b"mint,coin,6
+mint,usd,6
+wallet,ann_coin,coin,ann,1000
+market,m,coin,usd,admin,5,5,8,AAAAAABkAAAAAAAAAAoAAAAAAAAAAAAAAAAAAAAAAAEAAAAAAAAA
+orders,m,amy
+orders,m,ben
+do,0,m,ann,amy,-,-,-,-,init
+do,1,m,bob,ben,-,-,-,-,init
+do,0,m,ann,amy,ann_coin,-,-,-,new ask 50 4 1 decrement limit 7 10
+";
+
+// The script as it is read.
 fn script(alloc: Global) -> Result<Script, Fail> {
-    let text = joined(alloc, &[WALLETS, b"0", BOB_USD, USUAL, ACCOUNTS, ASK])?;
-    match read_script(alloc, &text) {
+    match read_script(alloc, SCRIPT) {
         Ok(script) => Ok(script),
         Err(_) => Err(Fail::new("no script")),
     }

@@ -1,22 +1,10 @@
-//! Tests of what the commands on one thread answer: dumps with faults, dumps that go on, and worked runs; and of the calls that only
-//! borrow a script.
+//! Tests of calls that the built program cannot show: each call of `dex_call` once, the calls that only borrow a script, and lanes that
+//! a pace holds inside their turns.
 #![tactic(auto)]
 
 #[cfg(test)]
-mod answering;
-#[cfg(test)]
 mod borrowed;
 #[cfg(test)]
-mod changes;
+mod calls;
 #[cfg(test)]
-mod faults;
-#[cfg(test)]
-mod going_on;
-#[cfg(test)]
-mod made;
-#[cfg(test)]
-mod numbers;
-#[cfg(test)]
-mod runs;
-#[cfg(test)]
-mod sides;
+mod paced;

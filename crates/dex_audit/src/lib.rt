@@ -4,8 +4,6 @@
 mod auditing;
 mod laws;
 mod supplies;
-#[cfg(test)]
-mod tests;
 
 pub use auditing::audit;
 pub use dex_audit_rules::Finding;

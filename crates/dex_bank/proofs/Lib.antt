@@ -1,3 +1,4 @@
+pub mod Common
 pub mod OpenCells
 mod OpenCounts
 mod OpenLists

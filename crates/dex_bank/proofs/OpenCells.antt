@@ -1,27 +1,13 @@
 -- The cells with which a script starts are cells.
 use Rattle.std.proofs.Common.{◌≡◌, ℕ, ◌+◌, ◌<◌, ◌≤◌, Bool, true, false, ◌||◌, cond, List, [], ◌∷◌, ◌++◌, map, slice_index, refl, sym, ap, subst, ◌∙◌, arith, ⊎_elim}
-use Rattle.std.specs.List.{All, flat_map}
-use Rattle.std.proofs.lemmas.List.Elements.{All-nil, All-cons, All-head, All-tail, All-map}
-use Rattle.std.proofs.lemmas.List.Sums.{sum_by-append, sum_by-cons}
-use Rattle.std.proofs.lemmas.Bool.{cases_Bool}
-use Rattle.dex_types.specs.declared.addresses.Address.{Address}
-use Rattle.dex_types.specs.Accounts.{PlainAccount, PlainAccounts, PlainMarketAccounts}
-use Rattle.dex_types.specs.Addresses.{is_same}
-use Rattle.dex_types.specs.Rows.{PlainRow}
-use Rattle.dex_laws.proofs.TraderLaws.{is_same-refl}
-use Rattle.dex_token.specs.TokenAccount.{IsWallet}
+use Rattle.dex_fold.proofs.Common.{Address, All-cons, All-head, All-map, All-nil, All-tail, PlainAccount, PlainAccounts, PlainMarketAccounts, PlainRow, cases_Bool, flat_map, is_same, is_same-refl, sum_by-append, sum_by-cons}
+use Rattle.dex_bank.proofs.Common.{AreAccepted, AreCells, AreSound, CellsState, IsAccepted, IsMarketCell, IsStart, IsWallet, IsWalletCell, address_of, all_of_market, is_among, market_opened, wallet_opened}
+use Rattle.std.specs.List.{All}
 use Rattle.dex_token.proofs.AmountWrites.{with_amount-same}
-use Rattle.dex_accounts.specs.Accepted.{IsAccepted}
-use Rattle.dex_accounts.specs.Decoded.{AreSound}
 use Rattle.dex_cell.specs.CellState as market
-use Rattle.dex_cell.specs.CellState.{IsMarketCell}
 use Rattle.dex_wallet.specs.CellState as wallet
-use Rattle.dex_wallet.specs.CellState.{IsWalletCell}
-use Rattle.dex_act.specs.Wallets.{AreApart, is_among}
-use Rattle.dex_dump.specs.Accepted.{AreAccepted, address_of, all_of_market, times}
-use Rattle.dex_script.specs.Facts.{IsStart}
-use Rattle.dex_bank.specs.Cells.{AreCells, CellsState}
-use Rattle.dex_bank.specs.Opened.{market_opened, wallet_opened}
+use Rattle.dex_act.specs.Wallets.{AreApart}
+use Rattle.dex_dump.specs.Accepted.{times}
 
 -- ---- each of them
 

@@ -1,15 +1,8 @@
 -- Counts of addresses, in one pass over the rows.
 use Rattle.std.proofs.Common.{◌≡◌, ℕ, ◌+◌, ◌<◌, ◌≤◌, Bool, true, false, ◌&&◌, ◌||◌, not, cond, List, [], ◌∷◌, length, get_or, map, take, count_by, unwrap_or, Option, Some, None, refl, sym, ap, ◌∙◌, arith, ⊎_elim}
-use Rattle.std.proofs.lemmas.Bool.{cases_Bool}
-use Rattle.std.proofs.lemmas.List.{length-map, length-take-le, map-append, take_more}
-use Rattle.std.proofs.lemmas.List.Sums.{count_by-le-length, sum_by-append, sum_by-cons}
-use Rattle.dex_types.specs.declared.addresses.Address.{Address}
-use Rattle.dex_types.specs.declared.rows.Row.{Row}
-use Rattle.dex_types.specs.Addresses.{is_same}
-use Rattle.dex_types.specs.Rows.{PlainRow, row_of}
-use Rattle.dex_laws.proofs.TraderLaws.{is_same-true, is_same-sym}
-use Rattle.dex_fold.specs.Fold.{is_role, names}
-use Rattle.dex_fold.proofs.NameLaws.{names-roles}
+use Rattle.dex_fold.proofs.Common.{Address, PlainRow, Row, cases_Bool, is_role, is_same, is_same-sym, is_same-true, length-map, names, names-roles, row_of, sum_by-append, sum_by-cons, take_more}
+use Rattle.std.proofs.lemmas.List.{length-take-le, map-append}
+use Rattle.std.proofs.lemmas.List.Sums.{count_by-le-length}
 use Rattle.dex_bank.specs.Counts.{is_earlier, one}
 
 -- ---- one address more

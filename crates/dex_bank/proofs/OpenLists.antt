@@ -1,8 +1,8 @@
 -- Lists that are mapped.
 use Rattle.std.proofs.Common.{◌≡◌, List, [], ◌∷◌, ◌++◌, map, sym, ap, ◌∙◌}
+use Rattle.dex_fold.proofs.Common.{All-cons, All-head, All-nil, All-tail}
 use Rattle.std.specs.List.{All}
 use Rattle.std.proofs.lemmas.List.{map-append}
-use Rattle.std.proofs.lemmas.List.Elements.{All-nil, All-cons, All-head, All-tail}
 
 -- what is made of the items so far, and of one more
 pub mapped-more : {A B C : Type 0} (f : B → C) (g : A → B) (xs : List A) (x : A) (y : C) (old new : List C) → y ≡ f (g x)

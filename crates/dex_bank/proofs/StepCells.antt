@@ -1,26 +1,12 @@
 -- All cells before and after a row.
 use Rattle.std.proofs.Common.{◌≡◌, ℕ, true, List, map, get_or, Option, Some, refl, sym, ap, ◌∙◌, subst}
+use Rattle.dex_fold.proofs.Common.{Market, MarketState, PlainRow, Reply, Row, Seen, Sees, WalletState, World, act, acted, asked_of, is_same, is_same-true, markets_acted, request_of, row_of, row_step, seen_by, wallet_acted, why, why_in, why_on}
+use Rattle.dex_bank.proofs.Common.{AreCells, CanAct, CanActAt, CanHold, CanWait, CellState, CellsState, Fits, HasBecomeAt, HaveActed, IsFirstAt, IsMarketCell, MarketCellState, SeesCells, made_of, opened_of, roles_of, wallet_state_of, world_of}
 use Rattle.std.specs.List.{All}
 use Rattle.std.proofs.lemmas.List.Elements.{All-get_or}
-use Rattle.dex_types.specs.declared.replies.Reply.{Reply}
-use Rattle.dex_types.specs.declared.rows.Row.{Row}
-use Rattle.dex_types.specs.declared.rows.Seen.{Seen}
-use Rattle.dex_types.specs.Addresses.{is_same}
-use Rattle.dex_types.specs.Market.{Market}
-use Rattle.dex_types.specs.Rows.{PlainRow, row_of}
-use Rattle.dex_types.specs.Why.{why}
-use Rattle.dex_laws.proofs.TraderLaws.{is_same-true}
-use Rattle.dex_history.specs.Journal.{Sees, asked_of, request_of, row_step}
 use Rattle.dex_cell.specs.CellState as market
-use Rattle.dex_cell.specs.CellState.{CanHold, IsFor, IsMarketCell, MarketCellState}
-use Rattle.dex_wallet.specs.CellState.{CellState}
-use Rattle.dex_fold.specs.Fold.{act, acted, markets_acted, wallet_acted}
-use Rattle.dex_fold.specs.Items.{why_in, why_on}
-use Rattle.dex_fold.specs.World.{MarketState, WalletState, World, market_at, seen_by}
-use Rattle.dex_act.specs.Wallets.{Fits, SeesCells, made_of, roles_of, wallet_state_of}
+use Rattle.dex_fold.specs.World.{market_at}
 use Rattle.dex_act.proofs.Sights.{row-sees, sees-cells}
-use Rattle.dex_bank.specs.Cells.{AreCells, CanAct, CanWait, CellsState, opened_of, world_of}
-use Rattle.dex_bank.specs.Stepping.{CanActAt, HasBecomeAt, HaveActed, IsFirstAt}
 use Rattle.dex_bank.proofs.StepMarkets.{market-found, markets-become-at, markets-kept, markets-opened}
 
 module _ (row : Row) (seen : Seen) (place : ℕ) (cells : CellsState) (seen_is : seen ≡ seen_by (row_of row) (world_of cells))

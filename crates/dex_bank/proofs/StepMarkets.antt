@@ -1,30 +1,16 @@
 -- Cells of markets, the first of whose at an address acts.
 use Rattle.std.proofs.Common.{◌≡◌, ℕ, zero, suc, true, false, List, [], ◌∷◌, ◌++◌, map, set, get_or, Some, refl, sym, ap, ◌∙◌, subst, arith}
+use Rattle.dex_fold.proofs.Common.{Address, Call, Entry, Market, MarketState, PlainMarketAccounts, PlainRow, Row, Seen, Step, cond-false, cond-true, entry_by, false≢true, idle-step, idle_row, is_same, market_acted, markets_acted, row_of}
+use Rattle.dex_bank.proofs.Common.{HasBecomeAt, IsFirstAt, IsMarketCell, MarketCellState, OthersStay, accounts_in, call_on, entries_of, market_state_of, step_on}
+use Rattle.dex_accounts.specs.Decoded.{market_in}
 use Rattle.std.specs.List.{All}
 use Rattle.std.proofs.lemmas.List.{map-append}
 use Rattle.std.proofs.lemmas.List.Elements.{All-set}
-use Rattle.std.proofs.lemmas.Bool.{cond-true, cond-false, false≢true}
 use Rattle.std.proofs.Math.Seq.{map-set_same}
-use Rattle.dex_types.specs.declared.addresses.Address.{Address}
-use Rattle.dex_types.specs.declared.movements.Entry.{Entry}
-use Rattle.dex_types.specs.declared.rows.Row.{Row}
-use Rattle.dex_types.specs.declared.rows.Seen.{Seen}
-use Rattle.dex_types.specs.Accounts.{PlainMarketAccounts}
-use Rattle.dex_types.specs.Addresses.{is_same}
-use Rattle.dex_types.specs.Market.{Market}
-use Rattle.dex_types.specs.Rows.{PlainRow, row_of}
-use Rattle.dex_types.specs.Steps.{Step}
-use Rattle.dex_movements.specs.Entries.{entry_by}
-use Rattle.dex_accounts.specs.Decoded.{market_in}
-use Rattle.dex_history.specs.Journal.{Call}
 use Rattle.dex_cell.specs.CellState as cells
-use Rattle.dex_cell.specs.CellState.{HasActed, IsMarketCell, MarketCellState, call_on, entries_of, held_made, held_on, new_cell, step_on}
-use Rattle.dex_fold.specs.Fold.{market_acted, markets_acted}
-use Rattle.dex_fold.specs.Items.{idle_row}
-use Rattle.dex_fold.specs.World.{MarketState, market_at}
-use Rattle.dex_fold.proofs.ItemLaws.{idle-step}
-use Rattle.dex_bank.specs.Cells.{OthersStay, accounts_in, market_state_of}
-use Rattle.dex_bank.specs.Stepping.{HasActedAt, HasBecomeAt, HasHeldAt, IsFirstAt}
+use Rattle.dex_cell.specs.CellState.{HasActed, held_made, held_on, new_cell}
+use Rattle.dex_fold.specs.World.{market_at}
+use Rattle.dex_bank.specs.Stepping.{HasActedAt, HasHeldAt}
 
 -- the address of the market that accounts tell is theirs
 listing-address : (accounts : PlainMarketAccounts) → (market_in accounts).listing.address ≡ accounts.address

@@ -1,32 +1,13 @@
 -- Two rows that share nothing, one behind the other.
-use Rattle.std.proofs.Common.{◌≡◌, ℕ, ◌<◌, ◌||◌, Bool, true, false, cond, List, [], ◌∷◌, length, map, is_some, Option, Some, None, refl, sym, ap, ◌∙◌, subst, ⊎_elim}
+use Rattle.std.proofs.Common.{◌≡◌, ℕ, ◌<◌, ◌||◌, ◌&&◌, not, Bool, true, false, cond, List, [], ◌∷◌, length, map, is_some, Option, Some, None, refl, sym, ap, ◌∙◌, subst, ⊎_elim}
+use Rattle.dex_fold.proofs.Common.{Address, All-cons, All-head, All-nil, All-tail, Market, PlainRow, Refusal, Reply, Seen, ShareNothing, Transfers, WalletEntry, WalletState, World, act, acted, cases_Bool, chosen, decoded, false≢true, idle_row, is_refusal, is_same, is_same-refl, is_same-true, is_take, movement_of, names, request_of, row_step, row_wallets, seen_by, step-refused, wallet_acted, wallet_moved, why-far, why_in, why_on}
+use Rattle.dex_bank.proofs.Common.{AreCells, CanAct, CanWait, CellState, CellsState, IsMarketCell, IsReply, MarketCellState, OthersStay, made_of, opened_of, wallet_state_of, world_of}
 use Rattle.std.specs.List.{All}
-use Rattle.std.proofs.lemmas.List.Elements.{All-nil, All-cons, All-head, All-tail}
-use Rattle.std.proofs.lemmas.Bool.{cases_Bool, false≢true}
-use Rattle.dex_types.specs.declared.addresses.Address.{Address}
-use Rattle.dex_types.specs.declared.movements.WalletEntry.{WalletEntry}
-use Rattle.dex_types.specs.declared.refusals.Refusal.{Refusal}
-use Rattle.dex_types.specs.declared.replies.Reply.{Reply}
-use Rattle.dex_types.specs.declared.rows.Seen.{Seen}
-use Rattle.dex_types.specs.Addresses.{is_same}
-use Rattle.dex_types.specs.Market.{Market}
-use Rattle.dex_types.specs.Rows.{PlainRow}
-use Rattle.dex_types.specs.Transfers.{Transfers}
-use Rattle.dex_types.specs.Wallets.{movement_of, row_wallets}
-use Rattle.dex_laws.proofs.TraderLaws.{is_same-refl, is_same-true}
-use Rattle.dex_instruction.specs.Reading.{decoded}
-use Rattle.dex_history.specs.Journal.{is_refusal, is_take, request_of, row_step}
-use Rattle.dex_history.proofs.RefusalLaws.{step-refused}
 use Rattle.dex_cell.specs.CellState as market
-use Rattle.dex_cell.specs.CellState.{IsMarketCell, MarketCellState}
 use Rattle.dex_wallet.specs.CellState as wallet
-use Rattle.dex_wallet.specs.CellState.{CellState}
-use Rattle.dex_fold.specs.Fold.{act, acted, names, wallet_acted, wallet_moved}
-use Rattle.dex_fold.specs.Items.{ShareNothing, why_in, why_on}
-use Rattle.dex_fold.specs.World.{WalletState, World, market_at, seen_by}
-use Rattle.dex_fold.proofs.FarLaws.{why-far}
-use Rattle.dex_act.specs.Wallets.{made_of, wallet_state_of}
-use Rattle.dex_bank.specs.Cells.{AreCells, CanAct, CanWait, CellsState, IsTakeOrRefused, OthersStay, opened_of, world_of}
+use Rattle.dex_fold.specs.World.{market_at}
+use Rattle.dex_fold.proofs.FarLaws.{market-far, seen-far}
+use Rattle.dex_bank.specs.Cells.{IsTakeOrRefused, OthersThanTwoStay}
 use Rattle.dex_bank.specs.Stepping.{doing}
 use Rattle.dex_bank.proofs.StepWorld.{opened_market, same-markets, same-wallets}
 
@@ -42,9 +23,7 @@ can-wait row cells take spared = record {
     nothing (Some why) is = absurd (false≢true (sym is))
 
 -- a row that is refused is answered so
-refused-reply : (row : PlainRow) (world : World) (reply : Reply)
-    → ((m : Market) → market_at row.market world.markets ≡ Some m → reply ≡ (row_step row (seen_by row world) m).reply)
-    → is_some (why_in world row) ≡ true → is_refusal reply ≡ true
+refused-reply : (row : PlainRow) (world : World) (reply : Reply) → IsReply world row reply → is_some (why_in world row) ≡ true → is_refusal reply ≡ true
 refused-reply row world reply told refused = on (market_at row.market world.markets) refl refused
   where
     on : (found : Option Market) → market_at row.market world.markets ≡ found → is_some (why_on row (seen_by row world) found) ≡ true
@@ -165,9 +144,56 @@ module _ (one other : PlainRow) (share : ShareNothing one other) (before after :
   pub why-still : why_in (world_of after) other ≡ why_in (world_of before) other
   why-still = why-behind (doing waits one) other done-share before after were are kept others acts
 
+  -- and is answered as it would be before it
+  pub reply-still : (other_waits : Bool) (reply : Reply) → IsReply (world_of after) (doing other_waits other) reply → IsReply (world_of before) (doing other_waits other) reply
+  reply-still other_waits reply told m at =
+      told m (ap (λ (world : World). market_at other.market world.markets) acts ∙ market-far (doing waits one) other done-share (world_of before) ∙ at)
+      ∙ ap (λ (seen : Seen). (row_step (doing other_waits other) seen m).reply) (ap (seen_by other) acts ∙ seen-far (doing waits one) other done-share (world_of before))
+
+-- markets of neither stay
+pub both-stay : (one other : Address) (before mid after : List MarketCellState) → OthersStay one before mid → OthersStay other mid after
+    → OthersThanTwoStay one other before after
+both-stay one other [] [] [] first second = tt
+both-stay one other [] [] (a ∷ after) first second = absurd second
+both-stay one other [] (m ∷ mid) after first second = absurd first
+both-stay one other (b ∷ before) [] after first second = absurd first
+both-stay one other (b ∷ before) (m ∷ mid) [] first second = absurd second
+both-stay one other (b ∷ before) (m ∷ mid) (a ∷ after) first second = (
+  (λ not_one not_other.
+      let same : m ≡ b = first.0 not_one in
+      second.0 (ap (λ (cell : MarketCellState). is_same other cell.accounts.address) same ∙ not_other) ∙ same),
+  both-stay one other before mid after first.1 second.1,
+)
+
+-- ---- each waits where one of the two is refused and it is not
+
+pub not-refused : (any refused : Bool) → (any && not refused) ≡ true → refused ≡ false
+not-refused any false held = refl
+not-refused true true held = absurd (false≢true held)
+not-refused false true held = absurd (false≢true held)
+
+-- what the item makes them do
+pub chosen-two : (world : World) (first second : PlainRow) (one two any waits other_waits : Bool) → one ≡ is_some (why_in world first) → two ≡ is_some (why_in world second)
+    → any ≡ (one || two) → waits ≡ (any && not one) → other_waits ≡ (any && not two) → chosen world (first ∷ second ∷ []) ≡ doing waits first ∷ doing other_waits second ∷ []
+chosen-two world first second one two any waits other_waits one_is two_is any_is waits_is other_is =
+    ap (λ (b : Bool). rows_by b (is_some (why_in world second))) (sym one_is)
+    ∙ ap (rows_by one) (sym two_is)
+    ∙ by one two
+    ∙ ap (λ (b : Bool). doing (b && not one) first ∷ doing (b && not two) second ∷ []) (sym any_is)
+    ∙ ap (λ (b : Bool). doing b first ∷ doing (any && not two) second ∷ []) (sym waits_is)
+    ∙ ap (λ (b : Bool). doing waits first ∷ doing b second ∷ []) (sym other_is)
+  where
+    rows_by : Bool → Bool → List PlainRow
+    rows_by a b = cond (a || (b || false)) (cond a first (idle_row first) ∷ cond b second (idle_row second) ∷ []) (first ∷ second ∷ [])
+
+    by : (a b : Bool) → rows_by a b ≡ doing ((a || b) && not a) first ∷ doing ((a || b) && not b) second ∷ []
+    by true true = refl
+    by true false = refl
+    by false true = refl
+    by false false = refl
+
 -- a row that waits where it is not refused waits, or is answered by a refusal
-pub waits-or-refused : (row : PlainRow) (world : World) (waits refused : Bool) (reply : Reply)
-    → ((m : Market) → market_at row.market world.markets ≡ Some m → reply ≡ (row_step (doing waits row) (seen_by row world) m).reply)
+pub waits-or-refused : (row : PlainRow) (world : World) (waits refused : Bool) (reply : Reply) → IsReply world (doing waits row) reply
     → refused ≡ is_some (why_in world row) → (refused ≡ false → waits ≡ true) → (waits || is_refusal reply) ≡ true
 waits-or-refused row world true refused reply told is spared = refl
 waits-or-refused row world false true reply told is spared = refused-reply row world reply told (sym is)

@@ -1,14 +1,10 @@
 -- What no row changes of cells.
 use Rattle.std.proofs.Common.{◌≡◌, Bool, ◌||◌, List, [], ◌∷◌, map, refl, sym, ap, ◌∙◌}
+use Rattle.dex_fold.proofs.Common.{Address, All-head, All-tail, is_same}
+use Rattle.dex_bank.proofs.Common.{CellState, CellsState, IsMarketCell, MarketCellState, is_among, is_market, made_of, opened_of}
 use Rattle.std.specs.List.{All}
-use Rattle.std.proofs.lemmas.List.Elements.{All-head, All-tail}
-use Rattle.dex_types.specs.declared.addresses.Address.{Address}
-use Rattle.dex_types.specs.Addresses.{is_same}
-use Rattle.dex_cell.specs.CellState.{IsMarketCell, MarketCellState, new_cell}
-use Rattle.dex_wallet.specs.CellState.{CellState}
-use Rattle.dex_act.specs.Wallets.{is_among, made_of}
+use Rattle.dex_cell.specs.CellState.{new_cell}
 use Rattle.dex_act.proofs.CellLists.{is_among-map}
-use Rattle.dex_bank.specs.Cells.{CellsState, is_market, opened_of}
 
 -- a market's cell as it was opened
 abbrev pub opened_market : MarketCellState → MarketCellState

@@ -1,21 +1,24 @@
 -- The cells of an exchange, and the world that they are.
-use Rattle.std.specs.Prelude.{◌≡◌, Bool, true, false, List, map, All, Option, None, is_some}
+use Rattle.std.specs.Prelude.{◌≡◌, Bool, true, false, List, [], ◌∷◌, map, All, Option, Some, None, is_some}
 use Rattle.std.specs.List.{AllZip, list_any}
 use Rattle.dex_types.specs.declared.addresses.Address.{Address}
+use Rattle.dex_types.specs.declared.replies.Reply.{Reply}
 use Rattle.dex_types.specs.declared.terms.Program.{Program}
 use Rattle.dex_types.specs.Accounts.{PlainAccount, PlainMarketAccounts}
 use Rattle.dex_types.specs.Addresses.{is_same}
+use Rattle.dex_types.specs.Market.{Market}
 use Rattle.dex_types.specs.Rows.{PlainRow}
 use Rattle.dex_instruction.specs.Reading.{decoded}
-use Rattle.dex_history.specs.Journal.{is_take}
+use Rattle.dex_history.specs.Journal.{is_take, row_step}
 use Rattle.dex_types.specs.Wallets.{row_wallets}
 use Rattle.dex_cell.specs.CellState as market_cell
 use Rattle.dex_cell.specs.CellState.{IsMarketCell, MarketCellState, entries_of}
 use Rattle.dex_wallet.specs.CellState as wallet_cell
 use Rattle.dex_wallet.specs.CellState.{CellState, IsWalletCell}
 use Rattle.dex_fold.specs.Fold.{names}
-use Rattle.dex_fold.specs.Items.{ShareNothing, why_in}
-use Rattle.dex_fold.specs.World.{MarketState, World}
+use Rattle.dex_fold.specs.Groups.{members}
+use Rattle.dex_fold.specs.Items.{Item, ShareNothing, chosen, why_in}
+use Rattle.dex_fold.specs.World.{MarketState, World, market_at, seen_by}
 use Rattle.dex_act.specs.Wallets.{AreApart, is_among, wallet_state_of}
 
 -- the mints and which of them are SRM and MSRM, the cells of the markets and of the wallets in declared order, and the program
@@ -79,6 +82,17 @@ pub record CanActBoth (first second : PlainRow) (cells : CellsState) : Type 0 wh
   pub first_take : IsTakeOrRefused first cells
   pub second_take : IsTakeOrRefused second cells
 
+-- ---- what rows are answered
+
+-- the reply of the market that a row finds in a world
+abbrev pub IsReply : World → PlainRow → Reply → Type 0
+IsReply world row reply =
+    (m : Market) → market_at row.market world.markets ≡ Some m → reply ≡ (row_step row (seen_by row world) m).reply
+
+-- the replies to the rows of an item of two, each to what its row does there
+abbrev pub AreReplies : World → Item → Reply × Reply → Type 0
+AreReplies world item replies = AllZip (IsReply world) (chosen world (members item)) (replies.0 ∷ replies.1 ∷ [])
+
 -- ---- what no row changes
 
 -- the cells as they were opened
@@ -96,3 +110,9 @@ accounts_in cells = map (λ (cell : MarketCellState). cell.accounts) cells
 abbrev pub OthersStay : Address → List MarketCellState → List MarketCellState → Type 0
 OthersStay address before after =
     AllZip (λ (old new : MarketCellState). is_same address old.accounts.address ≡ false → new ≡ old) before after
+
+-- the cells of other markets than those of these two addresses are as they were
+abbrev pub OthersThanTwoStay : Address → Address → List MarketCellState → List MarketCellState → Type 0
+OthersThanTwoStay one other before after =
+    AllZip (λ (old new : MarketCellState). is_same one old.accounts.address ≡ false
+    → is_same other old.accounts.address ≡ false → new ≡ old) before after

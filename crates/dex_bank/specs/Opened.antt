@@ -1,25 +1,15 @@
 -- The cells with which a script starts.
-use Rattle.std.specs.Prelude.{ℕ, List, map, count_by}
-use Rattle.dex_types.specs.declared.addresses.Address.{Address}
+use Rattle.std.specs.Prelude.{List, map}
 use Rattle.dex_types.specs.declared.terms.Program.{Program}
 use Rattle.dex_types.specs.Accounts.{PlainAccount, PlainAccounts, PlainMarketAccounts}
-use Rattle.dex_types.specs.Addresses.{is_same}
 use Rattle.dex_types.specs.Rows.{PlainRow}
 use Rattle.dex_cell.specs.CellState as market
 use Rattle.dex_cell.specs.CellState.{MarketCellState}
 use Rattle.dex_wallet.specs.CellState as wallet
 use Rattle.dex_wallet.specs.CellState.{CellState}
-use Rattle.dex_fold.specs.Fold.{names}
+pub use Rattle.dex_fold.specs.RowsOf.{rows_naming, rows_on}
 use Rattle.dex_script.specs.Drafts.{PlainScript}
 use Rattle.dex_bank.specs.Cells.{CellsState}
-
--- how many rows are on the market of an address
-abbrev pub rows_on : Address → List PlainRow → ℕ
-rows_on address rows = count_by (λ (row : PlainRow). is_same row.market address) rows
-
--- how many rows name the wallet of an address
-abbrev pub rows_naming : Address → List PlainRow → ℕ
-rows_naming address rows = count_by (λ (row : PlainRow). names row address) rows
 
 -- the cell of a market, without an entry, with room for as many as there are rows on it
 abbrev pub market_opened : List PlainRow → PlainMarketAccounts → MarketCellState

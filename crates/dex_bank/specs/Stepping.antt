@@ -6,13 +6,15 @@ use Rattle.dex_types.specs.declared.rows.Row.{Row}
 use Rattle.dex_types.specs.declared.rows.Seen.{Seen}
 use Rattle.dex_types.specs.Addresses.{is_same}
 use Rattle.dex_types.specs.Rows.{PlainRow}
+use Rattle.dex_types.specs.Steps.{Step}
 use Rattle.dex_types.specs.Transfers.{Transfers}
-use Rattle.dex_cell.specs.CellState.{HasActed, HasSpare, IsFor, IsMarketCell, MarketCellState, held_on}
+use Rattle.dex_history.specs.Journal.{row_step}
+use Rattle.dex_cell.specs.CellState.{CanHold, HasActed, HasSpare, IsFor, IsMarketCell, MarketCellState, held_on, market_at}
 use Rattle.dex_wallet.specs.CellState.{CellState, IsWalletCell}
 use Rattle.dex_fold.specs.Fold.{market_acted, wallet_acted}
 use Rattle.dex_fold.specs.Items.{nothing_to_do}
 use Rattle.dex_act.specs.Wallets.{AreApart, SeesCells, made_of, wallet_state_of}
-use Rattle.dex_bank.specs.Cells.{market_state_of}
+use Rattle.dex_bank.specs.Cells.{accounts_in, market_state_of}
 
 -- the first of the cells whose market has this address stands at the place
 pub record IsFirstAt (address : Address) (cells : List MarketCellState) (place : ℕ) : Type 0 where
@@ -29,6 +31,10 @@ pub record CanActAt (row : Row) (seen : Seen) (place : ℕ) (markets : List Mark
   pub market : (default : MarketCellState) → IsMarketCell (slice_index_or markets place default)
   pub spare : (default : MarketCellState) → HasSpare (slice_index_or markets place default)
   pub sees : SeesCells seen cells
+
+-- a row can be held back at the market at a place
+abbrev pub CanHoldAt : Row → Seen → ℕ → List MarketCellState → Type 0
+CanHoldAt row seen place markets = (default : MarketCellState) → CanHold row seen (slice_index_or markets place default)
 
 -- the market at the place has acted, and no other
 pub record HasActedAt (row : Row) (seen : Seen) (place : ℕ) (before after : List MarketCellState) : Type 0 where
@@ -56,6 +62,14 @@ pub record HasHeldAt (row : Row) (seen : Seen) (place : ℕ) (before after : Lis
 -- what the row does: what it asks, or nothing
 abbrev pub doing : Bool → PlainRow → PlainRow
 doing waits row = record row { bytes = if waits then nothing_to_do else row.bytes }
+
+-- the step of a row on the market at a place
+abbrev pub step_at : PlainRow → Seen → ℕ → List MarketCellState → MarketCellState → Step
+step_at row seen place markets default = row_step row seen (market_at (slice_index_or markets place default))
+
+-- where it is so, the accounts of all markets stay
+abbrev pub StaysIf : Bool → List MarketCellState → List MarketCellState → Type 0
+StaysIf test before after = test ≡ true → accounts_in after ≡ accounts_in before
 
 -- the cell at the place has become what such a row makes of it, and no other changed
 pub record HasBecomeAt (row : PlainRow) (seen : Seen) (place : ℕ) (before after : List MarketCellState) : Type 0 where

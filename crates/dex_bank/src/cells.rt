@@ -1,6 +1,6 @@
 //! All cells of an exchange.
 
-ghost use Rattle.std.specs.Prelude.{◌≡◌, ◌≤◌, ◌||◌, is_some, true, IfErr, IfOk, Some, length, map};
+ghost use Rattle.std.specs.Prelude.{◌≡◌, ◌≤◌, ◌||◌, is_some, true, IfErr, IfOk, length, map};
 
 use crate::closing::{closed, left_by};
 use crate::copying::accounts_copy;
@@ -41,12 +41,10 @@ impl Model for Cells {
 
 impl Cells {
     ghost use Rattle.dex_types.specs.Accounts.{named_of};
-    ghost use Rattle.dex_types.specs.Market.{Market};
     ghost use Rattle.dex_types.specs.Rows.{row_of};
-    ghost use Rattle.dex_history.specs.Journal.{is_refusal, row_step};
+    ghost use Rattle.dex_history.specs.Journal.{is_refusal};
     ghost use Rattle.dex_fold.specs.Fold.{act};
     ghost use Rattle.dex_fold.specs.Items.{act_item, pair_of, why_in};
-    ghost use Rattle.dex_fold.specs.World.{market_at, seen_by};
     ghost use Rattle.dex_report.specs.Outcomes.{outcome_of};
     ghost use Rattle.dex_script.specs.Facts.{IsScript};
     ghost use Rattle.dex_bank.specs.Cells as spec;
@@ -136,9 +134,7 @@ impl Cells {
     /// A row acts on its market and on the wallets that it names, and this is its market's reply. It takes no memory.
     pub fn step(&mut self, row: &Row) -> Reply
         requires { CanAct (row_of row.now) self.old }
-        ensures reply { (m : Market) → market_at row.entry.now.market (spec.world_of self.old).markets ≡ Some m
-            → result
-            ≡ (row_step (row_of row.entry.now) (seen_by (row_of row.entry.now) (spec.world_of self.old)) m).reply }
+        ensures reply { spec.IsReply (spec.world_of self.old) (row_of row.entry.now) result }
         ensures acted { spec.world_of self.new ≡ act (row_of row.entry.now) (spec.world_of self.old) }
         ensures kept { spec.opened_of self.new ≡ spec.opened_of self.old }
         ensures others { spec.OthersStay row.entry.now.market self.old.markets self.new.markets }
@@ -149,13 +145,16 @@ impl Cells {
         act_or_wait(self, row, false)
     }
 
-    /// Two legs of one swap act, both or neither. It answers what their markets answered, of which no clause speaks yet, and takes no
-    /// memory.
+    /// Two legs of one swap act, both or neither, and these are their markets' replies. It takes no memory.
     pub fn step_two(&mut self, first: &Row, second: &Row) -> (Reply, Reply)
         requires { CanActBoth (row_of first.now) (row_of second.now) self.old }
+        ensures replies { spec.AreReplies (spec.world_of self.old)
+            (pair_of (row_of first.entry.now) (row_of second.entry.now)) result }
         ensures acted { spec.world_of self.new
             ≡ act_item (pair_of (row_of first.entry.now) (row_of second.entry.now)) (spec.world_of self.old) }
         ensures kept { spec.opened_of self.new ≡ spec.opened_of self.old }
+        ensures others { spec.OthersThanTwoStay first.entry.now.market second.entry.now.market
+            self.old.markets self.new.markets }
         ensures stays { (is_some (why_in (spec.world_of self.old) (row_of first.entry.now))
             || is_some (why_in (spec.world_of self.old) (row_of second.entry.now))) ≡ true
             → spec.accounts_in self.new.markets ≡ spec.accounts_in self.old.markets }

@@ -1,21 +1,22 @@
 //! One row on all cells.
 
-ghost use Rattle.std.specs.Prelude.{◌≡◌, ◌<◌, ◌||◌, length, None, Some, true, is_some, map, slice_index_or, slice_set};
+ghost use Rattle.std.specs.Prelude.{◌≡◌, ◌<◌, ◌||◌, ◌&&◌, length, None, not, true, is_some, map, slice_index_or};
+ghost use Rattle.std.specs.Prelude.{slice_set};
 ghost use Rattle.std.specs.List.{All};
 ghost use Rattle.dex_types.specs.declared.replies.Reply.TheVariants.{Done};
-ghost use Rattle.dex_types.specs.Market.{Market};
 ghost use Rattle.dex_types.specs.Rows.{row_of};
 ghost use Rattle.dex_types.specs.Transfers.{no_transfers};
 ghost use Rattle.dex_types.specs.Why.{why};
-ghost use Rattle.dex_history.specs.Journal.{is_refusal, request_of, row_step};
-ghost use Rattle.dex_cell.specs.CellState.{CanHold, IsFor, MarketCellState, market_at, refused_on, step_on};
+ghost use Rattle.dex_history.specs.Journal.{is_refusal, request_of};
+ghost use Rattle.dex_cell.specs.CellState.{IsFor, MarketCellState, market_at, refused_on, step_on};
 ghost use Rattle.dex_fold.specs.Fold as fold;
 ghost use Rattle.dex_fold.specs.Items.{act_item, pair_of, why_in};
 ghost use Rattle.dex_fold.specs.World as world;
 ghost use Rattle.dex_act.specs.Wallets.{Fits, roles_of, wallet_state_of};
-ghost use Rattle.dex_bank.specs.Cells.{AreCells, CanAct, CanActBoth, CanWait, OthersStay, accounts_in};
-ghost use Rattle.dex_bank.specs.Cells.{is_market, opened_of, world_of};
-ghost use Rattle.dex_bank.specs.Stepping.{CanActAt, HasActedAt, HasBecomeAt, HasHeldAt, HaveActed, IsFirstAt, doing};
+ghost use Rattle.dex_bank.specs.Cells.{AreCells, AreReplies, CanAct, CanActBoth, CanWait, IsReply, OthersStay};
+ghost use Rattle.dex_bank.specs.Cells.{OthersThanTwoStay, accounts_in, is_market, opened_of, world_of};
+ghost use Rattle.dex_bank.specs.Stepping.{CanActAt, CanHoldAt, HasActedAt, HasBecomeAt, HasHeldAt, HaveActed};
+ghost use Rattle.dex_bank.specs.Stepping.{IsFirstAt, StaysIf, doing, step_at};
 
 use crate::cells::Cells;
 use dex_act::{act, hold, wallet_at};
@@ -99,7 +100,7 @@ fn hold_at(
     seen: &Seen,
 ) -> Reply
     requires row { CanActAt row.now seen.now place markets.old wallets.old }
-    requires held { (default : MarketCellState) → CanHold row.now seen.now (slice_index_or markets.old place default) }
+    requires held { CanHoldAt row.now seen.now place markets.old }
     ensures reply { result ≡ Done }
     ensures market { HasHeldAt row.entry.now seen.now place markets.old markets.new }
     ensures wallets { HaveActed (row_of row.entry.now) seen.now no_transfers wallets.old wallets.new }
@@ -117,15 +118,13 @@ fn do_at(
     waits: bool,
 ) -> Reply
     requires row { CanActAt row.now seen.now place markets.old wallets.old }
-    requires held { waits ≡ true
-        → (default : MarketCellState) → CanHold row.now seen.now (slice_index_or markets.old place default) }
+    requires held { waits ≡ true → CanHoldAt row.now seen.now place markets.old }
     ensures reply { (default : MarketCellState) → result
-        ≡ (row_step (doing waits (row_of row.entry.now)) seen.now (market_at (slice_index_or markets.old place default))).reply }
+        ≡ (step_at (doing waits (row_of row.entry.now)) seen.now place markets.old default).reply }
     ensures market { HasBecomeAt (doing waits (row_of row.entry.now)) seen.now place markets.old markets.new }
-    ensures stays { (waits || is_refusal result) ≡ true → accounts_in markets.new ≡ accounts_in markets.old }
+    ensures stays { StaysIf (waits || is_refusal result) markets.old markets.new }
     ensures wallets { (default : MarketCellState) → let done = doing waits (row_of row.entry.now) in
-        HaveActed done seen.now (row_step done seen.now (market_at (slice_index_or markets.old place default))).transfers
-        wallets.old wallets.new }
+        HaveActed done seen.now (step_at done seen.now place markets.old default).transfers wallets.old wallets.new }
 {
     if waits {
         hold_at(markets, place, wallets, row, seen)
@@ -138,13 +137,11 @@ fn do_at(
 pub(crate) fn act_or_wait(cells: &mut Cells, row: &Row, waits: bool) -> Reply
     requires row { CanAct (row_of row.now) cells.old }
     requires held { waits ≡ true → CanWait (row_of row.now) cells.old }
-    ensures reply { (m : Market) → world.market_at row.entry.now.market (world_of cells.old).markets ≡ Some m
-        → result ≡ (row_step (doing waits (row_of row.entry.now))
-        (world.seen_by (row_of row.entry.now) (world_of cells.old)) m).reply }
+    ensures reply { IsReply (world_of cells.old) (doing waits (row_of row.entry.now)) result }
     ensures acted { world_of cells.new ≡ fold.act (doing waits (row_of row.entry.now)) (world_of cells.old) }
     ensures kept { opened_of cells.new ≡ opened_of cells.old }
     ensures others { OthersStay row.entry.now.market cells.old.markets cells.new.markets }
-    ensures stays { (waits || is_refusal result) ≡ true → accounts_in cells.new.markets ≡ accounts_in cells.old.markets }
+    ensures stays { StaysIf (waits || is_refusal result) cells.old.markets cells.new.markets }
     ensures cells { AreCells cells.new }
 {
     let seen = seen_by(cells, row);
@@ -163,8 +160,8 @@ pub(crate) fn act_or_wait(cells: &mut Cells, row: &Row, waits: bool) -> Reply
 fn is_refused_at(markets: &[MarketCell], place: usize, row: &Row, seen: &Seen) -> bool
     requires within { place < length markets.now }
     requires row { (default : MarketCellState) → IsFor row.now seen.now (slice_index_or markets.now place default) }
-    ensures { (default : MarketCellState) → result
-        ≡ is_some (why (request_of (row_of row.entry.now)) seen.now (market_at (slice_index_or markets.now place default))) }
+    ensures { (default : MarketCellState) → let m = market_at (slice_index_or markets.now place default) in
+        result ≡ is_some (why (request_of (row_of row.entry.now)) seen.now m) }
 {
     markets[place].decide(row, seen).is_err()
 }
@@ -180,12 +177,22 @@ fn is_refused(cells: &Cells, row: &Row) -> bool
     is_refused_at(&cells.markets, place, row, &seen)
 }
 
-/// Two legs of one swap act, both or neither.
+/// Whether a row of an item waits: one of the item is refused, and not this one.
+fn waits(any: bool, refused: bool) -> bool
+    ensures { result ≡ (any && not refused) }
+{
+    any && !refused
+}
+
+/// Two legs of one swap act, both or neither, and these are their markets' replies.
 pub(crate) fn stepped_both(cells: &mut Cells, first: &Row, second: &Row) -> (Reply, Reply)
     requires { CanActBoth (row_of first.now) (row_of second.now) cells.old }
+    ensures replies { AreReplies (world_of cells.old) (pair_of (row_of first.entry.now) (row_of second.entry.now)) result }
     ensures acted { world_of cells.new
         ≡ act_item (pair_of (row_of first.entry.now) (row_of second.entry.now)) (world_of cells.old) }
     ensures kept { opened_of cells.new ≡ opened_of cells.old }
+    ensures others { OthersThanTwoStay first.entry.now.market second.entry.now.market
+        cells.old.markets cells.new.markets }
     ensures stays { (is_some (why_in (world_of cells.old) (row_of first.entry.now))
         || is_some (why_in (world_of cells.old) (row_of second.entry.now))) ≡ true
         → accounts_in cells.new.markets ≡ accounts_in cells.old.markets }
@@ -194,7 +201,7 @@ pub(crate) fn stepped_both(cells: &mut Cells, first: &Row, second: &Row) -> (Rep
     let first_refused = is_refused(cells, first);
     let second_refused = is_refused(cells, second);
     let any = first_refused || second_refused;
-    let one = act_or_wait(cells, first, any && !first_refused);
-    let two = act_or_wait(cells, second, any && !second_refused);
+    let one = act_or_wait(cells, first, waits(any, first_refused));
+    let two = act_or_wait(cells, second, waits(any, second_refused));
     (one, two)
 }

@@ -3,8 +3,6 @@
 
 mod list_side;
 mod places;
-#[cfg(test)]
-mod tests;
 
 /// A side of the book over the bytes of its account, changed in place: the view of `dex_slab`.
 pub use dex_slab::SlabView as SlabSide;

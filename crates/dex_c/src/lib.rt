@@ -2,7 +2,7 @@
 #![tactic(auto)]
 
 ghost use Rattle.std.specs.Prelude.{[]};
-ghost use Rattle.dex_words.specs.declared.command.Command.TheVariants.{Audit, Bulk, Dump, Make, Migrate, Replay};
+ghost use Rattle.dex_words.specs.declared.command.Command.TheVariants.{Audit, Bulk, Dump, Make, Migrate, Replay, Worth};
 ghost use Rattle.dex_call.specs.Calls.{Ends, done};
 
 use std::alloc::Global;
@@ -29,6 +29,14 @@ pub extern "C" fn dex_audit(alloc: Global, dump: &[u8], room: &mut [u8], size: &
     ensures { Ends Audit dump.now (done room.old room.new result size.new) }
 {
     dex_call::audit(alloc, dump, room, size)
+}
+
+/// What each account of each market is worth when all rows of a script have acted.
+#[unsafe(no_mangle)]
+pub extern "C" fn dex_worth(alloc: Global, script: &[u8], room: &mut [u8], size: &mut usize) -> u8
+    ensures { Ends Worth script.now (done room.old room.new result size.new) }
+{
+    dex_call::worth(alloc, script, room, size)
 }
 
 /// The dump of the same accounts with sides of so many nodes and event queues for so many events.

@@ -3,7 +3,7 @@
 //! in these two cases; the text is written to the front of `room` where it fits, and else `room` stays as it is.
 
 ghost use Rattle.std.specs.Prelude.{[]};
-ghost use Rattle.dex_words.specs.declared.command.Command.TheVariants.{Audit, Bulk, Dump, Make, Migrate, Replay};
+ghost use Rattle.dex_words.specs.declared.command.Command.TheVariants.{Audit, Bulk, Dump, Make, Migrate, Replay, Worth};
 ghost use Rattle.dex_call.specs.Calls.{Ends, done};
 
 use crate::calling::call;
@@ -29,6 +29,13 @@ pub fn audit(alloc: Global, dump: &[u8], room: &mut [u8], size: &mut usize) -> u
     ensures { Ends Audit dump.now (done room.old room.new result size.new) }
 {
     call(alloc, Command::Audit, dump, room, size)
+}
+
+/// What each account of each market is worth when all rows of a script have acted.
+pub fn worth(alloc: Global, script: &[u8], room: &mut [u8], size: &mut usize) -> u8
+    ensures { Ends Worth script.now (done room.old room.new result size.new) }
+{
+    call(alloc, Command::Worth, script, room, size)
 }
 
 /// The dump of the same accounts with sides of so many nodes and event queues for so many events.

@@ -5,7 +5,4 @@ mod calling;
 mod calls;
 mod writing;
 
-pub use calls::{audit, bulk, dump, make, migrate, replay};
-
-#[cfg(test)]
-mod tests;
+pub use calls::{audit, bulk, dump, make, migrate, replay, worth};

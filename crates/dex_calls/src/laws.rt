@@ -23,6 +23,7 @@ pub fn an_entry_tells_its_call()
     ensures history { (script : PlainScript) → IsScript script
         → (first last : PlainMarketAccounts) (journal : PlainMarketJournal)
         → IsLawfulMarket script first last journal → TellsHistory script first last journal }
-    ensures outcome { (script : PlainScript) → IsScript script → (outcome : PlainOutcome) → IsLawful script outcome
+    ensures outcome { (script : PlainScript) → IsScript script
+        → (outcome : PlainOutcome) → IsLawful script outcome
         → AllThree (TellsHistory script) script.start.markets outcome.accounts.markets outcome.markets }
 {}

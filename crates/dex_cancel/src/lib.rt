@@ -16,6 +16,3 @@ pub use applying::apply_cancel;
 pub use deciding::decide_cancel;
 pub use laws::a_market_is_left_by_its_parts;
 pub use what::CancelWhat;
-
-#[cfg(test)]
-mod tests;

@@ -21,10 +21,10 @@ use Rattle.dex_types.specs.Terms.{terms_order}
 use Rattle.dex_types.specs.Side.{locked_token}
 use Rattle.dex_types.specs.Transfers.{Transfers, exchange, no_transfers}
 use Rattle.dex_types.specs.Why.{why}
-use Rattle.dex_decide.specs.declared.plan.Plan.{Plan}
-use Rattle.dex_decide.specs.declared.plan.Plan.TheVariants as plans
-use Rattle.dex_decide.specs.Owing.{deposit_of, owed}
-use Rattle.dex_decide.specs.Plans.{by_party, decided, order_plan, plan_decoded, plan_on, settle_plan}
+use Rattle.dex_plan.specs.declared.plan.Plan.{Plan}
+use Rattle.dex_plan.specs.declared.plan.Plan.TheVariants as plans
+use Rattle.dex_plan.specs.Owing.{deposit_of, owed}
+use Rattle.dex_plan.specs.Plans.{by_party, decided, order_plan, plan_decoded, plan_on, settle_plan}
 use Rattle.dex_history.specs.Journal.{is_refusal, request_of}
 use Rattle.dex_history.proofs.RefusalLaws.{step-refused}
 use Rattle.dex_cell.specs.CellState.{MarketCellState, answer_on, market_at, step_on}

@@ -14,8 +14,8 @@ use Rattle.dex_types.specs.Transfers.{no_transfers}
 use Rattle.dex_types.specs.Why.{why}
 use Rattle.dex_accounts.specs.Accepted.{IsAccepted}
 use Rattle.dex_accounts.specs.Decoded.{AreSound, market_in}
-use Rattle.dex_decide.specs.declared.plan.Plan.{Plan}
-use Rattle.dex_decide.specs.Plans.{decided}
+use Rattle.dex_plan.specs.declared.plan.Plan.{Plan}
+use Rattle.dex_plan.specs.Plans.{decided}
 use Rattle.dex_history.specs.Journal.{Call, IsLegal, Sees, asked_of, is_take, market_after, request_of, row_step}
 use Rattle.dex_movements.specs.Entries.{entry_by}
 use Rattle.dex_step.specs.Acting.{addresses_of}

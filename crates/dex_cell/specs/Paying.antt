@@ -4,8 +4,8 @@ use Rattle.dex_types.specs.declared.addresses.Address.{Address}
 use Rattle.dex_types.specs.Market.{Market}
 use Rattle.dex_types.specs.Side.{Token, Coin, Pc, by_token}
 use Rattle.dex_types.specs.Transfers.{Transfers}
-use Rattle.dex_decide.specs.declared.plan.Plan.{Plan}
-use Rattle.dex_decide.specs.Owing.{deposit_of}
+use Rattle.dex_plan.specs.declared.plan.Plan.{Plan}
+use Rattle.dex_plan.specs.Owing.{deposit_of}
 use Rattle.dex_history.specs.Balances.{mint_of}
 use Rattle.dex_cell.specs.declared.payouts.Payouts.{Payouts}
 use Rattle.dex_wallet.specs.TokenAmount.{TokenAmount}

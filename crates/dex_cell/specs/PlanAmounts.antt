@@ -1,8 +1,8 @@
 -- What a plan moves.
 use Rattle.dex_types.specs.Side.{locked_token}
 use Rattle.dex_types.specs.Transfers.{Transfers, deposit, exchange, no_transfers, payout}
-use Rattle.dex_decide.specs.declared.plan.Plan.{Plan}
-use Rattle.dex_decide.specs.declared.plan.Plan.TheVariants as plans
+use Rattle.dex_plan.specs.declared.plan.Plan.{Plan}
+use Rattle.dex_plan.specs.declared.plan.Plan.TheVariants as plans
 
 -- the transfers of a plan: an order's deposit, what a take pays and gets, what is settled, the fees that are swept
 abbrev pub plan_transfers : Plan → Transfers

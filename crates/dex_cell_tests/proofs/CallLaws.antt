@@ -11,7 +11,7 @@ use Rattle.dex_accounts.specs.Parts.{HasOpen, parts_of}
 use Rattle.dex_cancel.specs.TakenOff.{CancelGiven}
 use Rattle.dex_cancel.specs.Parts.{AreOfSoundMarket}
 use Rattle.dex_crank.specs.Parts as crank
-use Rattle.dex_decide.specs.Given.{bytes_on}
+use Rattle.dex_plan.specs.Given.{bytes_on}
 use Rattle.dex_decide.proofs.OrderLaws.{order-shown}
 use Rattle.dex_decide.proofs.PartLaws.{sound-parts}
 use Rattle.dex_decide.proofs.TakeLaws.{take-shown, take-sound}

@@ -1,5 +1,5 @@
 -- The accounts of a market as it is made, with two open-orders accounts that are reserved: they are accepted, and those of a sound market.
-use Rattle.std.proofs.Common.{◌≡◌, ℕ, ◌<◌, ◌≤◌, ◌^◌, List, [], ◌∷◌, ◌++◌, false, slice_index, replicate, refl, sym, ap, ◌∙◌, subst, arith}
+use Rattle.std.proofs.Common.{◌≡◌, ℕ, List, [], ◌∷◌, ◌++◌, false, slice_index, replicate, refl, sym, ap, ◌∙◌, subst, arith}
 use Rattle.std.specs.List.{All}
 use Rattle.std.proofs.lemmas.Bool.{cond-false}
 use Rattle.std.proofs.lemmas.List.Elements.{All-nil, All-cons}
@@ -9,9 +9,8 @@ use Rattle.dex_types.specs.declared.addresses.Address.{Address}
 use Rattle.dex_types.specs.Accounts.{PlainAccount, PlainMarketAccounts}
 use Rattle.dex_types.specs.Addresses.{is_same}
 use Rattle.dex_types.specs.Market.{Market}
-use Rattle.dex_types.specs.Soundness.{AreDistinct, IsSound}
+use Rattle.dex_types.specs.Soundness.{AreDistinct}
 use Rattle.dex_market.specs.MarketAccount.{MarketWords}
-use Rattle.dex_market.specs.RequestQueue.{IsRequestQueue, next_sequence}
 use Rattle.dex_orders.specs.OrdersAccount.{IsOpened, IsOrders}
 use Rattle.dex_orders.specs.StandsFor.{IsOnMarket}
 use Rattle.dex_token.specs.TokenAccount.{WalletWords}
@@ -62,83 +61,29 @@ accepted-of accounts m stands named = record {
 names-blank : (market address : Address) → NamesMarket market (blank_account address)
 names-blank market address opened = absurd (never-opened opened)
 
--- ---- a later sequence number
-
--- a sound market that has given out more sequence numbers is sound
-later-sound : (m : Market) (next : ℕ) → m.next_sequence ≤ next → next < 2 ^ 64 → IsSound m → IsSound (record m { next_sequence = next })
-later-sound m next later small sound = record {
-  form = record {
-    mints = sound.form.mints;
-    coin_lot = sound.form.coin_lot;
-    pc_lot = sound.form.pc_lot;
-    room = sound.form.room;
-    in_order = sound.form.in_order;
-    proper = sound.form.proper;
-    within = sound.form.within;
-    events_within = sound.form.events_within;
-    tiers = sound.form.tiers;
-    sequence = small;
-    counted = sound.form.counted;
-    distinct = sound.form.distinct;
-    slots = sound.form.slots;
-  };
-  slots = record {
-    resting = sound.slots.resting;
-    taken = sound.slots.taken;
-    pending = sound.slots.pending;
-    given = λ owner slot held is. omega (arith, later, sound.slots.given owner slot held is);
-    once = sound.slots.once;
-  };
-  funds = record {
-    solvent = record { vaults = sound.funds.solvent.vaults; referrers = sound.funds.solvent.referrers };
-    adds_up = sound.funds.adds_up;
-    bounded = sound.funds.bounded;
-  };
-}
-
-later-stands : (accounts : PlainMarketAccounts) (m : Market) (requests : List ℕ) (next : ℕ) → IsRequestQueue requests → next_sequence requests ≡ next → StandsFor accounts m
-    → StandsFor (record accounts { requests = requests }) (record m { next_sequence = next })
-later-stands accounts m requests next queue next_is h = record {
-  address = h.address;
-  authority = h.authority;
-  terms = record { accepted = h.terms.accepted; words = h.terms.words };
-  coin_vault = record { accepted = h.coin_vault.accepted; words = h.coin_vault.words };
-  pc_vault = record { accepted = h.pc_vault.accepted; words = h.pc_vault.words };
-  requests = record { accepted = queue; next = next_is };
-  events = record { accepted = h.events.accepted; ring = h.events.ring };
-  bids = record { accepted = h.bids.accepted; orders = h.bids.orders; room = h.bids.room };
-  asks = record { accepted = h.asks.accepted; orders = h.asks.orders; room = h.asks.room };
-  traders = h.traders;
-}
-
 -- ---- two accounts
 
-module _ (set : MarketSet) (first second : Address) (accounts : PlainMarketAccounts) (requests : List ℕ) (next : ℕ)
-    (stands : StandsFor accounts (made_market (listing_of set) [])) (queue : IsRequestQueue requests) (next_is : next_sequence requests ≡ next) where
-  -- the market, and its accounts with two that are reserved and with these requests
+module _ (set : MarketSet) (first second : Address) (accounts : PlainMarketAccounts) (stands : StandsFor accounts (made_market (listing_of set) [])) where
+  -- the market, and its accounts with two that are reserved
   abbrev made : Market
   made = made_market (listing_of set) (first ∷ second ∷ [])
 
   abbrev two : PlainMarketAccounts
-  two = record (with_blanks (first ∷ second ∷ []) accounts) { requests = requests }
+  two = with_blanks (first ∷ second ∷ []) accounts
 
-  two-stands : StandsFor two (record made { next_sequence = next })
-  two-stands =
-      later-stands (with_blanks (first ∷ second ∷ []) accounts) made requests next queue next_is
-      (StandsFor-with_blanks accounts (listing_of set) (first ∷ second ∷ []) stands)
+  two-stands : StandsFor two made
+  two-stands = StandsFor-with_blanks accounts (listing_of set) (first ∷ second ∷ []) stands
 
   two-accepted : IsAccepted two
   two-accepted =
-      accepted-of two (record made { next_sequence = next }) two-stands
+      accepted-of two made two-stands
       (All-cons (NamesMarket accounts.address) (blank_account first) (blank_account second ∷ []) (names-blank accounts.address first)
       (All-cons (NamesMarket accounts.address) (blank_account second) [] (names-blank accounts.address second) (All-nil (NamesMarket accounts.address))))
 
-  two-sound : next < 2 ^ 64 → IsMarketSet set → CanTrade set → is_same first second ≡ false → AreSound two
-  two-sound small is trades apart =
+  two-sound : IsMarketSet set → CanTrade set → is_same first second ≡ false → AreSound two
+  two-sound is trades apart =
       let distinct : AreDistinct (blanks (first ∷ second ∷ [])) = (cond-false _ _ _ apart, (refl, tt)) in
-      AreSound-of two (record made { next_sequence = next })
-      (later-sound made next (omega arith) small (IsSound-made set (first ∷ second ∷ []) is trades distinct))
-      two-stands
+      AreSound-of two made (IsSound-made set (first ∷ second ∷ []) is trades distinct) two-stands
 
   -- the accounts to which two were added are these
   module _ (before one both : List PlainAccount) (same : before ≡ accounts.orders) (none : accounts.orders ≡ [])
@@ -149,9 +94,8 @@ module _ (set : MarketSet) (first second : Address) (accounts : PlainMarketAccou
         ∙ ap (λ (l : List PlainAccount). l ++ (blank_account second ∷ []))
         (first_is ∙ ap (λ (l : List PlainAccount). l ++ (blank_account first ∷ [])) (same ∙ none))
 
-    pub made-accepted : IsAccepted (record accounts { requests = requests; orders = both })
-    made-accepted = subst (λ (l : List PlainAccount). IsAccepted (record accounts { requests = requests; orders = l })) (sym all) two-accepted
+    pub made-accepted : IsAccepted (record accounts { orders = both })
+    made-accepted = subst (λ (l : List PlainAccount). IsAccepted (record accounts { orders = l })) (sym all) two-accepted
 
-    pub made-sound : next < 2 ^ 64 → IsMarketSet set → CanTrade set → is_same first second ≡ false → AreSound (record accounts { requests = requests; orders = both })
-    made-sound small is trades apart =
-        subst (λ (l : List PlainAccount). AreSound (record accounts { requests = requests; orders = l })) (sym all) (two-sound small is trades apart)
+    pub made-sound : IsMarketSet set → CanTrade set → is_same first second ≡ false → AreSound (record accounts { orders = both })
+    made-sound is trades apart = subst (λ (l : List PlainAccount). AreSound (record accounts { orders = l })) (sym all) (two-sound is trades apart)

@@ -6,7 +6,7 @@ ghost use Rattle.dex_accounts.specs.Parts.{HasOpen, parts_of};
 ghost use Rattle.dex_cancel.specs.Parts.{AreOfSoundMarket};
 ghost use Rattle.dex_crank.specs.PaidBytes.{crank_bytes};
 ghost use Rattle.dex_crank.specs.Parts as crank;
-ghost use Rattle.dex_decide.specs.Given.{bytes_on};
+ghost use Rattle.dex_plan.specs.Given.{bytes_on};
 ghost use Rattle.dex_market.specs.MarketAccount.{IsMarket, market_words, sizes_of};
 ghost use Rattle.dex_ring.specs.Ring.{IsEventQueue};
 ghost use Rattle.dex_slab.specs.Slab.{IsSlab, resting};

@@ -1,9 +1,8 @@
 //! Public calls of the step crates by their own names, beside what rows come to.
 
 use crate::calls::{cancel, crank, order, take};
-use crate::cases::{Case, play};
 use crate::exchange::Exchange;
-use crate::making::{USUAL, labelled};
+use crate::making::labelled;
 use dex_cancel::CancelWhat;
 use dex_match::{OrderPlan, Taker};
 use dex_take::TakePlan;
@@ -24,42 +23,9 @@ do,1,m,bob,ben,-,bob_usd,-,-,new bid 60 3 2000 decrement ioc 8 10
 /// The ask that rests.
 const ASK: u128 = 922337203685477580800;
 
-/// What the market holds after the rows.
-const BEFORE: &str = "vaults 400 2800 fees 0 4 rebates 0
-Bid 756316507022091616254 2
-Ask 922337203685477580800 1
-amy 1 coin 0 400 pc 0 0 referrer 0
-ben 2 coin 300 300 pc 496 1296 referrer 0
-event 9 1500 300 0
-event 5 300 1504 4
-event 6 0 0 0
-";
-
-/// What it holds where the ask was cancelled.
-const WITHOUT_ASK: &str = "vaults 400 2800 fees 0 4 rebates 0
-Bid 756316507022091616254 2
-amy 1 coin 0 400 pc 0 0 referrer 0
-ben 2 coin 300 300 pc 496 1296 referrer 0
-event 9 1500 300 0
-event 5 300 1504 4
-event 6 0 0 0
-event 18 100 0 0
-";
-
-/// What it holds where the bid was cancelled.
-const WITHOUT_BID: &str = "vaults 400 2800 fees 0 4 rebates 0
-Ask 922337203685477580800 1
-amy 1 coin 0 400 pc 0 0 referrer 0
-ben 2 coin 300 300 pc 496 1296 referrer 0
-event 9 1500 300 0
-event 5 300 1504 4
-event 6 0 0 0
-event 22 800 0 0
-";
-
 /// An exchange after the rows.
 fn opened(alloc: Global) -> Result<Exchange, Fail> {
-    let mut exchange = Exchange::open(alloc, USUAL)?;
+    let mut exchange = Exchange::open(alloc)?;
     exchange.run(ROWS)?;
     Ok(exchange)
 }
@@ -194,55 +160,52 @@ fn cancels<A: Abort>(
     owner: Address,
     what: CancelWhat,
     answer: Result<(u32, u32), Refusal>,
-    case: Case,
+    row: &[u8],
 ) -> Result<(), Fail> {
     let mut accounts = opened(alloc)?.into_accounts();
     assert!(rt; cancel(&mut accounts, owner, &what) == answer);
     let mut exchange = opened(alloc)?;
-    play(rt, alloc, &mut exchange, case)?;
+    exchange.run(row)?;
     assert!(rt; accounts == *exchange.cell.accounts());
     Ok(())
 }
 
 #[test]
-fn orders_are_cancelled(rt: HostRuntime) -> Result<(), Fail> {
+fn an_order_is_cancelled_by_its_id(rt: HostRuntime) -> Result<(), Fail> {
     let alloc = rt.alloc();
     let id = CancelWhat::ById {
         side: Side::Ask,
         id: ASK,
     };
-    let case: Case = (
-        b"do,0,m,ann,amy,-,-,-,-,cancel ask 922337203685477580800",
-        "0 15 ok cancelled 1\n",
-        WITHOUT_ASK,
-    );
-    cancels(&rt, alloc, amy(), id, Ok((1, 1)), case)?;
+    let row = b"do,0,m,ann,amy,-,-,-,-,cancel ask 922337203685477580800";
+    cancels(&rt, alloc, amy(), id, Ok((1, 1)), row)?;
     let yours = Err(Refusal::OrderNotYours { owner: amy() });
-    let case: Case = (
-        b"do,1,m,bob,ben,-,-,-,-,cancel ask 922337203685477580800",
-        "1 15 refused 16 OrderNotYours amy\n",
-        BEFORE,
-    );
-    cancels(&rt, alloc, ben(), id, yours, case)?;
-    let case: Case = (
-        b"do,0,m,ann,amy,-,-,-,-,cancelc 7",
-        "0 15 ok cancelled 1\n",
-        WITHOUT_ASK,
-    );
-    cancels(&rt, alloc, amy(), CancelWhat::ByClient(7), Ok((1, 1)), case)?;
+    let row = b"do,1,m,bob,ben,-,-,-,-,cancel ask 922337203685477580800";
+    cancels(&rt, alloc, ben(), id, yours, row)
+}
+
+#[test]
+fn orders_are_cancelled_by_client_ids(rt: HostRuntime) -> Result<(), Fail> {
+    let alloc = rt.alloc();
+    let first = CancelWhat::ByClient(7);
+    let row = b"do,0,m,ann,amy,-,-,-,-,cancelc 7";
+    cancels(&rt, alloc, amy(), first, Ok((1, 1)), row)?;
     let listed = CancelWhat::ByClients(ClientIds::new(&[9, 5]));
-    let case: Case = (
-        b"do,1,m,bob,ben,-,-,-,-,cancels 9 5",
-        "1 15 ok cancelled 1\n",
-        WITHOUT_BID,
-    );
-    cancels(&rt, alloc, ben(), listed, Ok((1, 1)), case)?;
-    let case: Case = (
-        b"do,1,m,admin,ben,-,-,-,-,prune 3",
-        "1 15 ok cancelled 1\n",
-        WITHOUT_BID,
-    );
-    cancels(&rt, alloc, ben(), CancelWhat::Prune(3), Ok((1, 1)), case)
+    let row = b"do,1,m,bob,ben,-,-,-,-,cancels 9 5";
+    cancels(&rt, alloc, ben(), listed, Ok((1, 1)), row)
+}
+
+#[test]
+fn orders_are_pruned(rt: HostRuntime) -> Result<(), Fail> {
+    let row = b"do,1,m,admin,ben,-,-,-,-,prune 3";
+    cancels(
+        &rt,
+        rt.alloc(),
+        ben(),
+        CancelWhat::Prune(3),
+        Ok((1, 1)),
+        row,
+    )
 }
 
 /// So many events are consumed, which leaves all account bytes as its row does.
@@ -252,12 +215,12 @@ fn consumes<A: Abort>(
     named: &[Address],
     limit: u16,
     count: u32,
-    case: Case,
+    row: &[u8],
 ) -> Result<(), Fail> {
     let mut accounts = opened(alloc)?.into_accounts();
     assert!(rt; crank(&mut accounts, named, limit) == count);
     let mut exchange = opened(alloc)?;
-    play(rt, alloc, &mut exchange, case)?;
+    exchange.run(row)?;
     assert!(rt; accounts == *exchange.cell.accounts());
     Ok(())
 }
@@ -265,35 +228,10 @@ fn consumes<A: Abort>(
 #[test]
 fn events_are_consumed(rt: HostRuntime) -> Result<(), Fail> {
     let alloc = rt.alloc();
-    let one: Case = (
-        b"do,1,m,bob,amy,-,-,-,-,consume 10",
-        "1 15 ok consumed 1\n",
-        "vaults 400 2800 fees 0 4 rebates 0
-Bid 756316507022091616254 2
-Ask 922337203685477580800 1
-amy 1 coin 0 100 pc 1500 1500 referrer 0
-ben 2 coin 300 300 pc 496 1296 referrer 0
-event 5 300 1504 4
-event 6 0 0 0
-",
-    );
-    consumes(&rt, alloc, &[amy()], 10, 1, one)?;
-    let two: Case = (
-        b"do,1,m,bob,amy ben,-,-,-,-,consume 2",
-        "1 15 ok consumed 2\n",
-        "vaults 400 2800 fees 0 4 rebates 0
-Bid 756316507022091616254 2
-Ask 922337203685477580800 1
-amy 1 coin 0 100 pc 1500 1500 referrer 0
-ben 2 coin 300 300 pc 496 1296 referrer 0
-event 6 0 0 0
-",
-    );
-    consumes(&rt, alloc, &[amy(), ben()], 2, 2, two)?;
-    let none: Case = (
-        b"do,1,m,bob,ben,-,-,-,-,consume 10",
-        "1 15 ok consumed 0\n",
-        BEFORE,
-    );
-    consumes(&rt, alloc, &[ben()], 10, 0, none)
+    let row = b"do,1,m,bob,amy,-,-,-,-,consume 10";
+    consumes(&rt, alloc, &[amy()], 10, 1, row)?;
+    let row = b"do,1,m,bob,amy ben,-,-,-,-,consume 2";
+    consumes(&rt, alloc, &[amy(), ben()], 2, 2, row)?;
+    let row = b"do,1,m,bob,ben,-,-,-,-,consume 10";
+    consumes(&rt, alloc, &[ben()], 10, 0, row)
 }

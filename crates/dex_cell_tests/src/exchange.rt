@@ -6,7 +6,7 @@ ghost use Rattle.dex_types.specs.Accounts.{market_accounts_of};
 ghost use Rattle.std.specs.Prelude.{IfSome};
 
 use crate::acting::{Moved, act, role, sees};
-use crate::making::{Terms, fits, new_cell};
+use crate::making::new_cell;
 use crate::words::{add_line, row_of};
 use dex_cell::MarketCell;
 use dex_rows::records::Rows;
@@ -15,31 +15,24 @@ use dex_types::{Address, MarketAccounts, Program, Reply, Row, Seen, WalletSeen};
 use std::alloc::Global;
 use std::test::Fail;
 
-/// A market's cell, the wallets that rows may name, the mints that give discounts, the program, the number of the last row
-/// and the clock.
+/// A market's cell, the wallets that rows may name, and the number of the last row.
 #[derive(Drop)]
 pub(crate) struct Exchange {
     alloc: Global,
     pub cell: MarketCell,
     wallets: Vec<WalletSeen>,
-    srm: Option<Address>,
-    msrm: Option<Address>,
-    program: Program,
     number: u32,
-    clock: i64,
 }
 
-/// What no test is to come to: a market that can not be made, a row of another market, no room for a row more, a row that makes accounts, a row without an
-/// entry or with an entry of another reply, and a side that is no slab.
+/// What no test is to come to: a row of another market, no room for a row more, a row that is no wallet's and no instruction, and a row
+/// without an entry or with an entry of another reply.
 #[derive(Debug, Drop)]
 pub(crate) enum Unfit {
-    Terms,
     OtherMarket,
     NoSpare,
-    Making,
+    OtherRow,
     NoEntry,
     OtherReply,
-    NoSlab,
 }
 
 /// Wallets, and the rows that open the accounts `amy` of `ann` and `ben` of `bob`.
@@ -53,20 +46,13 @@ do,1,m,bob,ben,-,-,-,-,init
 
 impl Exchange {
     /// A market as it is made, with the accounts `amy` of `ann` and `ben` of `bob` opened by the rows 10 and 11.
-    pub fn open(alloc: Global, terms: Terms) -> Result<Exchange, Fail> {
-        if !fits(terms) {
-            return Err(Unfit::Terms)?;
-        }
-        let cell = new_cell(alloc, terms)?;
+    pub fn open(alloc: Global) -> Result<Exchange, Fail> {
+        let cell = new_cell(alloc)?;
         let mut exchange = Exchange {
             alloc,
             cell,
             wallets: Vec::new(alloc),
-            srm: None,
-            msrm: None,
-            program: Program::Serum,
             number: 9,
-            clock: 0,
         };
         exchange.run(BASE)?;
         Ok(exchange)
@@ -94,16 +80,9 @@ impl Exchange {
         Ok(lines)
     }
 
-    /// Takes one row. Only clocks and instructions have numbers.
+    /// Takes one row. Only instructions have numbers.
     fn take(&mut self, statement: Statement, lines: &mut String) -> Result<(), Fail> {
         match statement {
-            Statement::Program(program) => self.program = program,
-            Statement::Srm(mint) => self.srm = Some(mint),
-            Statement::Msrm(mint) => self.msrm = Some(mint),
-            Statement::Clock(now) => {
-                self.number = self.number.wrapping_add(1);
-                self.clock = now;
-            }
             Statement::Wallet {
                 address,
                 mint,
@@ -114,13 +93,10 @@ impl Exchange {
                 mint,
                 owner,
                 balance: amount,
-            })?,
-            Statement::Instruction(words) => self.submit(words, lines)?,
-            Statement::Mint { .. } | Statement::Market(_) | Statement::Orders { .. } => {
-                return Err(Unfit::Making)?;
-            }
+            }),
+            Statement::Instruction(words) => self.submit(words, lines),
+            _ => return Err(Unfit::OtherRow)?,
         }
-        Ok(())
     }
 
     /// Keeps a wallet, in place of one that has its address.
@@ -138,7 +114,7 @@ impl Exchange {
     /// An instruction acts on the market and on the wallets that it names.
     fn submit(&mut self, words: InstructionWords, lines: &mut String) -> Result<(), Fail> {
         self.number = self.number.wrapping_add(1);
-        let row = row_of(words, self.number, self.clock);
+        let row = row_of(words, self.number);
         let reply = self.act(&row)?;
         let Some(entry) = self.cell.entries().last() else {
             return Err(Unfit::NoEntry)?;
@@ -172,9 +148,9 @@ impl Exchange {
             pc: role(&self.wallets, row.pc),
             discount: role(&self.wallets, row.discount),
             referrer: role(&self.wallets, row.referrer),
-            srm: self.srm,
-            msrm: self.msrm,
-            program: self.program,
+            srm: None,
+            msrm: None,
+            program: Program::Serum,
         };
         if self.cell.accounts().address == row.market && sees(row, &seen) {
             Some(seen)

@@ -1,4 +1,4 @@
-//! Tests of a market's cell: worked rows of one market, their replies, what they move, and what they leave.
+//! Tests of a market's cell: calls of the step crates by their own names beside what rows come to, and what a row leaves as it was.
 #![tactic(auto)]
 
 #[cfg(test)]
@@ -6,22 +6,14 @@ mod acting;
 #[cfg(test)]
 mod calls;
 #[cfg(test)]
-mod cases;
-#[cfg(test)]
 mod direct;
 #[cfg(test)]
 mod exchange;
-#[cfg(test)]
-mod funds;
-#[cfg(test)]
-mod looks;
 #[cfg(test)]
 mod making;
 #[cfg(test)]
 mod nodes;
 #[cfg(test)]
-mod orders;
-#[cfg(test)]
-mod refusals;
+mod refused;
 #[cfg(test)]
 mod words;

@@ -1,7 +1,6 @@
 //! What one row writes of the sides.
 
 use crate::exchange::Exchange;
-use crate::making::USUAL;
 use std::alloc::Global;
 use std::process::Abort;
 use std::test::Fail;
@@ -41,7 +40,7 @@ fn do_by_nodes<A: Abort>(
 
 #[test]
 fn a_row_writes_three_nodes_at_most(rt: HostRuntime) -> Result<(), Fail> {
-    let mut exchange = Exchange::open(rt.alloc(), USUAL)?;
+    let mut exchange = Exchange::open(rt.alloc())?;
     exchange.run(b"wallet,ann_coin,coin,ann,2000")?;
     for price in 50..66u64 {
         let row = format!(in rt.alloc();

@@ -5,8 +5,8 @@ use dex_types::{Entry, Row};
 use std::alloc::AllocError;
 use std::fmt::Write;
 
-/// The row of an instruction, with its number and the clock at which it runs.
-pub(crate) fn row_of(words: InstructionWords, number: u32, now: i64) -> Row {
+/// The row of an instruction, with its number. The clock is at 0.
+pub(crate) fn row_of(words: InstructionWords, number: u32) -> Row {
     let InstructionWords {
         lane,
         parties,
@@ -32,7 +32,7 @@ pub(crate) fn row_of(words: InstructionWords, number: u32, now: i64) -> Row {
         discount,
         referrer,
         bytes,
-        now,
+        now: 0,
     }
 }
 

@@ -1,4 +1,3 @@
 pub mod CountLaws
-pub mod Example
 pub mod PartLaws
 pub mod PaymentLaws

@@ -11,6 +11,3 @@ mod queue;
 
 pub use crank::{Consumed, consume, consume_with_pending};
 pub use kinds::{Kind, is_final, kind_of};
-
-#[cfg(test)]
-mod tests;

@@ -25,9 +25,9 @@ use Rattle.dex_reasons.proofs.FirstReasons.{first_of-one}
 use Rattle.dex_slab.specs.Slab.{IsSlab, resting, room_in}
 use Rattle.dex_accounts.specs.Decoded.{AreSound, market_in}
 use Rattle.dex_accounts.specs.Parts.{HasOpen, parts_of, side_orders, side_room}
-use Rattle.dex_decide.specs.Given.{bytes_on}
+use Rattle.dex_plan.specs.Given.{bytes_on}
 use Rattle.dex_decide.specs.Named.{IsActing, party_by}
-use Rattle.dex_decide.specs.Plans.{sums_with}
+use Rattle.dex_plan.specs.Plans.{sums_with}
 use Rattle.dex_decide.proofs.PartLaws.{are, has-open, sound-parts}
 
 module _ (accounts : PlainMarketAccounts) (sound : AreSound accounts) where

@@ -19,8 +19,8 @@ use Rattle.dex_take.proofs.TakeReasons.{reason-given}
 use Rattle.dex_slab.specs.Slab.{resting}
 use Rattle.dex_accounts.specs.Decoded.{AreSound, market_in}
 use Rattle.dex_accounts.specs.Parts.{parts_of}
-use Rattle.dex_decide.specs.Given.{bytes_on}
-use Rattle.dex_decide.specs.Plans.{sums_with}
+use Rattle.dex_plan.specs.Given.{bytes_on}
+use Rattle.dex_plan.specs.Plans.{sums_with}
 use Rattle.dex_decide.proofs.OrderLaws.{orders-on}
 use Rattle.dex_decide.proofs.PartLaws.{are, sound-parts}
 

@@ -1,4 +1,1 @@
-pub mod Given
 pub mod Named
-pub mod Owing
-pub mod Plans

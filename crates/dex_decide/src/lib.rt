@@ -3,13 +3,10 @@
 #![tactic(auto)]
 
 mod deciding;
-mod laws;
 mod named;
 mod ordering;
-mod plan;
 mod rows;
 mod taking;
 
-pub use laws::what_is_decided_is_of_the_step;
-pub use plan::{Deposit, Plan};
+pub use dex_plan::{Deposit, Plan, what_is_decided_is_of_the_step};
 pub use rows::decide;

@@ -10,16 +10,16 @@ ghost use Rattle.dex_match.specs.OrderTerms.{order_of};
 ghost use Rattle.dex_orders.specs.OrdersAccount.{IsOpen, account_of};
 ghost use Rattle.dex_ring.specs.PendingFills.{pending_fills_of};
 ghost use Rattle.dex_accounts.specs.Decoded.{AreSound};
-ghost use Rattle.dex_decide.specs.Given.{asked_by, bytes_on, given_on, market_of, party_on};
+ghost use Rattle.dex_plan.specs.Given.{asked_by, bytes_on, given_on, market_of, party_on};
 ghost use Rattle.dex_decide.specs.Named.{IsActing, party_by};
-ghost use Rattle.dex_decide.specs.Plans.{answered_by, order_by, order_plan, order_planned};
+ghost use Rattle.dex_plan.specs.Plans.{answered_by, order_by, order_plan, order_planned};
 
 use crate::named::{Acting, open_named};
-use crate::plan::Plan;
 use dex_market::{MarketRef, RequestRef};
 use dex_match::{Decided, Taker, decide_order_with_pending};
 use dex_meet::PendingFills;
 use dex_orders::OrdersRef;
+use dex_plan::Plan;
 use dex_reasons::{
     is_mint, missing, not_owner, not_signed, other_discount_mint, other_mint, payer,
 };

@@ -9,20 +9,20 @@ ghost use Rattle.dex_types.specs.Why as reasons;
 ghost use Rattle.dex_ring.specs.PendingFills.{pending_fills_of};
 ghost use Rattle.dex_accounts.specs.Decoded.{AreSound};
 ghost use Rattle.dex_history.specs.Journal.{Sees, asked_of};
-ghost use Rattle.dex_decide.specs.Given.{asked_by, market_of, party_on};
-ghost use Rattle.dex_decide.specs.Plans as planning;
+ghost use Rattle.dex_plan.specs.Given.{asked_by, market_of, party_on};
+ghost use Rattle.dex_plan.specs.Plans as planning;
 
 use crate::deciding::{
     decide_cancel_row, decide_close_row, decide_disable_row, decide_init_row, decide_prune_row,
     decide_settle_row, decide_sweep_row,
 };
 use crate::ordering::{decide_order_row, tier_seen};
-use crate::plan::Plan;
 use crate::taking::{decide_take_row, is_disabled};
 use dex_cancel::CancelWhat;
 use dex_instruction::decode;
 use dex_match::Taker;
 use dex_meet::PendingFills;
+use dex_plan::Plan;
 use dex_types::{Ix, MarketAccounts, OrderType, Refusal, Row, Seen, SelfTrade, Side};
 
 /// A new order.

@@ -9,14 +9,14 @@ ghost use Rattle.dex_take.specs.TakeGiven.{read_of};
 ghost use Rattle.dex_take.specs.TakeTerms.{take_of};
 ghost use Rattle.dex_take.specs.Taking.{take_outcome};
 ghost use Rattle.dex_accounts.specs.Decoded.{AreSound};
-ghost use Rattle.dex_decide.specs.Given.{asked_by, market_of, take_given_on};
-ghost use Rattle.dex_decide.specs.Plans.{take_answer};
+ghost use Rattle.dex_plan.specs.Given.{asked_by, market_of, take_given_on};
+ghost use Rattle.dex_plan.specs.Plans.{take_answer};
 
 use crate::ordering::{payer_seen, side_of};
-use crate::plan::Plan;
 use dex_market::MarketRef;
 use dex_match::Taker;
 use dex_meet::PendingFills;
+use dex_plan::Plan;
 use dex_reasons::{disabled, missing, not_signed, other_discount_mint, other_mint};
 use dex_ring::RingRef;
 use dex_take::{DecidedTake, decide_take_with_pending};

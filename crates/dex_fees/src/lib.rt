@@ -6,8 +6,6 @@
 
 pub mod fees;
 pub mod laws;
-#[cfg(test)]
-mod tests;
 pub mod tiers;
 
 pub use fees::{maker_rebate, referrer_part, spendable, taker_fee};

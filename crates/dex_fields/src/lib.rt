@@ -22,6 +22,3 @@ pub use empty::{FLAGS, write_empty_account};
 pub use field::{Field, Layout, get_addr, get_u8, get_u32, get_u64, get_u128};
 pub use frame::{Difference, END_TEXT, FRONT, FRONT_TEXT, frame_difference};
 pub use put::{put_addr, put_piece, put_u8, put_u32, put_u64, put_u128};
-
-#[cfg(test)]
-mod tests;

@@ -2,3 +2,4 @@ pub mod World
 pub mod Fold
 pub mod Groups
 pub mod Items
+pub mod RowsOf

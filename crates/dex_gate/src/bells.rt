@@ -1,4 +1,4 @@
-//! Bells: who waits for a turn sleeps on a bell of its own, so that the end of a turn wakes only the two who are next.
+//! Bells: who waits for a turn sleeps on a bell of its own, so that the end of a turn rings for the two who are next alone.
 use crate::PASSES;
 use std::sync::Wait;
 use std::sync::atomic::{AtomicU64, Ordering};

@@ -9,15 +9,11 @@ mod bells;
 mod board;
 mod gate;
 mod journaled;
-#[cfg(test)]
-mod lanes;
 mod no_memory;
 mod pass;
 mod plays;
 mod stage;
 mod steps;
-#[cfg(test)]
-mod tests;
 mod turn;
 
 pub use gate::Gate;

@@ -11,3 +11,4 @@ pub mod AddressOrder
 pub mod MintLaws
 pub mod StepMints
 pub mod StepConserves
+pub mod CrossLaws

@@ -1,4 +1,5 @@
 pub mod Balances
+pub mod Crossing
 pub mod Journal
 pub mod Mints
 pub mod Moves

@@ -3,5 +3,6 @@
 #![tactic(auto)]
 
 pub mod balances;
+pub mod crossing;
 pub mod histories;
 pub mod soundness;

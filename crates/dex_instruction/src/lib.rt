@@ -12,6 +12,3 @@ mod rules;
 pub use decoding::decode;
 pub use encoding::encode;
 pub use laws::{decodes_again, one_spelling};
-
-#[cfg(test)]
-mod tests;

@@ -9,8 +9,6 @@ mod memory;
 mod pace;
 mod reading;
 mod standard;
-#[cfg(test)]
-mod tests;
 mod writing;
 
 pub use failure::{Failed, NoMemory, ReadAll, WriteStop};

@@ -1,8 +1,8 @@
 //! Where a row of a lane may be held up.
 
-/// Called once for each row, when the row has the turn of everything that it acts on and before it is decided. A
-/// pace promises nothing and reaches no account: the replies are the same under each. Tests hold a row here, to see
-/// others go on beside it.
+/// Called for a row of a lane when it has the turn of everything that it acts on, before it is decided. A pace promises
+/// nothing and is handed no account. It may change which lane is first, and with that the replies. No clause says when it
+/// is called or how often. Tests hold a row here, to see others go on beside it.
 pub trait Pace {
     /// The row of this number is inside on this lane.
     fn inside(&self, lane: u32, row: u32);

@@ -11,8 +11,7 @@ use Rattle.dex_types.specs.Rows.{PlainRow}
 use Rattle.dex_history.specs.Journal.{Call}
 use Rattle.dex_cell.specs.CellState.{HasActed, HasSpare, IsMarketCell, MarketCellState, call_on}
 use Rattle.dex_script.specs.Drafts.{PlainScript}
-use Rattle.dex_bank.specs.Opened.{rows_on}
-use Rattle.dex_replay.specs.Lawful.{rows_of_market}
+use Rattle.dex_fold.specs.RowsOf.{rows_of_market, rows_on}
 use Rattle.dex_stamps.specs.Stamped.{AreRising, items_of, stamped}
 use Rattle.dex_journals.specs.Journals.{BankMarketState, IsBankMarket, calls_by, market_calls}
 use Rattle.dex_journals.proofs.Counting.{fewer}

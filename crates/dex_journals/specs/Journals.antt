@@ -8,8 +8,7 @@ use Rattle.dex_cell.specs.CellState.{IsMarketCell, MarketCellState}
 use Rattle.dex_wallet.specs.CellState.{CellState, IsWalletCell}
 use Rattle.dex_act.specs.Wallets.{made_of}
 use Rattle.dex_script.specs.Drafts.{PlainScript}
-use Rattle.dex_bank.specs.Opened.{rows_naming, rows_on}
-use Rattle.dex_replay.specs.Lawful.{rows_of_market, rows_of_wallet}
+use Rattle.dex_fold.specs.RowsOf.{rows_naming, rows_of_market, rows_of_wallet, rows_on}
 use Rattle.dex_stamps.specs.Stamped.{AreRising, Stamped, stamped}
 
 -- ---- a market

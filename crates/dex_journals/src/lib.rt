@@ -6,8 +6,6 @@
 
 mod items;
 mod market;
-#[cfg(test)]
-mod tests;
 mod wallet;
 
 pub use market::BankMarket;

@@ -8,8 +8,7 @@ ghost use Rattle.dex_history.specs.Journal.{Call};
 ghost use Rattle.dex_cell.specs.CellState.{HasActed, IsFor, refused_on, step_on};
 ghost use Rattle.dex_wallet.specs.CellState.{IsWalletCell};
 ghost use Rattle.dex_act.specs.Wallets.{AreApart, SeesCells, made_of, states_acted, wallet_state_of};
-ghost use Rattle.dex_bank.specs.Opened.{rows_on};
-ghost use Rattle.dex_replay.specs.Lawful.{rows_of_market};
+ghost use Rattle.dex_fold.specs.RowsOf.{rows_of_market, rows_on};
 ghost use Rattle.dex_stamps.specs.Stamped.{Stamped};
 ghost use Rattle.dex_journals.specs.Journals.{IsBankMarket, calls_by, market_calls, market_origin};
 

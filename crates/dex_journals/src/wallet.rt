@@ -1,7 +1,7 @@
 //! A wallet that threads share.
 
 ghost use Rattle.std.specs.Prelude.{◌≡◌, ◌<◌, ◌++◌, ◌∷◌, [], max};
-ghost use Rattle.dex_bank.specs.Opened.{rows_naming};
+ghost use Rattle.dex_fold.specs.RowsOf.{rows_naming};
 ghost use Rattle.dex_journals.specs.Journals.{IsBankWallet, MayComeBack, left_by};
 
 use crate::items::{StampedEntry, WalletStart};

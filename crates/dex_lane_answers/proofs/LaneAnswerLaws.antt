@@ -1,7 +1,7 @@
 -- What is known of the answers of all commands.
 use Rattle.std.proofs.Common.{◌≡◌, ℕ, List, refl}
 use Rattle.dex_words.specs.declared.command.Command.{Command}
-use Rattle.dex_words.specs.declared.command.Command.TheVariants.{Replay, Run, Dump, Audit, Make, Bulk, Migrate}
+use Rattle.dex_words.specs.declared.command.Command.TheVariants.{Replay, Run, Dump, Audit, Worth, Make, Bulk, Migrate}
 use Rattle.dex_words.specs.Spelling.{IsPlain}
 use Rattle.dex_answers.specs.Answers.{Answers}
 use Rattle.dex_answers.specs.Suits.{Suits}
@@ -23,6 +23,7 @@ all-answered Run bytes status.Ok text suits told = refl
 all-answered Run bytes stood text suits told = absurd (read-told bytes suits.0 stood text suits.1 told)
 all-answered Replay bytes stood text suits told = answered Replay bytes stood text suits told
 all-answered Dump bytes stood text suits told = answered Dump bytes stood text suits told
+all-answered Worth bytes stood text suits told = answered Worth bytes stood text suits told
 all-answered Audit bytes stood text suits told = answered Audit bytes stood text suits told
 all-answered (Make number rows) bytes stood text suits told = answered (Make number rows) bytes stood text suits told
 all-answered (Bulk number rows) bytes stood text suits told = answered (Bulk number rows) bytes stood text suits told

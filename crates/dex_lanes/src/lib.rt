@@ -6,8 +6,6 @@
 
 mod job;
 mod running;
-#[cfg(test)]
-mod tests;
 
 pub use job::Job;
 pub use running::run_jobs;

@@ -9,6 +9,3 @@ pub use lines::ScriptRefused;
 pub use texts::{
     audit_failed_text, audit_ok_text, dump_refused_text, migrate_refused_text, script_refused_text,
 };
-
-#[cfg(test)]
-mod tests;

@@ -5,6 +5,3 @@ mod insert;
 mod plan;
 
 pub use plan::{LockPlan, plan_locks};
-
-#[cfg(test)]
-mod tests;

@@ -16,6 +16,3 @@ pub use market::{MarketSet, make_market, make_orders};
 pub use parts::{MarketPart, derived};
 pub use tokens::{make_mint, make_wallet};
 pub use zeroed::zeros;
-
-#[cfg(test)]
-mod tests;

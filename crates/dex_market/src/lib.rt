@@ -16,6 +16,3 @@ pub use market_ref::MarketRef;
 pub use market_view::MarketView;
 pub use request_check::check_requests;
 pub use requests::{RequestRef, RequestView, SequenceExhausted};
-
-#[cfg(test)]
-mod tests;

@@ -9,4 +9,3 @@ pub mod PartsLaws
 pub mod PlannedLaws
 pub mod RoomLaws
 pub mod TradeLaws
-pub mod TestLaws

@@ -1,6 +1,5 @@
 pub mod Applying
 pub mod Deciding
-pub mod Foretold
 pub mod LentParts
 pub mod OrderParts
 pub mod OrderTerms

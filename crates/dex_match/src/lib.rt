@@ -19,8 +19,3 @@ pub use deciding::{decide_order, decide_order_with_pending};
 pub use dex_meet::post_or_boot;
 pub use order_plan::{Decided, OrderPlan};
 pub use order_terms::{Taker, want_of};
-
-#[cfg(test)]
-mod applying_tests;
-#[cfg(test)]
-mod deciding_tests;

@@ -16,6 +16,3 @@ pub use laws::{
     migrated_accounts_stand_for_the_market_with_other_capacities,
 };
 pub use migrating::migrate;
-
-#[cfg(test)]
-mod tests;

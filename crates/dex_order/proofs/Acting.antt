@@ -1,24 +1,14 @@
 -- An item leaves the world after its calls: each of its rows is refused in the world before it just where its call was, so all act, or each
 -- that is not refused is held back.
 use Rattle.std.proofs.Common.{◌≡◌, ◌&&◌, ◌||◌, not, Bool, true, false, cond, List, [], ◌∷◌, ◌++◌, get_or, map, Option, is_some, refl, sym, ap, ◌∙◌, subst, ⊎_elim}
-use Rattle.std.specs.List.{All, flat_map, list_any}
-use Rattle.std.proofs.lemmas.Bool.{cases_Bool, cond-false, cond-true, cond_both}
+use Rattle.dex_fold.proofs.Common.{All-append, All-cons, All-head, All-map, All-nil, All-tail, Asked, Call, EachApart, Market, PlainRow, Seen, ShareNothing, World, act, act_item, cases_Bool, chosen, cond-false, cond-true, cond_both, flat_map, fold, fold_items, idle_row, is_held, is_refused, list_any, why, why-far, why_in, why_on}
+use Rattle.dex_replay.proofs.Common.{PlainScript}
+use Rattle.dex_order.proofs.Common.{All-unmap, IsAsOthers, Stamped, map-agree, map-map}
+use Rattle.std.specs.List.{All}
 use Rattle.std.proofs.lemmas.List.{append-nil, append_assoc, map-append}
-use Rattle.std.proofs.lemmas.List.Elements.{All-append, All-cons, All-head, All-map, All-nil, All-tail}
-use Rattle.dex_types.specs.declared.rows.Seen.{Seen}
-use Rattle.dex_types.specs.Market.{Market}
-use Rattle.dex_types.specs.Rows.{PlainRow}
-use Rattle.dex_types.specs.Why.{why}
-use Rattle.dex_history.specs.Journal.{Asked, Call, is_held, is_refused}
 use Rattle.dex_history.proofs.HeldLaws.{refused-told}
-use Rattle.dex_fold.specs.Fold.{act, fold}
-use Rattle.dex_fold.specs.Items.{EachApart, ShareNothing, act_item, chosen, fold_items, held_in, idle_row, why_in, why_on}
-use Rattle.dex_fold.specs.World.{World, market_at}
-use Rattle.dex_fold.proofs.FarLaws.{why-far}
-use Rattle.dex_script.specs.Drafts.{PlainScript}
-use Rattle.dex_stamps.specs.Stamped.{Stamped}
-use Rattle.dex_replay.proofs.MappedLists.{All-unmap, map-agree, map-map}
-use Rattle.dex_order.specs.Lanes.{IsAsOthers}
+use Rattle.dex_fold.specs.Items.{held_in}
+use Rattle.dex_fold.specs.World.{market_at}
 use Rattle.dex_order.proofs.Fronts.{world_front}
 use Rattle.dex_order.proofs.Items.{Item, call_in, row_in}
 use Rattle.dex_order.proofs.Acts.{acted_row}

@@ -1,17 +1,9 @@
 -- What a call did: its row as it acted, which has nothing to do where the call was held back.
 use Rattle.std.proofs.Common.{◌≡◌, Bool, true, false, cond, Result, refl, sym, ap, ◌∙◌, subst}
-use Rattle.std.proofs.lemmas.Bool.{cond_both}
-use Rattle.dex_types.specs.declared.instructions.BadData.{BadData}
-use Rattle.dex_types.specs.declared.instructions.Ix.{Ix}
-use Rattle.dex_types.specs.Market.{Market}
-use Rattle.dex_types.specs.Rows.{PlainRow}
-use Rattle.dex_types.specs.Steps.{Step}
+use Rattle.dex_fold.proofs.Common.{Asked, BadData, Call, Ix, Market, PlainRow, Sees, Stands, Step, World, acted_of, asked_of, cond_both, entry_by, idle_row, is_held, row_step, seen_by, step_of}
 use Rattle.dex_history.specs.Journal as history
-use Rattle.dex_history.specs.Journal.{Asked, Call, Sees, Stands, acted_of, asked_of, asked_step, idle, is_held, row_step, step_of}
+use Rattle.dex_history.specs.Journal.{asked_step, idle}
 use Rattle.dex_history.proofs.HeldLaws.{acted-market, acted-sees}
-use Rattle.dex_movements.specs.Entries.{entry_by}
-use Rattle.dex_fold.specs.Items.{idle_row}
-use Rattle.dex_fold.specs.World.{World, seen_by}
 use Rattle.dex_fold.proofs.ItemLaws.{nothing-decodes}
 
 -- a row as it acted: with nothing to do where its call was held back

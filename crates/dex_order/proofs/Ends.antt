@@ -1,25 +1,10 @@
 -- What all lanes leave is what the items leave in the order of their stamps.
 use Rattle.std.proofs.Common.{◌≡◌, ℕ, List, [], map, sym, ap, ◌∙◌, subst}
-use Rattle.std.specs.List.{flat_map}
-use Rattle.dex_types.specs.Accounts.{PlainAccount, PlainMarketAccounts}
-use Rattle.dex_types.specs.Market.{Market}
-use Rattle.dex_accounts.specs.Decoded.{market_in}
-use Rattle.dex_history.specs.Journal.{market_after}
-use Rattle.dex_token.specs.TokenAccount.{WalletWords, wallet_words}
-use Rattle.dex_token.proofs.AmountWrites.{wallet_words-with_amount}
-use Rattle.dex_wallet.specs.CellState.{CellState, balance_of}
-use Rattle.dex_cell.specs.CellState.{entries_of}
-use Rattle.dex_act.specs.Wallets.{wallet_state_of}
-use Rattle.dex_bank.specs.Cells.{market_state_of, world_of}
-use Rattle.dex_fold.specs.World.{MarketState, WalletState}
-use Rattle.dex_script.specs.Drafts.{PlainScript}
-use Rattle.dex_journals.specs.Journals.{BankMarketState, BankWalletState}
-use Rattle.dex_replay.specs.Replays.{world_after}
-use Rattle.dex_replay.specs.Runs.{IsOneOrder}
-use Rattle.dex_replay.proofs.Ends.{is-left}
-use Rattle.dex_replay.proofs.Once.{market-once, wallet-once}
-use Rattle.dex_replay.proofs.MappedLists.{map-map, zip-map}
-use Rattle.dex_order.specs.Merged.{AreMerged, Histories, IsMarketMerged, IsWalletMerged, left}
+use Rattle.dex_fold.proofs.Common.{Market, MarketState, PlainAccount, PlainMarketAccounts, WalletState, flat_map, market_after}
+use Rattle.dex_replay.proofs.Common.{CellState, IsOneOrder, PlainScript, WalletWords, balance_of, entries_of, market_in, market_state_of, wallet_state_of, wallet_words, wallet_words-with_amount, world_after, world_of}
+use Rattle.dex_order.proofs.Common.{AreMerged, BankMarketState, BankWalletState, Histories, IsMarketMerged, IsWalletMerged, is-left, map-map, market-once, wallet-once}
+use Rattle.dex_replay.proofs.MappedLists.{zip-map}
+use Rattle.dex_order.specs.Merged.{left}
 use Rattle.dex_order.proofs.Acting.{turns-act}
 use Rattle.dex_order.proofs.Fronts.{market_front, market_with, wallet_front, wallet_with, world_front}
 use Rattle.dex_order.proofs.Items.{call_in}

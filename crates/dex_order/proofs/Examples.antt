@@ -1,10 +1,7 @@
 -- Calls that no lane makes.
 use Rattle.std.proofs.Common.{◌≡◌, ◌<◌, ◌&&◌, ◌||◌, not, Bool, true, false, eqb, [], ◌∷◌, refl, sym, ap, ◌∙◌, arith}
-use Rattle.std.proofs.lemmas.Bool.{false≢true}
-use Rattle.dex_history.specs.Journal.{Call, is_held, is_refused}
-use Rattle.dex_fold.specs.Groups.{alone}
-use Rattle.dex_stamps.specs.Stamped.{Stamped}
-use Rattle.dex_order.specs.Lanes.{AreAllOrNone, IsBefore, number_in}
+use Rattle.dex_fold.proofs.Common.{Call, alone, false≢true, is_held, is_refused}
+use Rattle.dex_order.proofs.Common.{AreAllOrNone, IsBefore, Stamped, number_in}
 
 -- two calls of one number with two stamps
 two-stamps : (one other : Stamped Call) → eqb (number_in one) (number_in other) ≡ true → one.stamp < other.stamp → IsBefore one other → ⊥

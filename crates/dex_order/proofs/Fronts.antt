@@ -1,20 +1,10 @@
 -- The world after some calls: each market after those on it, and each wallet after their entries in its journal.
 use Rattle.std.proofs.Common.{◌≡◌, Bool, true, false, List, [], ◌∷◌, ◌++◌, map, refl, sym, ap, ◌∙◌}
-use Rattle.std.proofs.lemmas.List.{append-nil, append_assoc, map-append, map_push}
-use Rattle.std.proofs.lemmas.List.Elements.{filter-append}
-use Rattle.dex_types.specs.declared.addresses.Address.{Address}
-use Rattle.dex_types.specs.declared.movements.WalletEntry.{WalletEntry}
-use Rattle.dex_types.specs.Accounts.{PlainAccount, PlainMarketAccounts}
-use Rattle.dex_types.specs.Addresses.{is_same}
-use Rattle.dex_types.specs.WalletJournal.{balance_after}
-use Rattle.dex_accounts.specs.Decoded.{market_in}
-use Rattle.dex_history.specs.Journal.{Call, market_after}
-use Rattle.dex_fold.specs.World.{MarketState, WalletState, World}
-use Rattle.dex_token.specs.TokenAccount.{wallet_words}
-use Rattle.dex_script.specs.Drafts.{PlainScript}
-use Rattle.dex_stamps.specs.Stamped.{Stamped, items_of}
-use Rattle.dex_journals.specs.StampedCalls.{calls_on, entries_in, entries_on}
-use Rattle.dex_replay.proofs.MappedLists.{filter-push_no, filter-push_yes}
+use Rattle.dex_fold.proofs.Common.{Address, Call, MarketState, PlainAccount, PlainMarketAccounts, WalletEntry, WalletState, World, balance_after, filter-append, is_same, map_push, market_after}
+use Rattle.dex_replay.proofs.Common.{PlainScript, market_in, wallet_words}
+use Rattle.dex_order.proofs.Common.{Stamped, calls_on, entries_in, entries_on, filter-push_no, filter-push_yes}
+use Rattle.std.proofs.lemmas.List.{append-nil, append_assoc, map-append}
+use Rattle.dex_stamps.specs.Stamped.{items_of}
 
 -- ---- definitions
 

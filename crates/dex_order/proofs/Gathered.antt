@@ -1,11 +1,10 @@
 -- What stands of each lane in a list that rises makes that list, when it is sorted.
 use Rattle.std.proofs.Common.{◌≡◌, ℕ, zero, suc, ◌+◌, ◌<◌, ◌≤◌, Bool, true, false, ◌||◌, cond, eqb, ltb, List, [], ◌∷◌, get_or, refl, sym, ap, ◌∙◌, subst, arith}
-use Rattle.std.specs.List.{All, filter, flat_map, list_any, range_with_len}
-use Rattle.std.proofs.lemmas.Bool.{cond-true, eq-eqb, eqb-true, lt-ltb, ne_eqb, or_from}
-use Rattle.std.proofs.lemmas.List.Elements.{All-filter, All-head, All-tail, All-weaker}
-use Rattle.std.proofs.lemmas.List.FromFn.{get_or-range_with_len, length-range_with_len}
-use Rattle.std.proofs.lemmas.List.Folds.{list_any_at}
-use Rattle.dex_replay.proofs.Groups.{filter-all, filter-none}
+use Rattle.dex_fold.proofs.Common.{All-filter, All-head, All-tail, All-weaker, cond-true, eq-eqb, eqb-true, filter, flat_map, length-range_with_len, list_any, list_any_at, lt-ltb, ne_eqb, range_with_len}
+use Rattle.dex_order.proofs.Common.{filter-all, filter-none}
+use Rattle.std.specs.List.{All}
+use Rattle.std.proofs.lemmas.Bool.{or_from}
+use Rattle.std.proofs.lemmas.List.FromFn.{get_or-range_with_len}
 use Rattle.dex_order.proofs.Sorted.{Rises, all_placed, all_placed-append, placed, placed-first, sorted}
 
 -- ---- numbers of a range

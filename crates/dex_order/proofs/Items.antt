@@ -1,17 +1,10 @@
 -- The calls of all lanes, each with its row.
 use Rattle.std.proofs.Common.{◌≡◌, ℕ, ◌≤◌, eqb, List, [], ◌∷◌, ◌++◌, length, map, refl, ap, ◌∙◌, arith}
-use Rattle.std.specs.List.{All, AllZip, flat_map}
-use Rattle.std.proofs.lemmas.List.{map-append, take_all}
-use Rattle.std.proofs.lemmas.List.Elements.{All-filter, All-head, All-tail}
-use Rattle.dex_types.specs.Rows.{PlainRow}
-use Rattle.dex_history.specs.Journal.{Asked, Call, asked_of}
-use Rattle.dex_script.specs.Drafts.{PlainScript}
-use Rattle.dex_script.specs.Facts.{IsRowOf}
-use Rattle.dex_stamps.specs.Stamped.{Stamped}
-use Rattle.dex_fold.specs.Items.{rows_of_lane}
-use Rattle.dex_replay.specs.Lawful.{IsSight}
-use Rattle.dex_replay.proofs.MappedLists.{head-same, tail-same}
-use Rattle.dex_order.specs.Lanes.{IsLaneDone, Lane}
+use Rattle.dex_fold.proofs.Common.{All-filter, All-head, All-tail, AllZip, Asked, Call, PlainRow, asked_of, flat_map, rows_of_lane, take_all}
+use Rattle.dex_replay.proofs.Common.{IsRowOf, IsSight, PlainScript}
+use Rattle.dex_order.proofs.Common.{IsLaneDone, Lane, Stamped, head-same, tail-same}
+use Rattle.std.specs.List.{All}
+use Rattle.std.proofs.lemmas.List.{map-append}
 
 -- a row of the script asked for a call, which saw what a row of it may see
 pub record IsAsked (script : PlainScript) (call : Stamped Call) (row : PlainRow) : Type 0 where

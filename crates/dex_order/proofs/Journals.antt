@@ -1,28 +1,12 @@
 -- The calls of all lanes, sorted by their stamps, are on each market its journal, and in each wallet's journal its entries.
 use Rattle.std.proofs.Common.{◌≡◌, ℕ, ◌<◌, Bool, true, false, cond, eqb, List, [], ◌∷◌, ◌++◌, length, map, get_or, refl, sym, ap, ◌∙◌, subst}
-use Rattle.std.specs.List.{All, filter, flat_map, range_with_len}
-use Rattle.std.proofs.lemmas.List.{length-map}
-use Rattle.std.proofs.lemmas.List.Concat.{flat_map-append, flat_map_single}
-use Rattle.std.proofs.lemmas.List.Elements.{All-cons, All-map, All-nil, All-weaker, filter-append}
-use Rattle.std.proofs.lemmas.List.Folds.{flat_map-map}
-use Rattle.std.proofs.lemmas.List.FromFn.{length-range_with_len}
-use Rattle.dex_types.specs.declared.addresses.Address.{Address}
-use Rattle.dex_types.specs.declared.movements.Movement.{Movement}
-use Rattle.dex_types.specs.declared.movements.WalletEntry.{WalletEntry}
-use Rattle.dex_types.specs.Accounts.{PlainAccount, PlainMarketAccounts}
-use Rattle.dex_types.specs.Addresses.{is_same}
-use Rattle.dex_types.specs.WalletJournal.{IsWalletLegal}
-use Rattle.dex_accounts.specs.Decoded.{market_in}
-use Rattle.dex_history.specs.Journal.{Call, IsLegal, front}
-use Rattle.dex_script.specs.Drafts.{PlainScript}
-use Rattle.dex_wallet.specs.CellState.{balance_of}
-use Rattle.dex_stamps.specs.Stamped.{Stamped, items_of}
-use Rattle.dex_journals.specs.Journals.{BankMarketState, BankWalletState, MarketOrigin, WalletOrigin, market_calls, wallet_entries}
-use Rattle.dex_journals.specs.StampedCalls.{calls_on, entries_in, entries_on, entry_made}
-use Rattle.dex_journals.proofs.StampedLists.{items_of-stamped}
-use Rattle.dex_replay.proofs.MappedLists.{flat_map-agree}
-use Rattle.dex_order.specs.Lanes.{Lane}
-use Rattle.dex_order.specs.Merged.{AreMerged, Histories, IsMarketMerged, IsWalletMerged}
+use Rattle.dex_fold.proofs.Common.{Address, All-cons, All-map, All-nil, All-weaker, Call, IsLegal, IsWalletLegal, Movement, PlainAccount, PlainMarketAccounts, WalletEntry, filter, filter-append, flat_map, flat_map-append, flat_map-map, is_same, length-map, length-range_with_len, range_with_len}
+use Rattle.dex_replay.proofs.Common.{PlainScript, balance_of, market_in}
+use Rattle.dex_order.proofs.Common.{AreMerged, BankMarketState, BankWalletState, Histories, IsMarketMerged, IsWalletMerged, Lane, MarketOrigin, Stamped, WalletOrigin, calls_on, entries_in, entries_on, entry_made, flat_map-agree, items_of-stamped, market_calls, wallet_entries}
+use Rattle.std.specs.List.{All}
+use Rattle.std.proofs.lemmas.List.Concat.{flat_map_single}
+use Rattle.dex_history.specs.Journal.{front}
+use Rattle.dex_stamps.specs.Stamped.{items_of}
 use Rattle.dex_order.proofs.Fronts.{calls_at, entries_at}
 use Rattle.dex_order.proofs.Gathered.{gathered}
 use Rattle.dex_order.proofs.Items.{Item, all_items, call_in, calls-all, stamp_in}

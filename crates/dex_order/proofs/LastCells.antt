@@ -1,23 +1,11 @@
 -- The cells that lanes leave are cells of the script.
 use Rattle.std.proofs.Common.{◌≡◌, ◌||◌, List, [], ◌∷◌, drop, get_or, length, map, refl, sym, ap, ◌∙◌, arith}
-use Rattle.std.specs.List.{AllZip}
-use Rattle.std.proofs.lemmas.List.Elements.{All-map}
-use Rattle.dex_types.specs.declared.addresses.Address.{Address}
-use Rattle.dex_types.specs.Accounts.{PlainAccount, PlainMarketAccounts}
-use Rattle.dex_types.specs.Addresses.{is_same}
-use Rattle.dex_cell.specs.CellState.{IsMarketCell, MarketCellState}
-use Rattle.dex_wallet.specs.CellState.{CellState, IsWalletCell}
-use Rattle.dex_act.specs.Wallets.{AreApart, is_among}
-use Rattle.dex_dump.specs.Accepted.{AreAccepted}
-use Rattle.dex_script.specs.Drafts.{PlainScript}
-use Rattle.dex_bank.specs.Cells.{AreCells, CellsState}
-use Rattle.dex_bank.specs.Opened.{rows_naming, rows_on, wallet_opened}
+use Rattle.dex_fold.proofs.Common.{Address, All-map, AllZip, PlainAccount, PlainMarketAccounts, is_same}
+use Rattle.dex_replay.proofs.Common.{AreAccepted, AreCells, CellState, CellsState, IsMarketCell, IsWalletCell, MarketCellState, PlainScript, is_among, rows_naming, rows_on, wallet_opened}
+use Rattle.dex_order.proofs.Common.{AreOfScript, BankMarketState, BankWalletState, Histories, IsMarketMerged, IsWalletMerged, Lane, MarketOrigin, WalletOrigin, map-map, start_account}
+use Rattle.dex_act.specs.Wallets.{AreApart}
 use Rattle.dex_bank.proofs.OpenCells.{wallets-apart}
-use Rattle.dex_journals.specs.Journals.{BankMarketState, BankWalletState, MarketOrigin, WalletOrigin}
-use Rattle.dex_replay.proofs.MappedLists.{map-map, zip-map}
-use Rattle.dex_replay.proofs.Starts.{AreOfScript, start_account}
-use Rattle.dex_order.specs.Lanes.{Lane}
-use Rattle.dex_order.specs.Merged.{Histories, IsMarketMerged, IsWalletMerged}
+use Rattle.dex_replay.proofs.MappedLists.{zip-map}
 use Rattle.dex_order.proofs.Zipped.{zip-each, zip-told}
 
 -- the cells of markets

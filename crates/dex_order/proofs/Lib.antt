@@ -1,3 +1,4 @@
+pub mod Common
 mod Acting
 mod Acts
 pub mod CallEntries

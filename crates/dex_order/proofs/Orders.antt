@@ -1,16 +1,11 @@
 -- The order of the items' stamps keeps the order of each lane.
 use Rattle.std.proofs.Common.{◌≡◌, ℕ, ◌<◌, Bool, true, false, eqb, List, [], ◌∷◌, map, sym, ap, ◌∙◌, subst, arith, ⊎_elim}
-use Rattle.std.specs.List.{All, filter, flat_map, list_any, range_with_len}
-use Rattle.std.proofs.lemmas.Bool.{cases_Bool, cond-false, cond-true, eqb-true, false_from_ne_true}
-use Rattle.std.proofs.lemmas.List.Elements.{All-cons, All-nil, All-weaker}
-use Rattle.dex_types.specs.Rows.{PlainRow}
+use Rattle.dex_fold.proofs.Common.{All-cons, All-nil, All-weaker, PlainRow, cases_Bool, cond-false, cond-true, eqb-true, false_from_ne_true, filter, flat_map, items_of_lane, list_any, range_with_len, rows_of_lane}
+use Rattle.dex_replay.proofs.Common.{PlainScript, lanes_of}
+use Rattle.dex_order.proofs.Common.{AreMerged, Histories, filter-none, filter-of}
+use Rattle.std.specs.List.{All}
 use Rattle.dex_fold.specs.Items as item
-use Rattle.dex_fold.specs.Items.{items_of, items_of_lane, rows_of_lane}
-use Rattle.dex_script.specs.Drafts.{PlainScript}
-use Rattle.dex_script.specs.Facts.{lanes_of}
-use Rattle.dex_replay.proofs.MappedLists.{filter-of}
-use Rattle.dex_replay.proofs.Groups.{filter-none}
-use Rattle.dex_order.specs.Merged.{AreMerged, Histories}
+use Rattle.dex_fold.specs.Items.{items_of}
 use Rattle.dex_order.proofs.Gathered.{one-within}
 use Rattle.dex_order.proofs.Items.{stamp_in}
 use Rattle.dex_order.proofs.Journals.{filter-sorted, ordered}

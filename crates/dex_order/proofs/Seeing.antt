@@ -1,38 +1,15 @@
 -- The next row sees in the world what its call saw.
 use Rattle.std.proofs.Common.{◌≡◌, ℕ, zero, suc, ◌<◌, ◌≤◌, Bool, true, false, cond, ltb, List, [], ◌∷◌, ◌++◌, length, get_or, map, Option, Some, None, refl, sym, ap, ◌∙◌, subst, arith, ◌⊎◌, inl, inr, ⊎_elim}
+use Rattle.dex_fold.proofs.Common.{Address, Agree, All-head, All-tail, Call, IsWalletLegal, IsWalletLegal-append, Market, Movement, PlainAccount, PlainRow, Seen, Sees, Transfers, WalletEntry, WalletSeen, WalletState, address_seen, asked_of, balance_after, balance_in, balance_seen, brought_to, cases_Bool, cond-false, cond-true, cond_both, is_same, is_same-refl, is_same-true, movement_by, movement_of, names, or_left, or_right, role_at, row_step, seen_by, sum_by-cons, taken_from, wallet_at, wallet_entry_by}
+use Rattle.dex_replay.proofs.Common.{IsSight, IsWalletSeen, PlainScript, address_of, balance_of, roles_of, wallet_words}
+use Rattle.dex_order.proofs.Common.{Stamped, entries_in}
 use Rattle.std.specs.List.{All, Any}
-use Rattle.std.proofs.lemmas.Bool.{cases_Bool, cond-false, cond-true, cond_both, or_left, or_right}
-use Rattle.std.proofs.lemmas.List.Elements.{All-head, All-tail}
-use Rattle.std.proofs.lemmas.List.Sums.{sum_by-cons}
-use Rattle.dex_types.specs.declared.addresses.Address.{Address}
-use Rattle.dex_types.specs.declared.movements.Movement.{Movement}
-use Rattle.dex_types.specs.declared.movements.WalletEntry.{WalletEntry}
-use Rattle.dex_types.specs.declared.rows.Seen.{Seen}
-use Rattle.dex_types.specs.declared.rows.WalletSeen.{WalletSeen}
-use Rattle.dex_types.specs.Accounts.{PlainAccount}
-use Rattle.dex_types.specs.Addresses.{is_same}
-use Rattle.dex_types.specs.Market.{Market}
-use Rattle.dex_types.specs.Rows.{PlainRow}
-use Rattle.dex_types.specs.Transfers.{Transfers}
-use Rattle.dex_types.specs.Wallets.{address_seen, balance_in, balance_seen, brought_to, movement_by, movement_of, taken_from}
-use Rattle.dex_types.specs.WalletJournal.{IsWalletLegal, balance_after}
-use Rattle.dex_laws.proofs.TraderLaws.{is_same-refl, is_same-true}
-use Rattle.dex_history.specs.Journal.{Agree, Call, Sees, asked_of, row_step}
 use Rattle.dex_history.proofs.BalanceLaws.{IsOneWith, agree-one, agree-one_back}
-use Rattle.dex_history.proofs.HistoryLaws.{IsWalletLegal-append}
 use Rattle.dex_history.proofs.MoveLaws.{AreOneWith, IsIn, coin-one, pc-one, referrer-one}
-use Rattle.dex_movements.specs.Entries.{wallet_entry_by}
-use Rattle.dex_fold.specs.Fold.{names}
-use Rattle.dex_fold.specs.World.{WalletState, role_at, seen_by, wallet_at}
-use Rattle.dex_act.specs.Wallets.{any_hit, hits, roles_of}
+use Rattle.dex_act.specs.Wallets.{any_hit, hits}
 use Rattle.dex_act.proofs.Sights.{named-hit}
-use Rattle.dex_dump.specs.Accepted.{address_of, times}
-use Rattle.dex_script.specs.Drafts.{PlainScript}
-use Rattle.dex_token.specs.TokenAccount.{wallet_words}
-use Rattle.dex_wallet.specs.CellState.{balance_of}
-use Rattle.dex_stamps.specs.Stamped.{Stamped, items_of}
-use Rattle.dex_journals.specs.StampedCalls.{entries_in}
-use Rattle.dex_replay.specs.Lawful.{IsSight, IsWalletSeen}
+use Rattle.dex_dump.specs.Accepted.{times}
+use Rattle.dex_stamps.specs.Stamped.{items_of}
 use Rattle.dex_order.proofs.Acts.{Acts}
 use Rattle.dex_order.proofs.CallEntries.{entries-made}
 use Rattle.dex_order.proofs.Fronts.{entries_at, entries_at-append, entries_at-first, wallet_front, world_front}

@@ -1,8 +1,8 @@
 -- Lists sorted by a number of each element. What is picked of the sorted list is what is picked, sorted.
 use Rattle.std.proofs.Common.{◌≡◌, ℕ, ◌<◌, ◌≤◌, cond, ltb, suc, List, [], ◌∷◌, ◌++◌, refl, sym, ap, ◌∙◌, arith}
-use Rattle.std.specs.List.{All, AllPairs, flat_map}
-use Rattle.std.proofs.lemmas.Bool.{cond-false, cond-true, cond_both, lt-ltb, le-ltb, ltb-true, ltb-false}
-use Rattle.std.proofs.lemmas.List.Elements.{All-nil, All-cons, All-head, All-tail, All-append, All-weaker}
+use Rattle.dex_fold.proofs.Common.{All-append, All-cons, All-head, All-nil, All-tail, All-weaker, AllPairs, cond-false, cond-true, cond_both, flat_map, lt-ltb, ltb-false}
+use Rattle.std.specs.List.{All}
+use Rattle.std.proofs.lemmas.Bool.{le-ltb, ltb-true}
 
 -- ---- definitions
 

@@ -1,35 +1,14 @@
 -- The next row leaves the world after its call; so all rows, one after the other, leave that after all calls.
 use Rattle.std.proofs.Common.{◌≡◌, ℕ, ◌≤◌, Bool, true, false, ◌||◌, cond, List, [], ◌∷◌, ◌++◌, map, Option, Some, refl, sym, ap, ◌∙◌, subst, arith, ⊎_elim}
+use Rattle.dex_fold.proofs.Common.{Address, All-head, All-tail, All-weaker, Asked, Call, Entry, IsLegal, IsWalletLegal, IsWalletLegal-append, Listing, Market, MarketState, PlainAccount, PlainMarketAccounts, PlainRow, Seen, Stands, Step, WalletEntry, WalletState, World, act, acted, balance_after-append, cases_Bool, cond-false, cond-true, entry_by, false≢true, fold, is_same, map_push, market_acted, market_after, market_after-one, markets_acted, movement_of, names, row_step, seen_by, sum_by-cons, wallet_acted, wallet_entry_by, wallet_moved}
+use Rattle.dex_replay.proofs.Common.{PlainScript, address_of, balance_of, has_market, market_in, wallet_words}
+use Rattle.dex_order.proofs.Common.{Stamped, listing-in, map-agree, map-map, market_after-listing}
 use Rattle.std.specs.List.{All}
-use Rattle.std.proofs.lemmas.Bool.{cases_Bool, cond-false, cond-true, false≢true}
-use Rattle.std.proofs.lemmas.List.{append-nil, append_assoc, map_push}
-use Rattle.std.proofs.lemmas.List.Elements.{All-head, All-tail, All-weaker}
-use Rattle.std.proofs.lemmas.List.Sums.{sum_by-cons}
-use Rattle.dex_types.specs.declared.addresses.Address.{Address}
-use Rattle.dex_types.specs.declared.movements.Entry.{Entry}
-use Rattle.dex_types.specs.declared.movements.WalletEntry.{WalletEntry}
-use Rattle.dex_types.specs.declared.rows.Seen.{Seen}
-use Rattle.dex_types.specs.Accounts.{PlainAccount, PlainMarketAccounts}
-use Rattle.dex_types.specs.Addresses.{is_same}
-use Rattle.dex_types.specs.Market.{Listing, Market}
-use Rattle.dex_types.specs.Rows.{PlainRow}
-use Rattle.dex_types.specs.Steps.{Step}
-use Rattle.dex_types.specs.Wallets.{movement_of}
-use Rattle.dex_accounts.specs.Decoded.{market_in}
-use Rattle.dex_history.specs.Journal.{Asked, Call, IsLegal, Stands, market_after, row_step}
-use Rattle.dex_history.proofs.HistoryLaws.{IsLegal-append, IsWalletLegal-append, balance_after-append, market_after-one}
-use Rattle.dex_movements.specs.Entries.{entry_by, wallet_entry_by}
-use Rattle.dex_fold.specs.Fold.{act, acted, fold, market_acted, markets_acted, names, wallet_acted, wallet_moved}
-use Rattle.dex_fold.specs.World.{MarketState, WalletState, World, market_at, seen_by}
-use Rattle.dex_dump.specs.Accepted.{address_of, times}
-use Rattle.dex_script.specs.Drafts.{PlainScript}
-use Rattle.dex_script.specs.Known.{has_market}
-use Rattle.dex_token.specs.TokenAccount.{wallet_words}
-use Rattle.dex_wallet.specs.CellState.{balance_of}
-use Rattle.dex_types.specs.WalletJournal.{IsWalletLegal}
-use Rattle.dex_stamps.specs.Stamped.{Stamped, items_of}
-use Rattle.dex_replay.proofs.LastAccounts.{listing-in, market_after-listing}
-use Rattle.dex_replay.proofs.MappedLists.{map-agree, map-map}
+use Rattle.std.proofs.lemmas.List.{append-nil, append_assoc}
+use Rattle.dex_history.proofs.HistoryLaws.{IsLegal-append}
+use Rattle.dex_fold.specs.World.{market_at}
+use Rattle.dex_dump.specs.Accepted.{times}
+use Rattle.dex_stamps.specs.Stamped.{items_of}
 use Rattle.dex_order.proofs.Acts.{Acts, acted_row, acted_row-market, acted_row-sees, stands-acts}
 use Rattle.dex_order.proofs.CallEntries.{entries-made}
 use Rattle.dex_order.proofs.Fronts.{calls_at, calls_at-append, calls_at-elsewhere, calls_at-here, entries_at, entries_at-append, entries_at-one, market_front, market_with, wallet_front, wallet_with, world_front}

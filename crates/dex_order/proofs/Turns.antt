@@ -1,22 +1,15 @@
 -- The items of all lanes: calls of one number with their rows. Each has one stamp.
 use Rattle.std.proofs.Common.{◌≡◌, ℕ, zero, suc, ◌+◌, ◌<◌, Bool, true, false, ◌||◌, cond, eqb, List, [], ◌∷◌, ◌++◌, map, refl, sym, ap, ◌∙◌, subst, arith, ⊎_elim}
-use Rattle.std.specs.List.{All, filter, flat_map, list_any, range_with_len}
-use Rattle.std.proofs.lemmas.Bool.{cases_Bool, eqb-false, eqb-true, ne_eqb}
+use Rattle.dex_fold.proofs.Common.{All-cons, All-head, All-nil, All-tail, All-weaker, Asked, EachApart, EachTwo, Goes, Group, PlainRow, Rise, cases_Bool, eqb-false, eqb-true, filter, filter-append, filter_passes, flat_map, flat_map-append, grouped, grouped-firsts, grouped-flat, grouped-rise, list_any, members, ne_eqb, range_with_len, rows_of_lane}
+use Rattle.dex_replay.proofs.Common.{AreRows, PlainScript}
+use Rattle.dex_order.proofs.Common.{All-unmap, AreAllOrNone, IsAsOthers, IsBefore, IsLaneDone, Lane, each-two, each-two-weaker, filter-all, filter-none, head-same, number_in, tail-same}
+use Rattle.std.specs.List.{All}
 use Rattle.std.proofs.lemmas.List.{append-nil}
-use Rattle.std.proofs.lemmas.List.Concat.{flat_map-append}
-use Rattle.std.proofs.lemmas.List.Elements.{All-cons, All-nil, All-head, All-tail, All-weaker, filter-append, filter_passes}
-use Rattle.dex_types.specs.Rows.{PlainRow}
-use Rattle.dex_history.specs.Journal.{Asked}
-use Rattle.dex_fold.specs.Groups.{Group, grouped, map_group, members}
+use Rattle.dex_fold.specs.Groups.{map_group}
 use Rattle.dex_fold.specs.Items as item
-use Rattle.dex_fold.specs.Items.{EachApart, items_of, rows_of_lane}
-use Rattle.dex_fold.proofs.GroupLaws.{EachTwo, Goes, IsOneStamp, Rise, grouped-agree, grouped-firsts, grouped-flat, grouped-map, grouped-rise, grouped-stamps}
-use Rattle.dex_script.specs.Drafts.{PlainScript}
-use Rattle.dex_script.specs.Facts.{AreRows}
-use Rattle.dex_replay.proofs.Groups.{each-two, each-two-weaker, filter-all, filter-none}
-use Rattle.dex_replay.proofs.MappedLists.{All-unmap, head-same, tail-same}
+use Rattle.dex_fold.specs.Items.{items_of}
+use Rattle.dex_fold.proofs.GroupLaws.{IsOneStamp, grouped-agree, grouped-map, grouped-stamps}
 use Rattle.dex_replay.proofs.Orders.{items-apart}
-use Rattle.dex_order.specs.Lanes.{AreAllOrNone, IsAsOthers, IsBefore, IsLaneDone, Lane, number_in}
 use Rattle.dex_order.proofs.Items.{Item, all_items, call_in, lane-calls, lane-rows, lane_items, row_in, stamp_in}
 use Rattle.dex_order.proofs.Sorted.{Rises}
 

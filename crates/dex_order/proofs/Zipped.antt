@@ -1,8 +1,7 @@
 -- Two lists place by place.
 use Rattle.std.proofs.Common.{◌≡◌, List, [], ◌∷◌, map, ◌∙◌}
-use Rattle.std.specs.List.{All, AllZip}
-use Rattle.std.proofs.lemmas.List.{map-id}
-use Rattle.std.proofs.lemmas.List.Elements.{All-cons, All-nil}
+use Rattle.dex_fold.proofs.Common.{All-cons, All-nil, AllZip, map-id}
+use Rattle.std.specs.List.{All}
 use Rattle.dex_replay.proofs.MappedLists.{zip-map}
 
 -- what holds of each pair of places holds of the first list's elements, and of the second's

@@ -7,5 +7,6 @@ ghost use Rattle.dex_order.specs.Merged.{AreMerged, Histories, left};
 /// What lanes leave side by side is what all items leave one after the other, in some order that keeps the order of
 /// each lane.
 pub fn what_lanes_leave_is_a_replay()
-    ensures { (script : PlainScript) (all : Histories) → AreMerged script all → IsOneOrder script (left script all) }
+    ensures { (script : PlainScript) (all : Histories) → AreMerged script all
+        → IsOneOrder script (left script all) }
 {}

@@ -15,6 +15,3 @@ pub use lifecycle::{OrdersState, close, init, state_of};
 pub use orders_check::check_orders;
 pub use orders_ref::OrdersRef;
 pub use orders_view::OrdersView;
-
-#[cfg(test)]
-mod tests;

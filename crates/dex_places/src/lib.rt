@@ -4,6 +4,3 @@
 mod places;
 
 pub use places::Places;
-
-#[cfg(test)]
-mod tests;

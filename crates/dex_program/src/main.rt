@@ -1,11 +1,7 @@
 //! The program `dex`: it replays scripts or lets their lanes run side by side, and writes reports, dumps, audits, made scripts and summaries.
 #![tactic(auto)]
 
-#[cfg(test)]
-mod lane_tests;
 mod program;
-#[cfg(test)]
-mod tests;
 
 use crate::program::dex_main;
 use dex_answers::Status;

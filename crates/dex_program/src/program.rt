@@ -45,7 +45,7 @@ impl Stop {
     {
         match self {
             Stop::Usage =>
-                b"usage: dex replay, run, audit, dump, make NUMBER ROWS, bulk NUMBER ROWS or migrate NODES EVENTS\n",
+                b"usage: dex replay, run, audit, dump, worth, make NUMBER ROWS, bulk NUMBER ROWS or migrate NODES EVENTS\n",
             Stop::ReadFault => b"read failed\n",
             Stop::InputTooLong => b"input too long\n",
             Stop::NoMemory => b"no memory\n",
@@ -87,7 +87,7 @@ impl From<NoMemory> for Stop {
 
 /// Runs the program on these words, those after its name: the command that they are, or the line that tells how the
 /// program is used. The whole text is built before the first byte is written. Only `run` has lanes, which wait for each
-/// other: what is promised of it holds where it returns. The pace is asked once for each row of a lane.
+/// other: what is promised of it holds where it returns. The pace is for tests, and no clause says when it is called.
 pub fn dex_main<R: Threads + Wait + Sync, S: Source, K: Sink, P: Pace + Sync>(
     rt: &R,
     alloc: Global,

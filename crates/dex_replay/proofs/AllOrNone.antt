@@ -1,27 +1,11 @@
 -- In the journals that a run leaves, the rows of an item were all done, or each that was not refused was held back.
 use Rattle.std.proofs.Common.{◌≡◌, ℕ, ◌&&◌, ◌||◌, not, Bool, true, false, eqb, List, [], ◌∷◌, get_or, map, refl, sym, ap, ◌∙◌, subst, ⊎_elim}
-use Rattle.std.specs.List.{All, AllZip, filter, list_any}
-use Rattle.std.proofs.lemmas.Bool.{cases_Bool, cond-false, cond-true, cond_both, eq-eqb, eqb-true, false≢true, false_from_ne_true}
-use Rattle.std.proofs.lemmas.List.Elements.{All-contains, All-cons, All-head, All-map, All-nil, All-tail, All-weaker}
-use Rattle.dex_types.specs.declared.addresses.Address.{Address}
-use Rattle.dex_types.specs.declared.movements.Entry.{Entry}
-use Rattle.dex_types.specs.declared.replies.Reply.{Reply}
-use Rattle.dex_types.specs.Accounts.{PlainMarketAccounts}
-use Rattle.dex_types.specs.Addresses.{is_same}
-use Rattle.dex_types.specs.Market.{Market}
-use Rattle.dex_types.specs.Rows.{PlainRow}
-use Rattle.dex_laws.proofs.TraderLaws.{is_same-refl, is_same-sym, is_same-true}
-use Rattle.dex_accounts.specs.Decoded.{market_in}
-use Rattle.dex_instruction.specs.Reading.{decoded}
-use Rattle.dex_history.specs.Journal.{Asked, Call, IsLegal, is_done, is_refusal, is_take, step_of}
-use Rattle.dex_fold.specs.Groups.{members}
+use Rattle.dex_fold.proofs.Common.{Address, All-cons, All-head, All-map, All-nil, All-tail, All-weaker, AllZip, Asked, Call, EachTwo, Entry, IsLegal, Market, MarketState, PlainMarketAccounts, PlainRow, Reply, cases_Bool, cond-false, cond-true, cond_both, decoded, eq-eqb, eqb-true, false_from_ne_true, false≢true, filter, is_done, is_refusal, is_same, is_same-refl, is_same-sym, is_same-true, is_take, list_any, members, step_of}
+use Rattle.dex_replay.proofs.Common.{IsAllOrNone, PlainMarketJournal, PlainScript, has_market, is_answered, market_in, was_held}
+use Rattle.std.specs.List.{All}
+use Rattle.std.proofs.lemmas.List.Elements.{All-contains}
 use Rattle.dex_fold.specs.Items.{Item}
-use Rattle.dex_fold.specs.World.{MarketState}
-use Rattle.dex_fold.proofs.GroupLaws.{EachTwo}
-use Rattle.dex_report.specs.Outcomes.{PlainMarketJournal}
-use Rattle.dex_script.specs.Drafts.{PlainScript}
-use Rattle.dex_script.specs.Known.{has_market}
-use Rattle.dex_replay.specs.Lawful.{IsAllOrNone, entries_at, is_answered, was_held}
+use Rattle.dex_replay.specs.Lawful.{entries_at}
 use Rattle.dex_replay.proofs.Items.{IsSettled, is_refused_told, row_told}
 use Rattle.dex_replay.proofs.MappedLists.{head-same, list_any-agree, list_any-map, tail-same}
 use Rattle.dex_replay.proofs.Orders.{OnApart}

@@ -1,25 +1,11 @@
 -- No journal is longer than there are rows that name its market or its wallet.
 use Rattle.std.proofs.Common.{◌≡◌, ℕ, ◌+◌, ◌≤◌, Bool, true, cond, List, [], ◌∷◌, ◌++◌, length, map, Option, Some, None, refl, sym, ap, subst, arith}
+use Rattle.dex_fold.proofs.Common.{Address, All-cons, All-head, All-map, All-nil, All-tail, All-weaker, Market, MarketState, PlainRow, Seen, Transfers, WalletState, World, act, acted, cond_both, entry_by, fold, is_same, market_acted, markets_acted, movement_of, names, request_of, row_step, seen_by, step-keeps, wallet_acted, wallet_entry_by, wallet_moved}
+use Rattle.dex_replay.proofs.Common.{PlainScript, market_state, rows_naming, rows_on, start_world, wallet_state}
 use Rattle.std.specs.List.{All}
-use Rattle.std.proofs.lemmas.Bool.{cond_both}
 use Rattle.std.proofs.lemmas.List.{append-nil, append_assoc, length_push}
-use Rattle.std.proofs.lemmas.List.Elements.{All-nil, All-cons, All-head, All-tail, All-map, All-weaker}
 use Rattle.std.proofs.lemmas.List.Sums.{sum_by_push}
-use Rattle.dex_types.specs.declared.addresses.Address.{Address}
-use Rattle.dex_types.specs.declared.rows.Seen.{Seen}
-use Rattle.dex_types.specs.Addresses.{is_same}
-use Rattle.dex_types.specs.Market.{Market}
-use Rattle.dex_types.specs.Rows.{PlainRow}
-use Rattle.dex_types.specs.Transfers.{Transfers}
-use Rattle.dex_types.specs.Wallets.{movement_of}
-use Rattle.dex_sound.proofs.KeepLaws.{step-keeps}
-use Rattle.dex_history.specs.Journal.{request_of, row_step}
-use Rattle.dex_movements.specs.Entries.{entry_by, wallet_entry_by}
-use Rattle.dex_fold.specs.Fold.{act, acted, fold, market_acted, markets_acted, names, wallet_acted, wallet_moved}
-use Rattle.dex_fold.specs.World.{MarketState, WalletState, World, market_at, seen_by}
-use Rattle.dex_bank.specs.Opened.{rows_naming, rows_on}
-use Rattle.dex_script.specs.Drafts.{PlainScript}
-use Rattle.dex_replay.specs.Replays.{market_state, start_world, wallet_state}
+use Rattle.dex_fold.specs.World.{market_at}
 
 -- the entries of a market are no more than the rows on it, and those of a wallet no more than the rows that name it
 abbrev pub HasFew : List PlainRow → MarketState → Type 0

@@ -1,18 +1,9 @@
 -- What a row does where it acts, and where it is held back: a call that stands in its market's history.
 use Rattle.std.proofs.Common.{◌≡◌, ℕ, ◌&&◌, Bool, true, List, None, refl, sym, ap, ◌∙◌}
-use Rattle.dex_types.specs.declared.rows.Seen.{Seen}
-use Rattle.dex_types.specs.Market.{Market}
-use Rattle.dex_types.specs.Rows.{PlainRow}
-use Rattle.dex_types.specs.Steps.{Step, done}
-use Rattle.dex_types.specs.Why.{why}
-use Rattle.dex_instruction.specs.Reading.{decoded}
+use Rattle.dex_fold.proofs.Common.{Call, Market, PlainRow, Seen, Sees, Stands, Step, asked_of, decoded, done, entry_by, idle-step, is_done, is_held, is_take, nothing_to_do, request_of, row_step, step_of, why}
 use Rattle.dex_history.specs.Journal as history
-use Rattle.dex_history.specs.Journal.{Call, Sees, Stands, asked_of, is_done, is_held, is_take, request_of, row_step, step_of}
 use Rattle.dex_history.proofs.HeldLaws.{held-stands, held-step, own-stands, own-step}
 use Rattle.dex_history.proofs.PriceLaws.{decoded-priced}
-use Rattle.dex_movements.specs.Entries.{entry_by}
-use Rattle.dex_fold.specs.Items.{nothing_to_do}
-use Rattle.dex_fold.proofs.ItemLaws.{idle-step}
 
 -- a row with other bytes: what it asks, or nothing
 abbrev pub doing : PlainRow → List ℕ → PlainRow

@@ -1,21 +1,11 @@
 -- What cells leave at the end is what items leave that made their world.
 use Rattle.std.proofs.Common.{◌≡◌, ℕ, List, [], ◌∷◌, map, refl, sym, ap, ◌∙◌, subst}
-use Rattle.std.specs.List.{All, AllZip}
-use Rattle.std.proofs.lemmas.List.Elements.{All-head, All-tail}
-use Rattle.dex_types.specs.Accounts.{PlainAccount, PlainMarketAccounts}
-use Rattle.dex_accounts.specs.StandsFor.{StandsFor}
-use Rattle.dex_cell.specs.CellState.{AreOfOneMarket, MarketCellState}
-use Rattle.dex_token.specs.TokenAccount.{with_amount}
-use Rattle.dex_wallet.specs.CellState.{CellState, IsWalletCell, balance_of}
-use Rattle.dex_act.specs.Wallets.{wallet_state_of}
-use Rattle.dex_dump.specs.Accepted.{AreAccepted, address_of}
+use Rattle.dex_fold.proofs.Common.{All-head, All-tail, AllZip, MarketState, PlainAccount, PlainMarketAccounts, WalletState, World}
+use Rattle.dex_replay.proofs.Common.{AreAccepted, AreCells, CellState, CellsState, IsLeftBy, IsWalletCell, MarketCellState, PlainMarketJournal, PlainScript, PlainWalletJournal, StandsFor, account_in, address_of, balance_of, closed, market_journal_in, market_state_of, wallet_journal_in, wallet_state_of, with_amount, with_amounts, world_after, world_of}
+use Rattle.std.specs.List.{All}
+use Rattle.dex_cell.specs.CellState.{AreOfOneMarket}
 use Rattle.dex_fold.specs.Items.{Item}
-use Rattle.dex_fold.specs.World.{MarketState, WalletState, World}
-use Rattle.dex_report.specs.Outcomes.{PlainMarketJournal, PlainWalletJournal}
-use Rattle.dex_script.specs.Drafts.{PlainScript}
-use Rattle.dex_bank.specs.Cells.{AreCells, CellsState, market_state_of, world_of}
-use Rattle.dex_bank.specs.Closed.{account_in, closed, market_journal_in, wallet_journal_in}
-use Rattle.dex_replay.specs.Replays.{IsLeftBy, IsOfStart, with_amounts, world_after}
+use Rattle.dex_replay.specs.Replays.{IsOfStart}
 use Rattle.dex_replay.proofs.LastAccounts.{last-accepted}
 use Rattle.dex_replay.proofs.MappedLists.{AllZip-maps, map-map}
 use Rattle.dex_replay.proofs.Starts.{AreOfScript, its-address, market-addresses, start_account, wallet-addresses}

@@ -1,35 +1,17 @@
 -- What all wallets and vaults of a world hold of a mint, and that a row keeps it: what it takes from wallets enters vaults of their
 -- mint, and what it brings to them leaves these.
 use Rattle.std.proofs.Common.{ℕ, ◌+◌, ◌≡◌, ◌⊎◌, Bool, true, false, ◌||◌, cond, get_or, nat_lt, List, [], ◌∷◌, map, Option, Some, None, refl, sym, ap, ◌∙◌, arith, ⊎_elim}
+use Rattle.dex_fold.proofs.Common.{Address, All-head, All-tail, CanMove, IsSound, Listing, Market, MarketState, Movement, PlainRow, Seen, Step, Transfers, WalletSeen, WalletState, World, asked_of, balance_seen, brought_to, cases_Bool, cond-false, cond-true, cond_both, is_role, is_same, is_same-refl, is_same-sym, is_same-true, ltb-false, market_acted, markets_acted, moved_balance, movement_by, movement_of, names, names-roles, or_parts, request_of, role_at, row_step, seen_by, step-keeps, taken_from, total, wallet_acted, wallet_at}
 use Rattle.std.specs.List.{All}
-use Rattle.std.proofs.lemmas.Bool.{cases_Bool, cond-false, cond-true, cond_both, ltb-false, or_parts}
-use Rattle.std.proofs.lemmas.List.Elements.{All-head, All-tail}
-use Rattle.dex_types.specs.declared.addresses.Address.{Address}
-use Rattle.dex_types.specs.declared.movements.Movement.{Movement}
-use Rattle.dex_types.specs.declared.rows.Seen.{Seen}
-use Rattle.dex_types.specs.declared.rows.WalletSeen.{WalletSeen}
-use Rattle.dex_types.specs.Addresses.{is_same}
-use Rattle.dex_types.specs.Market.{Listing, Market}
-use Rattle.dex_types.specs.Rows.{PlainRow}
-use Rattle.dex_types.specs.Soundness.{IsSound}
-use Rattle.dex_types.specs.Steps.{Step}
-use Rattle.dex_types.specs.Totals.{total}
-use Rattle.dex_types.specs.Transfers.{Transfers}
-use Rattle.dex_types.specs.WalletJournal.{CanMove, moved_balance}
-use Rattle.dex_types.specs.Wallets.{amount_at, balance_seen, brought_to, movement_by, movement_of, taken_from}
+use Rattle.dex_types.specs.Wallets.{amount_at}
 use Rattle.dex_laws.proofs.TotalLaws.{total-agree, total-none, total-plus}
-use Rattle.dex_laws.proofs.TraderLaws.{is_same-refl, is_same-sym, is_same-true}
 use Rattle.dex_sound.specs.Kept.{KeepsMarket}
-use Rattle.dex_sound.proofs.KeepLaws.{step-keeps}
-use Rattle.dex_history.specs.Journal.{asked_of, request_of, row_step}
 use Rattle.dex_history.proofs.BalanceLaws.{ArePaid, amount-le}
 use Rattle.dex_history.proofs.MintLaws.{AreOfMints, IsOfMint}
 use Rattle.dex_history.proofs.StepConserves.{row-paid}
 use Rattle.dex_dump.specs.Accepted.{times}
 use Rattle.dex_dump.proofs.TakenLaws.{one, times-cons}
-use Rattle.dex_fold.specs.Fold.{is_role, market_acted, markets_acted, names, wallet_acted}
-use Rattle.dex_fold.specs.World.{MarketState, WalletState, World, market_at, role_at, seen_by, wallet_at}
-use Rattle.dex_fold.proofs.NameLaws.{names-roles}
+use Rattle.dex_fold.specs.World.{market_at}
 use Rattle.dex_replay.proofs.Sights.{AreOnce, address_in, found-address}
 
 -- what a market's vaults hold of a mint

@@ -1,31 +1,16 @@
 -- Items that act one after the other leave a run of their rows, of which those of one item all acted, or none did.
 use Rattle.std.proofs.Common.{◌≡◌, ℕ, ◌&&◌, ◌||◌, not, Bool, true, false, cond, List, [], ◌∷◌, ◌++◌, get_or, map, Option, Some, None, Result, Ok, Err, is_some, refl, sym, ap, ◌∙◌, subst}
-use Rattle.std.specs.List.{All, Contains, flat_map, list_any}
-use Rattle.std.proofs.lemmas.Bool.{false≢true}
-use Rattle.std.proofs.lemmas.List.{append-nil, append_assoc, map-append, map-id}
-use Rattle.std.proofs.lemmas.List.Elements.{All-cons, All-contains_itself, All-head, All-nil, All-tail, All-weaker, Contains-append_left, Contains-append_right}
-use Rattle.dex_types.specs.declared.instructions.BadData.{BadData}
-use Rattle.dex_types.specs.declared.instructions.Ix.{Ix}
-use Rattle.dex_types.specs.declared.refusals.Refusal.{Refusal}
-use Rattle.dex_types.specs.declared.rows.Seen.{Seen}
-use Rattle.dex_types.specs.Market.{Market}
+use Rattle.dex_fold.proofs.Common.{All-cons, All-head, All-nil, All-tail, All-weaker, BadData, Contains, Contains-append_left, EachApart, EachTwo, Ix, Market, PlainRow, Refusal, Seen, ShareNothing, Step, World, act, act_item, asked_of, chosen, decoded, false≢true, flat_map, fold, fold_items, idle-step, idle_row, is_done, is_refusal, is_take, list_any, map-id, members, nothing_to_do, request_of, row_step, seen_by, step-refused, why, why-far, why_in, why_on}
+use Rattle.dex_replay.proofs.Common.{AreLegs, IsRowOf, IsStart, PlainScript}
+use Rattle.std.specs.List.{All}
+use Rattle.std.proofs.lemmas.List.{append-nil, append_assoc, map-append}
+use Rattle.std.proofs.lemmas.List.Elements.{All-contains_itself, Contains-append_right}
 use Rattle.dex_types.specs.Requests.{Request}
-use Rattle.dex_types.specs.Rows.{PlainRow}
-use Rattle.dex_types.specs.Steps.{Step}
-use Rattle.dex_types.specs.Why.{why, why_decoded}
-use Rattle.dex_instruction.specs.Reading.{decoded}
-use Rattle.dex_history.specs.Journal.{asked_of, is_done, is_refusal, is_take, is_take_or_bad, request_of, row_step}
+use Rattle.dex_types.specs.Why.{why_decoded}
+use Rattle.dex_history.specs.Journal.{is_take_or_bad}
 use Rattle.dex_history.proofs.HeldLaws.{take-tells}
-use Rattle.dex_history.proofs.RefusalLaws.{step-refused}
-use Rattle.dex_fold.specs.Fold.{act, fold}
-use Rattle.dex_fold.specs.Groups.{members}
-use Rattle.dex_fold.specs.Items.{EachApart, Item, ShareNothing, act_item, chosen, fold_items, held_in, idle_row, nothing_to_do, why_in, why_on}
-use Rattle.dex_fold.specs.World.{World, seen_by}
-use Rattle.dex_fold.proofs.FarLaws.{why-far}
-use Rattle.dex_fold.proofs.GroupLaws.{EachTwo}
-use Rattle.dex_fold.proofs.ItemLaws.{idle-step}
-use Rattle.dex_script.specs.Drafts.{PlainScript}
-use Rattle.dex_script.specs.Facts.{AreLegs, IsLeg, IsRowOf, IsStart}
+use Rattle.dex_fold.specs.Items.{Item, held_in}
+use Rattle.dex_script.specs.Facts.{IsLeg}
 use Rattle.dex_replay.proofs.MappedLists.{list_any-agree, list_any-map, map-agree}
 use Rattle.dex_replay.proofs.Orders.{IsItemIn, legs-apart}
 use Rattle.dex_replay.proofs.Doing.{Does, does-nothing, does-own, doing}

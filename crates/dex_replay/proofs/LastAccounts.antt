@@ -1,29 +1,14 @@
 -- The accounts that cells leave are accepted, as those with which they started.
 use Rattle.std.proofs.Common.{◌≡◌, ℕ, ◌≤◌, List, [], ◌∷◌, ◌++◌, length, map, get_or, Option, Some, None, refl, sym, ap, ◌∙◌, subst, arith}
-use Rattle.std.specs.List.{All, flat_map, list_any}
+use Rattle.dex_fold.proofs.Common.{Address, All-map, Call, Listing, Market, PlainAccount, PlainAccounts, PlainMarketAccounts, acted_of, flat_map, flat_map-map, is_same, length-map, list_any, market_after, step-keeps, step_of}
+use Rattle.dex_replay.proofs.Common.{AreAccepted, AreCells, CellState, CellsState, IsAccepted, IsMarketCell, IsWallet, IsWalletCell, MarketCellState, PlainScript, WalletWords, account_in, address_of, addresses_of, all_of_market, balance_of, closed, market_words, wallet_words, wallet_words-with_amount}
+use Rattle.dex_accounts.specs.Decoded.{market_in}
+use Rattle.std.specs.List.{All}
 use Rattle.std.specs.Option.{IfSome}
-use Rattle.std.proofs.lemmas.List.{length-map}
-use Rattle.std.proofs.lemmas.List.Elements.{All-map}
-use Rattle.std.proofs.lemmas.List.Folds.{flat_map-map}
-use Rattle.dex_types.specs.declared.addresses.Address.{Address}
-use Rattle.dex_types.specs.Accounts.{PlainAccount, PlainAccounts, PlainMarketAccounts}
-use Rattle.dex_types.specs.Addresses.{is_same}
-use Rattle.dex_types.specs.Market.{Listing, Market}
-use Rattle.dex_sound.proofs.KeepLaws.{step-keeps}
-use Rattle.dex_market.specs.MarketAccount.{market_words}
 use Rattle.dex_token.specs.MintAccount.{IsMint}
-use Rattle.dex_token.specs.TokenAccount.{IsWallet, WalletWords, wallet_words}
-use Rattle.dex_token.proofs.AmountWrites.{wallet_words-with_amount}
-use Rattle.dex_accounts.specs.Accepted.{IsAccepted}
-use Rattle.dex_accounts.specs.Decoded.{listing_in, market_in}
-use Rattle.dex_history.specs.Journal.{Call, acted_of, market_after, step_of}
-use Rattle.dex_cell.specs.CellState.{IsMarketCell, MarketCellState}
-use Rattle.dex_wallet.specs.CellState.{CellState, IsWalletCell, balance_of}
-use Rattle.dex_dump.specs.Accepted.{AreAccepted, AreApart, HasMints, IsMintOf, address_of, addresses_of, all_of_market, times}
+use Rattle.dex_accounts.specs.Decoded.{listing_in}
+use Rattle.dex_dump.specs.Accepted.{AreApart, HasMints, IsMintOf, times}
 use Rattle.dex_dump.specs.Reading.{market_addresses}
-use Rattle.dex_script.specs.Drafts.{PlainScript}
-use Rattle.dex_bank.specs.Cells.{AreCells, CellsState}
-use Rattle.dex_bank.specs.Closed.{account_in, closed}
 use Rattle.dex_replay.proofs.MappedLists.{All-unmap, flat_map-agree, map-map}
 use Rattle.dex_replay.proofs.Starts.{AreOfScript, start_account, wallet-addresses}
 

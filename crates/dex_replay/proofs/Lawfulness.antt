@@ -1,30 +1,11 @@
 -- What a run of all rows of a script leaves is lawful.
 use Rattle.std.proofs.Common.{◌≡◌, ℕ, ◌==◌, Bool, true, List, [], ◌∷◌, get_or, map, sym, ap, ◌∙◌, subst}
-use Rattle.std.specs.List.{All, AllZip, Contains, filter, flat_map}
-use Rattle.std.proofs.lemmas.List.Elements.{All-filter, All-weaker}
-use Rattle.dex_types.specs.declared.addresses.Address.{Address}
-use Rattle.dex_types.specs.declared.movements.Entry.{Entry}
-use Rattle.dex_types.specs.declared.movements.Movement.{Movement}
-use Rattle.dex_types.specs.declared.movements.WalletEntry.{WalletEntry}
-use Rattle.dex_types.specs.declared.replies.Reply.{Reply}
-use Rattle.dex_types.specs.Accounts.{PlainAccount, PlainMarketAccounts}
-use Rattle.dex_types.specs.Addresses.{is_same}
-use Rattle.dex_types.specs.Rows.{PlainRow}
-use Rattle.dex_accounts.specs.StandsFor.{StandsFor}
-use Rattle.dex_history.specs.Journal.{Call, asked_of, front, wallet_entry_of}
-use Rattle.dex_fold.specs.Fold.{names}
-use Rattle.dex_fold.specs.Groups.{members}
-use Rattle.dex_fold.specs.Items.{Item, rows_of_lane}
-use Rattle.dex_fold.proofs.GroupLaws.{EachTwo}
-use Rattle.dex_fold.specs.World.{MarketState, WalletState, World}
-use Rattle.dex_report.specs.Outcomes.{PlainMarketJournal, PlainOutcome, PlainWalletJournal}
-use Rattle.dex_script.specs.Drafts.{PlainScript}
-use Rattle.dex_script.specs.Facts.{IsRowOf, IsScript}
-use Rattle.dex_script.specs.Known.{has_market}
-use Rattle.dex_token.specs.TokenAccount.{with_amount}
-use Rattle.dex_replay.specs.Lawful.{AllThree, AreTold, IsAllOrNone, IsLawful, IsLawfulMarket, IsLawfulWallet, IsTold, Origin, is_answered, origin_of_entry, origin_of_row}
-use Rattle.dex_replay.specs.Replays.{IsLeftBy, start_world, with_amounts, world_after}
-use Rattle.dex_replay.specs.Runs.{KeepsLanes}
+use Rattle.dex_fold.proofs.Common.{Address, All-filter, All-weaker, AllZip, Call, Contains, EachTwo, Entry, MarketState, Movement, PlainAccount, PlainMarketAccounts, PlainRow, Reply, WalletEntry, WalletState, World, asked_of, filter, flat_map, is_same, members, names, rows_of_lane, wallet_entry_of}
+use Rattle.dex_replay.proofs.Common.{AllThree, IsAllOrNone, IsLawful, IsLawfulMarket, IsLawfulWallet, IsLeftBy, IsRowOf, IsScript, KeepsLanes, Origin, PlainMarketJournal, PlainOutcome, PlainScript, PlainWalletJournal, StandsFor, has_market, is_answered, origin_of_entry, origin_of_row, start_world, with_amount, with_amounts, world_after}
+use Rattle.std.specs.List.{All}
+use Rattle.dex_history.specs.Journal.{front}
+use Rattle.dex_fold.specs.Items.{Item}
+use Rattle.dex_replay.specs.Lawful.{AreTold, IsTold}
 use Rattle.dex_replay.proofs.AllOrNone.{journal-says, settled-told, told-once}
 use Rattle.dex_replay.proofs.Items.{HaveAllRun, IsSettled, items-run, row_told}
 use Rattle.dex_replay.proofs.MappedLists.{All-across, All-unmap, Any-across, both-same, filter-across, filter-of, filter-swap, head-same, map-map, tail-same, zip-map}

@@ -1,3 +1,4 @@
+pub mod Common
 mod AllOrNone
 pub mod Counting
 mod Doing

@@ -1,9 +1,8 @@
 -- Facts of lists that are made of others, element by element.
 use Rattle.std.proofs.Common.{◌≡◌, ℕ, zero, suc, ◌<◌, Bool, true, false, ◌||◌, cond, List, [], ◌∷◌, ◌++◌, length, get_or, map, refl, sym, ap, ◌∙◌, subst, arith}
-use Rattle.std.specs.List.{All, AllZip, Any, filter, flat_map, list_any}
-use Rattle.std.proofs.lemmas.Bool.{cond-false, cond-true}
-use Rattle.std.proofs.lemmas.List.{append-nil, get_or-map, length-map}
-use Rattle.std.proofs.lemmas.List.Elements.{All-nil, All-cons, All-head, All-tail, All-map, filter-append}
+use Rattle.dex_fold.proofs.Common.{All-cons, All-head, All-map, All-nil, All-tail, AllZip, cond-false, cond-true, filter, filter-append, flat_map, get_or-map, length-map, list_any}
+use Rattle.std.specs.List.{All, Any}
+use Rattle.std.proofs.lemmas.List.{append-nil}
 
 pub map-map : {A B C : Type 0} (f : A → B) (g : B → C) (xs : List A) → map g (map f xs) ≡ map (λ x. g (f x)) xs
 map-map f g [] = refl

@@ -1,24 +1,8 @@
 -- Lawful journals have one entry for each row.
 use Rattle.std.proofs.Common.{◌≡◌, ◌==◌, ◌<◌, ◌≤◌, ℕ, Bool, true, List, [], ◌∷◌, get_or, map, refl, sym, ap, ◌∙◌, arith}
-use Rattle.std.specs.List.{All, AllPairs, filter}
-use Rattle.std.proofs.lemmas.Bool.{false≢true}
-use Rattle.std.proofs.lemmas.List.Elements.{All-filter, filter_passes}
-use Rattle.std.proofs.lemmas.List.Kept.{AllPairs-filter}
-use Rattle.dex_types.specs.declared.addresses.Address.{Address}
-use Rattle.dex_types.specs.declared.movements.Entry.{Entry}
-use Rattle.dex_types.specs.declared.movements.WalletEntry.{WalletEntry}
-use Rattle.dex_types.specs.Accounts.{PlainAccount, PlainMarketAccounts}
-use Rattle.dex_types.specs.Addresses.{is_same}
-use Rattle.dex_types.specs.Market.{Market}
-use Rattle.dex_types.specs.Rows.{PlainRow}
-use Rattle.dex_laws.proofs.TraderLaws.{is_same-true}
-use Rattle.dex_accounts.specs.Decoded.{market_in}
-use Rattle.dex_history.specs.Journal.{Asked, Call, IsLegal, asked_of, step_of}
-use Rattle.dex_fold.specs.Fold.{names}
-use Rattle.dex_report.specs.Outcomes.{PlainMarketJournal, PlainWalletJournal}
-use Rattle.dex_script.specs.Drafts.{PlainScript}
-use Rattle.dex_script.specs.Facts.{AreLegs, AreRows}
-use Rattle.dex_replay.specs.Lawful.{IsLawfulMarket, IsLawfulWallet, Origin, origin_of_entry, origin_of_row, rows_of_market, rows_of_wallet}
+use Rattle.dex_fold.proofs.Common.{Address, All-filter, AllPairs, AllPairs-filter, Asked, Call, Entry, IsLegal, Market, PlainAccount, PlainMarketAccounts, PlainRow, WalletEntry, asked_of, false≢true, filter, filter_passes, is_same, is_same-true, names, step_of}
+use Rattle.dex_replay.proofs.Common.{AreLegs, AreRows, IsLawfulMarket, IsLawfulWallet, Origin, PlainMarketJournal, PlainScript, PlainWalletJournal, market_in, origin_of_entry, origin_of_row, rows_of_market, rows_of_wallet}
+use Rattle.std.specs.List.{All}
 use Rattle.dex_replay.proofs.MappedLists.{filter-across, filter-of, map-map}
 
 -- the lane and the number of a call, as its entry and as its row have them

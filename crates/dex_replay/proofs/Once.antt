@@ -1,12 +1,8 @@
 -- Of accepted accounts each address is that of one market and of one wallet at most.
 use Rattle.std.proofs.Common.{ℕ, ◌≤◌, cond, List, [], ◌∷◌, ◌++◌, map, arith}
-use Rattle.std.specs.List.{flat_map}
-use Rattle.std.proofs.lemmas.List.Sums.{sum_by-append, sum_by-cons}
-use Rattle.dex_types.specs.declared.addresses.Address.{Address}
-use Rattle.dex_types.specs.Accounts.{PlainAccounts, PlainMarketAccounts}
-use Rattle.dex_types.specs.Addresses.{is_same}
-use Rattle.dex_market.specs.MarketAccount.{market_words}
-use Rattle.dex_dump.specs.Accepted.{address_of, addresses_of, all_of_market, times}
+use Rattle.dex_fold.proofs.Common.{Address, PlainAccounts, PlainMarketAccounts, flat_map, is_same, sum_by-append, sum_by-cons}
+use Rattle.dex_replay.proofs.Common.{address_of, addresses_of, all_of_market, market_words}
+use Rattle.dex_dump.specs.Accepted.{times}
 use Rattle.dex_dump.specs.Reading.{parts_of}
 
 -- one address is not more often among the markets than among all accounts

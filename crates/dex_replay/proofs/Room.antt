@@ -1,48 +1,19 @@
 -- Each row of a script finds the cells that it names, with room for one entry more.
 use Rattle.std.proofs.Common.{◌≡◌, ℕ, ◌+◌, ◌<◌, ◌≤◌, Bool, true, cond, ◌||◌, List, [], ◌∷◌, ◌++◌, length, map, take, drop, get_or, Option, Some, None, refl, sym, ap, ◌∙◌, subst, arith}
-use Rattle.std.specs.List.{All, list_any}
-use Rattle.std.proofs.lemmas.Bool.{cond_both}
-use Rattle.std.proofs.lemmas.List.{drop_more, get_or-map, length-map, take-append-drop, take_all, take_more}
-use Rattle.std.proofs.lemmas.List.Elements.{All-nil, All-cons, All-head, All-tail}
-use Rattle.std.proofs.lemmas.List.Sums.{sum_by-append, sum_by-cons}
-use Rattle.dex_types.specs.declared.addresses.Address.{Address}
-use Rattle.dex_types.specs.Accounts.{PlainAccounts, PlainMarketAccounts}
-use Rattle.dex_types.specs.Addresses.{is_same}
-use Rattle.dex_types.specs.declared.rows.Row.{Row}
-use Rattle.dex_types.specs.Rows.{PlainRow, row_of}
-use Rattle.dex_types.specs.Wallets.{is_lower, row_wallets, with_address, with_role}
-use Rattle.dex_types.specs.Market.{Listing}
-use Rattle.dex_history.specs.Journal.{Call}
+use Rattle.dex_fold.proofs.Common.{Address, All-nil, Call, Listing, PlainAccounts, PlainMarketAccounts, PlainRow, Row, World, fold, get_or-map, is_same, length-map, list_any, names, row_of, row_wallets, sum_by-append, sum_by-cons, take_all, take_more}
+use Rattle.dex_replay.proofs.Common.{CanAct, CellState, CellsState, IsRowOf, MarketCellState, PlainScript, address_of, has_account, is_among, is_known_role, is_market, market_state_of, rows_naming, rows_on, start_world, wallet_state_of, world_of}
+use Rattle.std.specs.List.{All}
+use Rattle.std.proofs.lemmas.List.{drop_more, take-append-drop}
+use Rattle.dex_types.specs.Wallets.{with_role}
 use Rattle.dex_cell.specs.CellState as market
-use Rattle.dex_cell.specs.CellState.{MarketCellState, market_at}
 use Rattle.dex_wallet.specs.CellState as wallet
-use Rattle.dex_wallet.specs.CellState.{CellState, IsWalletCell}
-use Rattle.dex_act.specs.Wallets.{is_among, wallet_state_of}
-use Rattle.dex_dump.specs.Accepted.{address_of}
-use Rattle.dex_fold.specs.Fold.{fold, names}
-use Rattle.dex_fold.specs.World.{World}
-use Rattle.dex_script.specs.Drafts.{PlainScript}
-use Rattle.dex_script.specs.Facts.{IsRowOf}
-use Rattle.dex_script.specs.Known.{has_account, is_known_role}
-use Rattle.dex_bank.specs.Cells.{CanAct, CellsState, is_market, market_state_of, world_of}
-use Rattle.dex_bank.specs.Opened.{rows_naming, rows_on}
-use Rattle.dex_replay.specs.Replays.{start_world}
+use Rattle.dex_fold.proofs.OnceLaws.{with_address-all}
 use Rattle.dex_replay.proofs.Counting.{HasFew, HasFewMoves, IsCounted, rows-counted}
 use Rattle.dex_replay.proofs.LastAccounts.{listing-in}
 use Rattle.dex_replay.proofs.MappedLists.{All-unmap, list_any-map}
 use Rattle.dex_replay.proofs.Starts.{AreOfScript, HasItsAddress, market-addresses, wallet-addresses}
 
 -- ---- the wallets of roles
-
-with_address-all : (P : Address → Type 0) (address : Address) (addresses : List Address) → P address → All P addresses → All P (with_address address addresses)
-with_address-all P address [] here all = All-cons P address [] here all
-with_address-all P address (first ∷ others) here all =
-    cond_both (is_same address first) (first ∷ others) (cond (is_lower address first) (address ∷ first ∷ others) (first ∷ with_address address others)) (All P)
-    (λ same. all)
-    (λ apart. cond_both (is_lower address first) (address ∷ first ∷ others) (first ∷ with_address address others) (All P)
-    (λ lower. All-cons P address (first ∷ others) here all)
-    (λ later. All-cons P first (with_address address others) (All-head P first others all)
-    (with_address-all P address others here (All-tail P first others all))))
 
 -- what holds of each wallet of the start holds of each that a row names
 module _ (P : Address → Type 0) (start : PlainAccounts) (each : (address : Address) → has_account address start.wallets ≡ true → P address) where
@@ -57,7 +28,7 @@ module _ (P : Address → Type 0) (start : PlainAccounts) (each : (address : Add
       (role-all row.discount (with_role row.referrer []) fits.discount
       (role-all row.referrer [] fits.referrer (All-nil P))))
 
-is_among-any : (address : Address) (cells : List CellState) → is_among address cells ≡ list_any (is_same address) (map (λ (cell : CellState). cell.address) cells)
+pub is_among-any : (address : Address) (cells : List CellState) → is_among address cells ≡ list_any (is_same address) (map (λ (cell : CellState). cell.address) cells)
 is_among-any address [] = refl
 is_among-any address (cell ∷ cells) = ap (λ (b : Bool). is_same address cell.address || b) (is_among-any address cells)
 

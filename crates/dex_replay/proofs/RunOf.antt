@@ -1,33 +1,14 @@
 -- What items leave in an order that keeps the lanes is a run of the script: lawful, of sound markets, and with each mint conserved.
 use Rattle.std.proofs.Common.{◌≡◌, ℕ, ◌+◌, cond, List, [], ◌∷◌, map, refl, sym, ap, ◌∙◌, subst, arith}
-use Rattle.std.specs.List.{All, AllZip}
-use Rattle.std.proofs.lemmas.List.Elements.{All-cons, All-head, All-nil, All-tail, All-weaker}
-use Rattle.dex_types.specs.declared.addresses.Address.{Address}
-use Rattle.dex_types.specs.Accounts.{PlainAccount, PlainMarketAccounts}
-use Rattle.dex_types.specs.Addresses.{is_same}
-use Rattle.dex_types.specs.Totals.{total}
-use Rattle.dex_accounts.specs.Accepted.{IsAccepted}
-use Rattle.dex_accounts.specs.Decoded.{AreSound, market_in}
-use Rattle.dex_accounts.specs.StandsFor.{StandsFor}
+use Rattle.dex_fold.proofs.Common.{Address, All-cons, All-head, All-nil, All-tail, All-weaker, AllZip, MarketState, PlainAccount, PlainMarketAccounts, WalletState, World, fold, is_same, total}
+use Rattle.dex_replay.proofs.Common.{AreCells, AreSound, CellsState, IsAccepted, IsLeftBy, IsOneOrder, IsReplayOf, IsRunOf, IsScript, KeepsLanes, PlainOutcome, PlainScript, StandsFor, WalletWords, balance_of, closed, market_state, market_words, opened, opened_of, start_world, wallet_state, wallet_words, wallet_words-with_amount, with_amount, with_amounts, world_after, world_of}
+use Rattle.dex_accounts.specs.Decoded.{market_in}
+use Rattle.std.specs.List.{All}
 use Rattle.dex_accounts.proofs.Decoded.{AreSound-of}
 use Rattle.dex_accounts.proofs.Decoded as decoded
 use Rattle.dex_audit.specs.Audited.{IsConserved}
 use Rattle.dex_audit.specs.Supplies.{amount_of, held_of, in_vaults, in_wallets}
-use Rattle.dex_bank.specs.Cells.{AreCells, CellsState, opened_of, world_of}
-use Rattle.dex_bank.specs.Closed.{closed}
-use Rattle.dex_bank.specs.Opened.{opened}
-use Rattle.dex_fold.specs.Fold.{fold}
 use Rattle.dex_fold.specs.Items.{Item, items_of}
-use Rattle.dex_fold.specs.World.{MarketState, WalletState, World}
-use Rattle.dex_market.specs.MarketAccount.{market_words}
-use Rattle.dex_report.specs.Outcomes.{PlainOutcome}
-use Rattle.dex_script.specs.Drafts.{PlainScript}
-use Rattle.dex_script.specs.Facts.{IsScript}
-use Rattle.dex_token.specs.TokenAccount.{WalletWords, wallet_words, with_amount}
-use Rattle.dex_token.proofs.AmountWrites.{wallet_words-with_amount}
-use Rattle.dex_wallet.specs.CellState.{balance_of}
-use Rattle.dex_replay.specs.Replays.{IsLeftBy, IsReplayOf, market_state, start_world, wallet_state, with_amounts, world_after}
-use Rattle.dex_replay.specs.Runs.{IsOneOrder, IsRunOf, KeepsLanes}
 use Rattle.dex_replay.proofs.Ends.{is-left}
 use Rattle.dex_replay.proofs.Holdings.{in_market, in_wallet}
 use Rattle.dex_replay.proofs.Lawfulness.{is-lawful, order-run, told}

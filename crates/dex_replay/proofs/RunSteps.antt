@@ -1,46 +1,17 @@
 -- One row more leaves a run of rows with that row.
 use Rattle.std.proofs.Common.{◌≡◌, ℕ, ◌≤◌, ⊎_elim, Bool, true, false, ◌||◌, cond, List, [], ◌∷◌, ◌++◌, map, get_or, Option, Some, refl, sym, ap, ◌∙◌, subst, arith}
-use Rattle.std.specs.List.{All, AllZip, Contains, list_any}
-use Rattle.std.proofs.lemmas.Bool.{cases_Bool, cond-true, cond-false, cond_both, false≢true}
-use Rattle.std.proofs.lemmas.List.{map_push}
-use Rattle.std.proofs.lemmas.List.Elements.{All-nil, All-cons, All-head, All-tail, All-map, All-push, All-weaker, Contains-append_left, Contains-push}
-use Rattle.std.proofs.lemmas.List.Folds.{Any-from_list_any, list_any_at}
-use Rattle.std.proofs.lemmas.List.Sums.{sum_by-cons}
-use Rattle.dex_types.specs.declared.addresses.Address.{Address}
-use Rattle.dex_types.specs.declared.movements.Entry.{Entry}
-use Rattle.dex_types.specs.declared.movements.Movement.{Movement}
-use Rattle.dex_types.specs.declared.movements.WalletEntry.{WalletEntry}
-use Rattle.dex_types.specs.declared.replies.Reply.{Reply}
-use Rattle.dex_types.specs.declared.rows.Seen.{Seen}
-use Rattle.dex_types.specs.Accounts.{PlainAccount, PlainMarketAccounts}
-use Rattle.dex_types.specs.Addresses.{is_same}
-use Rattle.dex_types.specs.Market.{Listing, Market}
-use Rattle.dex_types.specs.Rows.{PlainRow}
-use Rattle.dex_types.specs.Steps.{Step, done}
-use Rattle.dex_types.specs.Transfers.{Transfers}
-use Rattle.dex_types.specs.Soundness.{IsSound}
-use Rattle.dex_types.specs.WalletJournal.{CanMove, moved_balance}
-use Rattle.dex_types.specs.Wallets.{balance_seen, brought_to, movement_of, row_wallets, seen_wallets, taken_from}
-use Rattle.dex_laws.proofs.TraderLaws.{is_same-true, is_same-refl}
-use Rattle.dex_accounts.specs.Decoded.{AreSound, market_in}
-use Rattle.dex_history.specs.Journal.{Asked, Call, Sees, Stands, asked_of, front, market_after, request_of, row_step, wallet_entry_of}
-use Rattle.dex_history.proofs.HistoryLaws.{IsLegal-one, IsWalletLegal-one, balance_after-append, market_after-one}
+use Rattle.dex_fold.proofs.Common.{Address, All-cons, All-head, All-map, All-nil, All-push, All-tail, All-weaker, AllZip, Asked, Call, CanMove, Contains, Contains-append_left, Entry, IsSound, Listing, Market, MarketState, Movement, PlainAccount, PlainMarketAccounts, PlainRow, Reply, Seen, Sees, Stands, Step, Transfers, WalletEntry, WalletState, World, act, acted, asked_of, balance_after-append, balance_seen, brought_to, cases_Bool, cond-false, cond-true, cond_both, done, entry_by, false≢true, is_same, is_same-refl, is_same-true, list_any, list_any_at, map_push, market_acted, market_after, market_after-one, markets_acted, moved_balance, movement_of, names, places-movements, request_of, row_step, row_wallets, seen-wallets, seen_by, seen_wallets, step-keeps, sum_by-cons, taken_from, wallet-movement_by, wallet_acted, wallet_entry_by, wallet_entry_of, wallet_moved}
+use Rattle.dex_replay.proofs.Common.{AreSound, IsRowOf, IsSight, IsStart, Origin, PlainScript, address_of, balance_of, has_market, market_in, market_state, origin_of_entry, origin_of_row, start_world, wallet_state}
+use Rattle.std.specs.List.{All}
+use Rattle.std.proofs.lemmas.List.Elements.{Contains-push}
+use Rattle.std.proofs.lemmas.List.Folds.{Any-from_list_any}
+use Rattle.dex_history.specs.Journal.{front}
+use Rattle.dex_history.proofs.HistoryLaws.{IsLegal-one, IsWalletLegal-one}
 use Rattle.dex_history.proofs.PriceLaws.{calls-sound}
 use Rattle.dex_history.proofs.StepMints.{row-of}
 use Rattle.dex_history.proofs.StepMoves.{row-moves}
-use Rattle.dex_history.proofs.WalletLaws.{places-movements, wallet-movement_by}
-use Rattle.dex_movements.specs.Entries.{entry_by, wallet_entry_by}
-use Rattle.dex_movements.proofs.PlaceLaws.{seen-wallets}
-use Rattle.dex_sound.proofs.KeepLaws.{step-keeps}
-use Rattle.dex_dump.specs.Accepted.{address_of, times}
-use Rattle.dex_fold.specs.Fold.{act, acted, market_acted, markets_acted, names, wallet_acted, wallet_moved}
-use Rattle.dex_fold.specs.World.{MarketState, WalletState, World, market_at, seen_by}
-use Rattle.dex_wallet.specs.CellState.{balance_of}
-use Rattle.dex_script.specs.Drafts.{PlainScript}
-use Rattle.dex_script.specs.Facts.{IsRowOf, IsStart}
-use Rattle.dex_script.specs.Known.{has_market}
-use Rattle.dex_replay.specs.Lawful.{IsSight, Origin, origin_of_entry, origin_of_row}
-use Rattle.dex_replay.specs.Replays.{market_state, start_world, wallet_state}
+use Rattle.dex_dump.specs.Accepted.{times}
+use Rattle.dex_fold.specs.World.{market_at}
 use Rattle.dex_replay.proofs.LastAccounts.{listing-in, market_after-listing}
 use Rattle.dex_replay.proofs.MappedLists.{Any-map, filter-push_no, filter-push_yes, zip-map}
 use Rattle.dex_replay.proofs.Holdings.{CanMoveIt, markets-hold, wallets-hold}

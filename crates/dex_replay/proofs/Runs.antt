@@ -1,29 +1,9 @@
 -- Rows that act one after the other leave each market a history, and each wallet a journal, of the rows that name it.
 use Rattle.std.proofs.Common.{◌≡◌, Bool, true, false, ◌||◌, List, [], ◌∷◌, map, Option, Some, None, refl, sym, ap, ◌∙◌, ⊎_elim}
-use Rattle.std.specs.List.{All, AllZip, Any, Contains, filter, list_any}
-use Rattle.std.proofs.lemmas.Bool.{cases_Bool, cond-true, cond-false, cond_both, false≢true}
-use Rattle.dex_types.specs.declared.addresses.Address.{Address}
-use Rattle.dex_types.specs.declared.movements.Entry.{Entry}
-use Rattle.dex_types.specs.declared.movements.Movement.{Movement}
-use Rattle.dex_types.specs.declared.replies.Reply.{Reply}
-use Rattle.dex_types.specs.declared.rows.WalletSeen.{WalletSeen}
-use Rattle.dex_types.specs.Accounts.{PlainAccount, PlainMarketAccounts}
-use Rattle.dex_types.specs.Addresses.{is_same}
-use Rattle.dex_types.specs.Rows.{PlainRow}
-use Rattle.dex_types.specs.WalletJournal.{IsWalletLegal, balance_after}
-use Rattle.dex_types.specs.Wallets.{address_seen}
-use Rattle.dex_laws.proofs.TraderLaws.{is_same-true}
-use Rattle.dex_accounts.specs.Decoded.{market_in}
-use Rattle.dex_history.specs.Journal.{Agree, Asked, Call, IsLegal, Sees, asked_of, front, market_after, wallet_entry_of}
-use Rattle.dex_fold.specs.Fold.{names}
-use Rattle.dex_fold.specs.World.{MarketState, WalletState, World, role_at, seen_by, wallet_at}
-use Rattle.dex_script.specs.Drafts.{PlainScript}
-use Rattle.dex_script.specs.Facts.{IsRowOf}
-use Rattle.dex_script.specs.Known.{has_account, is_known_role}
-use Rattle.dex_token.specs.TokenAccount.{wallet_words}
-use Rattle.dex_wallet.specs.CellState.{balance_of}
-use Rattle.dex_replay.specs.Lawful.{IsSight, IsWalletSeen, Origin, origin_of_entry, origin_of_row}
-use Rattle.dex_replay.specs.Replays.{start_world}
+use Rattle.dex_fold.proofs.Common.{Address, Agree, AllZip, Asked, Call, Contains, Entry, IsLegal, IsWalletLegal, MarketState, Movement, PlainAccount, PlainMarketAccounts, PlainRow, Reply, Sees, WalletSeen, WalletState, World, address_seen, asked_of, balance_after, cases_Bool, cond-false, cond-true, cond_both, false≢true, filter, is_same, is_same-true, list_any, market_after, names, role_at, seen_by, wallet_at, wallet_entry_of}
+use Rattle.dex_replay.proofs.Common.{IsRowOf, IsSight, IsWalletSeen, Origin, PlainScript, balance_of, has_account, is_known_role, market_in, origin_of_entry, origin_of_row, start_world, wallet_words}
+use Rattle.std.specs.List.{All, Any}
+use Rattle.dex_history.specs.Journal.{front}
 use Rattle.dex_replay.proofs.Holdings.{held_in}
 use Rattle.dex_replay.proofs.MappedLists.{any-here, any-there}
 

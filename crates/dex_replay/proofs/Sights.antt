@@ -1,22 +1,9 @@
 -- What a row sees of a wallet that it names, and at which balance it moves it.
 use Rattle.std.proofs.Common.{nat_lt, ℕ, ◌+◌, ◌≤◌, ◌≡◌, Bool, true, false, ◌||◌, List, [], ◌∷◌, get_or, map, Option, Some, None, refl, sym, ap, ◌∙◌, subst, arith, ⊎_elim}
-use Rattle.std.specs.List.{All, list_any}
-use Rattle.std.proofs.lemmas.Bool.{cases_Bool, cond-false, cond-true, cond_both, false≢true}
-use Rattle.std.proofs.lemmas.List.Elements.{All-cons, All-nil}
-use Rattle.dex_types.specs.declared.addresses.Address.{Address}
-use Rattle.dex_types.specs.declared.movements.Movement.{Movement}
-use Rattle.dex_types.specs.declared.rows.Seen.{Seen}
-use Rattle.dex_types.specs.declared.rows.WalletSeen.{WalletSeen}
-use Rattle.dex_types.specs.Addresses.{is_same}
-use Rattle.dex_types.specs.Rows.{PlainRow}
-use Rattle.dex_types.specs.Transfers.{Transfers}
-use Rattle.dex_types.specs.Wallets.{balance_in, balance_seen, brought_to, movement_of, taken_from}
-use Rattle.dex_laws.proofs.TraderLaws.{is_same-refl, is_same-true}
+use Rattle.dex_fold.proofs.Common.{Address, All-cons, All-nil, Movement, PlainRow, Seen, Transfers, WalletSeen, WalletState, World, balance_in, balance_seen, brought_to, cases_Bool, cond-false, cond-true, cond_both, false≢true, is_role, is_same, is_same-refl, is_same-true, list_any, movement_of, names, names-roles, role_at, seen_by, taken_from, wallet_at}
+use Rattle.std.specs.List.{All}
 use Rattle.dex_dump.specs.Accepted.{times}
 use Rattle.dex_dump.proofs.TakenLaws.{one, times-cons}
-use Rattle.dex_fold.specs.Fold.{is_role, names}
-use Rattle.dex_fold.specs.World.{WalletState, World, role_at, seen_by, wallet_at}
-use Rattle.dex_fold.proofs.NameLaws.{names-roles}
 
 abbrev pub address_in : WalletState → Address
 address_in state = state.seen.address

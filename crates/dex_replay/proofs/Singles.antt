@@ -1,22 +1,12 @@
 -- Scripts without swaps: each item is a row, so items act as rows one by one.
 use Rattle.std.proofs.Common.{◌≡◌, ℕ, ◌<◌, ◌&&◌, ◌||◌, not, Bool, true, false, eqb, get_or, List, [], ◌∷◌, ◌++◌, map, refl, sym, ap, ◌∙◌, subst, arith}
-use Rattle.std.specs.List.{All, flat_map}
-use Rattle.std.proofs.lemmas.List.Elements.{All-cons, All-head, All-map, All-nil, All-tail, All-weaker, filter_passes}
-use Rattle.std.proofs.lemmas.Bool.{eq-eqb, eqb-true}
-use Rattle.dex_types.specs.Rows.{PlainRow}
-use Rattle.dex_history.specs.Journal.{is_refusal}
-use Rattle.dex_fold.specs.Fold.{act, fold}
-use Rattle.dex_fold.specs.Groups.{alone, members}
-use Rattle.dex_fold.specs.Items.{Item, fold_items, items_of, rows_of_lane}
-use Rattle.dex_fold.specs.World.{World}
-use Rattle.dex_fold.proofs.GroupLaws.{EachTwo, grouped-flat}
+use Rattle.dex_fold.proofs.Common.{All-cons, All-head, All-map, All-nil, All-tail, All-weaker, EachTwo, PlainRow, World, act, alone, eq-eqb, eqb-true, filter_passes, flat_map, fold, fold_items, grouped-flat, is_refusal, members, rows_of_lane}
+use Rattle.dex_replay.proofs.Common.{HasNoSwap, IsAllOrNone, IsLawful, IsOneOrder, IsReplayOf, KeepsLanes, PlainOutcome, PlainScript, is_answered, start_world, was_held, world_after}
+use Rattle.std.specs.List.{All}
+use Rattle.dex_fold.specs.Items.{Item, items_of}
 use Rattle.dex_fold.proofs.ItemLaws.{alone-acts}
-use Rattle.dex_report.specs.Outcomes.{PlainOutcome}
-use Rattle.dex_script.specs.Drafts.{PlainScript}
-use Rattle.dex_script.specs.Facts.{HasNoSwap}
-use Rattle.dex_replay.specs.Lawful.{IsAllOrNone, IsLawful, is_answered, was_held}
-use Rattle.dex_replay.specs.Replays.{IsLeftByRows, IsLeftIn, IsReplayOf, start_world, world_after}
-use Rattle.dex_replay.specs.Runs.{IsOneOrder, IsOneOrderOfRows, KeepsLanes}
+use Rattle.dex_replay.specs.Replays.{IsLeftByRows, IsLeftIn}
+use Rattle.dex_replay.specs.Runs.{IsOneOrderOfRows}
 use Rattle.dex_replay.proofs.Groups.{each-two, each-two-filter, grouped-single, unfilter}
 use Rattle.dex_replay.proofs.MappedLists.{All-unmap}
 use Rattle.dex_replay.proofs.Orders.{each-item, lane-rows}

@@ -1,20 +1,10 @@
 -- What cells keep of the script with which they were opened.
 use Rattle.std.proofs.Common.{◌≡◌, List, map, refl, sym, ap, ◌∙◌, subst}
+use Rattle.dex_fold.proofs.Common.{All-map, MarketState, PlainAccount, PlainMarketAccounts, WalletState, map-id}
+use Rattle.dex_replay.proofs.Common.{AreCells, CellState, CellsState, MarketCellState, PlainScript, address_of, market_opened, market_state_of, opened, opened_of, rows_naming, rows_on, start_world, wallet_opened, wallet_state_of, world_of}
 use Rattle.std.specs.List.{All}
-use Rattle.std.proofs.lemmas.List.{map-id}
-use Rattle.std.proofs.lemmas.List.Elements.{All-map}
-use Rattle.dex_types.specs.Accounts.{PlainAccount, PlainMarketAccounts}
 use Rattle.dex_cell.specs.CellState as market
-use Rattle.dex_cell.specs.CellState.{IsMarketCell, MarketCellState}
 use Rattle.dex_wallet.specs.CellState as wallet
-use Rattle.dex_wallet.specs.CellState.{CellState, IsWalletCell}
-use Rattle.dex_dump.specs.Accepted.{address_of}
-use Rattle.dex_script.specs.Drafts.{PlainScript}
-use Rattle.dex_act.specs.Wallets.{wallet_state_of}
-use Rattle.dex_fold.specs.World.{MarketState, WalletState}
-use Rattle.dex_bank.specs.Cells.{AreCells, CellsState, market_state_of, opened_of, world_of}
-use Rattle.dex_bank.specs.Opened.{market_opened, opened, rows_naming, rows_on, wallet_opened}
-use Rattle.dex_replay.specs.Replays.{start_world}
 use Rattle.dex_replay.proofs.MappedLists.{All-across, map-agree, map-map}
 
 -- the wallet of a cell as it was when the cell was made

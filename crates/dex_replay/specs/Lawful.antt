@@ -16,9 +16,9 @@ use Rattle.dex_accounts.specs.Decoded.{market_in}
 use Rattle.dex_accounts.specs.StandsFor.{StandsFor}
 use Rattle.dex_instruction.specs.Reading.{decoded}
 use Rattle.dex_history.specs.Journal.{Call, IsLegal, asked_of, front, is_done, is_refusal, is_take, market_after, wallet_entry_of}
-use Rattle.dex_fold.specs.Fold.{names}
 use Rattle.dex_fold.specs.Groups.{members}
 use Rattle.dex_fold.specs.Items.{Item, items_of, rows_of_lane}
+pub use Rattle.dex_fold.specs.RowsOf.{rows_of_market, rows_of_wallet}
 use Rattle.dex_report.specs.Outcomes.{PlainMarketJournal, PlainOutcome, PlainWalletJournal}
 use Rattle.dex_script.specs.Drafts.{PlainScript}
 use Rattle.dex_token.specs.TokenAccount.{wallet_words, with_amount}
@@ -32,16 +32,6 @@ AllThree R (x ∷ xs) (y ∷ ys) (z ∷ zs) = R x y z × AllThree R xs ys zs
 AllThree R _ _ _ = ⊥
 
 -- ---- which rows a journal tells of
-
--- the rows of a lane on the market of an address
-abbrev pub rows_of_market : ℕ → Address → List PlainRow → List PlainRow
-rows_of_market lane address rows =
-    filter (λ (row : PlainRow). row.lane == lane) (filter (λ (row : PlainRow). is_same row.market address) rows)
-
--- the rows of a lane that name the wallet of an address
-abbrev pub rows_of_wallet : ℕ → Address → List PlainRow → List PlainRow
-rows_of_wallet lane address rows =
-    filter (λ (row : PlainRow). row.lane == lane) (filter (λ (row : PlainRow). names row address) rows)
 
 -- where a wallet's entry is from: the market, and the lane and the number of the row
 pub record Origin : Type 0 where

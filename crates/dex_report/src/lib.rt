@@ -15,6 +15,3 @@ pub use laws::one_reading;
 pub use made::make_script;
 pub use outcome::{MarketJournal, Outcome, WalletJournal};
 pub use report::report_text;
-
-#[cfg(test)]
-mod tests;

@@ -15,6 +15,3 @@ pub use pending_fills::PendingFills;
 pub use ring_check::check_events;
 pub use ring_ref::RingRef;
 pub use ring_view::RingView;
-
-#[cfg(test)]
-mod tests;

@@ -8,5 +8,3 @@ pub mod base64_words;
 pub mod numbers;
 pub mod printable;
 pub mod records;
-#[cfg(test)]
-mod tests;

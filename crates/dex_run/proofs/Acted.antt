@@ -1,21 +1,13 @@
 -- A row that acts on its market and on the cells in hand, and what is told of it.
 use Rattle.std.proofs.Common.{◌≡◌, ℕ, ◌+◌, List, [], map, sym, ap, ◌∙◌, subst, arith}
-use Rattle.std.specs.List.{All, AllZip}
-use Rattle.dex_types.specs.declared.movements.Entry.{Entry}
-use Rattle.dex_types.specs.declared.rows.Row.{Row}
-use Rattle.dex_types.specs.declared.rows.Seen.{Seen}
-use Rattle.dex_types.specs.Rows.{row_of}
-use Rattle.dex_history.specs.Journal.{Call, Sees, asked_of}
+use Rattle.dex_fold.proofs.Common.{AllZip, Call, Entry, Row, Seen, Sees, asked_of, row_of, seen_by}
+use Rattle.dex_replay.proofs.Common.{CellState, Fits, IsSight, IsWalletCell, MarketCellState, PlainScript, SeesCells, call_on, made_of, roles_of, states_acted, step_on, wallet_state_of}
+use Rattle.dex_order.proofs.Common.{MovesEach, Stamped}
+use Rattle.dex_run.proofs.Common.{AreInHand, HasEntry, world_in}
+use Rattle.std.specs.List.{All}
 use Rattle.dex_history.proofs.HeldLaws.{own-not_held}
-use Rattle.dex_cell.specs.CellState.{MarketCellState, call_on, market_at, step_on}
-use Rattle.dex_wallet.specs.CellState.{CellState, IsWalletCell}
-use Rattle.dex_fold.specs.World.{seen_by}
-use Rattle.dex_act.specs.Wallets.{Fits, SeesCells, made_of, roles_of, states_acted, wallet_state_of}
-use Rattle.dex_script.specs.Drafts.{PlainScript}
-use Rattle.dex_replay.specs.Lawful.{IsSight}
-use Rattle.dex_stamps.specs.Stamped.{Stamped}
-use Rattle.dex_order.specs.Lanes.{MovesEach}
-use Rattle.dex_run.specs.Turns.{AreInHand, HasEntry, IsTold, world_in}
+use Rattle.dex_cell.specs.CellState.{market_at}
+use Rattle.dex_run.specs.Turns.{IsTold}
 use Rattle.dex_run.proofs.InHand.{call_by, cells-named, have-entries, moves-each, sees-asked, sees-hand, sight}
 
 module _ (script : PlainScript) (row : Row) (cells lent : List CellState) (seen : Seen) (hand : AreInHand script (row_of row) [] cells) (value : lent ≡ cells)

@@ -1,16 +1,12 @@
 -- The addresses of a script's markets, and those of its wallets, are apart.
 use Rattle.std.proofs.Common.{◌≡◌, ◌≤◌, true, false, List, [], ◌∷◌, map, ap, arith, ⊎_elim}
+use Rattle.dex_fold.proofs.Common.{Address, All-cons, All-nil, PlainAccount, PlainAccounts, PlainMarketAccounts, cases_Bool, is_same, is_same-refl}
+use Rattle.dex_replay.proofs.Common.{AreAccepted}
+use Rattle.dex_order.proofs.Common.{market-once, wallet-once}
+use Rattle.dex_run.proofs.Common.{AreDistinct}
 use Rattle.std.specs.List.{All}
-use Rattle.std.proofs.lemmas.Bool.{cases_Bool}
-use Rattle.std.proofs.lemmas.List.Elements.{All-cons, All-nil}
 use Rattle.std.proofs.lemmas.List.Kept.{AllPairs-cons}
-use Rattle.dex_types.specs.declared.addresses.Address.{Address}
-use Rattle.dex_types.specs.Accounts.{PlainAccount, PlainAccounts, PlainMarketAccounts}
-use Rattle.dex_types.specs.Addresses.{is_same}
-use Rattle.dex_laws.proofs.TraderLaws.{is_same-refl}
-use Rattle.dex_dump.specs.Accepted.{AreAccepted, times}
-use Rattle.dex_places.specs.Places.{AreDistinct}
-use Rattle.dex_replay.proofs.Once.{market-once, wallet-once}
+use Rattle.dex_dump.specs.Accepted.{times}
 use Rattle.dex_run.proofs.Distinct.{one, times-cons}
 
 -- an address that stands nowhere among others is none of them

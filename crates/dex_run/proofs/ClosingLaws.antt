@@ -1,34 +1,17 @@
 -- What the gates give, when all seats are back, is what the lanes of the script made.
 use Rattle.std.proofs.Common.{◌≡◌, ℕ, zero, suc, ◌+◌, ◌<◌, List, Option, Vec, get_or, length, map, refl, sym, ap, ◌∙◌, subst}
-use Rattle.std.specs.List.{All, AllZip, range_with_len}
-use Rattle.std.proofs.lemmas.List.{length-map}
-use Rattle.std.proofs.lemmas.List.Elements.{All-map, All-weaker}
-use Rattle.dex_types.specs.declared.addresses.Address.{Address}
-use Rattle.dex_types.specs.declared.movements.WalletEntry.{WalletEntry}
+use Rattle.dex_fold.proofs.Common.{Address, All-map, All-weaker, AllZip, Call, PlainAccount, PlainMarketAccounts, WalletEntry, length-map, range_with_len, rows_of_lane}
+use Rattle.dex_replay.proofs.Common.{AreCells, CellState, IsMarketCell, IsWalletCell, MarketCellState, PlainOutcome, PlainScript}
+use Rattle.dex_order.proofs.Common.{BankMarketState, BankWalletState, IsBankMarket, IsBankWallet, IsLane, IsLaneDone, IsMarketMerged, IsWalletMerged, Lane, MarketOrigin, Stamped, WalletOrigin, calls_on, entries_on, map-map, market_calls, wallet_entries}
+use Rattle.dex_run.proofs.Common.{AreMarketsClosed, AreWalletsClosed, BankState, GateView, IsBank, IsDone, IsMarketClosed, IsMarketGate, IsMarketPassAt, IsSeat, IsSeatOf, IsWalletClosed, IsWalletGate, IsWalletPassAt, MarketColumns, PassView, SeatState, WalletColumns, added}
+use Rattle.std.specs.List.{All}
 use Rattle.dex_types.specs.declared.terms.Program.{Program}
-use Rattle.dex_types.specs.Accounts.{PlainAccount, PlainMarketAccounts}
-use Rattle.dex_cell.specs.CellState.{IsMarketCell, MarketCellState}
-use Rattle.dex_wallet.specs.CellState.{CellState, IsWalletCell}
 use Rattle.dex_act.specs.Wallets.{AreApart}
-use Rattle.dex_bank.specs.Cells.{AreCells}
 use Rattle.dex_bank.specs.Closed as cells
-use Rattle.dex_gate.specs.GateView.{GateView}
-use Rattle.dex_gate.specs.History.{added}
-use Rattle.dex_gate.specs.PassView.{PassView}
-use Rattle.dex_history.specs.Journal.{Call}
-use Rattle.dex_report.specs.Outcomes.{PlainOutcome}
-use Rattle.dex_script.specs.Drafts.{PlainScript}
-use Rattle.dex_replay.proofs.MappedLists.{map-map}
-use Rattle.dex_stamps.specs.Stamped.{Stamped}
-use Rattle.dex_journals.specs.Journals.{BankMarketState, BankWalletState, IsBankMarket, IsBankWallet, MarketOrigin, WalletOrigin, market_calls, wallet_entries}
-use Rattle.dex_journals.specs.StampedCalls.{calls_of_lane, calls_on, entries_of_lane, entries_on}
-use Rattle.dex_fold.specs.Items.{rows_of_lane}
-use Rattle.dex_order.specs.Lanes.{IsLane, IsLaneDone, Lane}
-use Rattle.dex_order.specs.Merged.{IsMarketMerged, IsWalletMerged}
+use Rattle.dex_journals.specs.StampedCalls.{calls_of_lane, entries_of_lane}
 use Rattle.dex_order.proofs.LastCells.{wallets-kept}
-use Rattle.dex_run.specs.Bank.{BankState, IsBank, IsMarketGate, IsWalletGate}
-use Rattle.dex_run.specs.Closing.{AreMarketsClosed, AreWalletsClosed, ClosesAs, IsMarketClosed, IsMarketPassAt, IsWalletClosed, IsWalletPassAt, MarketColumns, WalletColumns}
-use Rattle.dex_run.specs.Seats.{IsDone, IsSeat, IsSeatOf, SeatState, lane_in}
+use Rattle.dex_run.specs.Closing.{ClosesAs}
+use Rattle.dex_run.specs.Seats.{lane_in}
 use Rattle.dex_run.proofs.ColumnLists.{All-across, AllThree-length, AllZip-last_of}
 
 length-range : (first count : ℕ) → length (range_with_len first count) ≡ count

@@ -1,22 +1,10 @@
 -- The passes of all seats, gate by gate: they are all passes of their gates.
 use Rattle.std.proofs.Common.{◌≡◌, ℕ, zero, suc, ◌+◌, ◌<◌, ◌≤◌, ◌⊎◌, List, [], ◌∷◌, ◌++◌, Any, Some, Vec, drop, get_or, eq-or-lt_of_le, inl, inr, length, map, refl, sym, ap, ◌∙◌, subst, arith}
-use Rattle.std.specs.List.{AllZip, range_with_len}
-use Rattle.std.proofs.lemmas.Slice.Zip.{AllZip-long}
-use Rattle.dex_types.specs.declared.movements.WalletEntry.{WalletEntry}
-use Rattle.dex_types.specs.Accounts.{PlainAccount, PlainMarketAccounts}
-use Rattle.dex_gate.specs.declared.stage.Stage.TheVariants.{Idle}
-use Rattle.dex_gate.specs.GateView.{GateView}
-use Rattle.dex_gate.specs.PassView.{Accounts, AreAll, PassView}
-use Rattle.dex_history.specs.Journal.{Call}
-use Rattle.dex_script.specs.Drafts.{PlainScript}
-use Rattle.dex_replay.proofs.MappedLists.{any-there}
-use Rattle.dex_replay.specs.Lawful.{AllThree}
-use Rattle.dex_stamps.specs.Stamped.{Stamped}
-use Rattle.dex_journals.specs.Journals.{MarketOrigin, WalletOrigin}
-use Rattle.dex_run.specs.Bank.{BankState, IsBank, IsMarketGate, IsWalletGate}
-use Rattle.dex_run.specs.Closing.{IsMarketPassAt, IsWalletPassAt, MarketColumns, WalletColumns}
-use Rattle.dex_run.specs.Columns.{AreLonger, CanClose}
-use Rattle.dex_run.specs.Seats.{IsMarketPass, IsSeat, IsSeatOf, IsWalletPass, SeatState}
+use Rattle.dex_fold.proofs.Common.{AllZip, AllZip-long, Call, PlainAccount, PlainMarketAccounts, WalletEntry, range_with_len}
+use Rattle.dex_replay.proofs.Common.{AllThree, PlainScript}
+use Rattle.dex_order.proofs.Common.{MarketOrigin, Stamped, WalletOrigin, any-there}
+use Rattle.dex_run.proofs.Common.{AreLonger, BankState, CanClose, GateView, Idle, IsBank, IsMarketGate, IsMarketPass, IsMarketPassAt, IsSeat, IsSeatOf, IsWalletGate, IsWalletPass, IsWalletPassAt, MarketColumns, PassView, SeatState, WalletColumns}
+use Rattle.dex_gate.specs.PassView.{Accounts, AreAll}
 use Rattle.dex_run.proofs.ColumnLists.{All-second, AllThree-of, AllZip-of, columns-length, columns-more, map-across}
 
 -- ---- one seat more

@@ -1,11 +1,11 @@
 -- Lists that grow or shrink at their ends, place by place.
 use Rattle.std.proofs.Common.{◌≡◌, ℕ, zero, suc, ◌<◌, ◌≤◌, List, [], ◌∷◌, ◌++◌, length, get_or, set, reverse, map, Vec, vec_len, vec_capacity, refl, sym, ap, ◌∙◌, subst, arith, append_assoc, append-nil}
-use Rattle.std.specs.List.{All, AllZip}
+use Rattle.dex_fold.proofs.Common.{All-cons, All-head, All-nil, All-tail, AllZip, AllZip-long}
+use Rattle.dex_replay.proofs.Common.{AllThree}
+use Rattle.dex_run.proofs.Common.{AreLonger, IsLonger}
+use Rattle.std.specs.List.{All}
 use Rattle.std.proofs.lemmas.List.{reverse-append}
-use Rattle.std.proofs.lemmas.List.Elements.{All-nil, All-cons, All-head, All-tail}
-use Rattle.std.proofs.lemmas.Slice.Zip.{AllZip-long, all_zipped_more}
-use Rattle.dex_replay.specs.Lawful.{AllThree}
-use Rattle.dex_run.specs.Columns.{AreLonger, IsLonger}
+use Rattle.std.proofs.lemmas.Slice.Zip.{all_zipped_more}
 
 -- a list of no items
 pub none : {A : Type 0} (xs : List A) → length xs ≡ 0 → xs ≡ []

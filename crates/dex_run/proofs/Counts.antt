@@ -1,28 +1,14 @@
 -- How many calls a lane has made on a market and on a wallet, before one of its rows.
-use Rattle.std.proofs.Common.{◌≡◌, ℕ, ◌+◌, ◌<◌, ◌==◌, Bool, true, false, ◌||◌, cond, List, [], ◌∷◌, ◌++◌, length, map, take, refl, sym, ap, ◌∙◌, subst, arith, ⊎_elim}
-use Rattle.std.specs.List.{All, filter, list_any}
-use Rattle.std.proofs.lemmas.Bool.{cases_Bool, cond-true, cond-false, false≢true}
-use Rattle.std.proofs.lemmas.List.{length-append, length-map}
-use Rattle.std.proofs.lemmas.List.Elements.{All-head, All-tail, filter-append}
-use Rattle.dex_types.specs.declared.addresses.Address.{Address}
-use Rattle.dex_types.specs.declared.movements.Movement.{Movement}
-use Rattle.dex_types.specs.Addresses.{is_same}
-use Rattle.dex_types.specs.Rows.{PlainRow}
-use Rattle.dex_laws.proofs.TraderLaws.{is_same-sym}
-use Rattle.dex_history.specs.Journal.{Asked, Call, asked_of, asked_wallets, front}
+use Rattle.std.proofs.Common.{◌≡◌, ℕ, ◌+◌, ◌<◌, ◌==◌, Bool, true, false, cond, List, [], ◌∷◌, ◌++◌, length, map, take, refl, sym, ap, ◌∙◌, subst, arith, ⊎_elim}
+use Rattle.dex_fold.proofs.Common.{Address, All-head, All-tail, Asked, Call, Movement, PlainRow, asked-once, asked_of, asked_wallets, cases_Bool, cond-false, cond-true, filter, filter-append, is_same, is_same-sym, length-map, list_any, names, rows_of_lane}
+use Rattle.dex_replay.proofs.Common.{PlainScript, rows_of_market, rows_of_wallet}
+use Rattle.dex_order.proofs.Common.{MovesEach, Stamped, calls_on, entries_in, entries_on, entry_made, filter-of, filter-swap, items_of-stamped, stamped}
+use Rattle.dex_run.proofs.Common.{IsDue}
+use Rattle.std.specs.List.{All}
+use Rattle.std.proofs.lemmas.List.{length-append}
+use Rattle.dex_history.specs.Journal.{front}
 use Rattle.dex_history.proofs.AddressOrder.{times}
-use Rattle.dex_fold.specs.Fold.{names}
-use Rattle.dex_replay.specs.Lawful.{rows_of_market, rows_of_wallet}
-use Rattle.dex_script.specs.Drafts.{PlainScript}
-use Rattle.dex_stamps.specs.Stamped.{Stamped, stamped}
-use Rattle.dex_replay.proofs.MappedLists.{filter-of, filter-swap}
-use Rattle.dex_journals.proofs.StampedLists.{items_of-stamped}
-use Rattle.dex_journals.specs.StampedCalls.{calls_on, entries_in, entries_on, entry_made}
-use Rattle.dex_fold.specs.Items.{rows_of_lane}
-use Rattle.dex_order.specs.Lanes.{MovesEach}
-use Rattle.dex_order.proofs.CallEntries.{asked-once}
-use Rattle.dex_run.specs.Turns.{IsDue}
-use Rattle.dex_run.proofs.Once.{some-any}
+use Rattle.dex_fold.proofs.OnceLaws.{times-any}
 
 -- ---- filters
 
@@ -67,24 +53,7 @@ asks address asked = list_any (is_same address) (asked_wallets asked)
 
 pub entries-one : (address : Address) (call : Stamped Call) → MovesEach call.item
     → length (entries_in address call) ≡ cond (asks address call.item.asked) 1 0
-entries-one address call moves =
-    let here : length (entries_in address call) ≡ times address (asked_wallets call.item.asked) = entries-times address call moves in
-    ⊎_elim
-    (λ (some : asks address call.item.asked ≡ true).
-    rw some (omega (arith, here, some-any address (asked_wallets call.item.asked) some, asked-once call.item.asked address)))
-    (λ (none : asks address call.item.asked ≡ false).
-    rw none (here ∙ no-times address (asked_wallets call.item.asked) none))
-    (cases_Bool (asks address call.item.asked))
-  where
-    no-times : (address : Address) (addresses : List Address) → list_any (is_same address) addresses ≡ false → times address addresses ≡ 0
-    no-times address [] none = refl
-    no-times address (first ∷ others) none =
-        ⊎_elim
-        (λ (same : is_same address first ≡ true).
-        absurd (false≢true (sym none ∙ ap (λ (b : Bool). b || list_any (is_same address) others) same)))
-        (λ (apart : is_same address first ≡ false).
-        rw apart (omega (arith, no-times address others (subst (λ (b : Bool). (b || list_any (is_same address) others) ≡ false) apart none))))
-        (cases_Bool (is_same address first))
+entries-one address call moves = entries-times address call moves ∙ times-any address (asked_wallets call.item.asked) (asked-once call.item.asked)
 
 -- and of several
 length-entries : (address : Address) (calls : List (Stamped Call)) → All (λ (call : Stamped Call). MovesEach call.item) calls

@@ -1,14 +1,9 @@
 -- No two wallets of a script, and no two of its markets, have one address.
 use Rattle.std.proofs.Common.{◌≡◌, ℕ, ◌+◌, ◌≤◌, Bool, true, false, ◌||◌, cond, List, [], ◌∷◌, map, refl, ap, ◌∙◌, arith, ⊎_elim}
-use Rattle.std.specs.List.{list_any}
-use Rattle.std.proofs.lemmas.Bool.{cases_Bool}
-use Rattle.std.proofs.lemmas.List.Sums.{sum_by-cons}
-use Rattle.dex_types.specs.declared.addresses.Address.{Address}
-use Rattle.dex_types.specs.Accounts.{PlainAccount, PlainAccounts, PlainMarketAccounts}
-use Rattle.dex_types.specs.Addresses.{is_same}
-use Rattle.dex_laws.proofs.TraderLaws.{is_same-refl}
-use Rattle.dex_dump.specs.Accepted.{AreAccepted, times}
-use Rattle.dex_replay.proofs.Once.{market-once, wallet-once}
+use Rattle.dex_fold.proofs.Common.{Address, PlainAccount, PlainAccounts, PlainMarketAccounts, cases_Bool, is_same, is_same-refl, list_any, sum_by-cons}
+use Rattle.dex_replay.proofs.Common.{AreAccepted}
+use Rattle.dex_order.proofs.Common.{market-once, wallet-once}
+use Rattle.dex_dump.specs.Accepted.{times}
 use Rattle.dex_run.proofs.Growing.{Differ}
 
 abbrev pub one : Bool → ℕ

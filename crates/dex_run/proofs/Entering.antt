@@ -1,23 +1,11 @@
 -- The turn of a row's market: what is known when it is taken, and when it is left.
 use Rattle.std.proofs.Common.{◌≡◌, ℕ, ◌==◌, true, List, ◌++◌, length, max, sym, ap, ◌∙◌, subst, arith}
-use Rattle.std.proofs.Math.Nat.{le-max_left}
-use Rattle.dex_types.specs.declared.addresses.Address.{Address}
-use Rattle.dex_types.specs.Accounts.{PlainMarketAccounts}
-use Rattle.dex_types.specs.Addresses.{is_same}
-use Rattle.dex_types.specs.Rows.{PlainRow}
-use Rattle.dex_laws.proofs.TraderLaws.{is_same-refl}
-use Rattle.dex_gate.specs.GateView.{GateView}
-use Rattle.dex_gate.specs.History.{Extends, added, of_lane}
-use Rattle.dex_gate.specs.PassView.{PassView}
-use Rattle.dex_gate.specs.declared.stage.Stage.TheVariants.{Idle}
-use Rattle.dex_history.specs.Journal.{Call}
-use Rattle.dex_script.specs.Drafts.{PlainScript}
-use Rattle.dex_replay.specs.Lawful.{rows_of_market}
-use Rattle.dex_stamps.specs.Stamped.{Stamped}
-use Rattle.dex_journals.specs.Journals.{BankMarketState, MarketOrigin, calls_by, market_calls}
-use Rattle.dex_journals.specs.StampedCalls.{calls_on}
-use Rattle.dex_run.specs.Submitted.{HasCalled}
-use Rattle.dex_run.specs.Turns.{HasCall, IsDue, IsMarketOut, MayCall, MayEnter}
+use Rattle.dex_fold.proofs.Common.{Address, Call, PlainMarketAccounts, PlainRow, is_same, is_same-refl, le-max_left}
+use Rattle.dex_replay.proofs.Common.{PlainScript, rows_of_market}
+use Rattle.dex_order.proofs.Common.{BankMarketState, MarketOrigin, Stamped, calls_on, market_calls}
+use Rattle.dex_run.proofs.Common.{Extends, GateView, HasCall, HasCalled, Idle, IsDue, MayEnter, PassView, added, of_lane}
+use Rattle.dex_journals.specs.Journals.{calls_by}
+use Rattle.dex_run.specs.Turns.{IsMarketOut, MayCall}
 use Rattle.dex_run.proofs.Counts.{calls-left, length-stamped}
 use Rattle.dex_run.proofs.LeavingTurns.{has-called}
 

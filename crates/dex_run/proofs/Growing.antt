@@ -1,20 +1,10 @@
 -- Passes in declared order, one of which takes a turn.
 use Rattle.std.proofs.Common.{◌≡◌, ℕ, zero, suc, ◌<◌, ◌≤◌, Bool, true, false, ◌||◌, List, [], ◌∷◌, ◌++◌, length, set, get_or, Some, refl, sym, ap, ◌∙◌, subst, arith}
-use Rattle.std.specs.List.{AllZip, list_any}
-use Rattle.std.proofs.lemmas.Bool.{false≢true, or_parts, or_right}
-use Rattle.dex_types.specs.declared.addresses.Address.{Address}
-use Rattle.dex_types.specs.declared.movements.WalletEntry.{WalletEntry}
-use Rattle.dex_types.specs.Accounts.{PlainAccount}
-use Rattle.dex_types.specs.Addresses.{is_same}
-use Rattle.dex_laws.proofs.TraderLaws.{is_same-refl, is_same-sym}
-use Rattle.dex_gate.specs.GateView.{GateView}
-use Rattle.dex_gate.specs.PassView.{PassView}
-use Rattle.dex_replay.specs.Lawful.{AllThree}
-use Rattle.dex_stamps.specs.Stamped.{Stamped}
-use Rattle.dex_journals.specs.Journals.{WalletOrigin}
-use Rattle.dex_run.specs.Seats.{IsPass}
-use Rattle.dex_run.specs.Submitted.{HasMade, HasMoved, Where}
-use Rattle.dex_run.specs.Turns.{MayDraw, OneGrows}
+use Rattle.dex_fold.proofs.Common.{Address, AllZip, PlainAccount, WalletEntry, false≢true, is_same, is_same-refl, is_same-sym, list_any, or_parts, or_right}
+use Rattle.dex_replay.proofs.Common.{AllThree}
+use Rattle.dex_order.proofs.Common.{Stamped, WalletOrigin}
+use Rattle.dex_run.proofs.Common.{GateView, HasMoved, IsPass, MayDraw, OneGrows, PassView, Where}
+use Rattle.dex_run.specs.Submitted.{HasMade}
 
 -- ---- by place
 

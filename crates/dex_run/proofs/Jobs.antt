@@ -1,14 +1,11 @@
 -- The jobs of all lanes, and their seats.
-use Rattle.std.proofs.Common.{◌≡◌, ℕ, List, [], ◌∷◌, map, refl, sym, ap, ◌∙◌, subst}
-use Rattle.std.specs.List.{All, AllZip}
-use Rattle.std.proofs.lemmas.List.Elements.{All-cons, All-head, All-nil, All-tail}
-use Rattle.dex_types.specs.declared.rows.Row.{Row}
-use Rattle.dex_types.specs.Rows.{row_of}
-use Rattle.dex_script.specs.Drafts.{PlainScript}
-use Rattle.dex_run.specs.declared.lane.LaneJob.{LaneJob}
-use Rattle.dex_run.specs.Bank.{BankState}
-use Rattle.dex_run.specs.Running.{CanRun, HasRun, IsJobOf}
-use Rattle.dex_run.specs.Seats.{IsDone, IsSeatOf, SeatState}
+use Rattle.std.proofs.Common.{◌≡◌, List, [], ◌∷◌, map, sym, ap, ◌∙◌, subst}
+use Rattle.dex_fold.proofs.Common.{All-cons, All-head, All-nil, All-tail, AllZip, Row, row_of}
+use Rattle.dex_replay.proofs.Common.{PlainScript}
+use Rattle.dex_run.proofs.Common.{BankState, CanRun, HasRun, IsDone, IsJobOf, IsSeatOf, LaneJob, SeatState}
+use Rattle.std.specs.List.{All}
+use Rattle.dex_replay.proofs.MappedLists.{zip-map}
+use Rattle.dex_run.proofs.ColumnLists.{All-second}
 
 module _ {R P : Type 0} where
   -- a job may run where its seat may
@@ -59,21 +56,11 @@ seats-can_run bank rows script (seat ∷ seats) same are of_bank fresh =
     (seats-can_run bank rows script seats same are (All-tail (IsSeatOf bank) seat seats of_bank) (All-tail (λ (s : SeatState). s.calls ≡ []) seat seats fresh))
 
 pub after-of_bank : (bank : BankState) (before after : List SeatState) → AllZip (HasRun bank) before after → All (IsSeatOf bank) after
-after-of_bank bank [] [] ran = All-nil (IsSeatOf bank)
-after-of_bank bank [] (seat ∷ after) ran = absurd ran
-after-of_bank bank (seat ∷ before) [] ran = absurd ran
-after-of_bank bank (seat ∷ before) (done ∷ after) ran = All-cons (IsSeatOf bank) done after ran.0.of_bank (after-of_bank bank before after ran.1)
+after-of_bank bank before after ran = All-second (HasRun bank) (IsSeatOf bank) (λ seat done has. has.of_bank) before after ran
 
 pub after-done : (bank : BankState) (before after : List SeatState) → AllZip (HasRun bank) before after → All IsDone after
-after-done bank [] [] ran = All-nil IsDone
-after-done bank [] (seat ∷ after) ran = absurd ran
-after-done bank (seat ∷ before) [] ran = absurd ran
-after-done bank (seat ∷ before) (done ∷ after) ran = All-cons IsDone done after ran.0.done (after-done bank before after ran.1)
+after-done bank before after ran = All-second (HasRun bank) IsDone (λ seat done has. has.done) before after ran
 
 pub after-lanes : (bank : BankState) (before after : List SeatState) → AllZip (HasRun bank) before after
     → map (λ (seat : SeatState). seat.lane) after ≡ map (λ (seat : SeatState). seat.lane) before
-after-lanes bank [] [] ran = refl
-after-lanes bank [] (seat ∷ after) ran = absurd ran
-after-lanes bank (seat ∷ before) [] ran = absurd ran
-after-lanes bank (seat ∷ before) (done ∷ after) ran =
-    ap (λ (n : ℕ). n ∷ map (λ (s : SeatState). s.lane) after) ran.0.lane ∙ ap (λ (l : List ℕ). seat.lane ∷ l) (after-lanes bank before after ran.1)
+after-lanes bank before after ran = zip-map (HasRun bank) (λ (seat : SeatState). seat.lane) (λ (seat : SeatState). seat.lane) (λ seat done has. has.lane) before after ran

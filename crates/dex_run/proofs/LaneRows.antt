@@ -1,14 +1,9 @@
 -- The rows of a lane, one after the other.
 use Rattle.std.proofs.Common.{◌≡◌, ℕ, zero, suc, ◌+◌, ◌<◌, ◌≤◌, nat_eq, Bool, cond, List, [], ◌∷◌, ◌++◌, length, get_or, map, take, sym, ap, ◌∙◌, arith}
-use Rattle.std.proofs.lemmas.Bool.{eq-eqb}
-use Rattle.std.proofs.lemmas.List.{length-append, map-append, take_all, take_at, take_more}
-use Rattle.std.proofs.lemmas.List.Elements.{filter-append}
-use Rattle.dex_types.specs.declared.rows.Row.{Row}
-use Rattle.dex_types.specs.Rows.{PlainRow, row_of}
-use Rattle.dex_script.specs.Drafts.{PlainScript}
-use Rattle.dex_fold.specs.Items.{rows_of_lane}
-use Rattle.dex_run.specs.Seats.{IsDone, SeatState}
-use Rattle.dex_run.specs.Submitted.{IsNext}
+use Rattle.dex_fold.proofs.Common.{PlainRow, Row, eq-eqb, filter-append, row_of, rows_of_lane, take_all, take_at, take_more}
+use Rattle.dex_replay.proofs.Common.{PlainScript}
+use Rattle.dex_run.proofs.Common.{IsDone, IsNext, SeatState}
+use Rattle.std.proofs.lemmas.List.{length-append, map-append}
 
 rows_of_lane-append : (lane : ℕ) (xs ys : List PlainRow) → rows_of_lane lane (xs ++ ys) ≡ rows_of_lane lane xs ++ rows_of_lane lane ys
 rows_of_lane-append lane xs ys = filter-append (λ (row : PlainRow). nat_eq row.lane lane) xs ys

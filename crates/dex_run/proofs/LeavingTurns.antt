@@ -1,30 +1,17 @@
 -- What a turn leaves: the journal with one entry more, and the pass that has made it.
 use Rattle.std.proofs.Common.{◌≡◌, ℕ, ◌<◌, ◌==◌, Bool, true, cond, List, [], ◌∷◌, ◌++◌, length, sym, ap, ◌∙◌, subst, arith}
-use Rattle.std.proofs.lemmas.Bool.{eq-eqb}
+use Rattle.dex_fold.proofs.Common.{Address, Call, IsLegal, IsWalletLegal, PlainAccount, PlainMarketAccounts, WalletEntry, eq-eqb}
+use Rattle.dex_replay.proofs.Common.{CellState, balance_of, market_in, rows_of_wallet}
+use Rattle.dex_order.proofs.Common.{BankMarketState, BankWalletState, IsBankWallet, MarketOrigin, Stamped, TrailState, WalletOrigin, entries_by, entries_in, left_by, market_calls, stamped, wallet_entries}
+use Rattle.dex_run.proofs.Common.{AddsOne, Extends, GateView, HasCall, HasCalled, HasEntry, HasLeft, HasMoved, Idle, MayLeave, PassView, added, of_lane}
 use Rattle.std.proofs.lemmas.List.{length-append}
 use Rattle.std.proofs.Math.Seq.{drop-append_seam}
-use Rattle.dex_types.specs.declared.movements.WalletEntry.{WalletEntry}
-use Rattle.dex_types.specs.declared.addresses.Address.{Address}
-use Rattle.dex_types.specs.Accounts.{PlainAccount, PlainMarketAccounts}
-use Rattle.dex_types.specs.WalletJournal.{IsWalletLegal}
-use Rattle.dex_accounts.specs.Decoded.{market_in}
-use Rattle.dex_gate.specs.GateView.{GateView}
-use Rattle.dex_gate.specs.History.{AddsOne, Extends, added, of_lane}
-use Rattle.dex_gate.specs.PassView.{PassView}
 use Rattle.dex_gate.specs.declared.stage.Stage.{Stage}
-use Rattle.dex_gate.specs.declared.stage.Stage.TheVariants.{Idle}
-use Rattle.dex_history.specs.Journal.{Call, IsLegal}
-use Rattle.dex_wallet.specs.CellState.{CellState, balance_of}
-use Rattle.dex_replay.specs.Lawful.{rows_of_wallet}
-use Rattle.dex_stamps.specs.Stamped.{Stamped, items_of, stamped}
-use Rattle.dex_journals.specs.Journals.{BankMarketState, BankWalletState, IsBankWallet, MarketOrigin, MayComeBack, TrailState, WalletOrigin}
-use Rattle.dex_journals.specs.Journals.{entries_by, left_by, market_calls, wallet_entries}
-use Rattle.dex_journals.specs.StampedCalls.{entries_in}
+use Rattle.dex_stamps.specs.Stamped.{items_of}
+use Rattle.dex_journals.specs.Journals.{MayComeBack}
 use Rattle.dex_journals.proofs.MarketLaws.{items_of-calls}
 use Rattle.dex_journals.proofs.StampedLists.{stamped-more}
 use Rattle.dex_journals.proofs.WalletLaws.{items_of-entries}
-use Rattle.dex_run.specs.Submitted.{HasCalled, HasMoved}
-use Rattle.dex_run.specs.Turns.{HasCall, HasEntry, HasLeft, MayLeave}
 
 -- ---- one entry more
 

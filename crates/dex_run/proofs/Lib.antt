@@ -1,3 +1,4 @@
+pub mod Common
 pub mod ColumnLists
 pub mod ClosingPasses
 pub mod ClosingLaws
@@ -6,7 +7,6 @@ pub mod Seating
 pub mod Apart
 pub mod LaneRows
 pub mod Jobs
-mod Once
 mod Counts
 mod Growing
 mod Distinct

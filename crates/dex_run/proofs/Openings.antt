@@ -1,14 +1,11 @@
 -- Lists of gates and of the passes for them.
 use Rattle.std.proofs.Common.{◌≡◌, ℕ, zero, suc, ◌+◌, ◌<◌, ◌≤◌, List, [], ◌∷◌, ◌++◌, length, get_or, set, map, take, refl, sym, ap, ◌∙◌, subst, arith, Some}
-use Rattle.std.specs.List.{All, AllZip}
-use Rattle.std.proofs.lemmas.List.{map-append, take_more}
-use Rattle.std.proofs.lemmas.List.Elements.{All-cons, All-head, All-nil, All-tail}
-use Rattle.dex_types.specs.Rows.{PlainRow}
-use Rattle.dex_types.specs.Accounts.{PlainAccounts}
-use Rattle.dex_gate.specs.GateView.{GateView}
-use Rattle.dex_gate.specs.PassView.{PassView, first_pass, next_pass}
-use Rattle.dex_script.specs.Facts.{IsRowOf, lanes_of}
-use Rattle.dex_run.specs.Opened.{first_passes, fresh_pass, passes_of, split_once}
+use Rattle.dex_fold.proofs.Common.{All-cons, All-head, All-nil, All-tail, AllZip, PlainAccounts, PlainRow, take_more}
+use Rattle.dex_replay.proofs.Common.{IsRowOf, lanes_of}
+use Rattle.dex_run.proofs.Common.{GateView, PassView, first_passes, fresh_pass, next_pass, passes_of, split_once}
+use Rattle.std.specs.List.{All}
+use Rattle.std.proofs.lemmas.List.{map-append}
+use Rattle.dex_gate.specs.PassView.{first_pass}
 
 -- ---- lanes
 

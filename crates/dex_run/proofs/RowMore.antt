@@ -1,20 +1,10 @@
 -- A row that is submitted alone is an item of one call.
 use Rattle.std.proofs.Common.{◌≡◌, ℕ, ◌<◌, ◌≤◌, ◌||◌, ◌&&◌, not, Bool, true, false, eqb, List, [], ◌∷◌, ◌++◌, length, take, refl, ap, ◌∙◌, subst, arith}
+use Rattle.dex_fold.proofs.Common.{All-cons, All-nil, All-weaker, AllPairs-filter, Asked, Call, EachTwo, PlainRow, asked_of, is_refused, ne_eqb, rows_of_lane}
+use Rattle.dex_replay.proofs.Common.{HasNoSwap, IsSight, PlainScript}
+use Rattle.dex_order.proofs.Common.{IsAsOthers, IsLane, MovesEach, Stamped, each-two, number_in}
 use Rattle.std.specs.List.{All}
-use Rattle.std.proofs.lemmas.Bool.{ne_eqb}
-use Rattle.std.proofs.lemmas.List.Elements.{All-cons, All-nil, All-weaker}
-use Rattle.std.proofs.lemmas.List.Kept.{AllPairs-filter}
-use Rattle.dex_types.specs.Rows.{PlainRow}
-use Rattle.dex_history.specs.Journal.{Asked, Call, asked_of, is_refused}
-use Rattle.dex_fold.specs.Items.{rows_of_lane}
-use Rattle.dex_fold.proofs.GroupLaws.{EachTwo}
-use Rattle.dex_script.specs.Drafts.{PlainScript}
-use Rattle.dex_script.specs.Facts.{HasNoSwap}
-use Rattle.dex_stamps.specs.Stamped.{Stamped}
-use Rattle.dex_replay.specs.Lawful.{IsSight}
-use Rattle.dex_replay.proofs.Groups.{each-two}
 use Rattle.dex_replay.proofs.MappedLists.{All-across}
-use Rattle.dex_order.specs.Lanes.{IsAsOthers, IsLane, MovesEach, number_in}
 use Rattle.dex_order.proofs.LaneGrowth.{IsItemMore}
 use Rattle.dex_run.specs.Turns.{IsTold}
 use Rattle.dex_run.proofs.Taking.{all-midst}

@@ -1,37 +1,15 @@
 -- A seat before and after a row.
-use Rattle.std.proofs.Common.{◌≡◌, ℕ, zero, suc, ◌<◌, ◌≤◌, ◌==◌, Bool, true, false, ◌||◌, cond, List, [], ◌∷◌, ◌++◌, length, map, set, get_or, take, Some, refl, sym, ap, ◌∙◌, subst, arith}
-use Rattle.std.specs.List.{All, AllZip, list_any}
-use Rattle.std.proofs.lemmas.Bool.{eqb-true}
-use Rattle.std.proofs.lemmas.List.{append-nil, append_assoc, get_or-map, length-map}
-use Rattle.std.proofs.lemmas.List.Elements.{All-filter, All-push, All-weaker, filter-append, filter_passes}
-use Rattle.std.proofs.lemmas.Slice.Zip.{AllZip-long}
-use Rattle.dex_types.specs.declared.addresses.Address.{Address}
-use Rattle.dex_types.specs.declared.movements.WalletEntry.{WalletEntry}
-use Rattle.dex_types.specs.Accounts.{PlainAccount, PlainMarketAccounts}
-use Rattle.dex_types.specs.Addresses.{is_same}
-use Rattle.dex_types.specs.Rows.{PlainRow}
-use Rattle.dex_types.specs.Wallets.{row_wallets}
-use Rattle.dex_types.specs.WalletJournal.{IsWalletLegal}
-use Rattle.dex_laws.proofs.TraderLaws.{is_same-refl, is_same-sym}
-use Rattle.dex_gate.specs.GateView.{GateView}
-use Rattle.dex_accounts.specs.Decoded.{market_in}
-use Rattle.dex_history.specs.Journal.{Asked, Call, IsLegal, asked_of, asked_wallets}
-use Rattle.dex_fold.specs.Fold.{names}
-use Rattle.dex_places.specs.Places.{IsPlace}
-use Rattle.dex_script.specs.Drafts.{PlainScript}
-use Rattle.dex_script.specs.Facts.{IsRowOf, IsScript}
-use Rattle.dex_script.specs.Known.{has_market}
-use Rattle.dex_replay.specs.Lawful.{AllThree, IsSight}
-use Rattle.dex_wallet.specs.CellState.{balance_of}
-use Rattle.dex_stamps.specs.Stamped.{Stamped, items_of}
-use Rattle.dex_journals.specs.Journals.{MarketOrigin}
-use Rattle.dex_journals.specs.StampedCalls.{calls_on, entries_in, entries_on}
-use Rattle.dex_fold.specs.Items.{rows_of_lane}
-use Rattle.dex_order.specs.Lanes.{IsLane, MovesEach}
-use Rattle.dex_run.specs.Bank.{BankState, IsBank, IsMarketGate, market_addresses}
-use Rattle.dex_run.specs.Seats.{IsMarketPass, IsSeat, IsSeatOf, IsWalletPass, SeatState}
-use Rattle.dex_run.specs.Submitted.{HasCalled, HasSubmitted, IsNext, MarketGrows, WalletGrows, Where}
-use Rattle.dex_run.specs.Turns.{AreReady, HaveGrown, IsDue, IsTold, MayDraw, MayEnter}
+use Rattle.std.proofs.Common.{◌≡◌, ℕ, zero, suc, ◌<◌, ◌≤◌, ◌==◌, Bool, true, false, cond, List, [], ◌∷◌, ◌++◌, length, set, get_or, take, Some, refl, sym, ap, ◌∙◌, subst, arith}
+use Rattle.dex_fold.proofs.Common.{Address, All-filter, All-push, All-weaker, AllZip, AllZip-long, Asked, Call, IsLegal, IsWalletLegal, PlainAccount, PlainMarketAccounts, PlainRow, WalletEntry, asked_of, asked_wallets, eqb-true, filter-append, filter_passes, get_or-map, is_same, is_same-refl, is_same-sym, length-map, list_any, names, row_wallets, rows_of_lane}
+use Rattle.dex_replay.proofs.Common.{AllThree, IsRowOf, IsScript, IsSight, PlainScript, balance_of, has_market, market_in}
+use Rattle.dex_order.proofs.Common.{IsLane, MarketOrigin, MovesEach, Stamped, calls_on, entries_in, entries_on, list_any-map}
+use Rattle.dex_run.proofs.Common.{AreReady, BankState, GateView, HasCalled, HasSubmitted, HaveGrown, IsBank, IsDue, IsMarketGate, IsMarketPass, IsNext, IsPlace, IsSeat, IsSeatOf, IsWalletPass, MayDraw, MayEnter, SeatState, Where}
+use Rattle.std.specs.List.{All}
+use Rattle.std.proofs.lemmas.List.{append-nil, append_assoc}
+use Rattle.dex_stamps.specs.Stamped.{items_of}
+use Rattle.dex_run.specs.Bank.{market_addresses}
+use Rattle.dex_run.specs.Submitted.{MarketGrows, WalletGrows}
+use Rattle.dex_run.specs.Turns.{IsTold}
 use Rattle.dex_run.proofs.Counts.{entries-one}
 use Rattle.dex_run.proofs.Distinct.{markets-differ}
 use Rattle.dex_run.proofs.Entering.{MarketPass}
@@ -41,11 +19,6 @@ use Rattle.dex_run.proofs.RowMore.{row-more}
 use Rattle.dex_run.proofs.Taking.{all-midst, same-get, zip-at}
 
 -- ---- before
-
-any-markets : (address : Address) (markets : List PlainMarketAccounts)
-    → list_any (is_same address) (map (λ (accounts : PlainMarketAccounts). accounts.address) markets) ≡ has_market address markets
-any-markets address [] = refl
-any-markets address (market ∷ markets) = ap (λ (b : Bool). is_same address market.address || b) (any-markets address markets)
 
 draws : (lane other : ℕ) (calls : List (Stamped Call)) (others : List Address) (starts : List PlainAccount) (passes : List WalletPass) → other ≡ lane
     → AllZip (IsWalletPass lane calls) starts passes → AllZip (MayDraw other calls others) starts passes
@@ -91,7 +64,7 @@ module _ (bank : BankState) (row : PlainRow) (before : SeatState) (next : IsNext
 
   pub market-known : list_any (is_same row.market) (market_addresses bank.script) ≡ true
   market-known =
-      any-markets row.market bank.script.start.markets
+      list_any-map (is_same row.market) (λ (accounts : PlainMarketAccounts). accounts.address) bank.script.start.markets
       ∙ subst (λ (s : PlainScript). has_market row.market s.start.markets ≡ true) of.script row-fits.market
 
   module _ (kept : IsSeat before) where

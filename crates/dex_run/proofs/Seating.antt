@@ -1,21 +1,13 @@
 -- The seats of a script's lanes, when no row has acted.
 use Rattle.std.proofs.Common.{◌≡◌, ℕ, zero, suc, ◌+◌, ◌-◌, ◌<◌, ◌≤◌, List, [], ◌∷◌, ◌++◌, map, refl, sym, ap, ◌∙◌, subst, arith}
-use Rattle.std.specs.List.{All, AllZip, range_with_len}
+use Rattle.dex_fold.proofs.Common.{AllZip, Call, PlainAccount, PlainMarketAccounts, WalletEntry, range_with_len}
+use Rattle.dex_replay.proofs.Common.{CellState, MarketCellState, PlainScript, market_opened, wallet_opened}
+use Rattle.dex_order.proofs.Common.{MarketOrigin, Stamped, WalletOrigin}
+use Rattle.dex_run.proofs.Common.{BankState, GateView, IsMarketGate, IsPass, IsSeatOf, IsWalletGate, PassView, SeatState, first_passes, fresh_pass, passes_of, seat_in}
+use Rattle.std.specs.List.{All}
 use Rattle.std.proofs.lemmas.List.FromFn.{map-range_with_len_more}
-use Rattle.dex_types.specs.declared.movements.WalletEntry.{WalletEntry}
-use Rattle.dex_types.specs.Accounts.{PlainAccount, PlainMarketAccounts}
-use Rattle.dex_gate.specs.GateView.{GateView}
-use Rattle.dex_gate.specs.PassView.{PassView}
-use Rattle.dex_history.specs.Journal.{Call}
-use Rattle.dex_script.specs.Drafts.{PlainScript}
-use Rattle.dex_stamps.specs.Stamped.{Stamped}
-use Rattle.dex_cell.specs.CellState.{MarketCellState}
-use Rattle.dex_wallet.specs.CellState.{CellState}
-use Rattle.dex_bank.specs.Opened.{market_opened, wallet_opened}
-use Rattle.dex_journals.specs.Journals.{MarketOrigin, WalletOrigin}
-use Rattle.dex_run.specs.Bank.{BankState, IsGate, IsMarketGate, IsWalletGate}
-use Rattle.dex_run.specs.Opened.{first_passes, fresh_pass, fresh_seat, passes_of, seat_in}
-use Rattle.dex_run.specs.Seats.{IsPass, IsSeatOf, SeatState}
+use Rattle.dex_run.specs.Bank.{IsGate}
+use Rattle.dex_run.specs.Opened.{fresh_seat}
 use Rattle.dex_run.proofs.Openings.{all-mapped, firsts-last, firsts-some, passes-of_gates, zip-map, zip-unmap}
 
 -- ---- passes of a lane

@@ -1,43 +1,22 @@
 -- The turn of a row's next wallet: what is known when it is taken, and when it is left.
-use Rattle.std.proofs.Common.{◌≡◌, ℕ, zero, suc, ◌+◌, ◌-◌, ◌<◌, ◌==◌, Bool, true, false, ◌||◌, cond, List, [], ◌∷◌, ◌++◌, drop, length, map, set, take, get_or, Option, Some, None, refl, sym, ap, ◌∙◌, subst, arith}
-use Rattle.std.specs.List.{All, AllZip, list_any}
-use Rattle.std.proofs.lemmas.Bool.{cond_both, or_left, or_right}
-use Rattle.std.proofs.lemmas.List.{get_or-map, length-map}
-use Rattle.std.proofs.lemmas.List.Elements.{All-nil, All-cons, All-head, All-tail, All-push}
+use Rattle.std.proofs.Common.{◌≡◌, ℕ, zero, suc, ◌+◌, ◌-◌, ◌<◌, ◌==◌, true, false, List, [], ◌∷◌, ◌++◌, drop, length, map, set, take, get_or, Option, Some, None, refl, sym, ap, ◌∙◌, subst, arith}
+use Rattle.dex_fold.proofs.Common.{Address, All-head, All-push, All-tail, AllZip, AllZip-long, Call, PlainAccount, PlainRow, WalletEntry, asked-once, asked_of, get_or-map, is_same, is_same-refl, length-map, list_any, names, once-head, or_left, or_right}
+use Rattle.dex_replay.proofs.Common.{AllThree, CellState, PlainScript, has_account, rows_of_wallet}
+use Rattle.dex_order.proofs.Common.{Stamped, TrailState, WalletOrigin, entries_by, entries_on, left_by, list_any-map, roles-all, wallet_entries}
+use Rattle.dex_run.proofs.Common.{AreInHand, AreReady, BankState, GateView, HasEntry, HasLeft, HasMoved, HaveGrown, Idle, IsBank, IsDue, IsPlace, IsReady, IsWalletGate, MayDraw, MayLeave, OneGrows, added, of_lane}
+use Rattle.std.specs.List.{All}
 use Rattle.std.proofs.Math.Seq.{take-length}
-use Rattle.std.proofs.lemmas.Slice.Zip.{AllZip-long}
-use Rattle.dex_types.specs.declared.addresses.Address.{Address}
-use Rattle.dex_types.specs.declared.movements.WalletEntry.{WalletEntry}
-use Rattle.dex_types.specs.Accounts.{PlainAccount}
-use Rattle.dex_types.specs.Addresses.{is_same}
-use Rattle.dex_types.specs.Rows.{PlainRow}
-use Rattle.dex_types.specs.Wallets.{is_lower, row_wallets, with_address, with_role}
-use Rattle.dex_laws.proofs.TraderLaws.{is_same-refl}
-use Rattle.dex_gate.specs.GateView.{GateView}
-use Rattle.dex_gate.specs.History.{added, of_lane}
-use Rattle.dex_gate.specs.declared.stage.Stage.TheVariants.{Idle, Out}
-use Rattle.dex_history.specs.Journal.{Call, asked_of}
+use Rattle.dex_gate.specs.declared.stage.Stage.TheVariants.{Out}
 use Rattle.dex_locks.specs.Places.{front}
-use Rattle.dex_places.specs.Places.{IsPlace}
-use Rattle.dex_fold.specs.Fold.{names}
-use Rattle.dex_wallet.specs.CellState.{CellState}
-use Rattle.dex_script.specs.Drafts.{PlainScript}
-use Rattle.dex_script.specs.Facts.{IsRowOf}
-use Rattle.dex_script.specs.Known.{has_account, is_known_role}
-use Rattle.dex_replay.specs.Lawful.{AllThree, rows_of_wallet}
-use Rattle.dex_stamps.specs.Stamped.{Stamped}
-use Rattle.dex_journals.specs.Journals.{TrailState, WalletOrigin, entries_by, left_by, wallet_entries, wallet_origin}
-use Rattle.dex_journals.specs.StampedCalls.{entries_on}
+use Rattle.dex_fold.proofs.OnceLaws.{AreOnce, once-behind}
+use Rattle.dex_journals.specs.Journals.{wallet_origin}
 use Rattle.dex_journals.proofs.WalletLaws.{spare-wallet}
-use Rattle.dex_order.proofs.CallEntries.{asked-once}
-use Rattle.dex_run.specs.Bank.{BankState, IsBank, IsWalletGate, wallet_addresses}
-use Rattle.dex_run.specs.Submitted.{HasMoved}
-use Rattle.dex_run.specs.Turns.{AreInHand, AreReady, HasEntry, HasLeft, HaveGrown, IsDue, IsOut, IsReady, MayDraw, MayLeave, OneGrows, first_in}
+use Rattle.dex_run.specs.Bank.{wallet_addresses}
+use Rattle.dex_run.specs.Turns.{IsOut, first_in}
 use Rattle.dex_run.proofs.Counts.{entries-left, length-stamped}
 use Rattle.dex_run.proofs.Distinct.{wallets-differ}
 use Rattle.dex_run.proofs.Growing.{Differ, IsAtGate, WalletPass, drawn-ready, gates-set, one-grows, still-out}
 use Rattle.dex_run.proofs.LeavingTurns.{has-moved}
-use Rattle.dex_run.proofs.Once.{AreOnce, once-behind, once-head}
 
 -- ---- lists
 
@@ -86,32 +65,6 @@ all-midst P (y ∷ before) x behind all = all-midst P before x behind (All-tail 
 
 -- ---- the wallets of a row
 
-with-all : (P : Address → Type 0) (address : Address) (addresses : List Address) → P address → All P addresses → All P (with_address address addresses)
-with-all P address [] here all = All-cons P address [] here (All-nil P)
-with-all P address (first ∷ others) here all =
-    cond_both (is_same address first) (first ∷ others) (cond (is_lower address first) (address ∷ first ∷ others) (first ∷ with_address address others)) (All P)
-    (λ same. all)
-    (λ apart.
-    cond_both (is_lower address first) (address ∷ first ∷ others) (first ∷ with_address address others) (All P)
-    (λ lower. All-cons P address (first ∷ others) here all)
-    (λ higher. All-cons P first (with_address address others) (All-head P first others all) (with-all P address others here (All-tail P first others all))))
-
-role-all : (wallets : List PlainAccount) (role : Option Address) (addresses : List Address) → is_known_role wallets role ≡ true
-    → All (λ (address : Address). has_account address wallets ≡ true) addresses → All (λ (address : Address). has_account address wallets ≡ true) (with_role role addresses)
-role-all wallets None addresses known all = all
-role-all wallets (Some address) addresses known all = with-all (λ (a : Address). has_account a wallets ≡ true) address addresses known all
-
--- each is one of the start's
-row-known : (script : PlainScript) (row : PlainRow) → IsRowOf script.start row → All (λ (address : Address). has_account address script.start.wallets ≡ true) (row_wallets row)
-row-known script row fits =
-    role-all script.start.wallets row.coin _ fits.coin
-    (role-all script.start.wallets row.pc _ fits.pc
-    (role-all script.start.wallets row.discount _ fits.discount (role-all script.start.wallets row.referrer [] fits.referrer (All-nil _))))
-
-any-addresses : (address : Address) (accounts : List PlainAccount) → list_any (is_same address) (map (λ (account : PlainAccount). account.address) accounts) ≡ has_account address accounts
-any-addresses address [] = refl
-any-addresses address (account ∷ accounts) = ap (λ (b : Bool). is_same address account.address || b) (any-addresses address accounts)
-
 -- one in the midst is among them
 any-midst : (before : List Address) (address : Address) (behind : List Address) → list_any (is_same address) (before ++ address ∷ behind) ≡ true
 any-midst [] address behind = or_left (is_same address address) (list_any (is_same address) behind) (is_same-refl address)
@@ -131,9 +84,9 @@ module _ (bank : BankState) (row : PlainRow) (calls : List (Stamped _)) (address
   -- it is one of the start's
   pub known : list_any (is_same address) (wallet_addresses bank.script) ≡ true
   known =
-      any-addresses address starts
+      list_any-map (is_same address) (λ (account : PlainAccount). account.address) starts
       ∙ all-midst (λ (a : Address). has_account a starts ≡ true) (map address_in hands) address others
-      (subst (All (λ (a : Address). has_account a starts ≡ true)) (sym hand.are) (row-known bank.script row due.fits))
+      (subst (All (λ (a : Address). has_account a starts ≡ true)) (sym hand.are) (roles-all (λ (a : Address). has_account a starts ≡ true) bank.script.start (λ a is. is) row due.fits))
 
   -- and none of those behind it
   pub none : list_any (is_same address) others ≡ false
@@ -374,13 +327,3 @@ grown-none call [] (p ∷ passes) long = absurd (omega (arith, long))
 grown-none call (start ∷ starts) [] long = absurd (omega (arith, long))
 grown-none call (start ∷ starts) (p ∷ passes) long = (refl, grown-none call starts passes (omega (arith, long)))
 
--- the last of cells that were in hand
-pub last-of : {A : Type 0} (R : A → A → Type 0) (xs : List A) (x : A) (ys : List A) (y : A) → AllZip R (xs ++ x ∷ []) (ys ++ y ∷ []) → AllZip R xs ys × R x y
-last-of R [] x [] y all = (tt, all.0)
-last-of R [] x (z ∷ []) y all = absurd all.1
-last-of R [] x (z ∷ w ∷ ys) y all = absurd all.1
-last-of R (z ∷ []) x [] y all = absurd all.1
-last-of R (z ∷ w ∷ xs) x [] y all = absurd all.1
-last-of R (z ∷ xs) x (w ∷ ys) y all =
-    let rest = last-of R xs x ys y all.1 in
-    ((all.0, rest.0), rest.1)

@@ -25,7 +25,8 @@ pub(crate) fn role_at(hands: &[WalletCell], role: Option<Address>) -> Option<Wal
 /// The last entry of a market's journal.
 pub(crate) fn last_entry(market: &MarketCell) -> Entry
     requires { 0 < length market.now.calls }
-    ensures { (calls : List Call) (call : Call) → market.now.calls ≡ calls ++ call ∷ [] → result ≡ call.entry }
+    ensures { (calls : List Call) (call : Call) → market.now.calls ≡ calls ++ call ∷ []
+        → result ≡ call.entry }
 {
     let entries = market.entries();
     entries[entries.len() - 1]

@@ -7,7 +7,7 @@ ghost use Rattle.dex_types.specs.Addresses as addresses;
 ghost use Rattle.dex_dump.specs.Reading as dumps;
 ghost use Rattle.dex_script.specs.Known as spec;
 
-use dex_dump::{MarketPart, derived};
+use dex_make::{MarketPart, derived};
 use dex_types::{Address, Named, is_same};
 
 /// The addresses that a market row declares: the market's, and those of its vaults, queues, sides and the vaults'

@@ -10,8 +10,8 @@ ghost use Rattle.dex_make.specs.MarketSet.{IsMarketSet};
 ghost use Rattle.dex_script.specs.Known.{orders_at};
 ghost use Rattle.dex_script.specs.Rows as spec;
 
-use dex_dump::MarketSet;
 use dex_instruction::decode;
+use dex_make::MarketSet;
 use dex_statement::{FaultKind, MarketWords, SetupCode};
 use dex_types::{Address, Ix, MarketAccounts, NoMemory, OrdersAccount, is_same};
 

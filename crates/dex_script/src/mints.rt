@@ -10,8 +10,8 @@ ghost use Rattle.dex_script.specs.Known as spec;
 ghost use Rattle.dex_script.specs.Mints.{AreMints, words_of};
 
 use crate::known::has_account;
-use dex_dump::make_mint;
 use dex_fields::{get_u64, mint, put_u64};
+use dex_make::make_mint;
 use dex_token::MintRef;
 use dex_types::{Address, Named, NoMemory, is_same};
 use std::alloc::Global;

@@ -8,7 +8,7 @@ ghost use Rattle.dex_script.specs.Telling.{draft_of};
 use crate::draft::Draft;
 use crate::known::{is_among, is_any_among, made_addresses};
 use crate::markets::{add_orders, exceeds_market, orders_at, set_of};
-use dex_dump::{make_market, make_orders, make_wallet};
+use dex_make::{make_market, make_orders, make_wallet};
 use dex_statement::{FaultKind, MarketWords, RowError, SetupCode};
 use dex_types::{Address, Named, OrdersAccount, Program};
 use std::alloc::Global;

@@ -17,6 +17,3 @@ pub use lifecycle::{decide_close, decide_init};
 pub use plan::SettlePlan;
 pub use settle::{apply_settle, decide_settle};
 pub use sweep::{apply_sweep, decide_sweep};
-
-#[cfg(test)]
-mod tests;

@@ -11,10 +11,8 @@ pub mod nodes;
 mod pieces;
 mod pool;
 mod reading;
-#[cfg(test)]
 mod refused;
 mod remove;
-#[cfg(test)]
 mod rewriting;
 mod search;
 mod set_lots;
@@ -27,6 +25,3 @@ mod walks;
 pub use making::{blank, made_size};
 pub use slab_ref::SlabRef;
 pub use slab_view::SlabView;
-
-#[cfg(test)]
-mod tests;

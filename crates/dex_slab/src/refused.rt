@@ -1,5 +1,5 @@
-//! Bodies that the contracts of a side refuse: each does all that its call promises but one thing, and the edits in
-//! `must-fail` put it in the call's place.
+//! A body that the contract of a side refuses: it does all that its call promises but one thing. Nothing calls it; an edit in
+//! `must-fail` puts it in the call's place.
 
 ghost use Rattle.std.specs.Prelude.{◌≡◌, ◌+◌, Some};
 ghost use Rattle.dex_types.specs.declared.terms.Side as sides;
@@ -11,8 +11,6 @@ ghost use Rattle.dex_slab.specs.Walks.{RestsOn, nodes_given};
 
 use crate::pool::take_node;
 use crate::remove;
-use dex_fields::slab::ACCOUNT_FLAGS;
-use dex_fields::{Field, put_u8, put_u64};
 use dex_types::Order;
 
 /// Takes the order of an id off the side, and loses one of its nodes: it is neither in the tree nor free again.
@@ -29,30 +27,4 @@ pub(crate) fn remove_order(bytes: &mut [u8], id: u128) -> Order
     let order = remove::remove_order(bytes, id);
     take_node(bytes);
     order
-}
-
-/// Clears the account's flags, which stand before the slab.
-pub(crate) fn clear_flags(bytes: &mut [u8])
-    requires { IsSlab bytes.old }
-    ensures slab { IsSlab bytes.new }
-    ensures orders { (side : sides.Side) → resting side bytes.new ≡ resting side bytes.old }
-    ensures bump { bump_of bytes.new ≡ bump_of bytes.old }
-    ensures freed { free_len_of bytes.new ≡ free_len_of bytes.old }
-{
-    put_u64(bytes, ACCOUNT_FLAGS, 0);
-}
-
-/// Clears the last byte of the account, which is one of its text at the end.
-pub(crate) fn clear_end(bytes: &mut [u8])
-    requires { IsSlab bytes.old }
-    ensures slab { IsSlab bytes.new }
-    ensures orders { (side : sides.Side) → resting side bytes.new ≡ resting side bytes.old }
-    ensures bump { bump_of bytes.new ≡ bump_of bytes.old }
-    ensures freed { free_len_of bytes.new ≡ free_len_of bytes.old }
-{
-    let last = Field {
-        at: bytes.len() - 1,
-        len: 1,
-    };
-    put_u8(bytes, last, 0);
 }

@@ -1,17 +1,16 @@
-//! Bodies that write a whole new tree: each does all that its call promises, but that few nodes change. The edits in `must-fail`
-//! put them in the calls' places.
+//! A body that writes a whole new tree: it does all that its call promises, but that few nodes change. Nothing calls it; an edit
+//! in `must-fail` puts it in the call's place.
 
-ghost use Rattle.std.specs.Prelude.{◌≡◌, ◌+◌, ◌-◌, ◌<◌, ◌≤◌, Some};
-ghost use Rattle.dex_types.specs.BookSide.{CanRest, with_lots};
-ghost use Rattle.dex_types.specs.Cancel.{order_with, without_order};
+ghost use Rattle.std.specs.Prelude.{◌≡◌, ◌+◌, ◌-◌, ◌<◌};
+ghost use Rattle.dex_types.specs.BookSide.{CanRest};
 ghost use Rattle.dex_types.specs.Posting.{posted};
 ghost use Rattle.dex_slab.specs.Changes.{KeepsFrame};
 ghost use Rattle.dex_slab.specs.Nodes.{bump_of, count_of, free_len_of};
 ghost use Rattle.dex_slab.specs.Slab.{IsSlab, resting, room_in, tree_of};
-ghost use Rattle.dex_slab.specs.Walks.{RestsOn, nodes_given, nodes_taken};
+ghost use Rattle.dex_slab.specs.Walks.{RestsOn, nodes_taken};
 
 use crate::reading::best;
-use crate::{insert, remove, set_lots};
+use crate::{insert, remove};
 use dex_types::{Order, Side};
 
 /// Takes all orders off into a list, which is the stack of these calls, and writes a whole new tree of them: more than
@@ -44,34 +43,5 @@ pub(crate) fn insert_order(bytes: &mut [u8], order: Order, side: Side)
     ensures frame { KeepsFrame bytes.old bytes.new }
 {
     insert::insert_order(bytes, order);
-    write_whole_tree(bytes, side);
-}
-
-/// Takes the order of an id off the side, and writes a whole new tree of the others.
-pub(crate) fn remove_order(bytes: &mut [u8], id: u128, side: Side) -> Order
-    requires slab { IsSlab bytes.old }
-    requires rests { RestsOn id (tree_of bytes.old) }
-    ensures order { order_with id (resting side bytes.old) ≡ Some result }
-    ensures slab { IsSlab bytes.new }
-    ensures orders { resting side bytes.new ≡ without_order id (resting side bytes.old) }
-    ensures bump { bump_of bytes.new ≡ bump_of bytes.old }
-    ensures freed { free_len_of bytes.new ≡ free_len_of bytes.old + nodes_given (count_of bytes.old) }
-    ensures frame { KeepsFrame bytes.old bytes.new }
-{
-    let order = remove::remove_order(bytes, id);
-    write_whole_tree(bytes, side);
-    order
-}
-
-/// Gives the order of an id other lots, and writes a whole new tree.
-pub(crate) fn set_order_lots(bytes: &mut [u8], id: u128, lots: u64, side: Side)
-    requires slab { IsSlab bytes.old }
-    requires rests { RestsOn id (tree_of bytes.old) }
-    requires lots { 1 ≤ lots }
-    ensures slab { IsSlab bytes.new }
-    ensures orders { resting side bytes.new ≡ with_lots id lots (resting side bytes.old) }
-    ensures frame { KeepsFrame bytes.old bytes.new }
-{
-    set_lots::set_order_lots(bytes, id, lots);
     write_whole_tree(bytes, side);
 }

@@ -4,13 +4,9 @@
 mod check;
 mod check_free;
 mod check_nodes;
-#[cfg(test)]
-mod check_tests;
 mod check_tree;
 mod numbers;
 mod slab_fault;
-#[cfg(test)]
-mod tests;
 
 pub use check::{is_slab_size, is_well_formed};
 pub use slab_fault::SlabFault;

@@ -4,8 +4,6 @@
 
 mod kept;
 mod stamp;
-#[cfg(test)]
-mod tests;
 
 pub use kept::Kept;
 pub use stamp::Stamp;

@@ -19,6 +19,3 @@ pub use instruction::InstructionWords;
 pub use parties::Parties;
 pub use setup::MarketWords;
 pub use statement::{Statement, statement_of};
-
-#[cfg(test)]
-mod tests;

@@ -8,8 +8,8 @@ use Rattle.dex_types.specs.Accounts.{PlainMarketAccounts}
 use Rattle.dex_types.specs.Rows.{PlainRow}
 use Rattle.dex_types.specs.Steps.{Step, done}
 use Rattle.dex_accounts.specs.Decoded.{AreSound, market_in}
-use Rattle.dex_decide.specs.declared.plan.Plan.{Plan}
-use Rattle.dex_decide.specs.Plans.{decided}
+use Rattle.dex_plan.specs.declared.plan.Plan.{Plan}
+use Rattle.dex_plan.specs.Plans.{decided}
 use Rattle.dex_history.specs.Journal.{request_of, row_step}
 use Rattle.dex_ring.specs.declared.pending_fills.PendingFills.{PendingFills}
 use Rattle.dex_ring.specs.PendingFills.{pending_fills_of}

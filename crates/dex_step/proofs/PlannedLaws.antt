@@ -34,9 +34,9 @@ use Rattle.dex_history.proofs.PriceLaws.{decoded-priced, row-sound}
 use Rattle.dex_match.specs.declared.order_terms.Taker.{Taker}
 use Rattle.dex_ring.specs.PendingFills.{pending_fills_of}
 use Rattle.dex_take.specs.TakeTerms.{bare_take, take_of}
-use Rattle.dex_decide.specs.declared.plan.Plan.{Plan}
-use Rattle.dex_decide.specs.declared.plan.Plan.TheVariants as plans
-use Rattle.dex_decide.specs.Plans as planning
+use Rattle.dex_plan.specs.declared.plan.Plan.{Plan}
+use Rattle.dex_plan.specs.declared.plan.Plan.TheVariants as plans
+use Rattle.dex_plan.specs.Plans as planning
 use Rattle.dex_settle.specs.declared.plan.SettlePlan.{SettlePlan}
 use Rattle.dex_settle.specs.PayingOut.{PaysOut, plan_of, settlement_by}
 use Rattle.dex_step.specs.CancelActs.{cancel_step}

@@ -5,8 +5,8 @@ use Rattle.dex_types.specs.Market.{Market}
 use Rattle.dex_types.specs.Requests.{Request}
 use Rattle.dex_types.specs.Steps.{Step, done}
 use Rattle.dex_cancel.specs.Cancelling.{named_by}
-use Rattle.dex_decide.specs.declared.plan.Plan.{Plan}
-use Rattle.dex_decide.specs.declared.plan.Plan.TheVariants as plans
+use Rattle.dex_plan.specs.declared.plan.Plan.{Plan}
+use Rattle.dex_plan.specs.declared.plan.Plan.TheVariants as plans
 use Rattle.dex_step.specs.CancelActs.{IsCancelDecided, cancel_step}
 use Rattle.dex_step.specs.ConsumeActs.{consume_step}
 use Rattle.dex_step.specs.FundActs.{IsCloseDecided, IsDisableDecided, IsInitDecided, IsSettleDecided, IsSweepDecided, close_step, disable_step, init_step, settle_step, sweep_step}

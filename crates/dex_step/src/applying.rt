@@ -1,8 +1,8 @@
 //! What a row does, once it was decided.
 
 ghost use Rattle.dex_accounts.specs.Decoded.{AreSound};
-ghost use Rattle.dex_decide.specs.Given.{asked_by, market_of};
-ghost use Rattle.dex_decide.specs.Plans.{decided};
+ghost use Rattle.dex_plan.specs.Given.{asked_by, market_of};
+ghost use Rattle.dex_plan.specs.Plans.{decided};
 ghost use Rattle.dex_history.specs.Journal.{row_step};
 ghost use Rattle.dex_ring.specs.PendingFills.{pending_fills_of};
 ghost use Rattle.dex_step.specs.Acting.{HasStepped, KeepsAccounts};
@@ -15,7 +15,7 @@ use crate::acting_events::consume_row;
 use crate::acting_funds::{close_row, disable_row, init_row, settle_row, sweep_row};
 use crate::acting_orders::order_row;
 use crate::acting_takes::take_row;
-use dex_decide::Plan;
+use dex_plan::Plan;
 use dex_ring::PendingFills;
 use dex_types::{Address, MarketAccounts, Reply, Row, Seen};
 

@@ -10,7 +10,7 @@ use Rattle.dex_types.specs.Accounts.{market_accounts_of}
 use Rattle.dex_types.specs.Rows.{row_of}
 use Rattle.dex_types.specs.Soundness.{AreDistinct}
 use Rattle.dex_accounts.specs.Decoded.{AreSound}
-use Rattle.dex_decide.specs.Given.{market_of}
+use Rattle.dex_plan.specs.Given.{market_of}
 use Rattle.dex_history.specs.Journal.{Agree, Sees, asked_of}
 use Rattle.dex_make.specs.MarketBytes.{blank_orders}
 use Rattle.dex_ring.specs.declared.pending_fills.PendingFills.{PendingFills}

@@ -13,6 +13,3 @@ pub use apply::apply_take;
 pub use decide::{decide_take, decide_take_with_pending};
 pub use laws::{a_take_leaves_the_market_after_it, what_is_decided_is_the_markets};
 pub use plan::{DecidedTake, TakePlan};
-
-#[cfg(test)]
-mod tests;

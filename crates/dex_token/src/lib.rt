@@ -9,6 +9,3 @@ mod wallet;
 pub use mint::MintRef;
 pub use token_check::{check_mint, check_wallet};
 pub use wallet::{WalletRef, WalletView};
-
-#[cfg(test)]
-mod tests;

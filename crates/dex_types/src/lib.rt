@@ -17,6 +17,7 @@ mod replies;
 mod rows;
 mod sides;
 mod terms;
+mod texts;
 
 pub use account_bytes::{Accounts, MarketAccounts, Named, OrdersAccount};
 pub use addresses::{Address, is_same};
@@ -31,6 +32,3 @@ pub use replies::Reply;
 pub use rows::{Row, Seen, WalletSeen};
 pub use sides::{SideBook, SideRead};
 pub use terms::{Lots, NoMemory, OrderType, Program, SelfTrade, Side, Tier};
-
-#[cfg(test)]
-mod tests;

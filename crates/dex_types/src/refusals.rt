@@ -3,13 +3,13 @@ ghost use Rattle.dex_types.specs.Text.{refusal_text};
 
 use crate::addresses::Address;
 use crate::instructions::BadData;
-use itoa::Buffer;
+use crate::texts::{with_address, with_one, with_two};
 use std::fmt;
 use thiserror::Error;
 
 /// Why an instruction was refused, with the values that were read. Where several reasons hold, the first in this
 /// order is given. A refusal leaves all accounts as they were.
-#[derive(Clone, Copy, Debug, PartialEq, Eq, Error)]
+#[derive(Clone, Copy, PartialEq, Eq, Error)]
 pub enum Refusal {
     /// The instruction data does not decode, by this rule.
     BadData(BadData),
@@ -61,48 +61,65 @@ pub enum Refusal {
     SumTooLarge { vault: u128, pending: u128 },
 }
 
+/// For programmers it prints as for everybody.
+impl fmt::Debug for Refusal {
+    fn fmt<W: fmt::Write>(&self, f: &mut fmt::Formatter<W>) -> fmt::Result {
+        write!(f, "{self}")
+    }
+}
+
 impl fmt::Display for Refusal {
     ghost output = { λ r. Some (refusal_text r) };
 
     fn fmt<W: fmt::Write>(&self, f: &mut fmt::Formatter<W>) -> fmt::Result {
-        match self {
-            Refusal::BadData(rule) => write!(f, "refused 1 BadData {}", rule.number()),
-            Refusal::MarketDisabled => write!(f, "refused 2 MarketDisabled"),
-            Refusal::NoAccount => write!(f, "refused 3 NoAccount"),
-            Refusal::AccountExists => write!(f, "refused 4 AccountExists"),
-            Refusal::NotOwner { owner } => write!(f, "refused 5 NotOwner {owner}"),
+        match *self {
+            Refusal::BadData(rule) => with_one(f, "refused 1 BadData", rule.number() as u128),
+            Refusal::MarketDisabled => f.write_str("refused 2 MarketDisabled"),
+            Refusal::NoAccount => f.write_str("refused 3 NoAccount"),
+            Refusal::AccountExists => f.write_str("refused 4 AccountExists"),
+            Refusal::NotOwner { owner } => with_address(f, "refused 5 NotOwner", owner),
             Refusal::NotAuthority { authority } => {
-                write!(f, "refused 6 NotAuthority {authority}")
+                with_address(f, "refused 6 NotAuthority", authority)
             }
-            Refusal::WrongMint { mint } => write!(f, "refused 7 WrongMint {mint}"),
-            Refusal::WalletNotSigned { owner } => write!(f, "refused 8 WalletNotSigned {owner}"),
-            Refusal::NotEmpty { slots, funds } => write!(f, "refused 9 NotEmpty {slots} {funds}"),
-            Refusal::TooManyOpenOrders => write!(f, "refused 10 TooManyOpenOrders"),
-            Refusal::AskTooLarge => write!(f, "refused 11 AskTooLarge"),
-            Refusal::SequenceExhausted => write!(f, "refused 12 SequenceExhausted"),
+            Refusal::WrongMint { mint } => with_address(f, "refused 7 WrongMint", mint),
+            Refusal::WalletNotSigned { owner } => {
+                with_address(f, "refused 8 WalletNotSigned", owner)
+            }
+            Refusal::NotEmpty { slots, funds } => {
+                with_two(f, "refused 9 NotEmpty", slots as u128, funds)
+            }
+            Refusal::TooManyOpenOrders => f.write_str("refused 10 TooManyOpenOrders"),
+            Refusal::AskTooLarge => f.write_str("refused 11 AskTooLarge"),
+            Refusal::SequenceExhausted => f.write_str("refused 12 SequenceExhausted"),
             Refusal::TimePast { now, max } => write!(f, "refused 13 TimePast {now} {max}"),
-            Refusal::OrderNotFound => write!(f, "refused 14 OrderNotFound"),
-            Refusal::SideMismatch => write!(f, "refused 15 SideMismatch"),
-            Refusal::OrderNotYours { owner } => write!(f, "refused 16 OrderNotYours {owner}"),
-            Refusal::ClientIdZero => write!(f, "refused 17 ClientIdZero"),
-            Refusal::ClientIdNotFound => write!(f, "refused 18 ClientIdNotFound"),
-            Refusal::WouldSelfTrade { order } => {
-                let mut buffer = Buffer::new();
-                let order = buffer.format(*order);
-                write!(f, "refused 19 WouldSelfTrade {order}")
-            }
-            Refusal::BelowMinimum { got } => write!(f, "refused 20 BelowMinimum {got}"),
+            Refusal::OrderNotFound => f.write_str("refused 14 OrderNotFound"),
+            Refusal::SideMismatch => f.write_str("refused 15 SideMismatch"),
+            Refusal::OrderNotYours { owner } => with_address(f, "refused 16 OrderNotYours", owner),
+            Refusal::ClientIdZero => f.write_str("refused 17 ClientIdZero"),
+            Refusal::ClientIdNotFound => f.write_str("refused 18 ClientIdNotFound"),
+            Refusal::WouldSelfTrade { order } => with_one(f, "refused 19 WouldSelfTrade", order),
+            Refusal::BelowMinimum { got } => with_one(f, "refused 20 BelowMinimum", got as u128),
             Refusal::EventQueueFull { needed, room } => {
-                write!(f, "refused 21 EventQueueFull {needed} {room}")
+                with_two(f, "refused 21 EventQueueFull", needed as u128, room as u128)
             }
             Refusal::InsufficientFunds { needed, balance } => {
-                write!(f, "refused 22 InsufficientFunds {needed} {balance}")
+                with_two(
+                    f,
+                    "refused 22 InsufficientFunds",
+                    needed as u128,
+                    balance as u128,
+                )
             }
             Refusal::BalanceTooLarge { balance, amount } => {
-                write!(f, "refused 23 BalanceTooLarge {balance} {amount}")
+                with_two(
+                    f,
+                    "refused 23 BalanceTooLarge",
+                    balance as u128,
+                    amount as u128,
+                )
             }
             Refusal::SumTooLarge { vault, pending } => {
-                write!(f, "refused 24 SumTooLarge {vault} {pending}")
+                with_two(f, "refused 24 SumTooLarge", vault, pending)
             }
         }
     }

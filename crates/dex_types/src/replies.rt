@@ -1,7 +1,10 @@
+ghost use Rattle.std.specs.Fmt.{DisplaysOnOk};
 ghost use Rattle.std.specs.Prelude.{Some};
+ghost use Rattle.dex_types.specs.declared.replies.Reply.TheVariants.{Ordered};
 ghost use Rattle.dex_types.specs.Text.{reply_text};
 
 use crate::refusals::Refusal;
+use crate::texts::{with_one, with_three};
 use itoa::Buffer;
 use std::fmt;
 
@@ -45,7 +48,7 @@ impl fmt::Display for Reply {
     ghost output = { λ r. Some (reply_text r) };
 
     fn fmt<W: fmt::Write>(&self, f: &mut fmt::Formatter<W>) -> fmt::Result {
-        match self {
+        match *self {
             Reply::Ordered {
                 id,
                 slot,
@@ -53,20 +56,34 @@ impl fmt::Display for Reply {
                 pc,
                 fee,
                 rested,
-            } => {
-                let mut buffer = Buffer::new();
-                let id = buffer.format(*id);
-                write!(f, "ok order {id} {slot} {lots} {pc} {fee} {rested}")
-            }
-            Reply::Took { lots, pc, fee } => write!(f, "ok take {lots} {pc} {fee}"),
-            Reply::Cancelled(count) => write!(f, "ok cancelled {count}"),
-            Reply::Consumed(count) => write!(f, "ok consumed {count}"),
+            } => ordered(f, id, slot, lots, pc, fee, rested),
+            Reply::Took { lots, pc, fee } => with_three(f, "ok take", lots, pc, fee),
+            Reply::Cancelled(count) => with_one(f, "ok cancelled", count as u128),
+            Reply::Consumed(count) => with_one(f, "ok consumed", count as u128),
             Reply::Settled { coin, pc, referrer } => {
-                write!(f, "ok settled {coin} {pc} {referrer}")
+                with_three(f, "ok settled", coin, pc, referrer)
             }
-            Reply::Swept(pc) => write!(f, "ok swept {pc}"),
-            Reply::Done => write!(f, "ok done"),
+            Reply::Swept(pc) => with_one(f, "ok swept", pc as u128),
+            Reply::Done => f.write_str("ok done"),
             Reply::Refused(why) => write!(f, "{why}"),
         }
     }
+}
+
+/// What an order that was taken prints.
+fn ordered<W: fmt::Write>(
+    f: &mut fmt::Formatter<W>,
+    id: u128,
+    slot: u8,
+    lots: u64,
+    pc: u64,
+    fee: u64,
+    rested: u64,
+) -> fmt::Result
+    ensures { DisplaysOnOk W.write_str_gives f.old result
+        (Some (reply_text (Ordered id slot lots pc fee rested))) f.new }
+{
+    let mut buffer = Buffer::new();
+    let id = buffer.format(id);
+    write!(f, "ok order {id} {slot} {lots} {pc} {fee} {rested}")
 }

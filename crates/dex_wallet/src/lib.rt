@@ -10,6 +10,3 @@ mod wallet_cell;
 
 pub use parcel::Parcel;
 pub use wallet_cell::WalletCell;
-
-#[cfg(test)]
-mod tests;

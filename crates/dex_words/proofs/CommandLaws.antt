@@ -9,7 +9,7 @@ use Rattle.dex_rows.proofs.NumberLaws.{number_of-decimal, number_of-only}
 use Rattle.dex_words.specs.Commands.{command_of, count_of, counted_command, plain_command, with_numbers, within}
 use Rattle.dex_words.specs.Spelling.{IsWithin, spelling}
 use Rattle.dex_words.specs.declared.command.Command.{Command}
-use Rattle.dex_words.specs.declared.command.Command.TheVariants.{Replay, Run, Dump, Audit, Make, Bulk, Migrate}
+use Rattle.dex_words.specs.declared.command.Command.TheVariants.{Replay, Run, Dump, Audit, Worth, Make, Bulk, Migrate}
 
 -- a word is a name where the test says so
 named : (word name : List ℕ) → bytes_eq word name ≡ true → word ≡ name
@@ -72,15 +72,19 @@ spelled-as words c d is spelled fits = subst (λ (x : Command). IsSpelled words 
 
 plain-only : (name : List ℕ) (c : Command) → plain_command name ≡ Some c → IsSpelled (name ∷ []) c
 plain-only name c e =
-    go (bytes_eq name (codes "replay")) (bytes_eq name (codes "run")) (bytes_eq name (codes "dump")) (bytes_eq name (codes "audit")) refl refl refl refl e
+    go (bytes_eq name (codes "replay")) (bytes_eq name (codes "run")) (bytes_eq name (codes "dump")) (bytes_eq name (codes "audit")) (bytes_eq name (codes "worth"))
+    refl refl refl refl refl e
   where
-    go : (p o q r : Bool) → bytes_eq name (codes "replay") ≡ p → bytes_eq name (codes "run") ≡ o → bytes_eq name (codes "dump") ≡ q → bytes_eq name (codes "audit") ≡ r
-        → (if p then Some Replay else (if o then Some Run else (if q then Some Dump else (if r then Some Audit else None)))) ≡ Some c → IsSpelled (name ∷ []) c
-    go true o q r is-p is-o is-q is-r e = spelled-as (name ∷ []) c Replay (cc (sym e)) (ap (λ (w : List ℕ). w ∷ []) (named name (codes "replay") is-p)) tt
-    go false true q r is-p is-o is-q is-r e = spelled-as (name ∷ []) c Run (cc (sym e)) (ap (λ (w : List ℕ). w ∷ []) (named name (codes "run") is-o)) tt
-    go false false true r is-p is-o is-q is-r e = spelled-as (name ∷ []) c Dump (cc (sym e)) (ap (λ (w : List ℕ). w ∷ []) (named name (codes "dump") is-q)) tt
-    go false false false true is-p is-o is-q is-r e = spelled-as (name ∷ []) c Audit (cc (sym e)) (ap (λ (w : List ℕ). w ∷ []) (named name (codes "audit") is-r)) tt
-    go false false false false is-p is-o is-q is-r e = cc e
+    go : (p o q r s : Bool) → bytes_eq name (codes "replay") ≡ p → bytes_eq name (codes "run") ≡ o → bytes_eq name (codes "dump") ≡ q → bytes_eq name (codes "audit") ≡ r
+        → bytes_eq name (codes "worth") ≡ s
+        → (if p then Some Replay else (if o then Some Run else (if q then Some Dump else (if r then Some Audit else (if s then Some Worth else None))))) ≡ Some c
+        → IsSpelled (name ∷ []) c
+    go true o q r s is-p is-o is-q is-r is-s e = spelled-as (name ∷ []) c Replay (cc (sym e)) (ap (λ (w : List ℕ). w ∷ []) (named name (codes "replay") is-p)) tt
+    go false true q r s is-p is-o is-q is-r is-s e = spelled-as (name ∷ []) c Run (cc (sym e)) (ap (λ (w : List ℕ). w ∷ []) (named name (codes "run") is-o)) tt
+    go false false true r s is-p is-o is-q is-r is-s e = spelled-as (name ∷ []) c Dump (cc (sym e)) (ap (λ (w : List ℕ). w ∷ []) (named name (codes "dump") is-q)) tt
+    go false false false true s is-p is-o is-q is-r is-s e = spelled-as (name ∷ []) c Audit (cc (sym e)) (ap (λ (w : List ℕ). w ∷ []) (named name (codes "audit") is-r)) tt
+    go false false false false true is-p is-o is-q is-r is-s e = spelled-as (name ∷ []) c Worth (cc (sym e)) (ap (λ (w : List ℕ). w ∷ []) (named name (codes "worth") is-s)) tt
+    go false false false false false is-p is-o is-q is-r is-s e = cc e
 
 three : (a b c a' b' c' : List ℕ) → a ≡ a' → b ≡ b' → c ≡ c' → (a ∷ b ∷ c ∷ []) ≡ (a' ∷ b' ∷ c' ∷ [])
 three a b c a' b' c' x y z = rw (x, y, z) refl
@@ -141,6 +145,7 @@ spelled-read Replay fits = refl
 spelled-read Run fits = refl
 spelled-read Dump fits = refl
 spelled-read Audit fits = refl
+spelled-read Worth fits = refl
 spelled-read (Make number rows) (fits, least, few) =
     ap₂ (with_numbers Make) (number_of-decimal (2 ^ 64) number fits (omega arith)) (count-decimal 20000 rows (omega arith) least few)
 spelled-read (Bulk number rows) (fits, least, few) =

@@ -2,7 +2,7 @@
 use Rattle.std.specs.Prelude.{ℕ, ◌^◌, ◌==◌, Bool, false, ◌&&◌, nat_le, if◌then◌else◌, List, [], ◌∷◌, bytes_eq, codes, Option, Some, None, option_and_then}
 use Rattle.dex_rows.specs.Numbers.{number_of}
 use Rattle.dex_words.specs.declared.command.Command.{Command}
-use Rattle.dex_words.specs.declared.command.Command.TheVariants.{Replay, Run, Dump, Audit, Make, Bulk, Migrate}
+use Rattle.dex_words.specs.declared.command.Command.TheVariants.{Replay, Run, Dump, Audit, Worth, Make, Bulk, Migrate}
 
 -- a number that is 1 at least and at most the greatest
 abbrev pub within : ℕ → ℕ → Option ℕ
@@ -23,7 +23,8 @@ plain_command name =
     if bytes_eq name (codes "replay") then Some Replay
     else (if bytes_eq name (codes "run") then Some Run
     else (if bytes_eq name (codes "dump") then Some Dump
-    else (if bytes_eq name (codes "audit") then Some Audit else None)))
+    else (if bytes_eq name (codes "audit") then Some Audit
+    else (if bytes_eq name (codes "worth") then Some Worth else None))))
 
 -- the command that is a name and two numbers
 abbrev pub counted_command : List ℕ → List ℕ → List ℕ → Option Command

@@ -2,7 +2,7 @@
 use Rattle.std.specs.Prelude.{⊤, ◌<◌, ◌≤◌, ◌^◌, ℕ, List, [], ◌∷◌, codes}
 use Rattle.std.specs.Fmt.{decimal}
 use Rattle.dex_words.specs.declared.command.Command.{Command}
-use Rattle.dex_words.specs.declared.command.Command.TheVariants.{Replay, Run, Dump, Audit, Make, Bulk, Migrate}
+use Rattle.dex_words.specs.declared.command.Command.TheVariants.{Replay, Run, Dump, Audit, Worth, Make, Bulk, Migrate}
 
 -- the words that a command is
 abbrev pub spelling : Command → List (List ℕ)
@@ -10,6 +10,7 @@ spelling Replay = codes "replay" ∷ []
 spelling Run = codes "run" ∷ []
 spelling Dump = codes "dump" ∷ []
 spelling Audit = codes "audit" ∷ []
+spelling Worth = codes "worth" ∷ []
 spelling (Make number rows) = codes "make" ∷ decimal number ∷ decimal rows ∷ []
 spelling (Bulk number rows) = codes "bulk" ∷ decimal number ∷ decimal rows ∷ []
 spelling (Migrate nodes events) = codes "migrate" ∷ decimal nodes ∷ decimal events ∷ []

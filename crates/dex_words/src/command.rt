@@ -20,6 +20,8 @@ pub enum Command {
     Dump,
     /// Reads a dump, and writes that it has no finding, or its findings.
     Audit,
+    /// Reads a script, lets its rows act one after the other, and writes what each account of each market is worth.
+    Worth,
     /// Writes the made script of a number, with this many rows, from 1 to 20,000.
     Make { number: u64, rows: u32 },
     /// Makes that script, replays it, and writes the summary.

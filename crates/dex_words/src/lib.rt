@@ -5,8 +5,6 @@ mod command;
 pub mod laws;
 mod positionals;
 mod reading;
-#[cfg(test)]
-mod tests;
 
 pub use command::{Command, WordsError};
 pub use reading::read_words;

@@ -73,6 +73,7 @@ fn plain_command(name: &str) -> Option<Command>
         "run" => Some(Command::Run),
         "dump" => Some(Command::Dump),
         "audit" => Some(Command::Audit),
+        "worth" => Some(Command::Worth),
         _ => None,
     }
 }

@@ -1,5 +1,5 @@
 use Rattle.std.proofs.Common.{◌≡◌, map, take}
-use Rattle.dex_types.specs.Accounts.{market_accounts_of}
+use Rattle.dex_fold.proofs.Common.{market_accounts_of}
 use Rattle.dex_bank.proofs.copying.market_copies.Given as goal
 
 abbrev pub invariant-loop-accounts : goal.invariant-loop-accounts

@@ -1,5 +1,5 @@
 use Rattle.std.proofs.Common.{◌≡◌, map, take}
-use Rattle.dex_types.specs.Accounts.{named_of}
+use Rattle.dex_fold.proofs.Common.{named_of}
 use Rattle.dex_bank.proofs.copying.named_copies.Given as goal
 
 abbrev pub invariant-loop-account : goal.invariant-loop-account

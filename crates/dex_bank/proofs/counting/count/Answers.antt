@@ -1,6 +1,6 @@
 use Rattle.std.proofs.Common.{ℕ, ◌+◌, Option, unwrap_or, ap, ◌∙◌}
+use Rattle.dex_fold.proofs.Common.{is_same}
 use Rattle.std.specs.HashMap.{get}
-use Rattle.dex_types.specs.Addresses.{is_same}
 use Rattle.dex_bank.proofs.OpenCounts.{counted-once}
 use Rattle.dex_bank.proofs.counting.count.Goals as goal
 

@@ -1,5 +1,5 @@
+use Rattle.dex_fold.proofs.Common.{row_of}
 use Rattle.std.proofs.lemmas.Result.{on_ok_weaker}
-use Rattle.dex_types.specs.Rows.{row_of}
 use Rattle.dex_bank.specs.Counts.{times}
 use Rattle.dex_bank.proofs.OpenCounts.{counted-roles}
 use Rattle.dex_bank.proofs.counting.count_wallets.Goals as goal

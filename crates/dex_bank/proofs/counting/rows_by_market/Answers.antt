@@ -1,9 +1,7 @@
 use Rattle.std.proofs.Common.{ℕ, ◌+◌, Bool, map, take, ap, ◌∙◌, sym, arith}
-use Rattle.dex_types.specs.Addresses.{is_same}
-use Rattle.dex_types.specs.Rows.{PlainRow, row_of}
-use Rattle.dex_laws.proofs.TraderLaws.{is_same-sym}
+use Rattle.dex_fold.proofs.Common.{PlainRow, is_same, is_same-sym, row_of}
+use Rattle.dex_bank.proofs.Common.{rows_on}
 use Rattle.dex_bank.specs.Counts.{one}
-use Rattle.dex_bank.specs.Opened.{rows_on}
 use Rattle.dex_bank.proofs.OpenCounts.{counted-le, counted-more}
 use Rattle.dex_bank.proofs.counting.rows_by_market.Goals as goal
 

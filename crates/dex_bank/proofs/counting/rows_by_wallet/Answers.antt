@@ -1,6 +1,5 @@
 use Rattle.std.proofs.Common.{ℕ, ◌+◌, ap, ◌∙◌, sym, arith}
-use Rattle.dex_types.specs.Rows.{PlainRow, row_of}
-use Rattle.dex_fold.specs.Fold.{names}
+use Rattle.dex_fold.proofs.Common.{PlainRow, names, row_of}
 use Rattle.dex_bank.specs.Counts.{one}
 use Rattle.dex_bank.proofs.OpenCounts.{counted-le, counted-more}
 use Rattle.dex_bank.proofs.counting.rows_by_wallet.Goals as goal

@@ -1,8 +1,7 @@
 use Rattle.std.proofs.Common.{map, ap, ◌∙◌}
-use Rattle.dex_types.specs.Accounts.{market_accounts_of}
-use Rattle.dex_types.specs.Rows.{row_of}
+use Rattle.dex_fold.proofs.Common.{market_accounts_of, row_of}
+use Rattle.dex_bank.proofs.Common.{market_opened}
 use Rattle.dex_cell.specs.CellState.{new_cell}
-use Rattle.dex_bank.specs.Opened.{market_opened}
 use Rattle.dex_bank.proofs.OpenLists.{mapped-more}
 use Rattle.dex_bank.proofs.opening.market_cells.Goals as goal
 

@@ -1,7 +1,6 @@
 use Rattle.std.proofs.Common.{◌≡◌, map}
-use Rattle.dex_types.specs.Accounts.{market_accounts_of}
-use Rattle.dex_types.specs.Rows.{row_of}
-use Rattle.dex_bank.specs.Opened.{market_opened}
+use Rattle.dex_fold.proofs.Common.{market_accounts_of, row_of}
+use Rattle.dex_bank.proofs.Common.{market_opened}
 use Rattle.dex_bank.proofs.opening.market_cells.Given as goal
 
 abbrev pub invariant-loop-accounts : goal.invariant-loop-accounts

@@ -1,9 +1,6 @@
 use Rattle.std.proofs.Common.{map}
-use Rattle.dex_types.specs.Accounts.{accounts_of, market_accounts_of, named_of}
-use Rattle.dex_types.specs.Rows.{row_of}
-use Rattle.dex_token.specs.TokenAccount.{IsWallet}
-use Rattle.dex_accounts.specs.Accepted.{IsAccepted}
-use Rattle.dex_accounts.specs.Decoded.{AreSound}
+use Rattle.dex_fold.proofs.Common.{accounts_of, market_accounts_of, named_of, row_of}
+use Rattle.dex_bank.proofs.Common.{AreSound, IsAccepted, IsWallet}
 use Rattle.dex_bank.proofs.OpenCells.{AreCells-opened}
 use Rattle.dex_bank.proofs.OpenLists.{unmapped}
 use Rattle.dex_bank.proofs.opening.opened.Goals as goal

@@ -1,9 +1,8 @@
 use Rattle.std.proofs.Common.{List, ◌∷◌, [], ◌++◌, map, ap, ◌∙◌}
-use Rattle.std.proofs.lemmas.List.Elements.{All-push, All-same}
-use Rattle.dex_types.specs.Accounts.{named_of}
-use Rattle.dex_types.specs.Rows.{row_of}
-use Rattle.dex_wallet.specs.CellState.{CellState, IsWalletCell, new_cell}
-use Rattle.dex_bank.specs.Opened.{wallet_opened}
+use Rattle.dex_fold.proofs.Common.{All-push, named_of, row_of}
+use Rattle.dex_bank.proofs.Common.{CellState, IsWalletCell, wallet_opened}
+use Rattle.std.proofs.lemmas.List.Elements.{All-same}
+use Rattle.dex_wallet.specs.CellState.{new_cell}
 use Rattle.dex_bank.proofs.OpenLists.{mapped-more}
 use Rattle.dex_bank.proofs.opening.wallet_cells.Goals as goal
 

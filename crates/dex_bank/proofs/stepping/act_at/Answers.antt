@@ -1,10 +1,8 @@
 use Rattle.std.proofs.Common.{◌≡◌, get_or, sym, ◌∙◌, subst}
-use Rattle.std.proofs.lemmas.List.{get_or_read}
-use Rattle.dex_types.specs.Rows.{row_of}
-use Rattle.dex_cell.specs.CellState.{MarketCellState, step_on}
+use Rattle.dex_fold.proofs.Common.{get_or_read, row_of}
+use Rattle.dex_bank.proofs.Common.{HaveActed, MarketCellState, step_on}
 use Rattle.dex_act.proofs.Made.{AreApart-acted}
 use Rattle.dex_act.specs.Wallets.{AreApart}
-use Rattle.dex_bank.specs.Stepping.{HaveActed}
 use Rattle.dex_bank.proofs.stepping.act_at.Goals as goal
 
 pub returns-clause-wallets : goal.returns-clause-wallets

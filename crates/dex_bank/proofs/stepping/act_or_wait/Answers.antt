@@ -1,19 +1,10 @@
 use Rattle.std.proofs.Common.{◌≡◌, List, Some, get_or, sym, ap, ◌∙◌, subst, arith}
-use Rattle.std.proofs.lemmas.List.{with_items_is}
+use Rattle.dex_fold.proofs.Common.{Address, Market, PlainRow, Seen, act, row_of, row_step, seen_by, with_items_is}
+use Rattle.dex_bank.proofs.Common.{AreCells, CanAct, CanActAt, CanHold, CanWait, CellState, CellsState, HasBecomeAt, HaveActed, IsFirstAt, MarketCellState, OthersStay, accounts_in, cells_inside, opened_of, world_of}
 use Rattle.std.specs.Vec.{with_items}
-use Rattle.dex_types.specs.declared.addresses.Address.{Address}
-use Rattle.dex_types.specs.declared.rows.Seen.{Seen}
-use Rattle.dex_types.specs.Market.{Market}
-use Rattle.dex_types.specs.Rows.{PlainRow, row_of}
-use Rattle.dex_history.specs.Journal.{row_step}
 use Rattle.dex_cell.specs.CellState as market
-use Rattle.dex_cell.specs.CellState.{CanHold, MarketCellState}
-use Rattle.dex_wallet.specs.CellState.{CellState}
-use Rattle.dex_fold.specs.Fold.{act}
-use Rattle.dex_fold.specs.World.{market_at, seen_by}
-use Rattle.dex_bank.specs.Cells.{AreCells, CanAct, CanWait, CellsState, OthersStay, accounts_in, opened_of, world_of}
-use Rattle.dex_bank.specs.CellsInside.{cells_inside}
-use Rattle.dex_bank.specs.Stepping.{CanActAt, HasBecomeAt, HaveActed, IsFirstAt, doing}
+use Rattle.dex_fold.specs.World.{market_at}
+use Rattle.dex_bank.specs.Stepping.{doing}
 use Rattle.dex_bank.proofs.StepCells.{can-act-at, can-hold, stepped-acted, stepped-cells, stepped-opened, stepped-reply}
 use Rattle.dex_bank.proofs.StepMarkets.{others-stay}
 use Rattle.dex_bank.proofs.stepping.act_or_wait.Goals as goal

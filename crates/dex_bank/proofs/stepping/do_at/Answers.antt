@@ -1,12 +1,8 @@
 use Rattle.std.proofs.Common.{◌≡◌, ◌||◌, Bool, true, List, get_or, refl, sym, ap, ◌∙◌, subst}
-use Rattle.dex_types.specs.Market.{Market}
-use Rattle.dex_types.specs.Rows.{row_of}
-use Rattle.dex_types.specs.Steps.{Step}
-use Rattle.dex_history.specs.Journal.{is_refusal, row_step}
-use Rattle.dex_cell.specs.CellState.{MarketCellState, market_at, refused_on}
-use Rattle.dex_fold.proofs.ItemLaws.{idle-step}
-use Rattle.dex_bank.specs.Cells.{accounts_in}
-use Rattle.dex_bank.specs.Stepping.{HasBecomeAt, HaveActed, doing}
+use Rattle.dex_fold.proofs.Common.{Market, Step, idle-step, is_refusal, row_of, row_step}
+use Rattle.dex_bank.proofs.Common.{HasBecomeAt, HaveActed, MarketCellState, accounts_in}
+use Rattle.dex_cell.specs.CellState.{market_at, refused_on}
+use Rattle.dex_bank.specs.Stepping.{doing}
 use Rattle.dex_bank.proofs.StepMarkets.{accounts-stay, acted-became, held-became}
 use Rattle.dex_bank.proofs.stepping.do_at.Goals as goal
 

@@ -1,15 +1,7 @@
 use Rattle.std.proofs.Common.{◌≡◌, ℕ, ◌<◌, List, [], ◌∷◌, length, get_or, is_some, arith, Option, sym, ap, ◌∙◌, subst}
-use Rattle.dex_types.specs.declared.refusals.Refusal.{Refusal}
-use Rattle.dex_types.specs.declared.rows.Seen.{Seen}
-use Rattle.dex_types.specs.Rows.{row_of}
-use Rattle.dex_types.specs.Why.{why}
-use Rattle.dex_history.specs.Journal.{request_of}
-use Rattle.dex_cell.specs.CellState.{IsFor, MarketCellState, market_at}
-use Rattle.dex_fold.specs.Items.{why_in}
-use Rattle.dex_fold.specs.World.{seen_by}
-use Rattle.dex_bank.specs.Cells.{CanAct, CellsState, world_of}
-use Rattle.dex_bank.specs.CellsInside.{cells_inside}
-use Rattle.dex_bank.specs.Stepping.{IsFirstAt}
+use Rattle.dex_fold.proofs.Common.{Refusal, Seen, request_of, row_of, seen_by, why, why_in}
+use Rattle.dex_bank.proofs.Common.{CanAct, CellsState, IsFirstAt, MarketCellState, cells_inside, world_of}
+use Rattle.dex_cell.specs.CellState.{IsFor, market_at}
 use Rattle.dex_bank.proofs.StepCells.{can-act-at, refused-here}
 use Rattle.dex_bank.proofs.stepping.is_refused.Goals as goal
 

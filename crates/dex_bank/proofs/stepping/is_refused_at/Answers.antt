@@ -1,10 +1,8 @@
 use Rattle.std.proofs.Common.{◌≡◌, get_or, is_some, ap, ◌∙◌}
+use Rattle.dex_fold.proofs.Common.{get_or_read, request_of, row_of, why}
+use Rattle.dex_bank.proofs.Common.{MarketCellState}
 use Rattle.std.specs.Result.{is_err}
-use Rattle.std.proofs.lemmas.List.{get_or_read}
-use Rattle.dex_types.specs.Rows.{row_of}
-use Rattle.dex_types.specs.Why.{why}
-use Rattle.dex_history.specs.Journal.{request_of}
-use Rattle.dex_cell.specs.CellState.{MarketCellState, market_at}
+use Rattle.dex_cell.specs.CellState.{market_at}
 use Rattle.dex_cell.proofs.PlanLaws.{answered-refused}
 use Rattle.dex_bank.proofs.stepping.is_refused_at.Goals as goal
 

@@ -1,7 +1,6 @@
 use Rattle.std.proofs.Common.{◌≡◌, ℕ, ◌<◌, true, false, drop, get_or}
-use Rattle.dex_types.specs.Addresses.{is_same}
-use Rattle.dex_cell.specs.CellState.{MarketCellState}
-use Rattle.dex_bank.specs.Cells.{is_market}
+use Rattle.dex_fold.proofs.Common.{is_same}
+use Rattle.dex_bank.proofs.Common.{MarketCellState, is_market}
 use Rattle.dex_bank.proofs.stepping.place_of.Given as goal
 
 -- it is none of those that were passed, and so one of the others

@@ -1,7 +1,7 @@
 use Rattle.std.proofs.Common.{ap, ◌∙◌}
 use Rattle.dex_types.specs.declared.terms.Side.{Side}
 use Rattle.dex_types.specs.Accounts.{market_accounts_of}
-use Rattle.dex_decide.specs.Given.{bytes_on}
+use Rattle.dex_plan.specs.Given.{bytes_on}
 use Rattle.dex_cell_tests.proofs.CallLaws.{take-can}
 use Rattle.dex_cell_tests.proofs.calls.take.Goals as goal
 

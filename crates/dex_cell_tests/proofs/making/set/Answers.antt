@@ -3,4 +3,4 @@ use Rattle.dex_cell_tests.proofs.SetLaws.{can-trade}
 use Rattle.dex_cell_tests.proofs.making.set.Goals as goal
 
 pub returns-clause-trades : goal.returns-clause-trades
-returns-clause-trades c = can-trade _ c.labelled-market.ensures c.labelled-coin.ensures c.labelled-pc.ensures (omega (arith, c.requires.lot)) (omega arith)
+returns-clause-trades c = can-trade _ c.labelled-market.ensures c.labelled-coin.ensures c.labelled-pc.ensures (omega arith) (omega arith)

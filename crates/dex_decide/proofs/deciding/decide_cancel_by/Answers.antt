@@ -4,8 +4,8 @@ use Rattle.dex_types.specs.Reasons.{not_owner}
 use Rattle.dex_types.specs.Why.{why_cancelled}
 use Rattle.dex_cancel.specs.Cancelling.{named_by}
 use Rattle.dex_orders.specs.OrdersAccount.{account_of}
-use Rattle.dex_decide.specs.declared.plan.Plan.TheVariants as plans
-use Rattle.dex_decide.specs.Given.{asked_by, market_of}
+use Rattle.dex_plan.specs.declared.plan.Plan.TheVariants as plans
+use Rattle.dex_plan.specs.Given.{asked_by, market_of}
 use Rattle.dex_decide.proofs.PartLaws.{has-open}
 use Rattle.dex_decide.proofs.Planning.{passed-first}
 use Rattle.dex_decide.proofs.deciding.decide_cancel_by.Goals as goal

@@ -3,8 +3,8 @@ use Rattle.dex_types.specs.declared.refusals.Refusal.{Refusal}
 use Rattle.dex_types.specs.Accounts.{market_accounts_of}
 use Rattle.dex_types.specs.Reasons.{answered}
 use Rattle.dex_types.specs.Why.{of_party, why_close}
-use Rattle.dex_decide.specs.declared.plan.Plan.TheVariants as plans
-use Rattle.dex_decide.specs.Given.{asked_by, market_of, party_on}
+use Rattle.dex_plan.specs.declared.plan.Plan.TheVariants as plans
+use Rattle.dex_plan.specs.Given.{asked_by, market_of, party_on}
 use Rattle.dex_decide.specs.Named.{account_by}
 use Rattle.dex_decide.proofs.NamedLaws.{accepted-named, no-account}
 use Rattle.dex_decide.proofs.PartLaws.{all-accepted, close-told, party-told}

@@ -3,8 +3,8 @@ use Rattle.dex_types.specs.declared.refusals.Refusal.{Refusal}
 use Rattle.dex_types.specs.Accounts.{market_accounts_of}
 use Rattle.dex_types.specs.Reasons.{answered}
 use Rattle.dex_types.specs.Why.{why_disable}
-use Rattle.dex_decide.specs.declared.plan.Plan.TheVariants as plans
-use Rattle.dex_decide.specs.Given.{asked_by, market_of}
+use Rattle.dex_plan.specs.declared.plan.Plan.TheVariants as plans
+use Rattle.dex_plan.specs.Given.{asked_by, market_of}
 use Rattle.dex_decide.proofs.PartLaws.{disable-told}
 use Rattle.dex_decide.proofs.Planning.{err-planned, ok-planned}
 use Rattle.dex_decide.proofs.deciding.decide_disable_row.Goals as goal

@@ -5,8 +5,8 @@ use Rattle.dex_types.specs.Cancel.{First}
 use Rattle.dex_types.specs.Reasons.{not_authority, not_this_authority}
 use Rattle.dex_types.specs.Why.{why_cancelled}
 use Rattle.dex_cancel.specs.declared.what.CancelWhat.TheVariants as cancels
-use Rattle.dex_decide.specs.declared.plan.Plan.TheVariants as plans
-use Rattle.dex_decide.specs.Given.{asked_by, market_of}
+use Rattle.dex_plan.specs.declared.plan.Plan.TheVariants as plans
+use Rattle.dex_plan.specs.Given.{asked_by, market_of}
 use Rattle.dex_decide.proofs.PartLaws.{has-open}
 use Rattle.dex_decide.proofs.Planning.{passed-first, refused-first}
 use Rattle.dex_decide.proofs.deciding.decide_prune_by.Goals as goal

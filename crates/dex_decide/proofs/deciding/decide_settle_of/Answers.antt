@@ -8,8 +8,8 @@ use Rattle.dex_types.specs.Why.{why_settle}
 use Rattle.dex_settle.specs.declared.plan.SettlePlan.{SettlePlan}
 use Rattle.dex_settle.specs.PayingOut.{plan_of}
 use Rattle.dex_history.specs.Journal.{asked_of}
-use Rattle.dex_decide.specs.declared.plan.Plan.TheVariants as plans
-use Rattle.dex_decide.specs.Given.{asked_by, market_of}
+use Rattle.dex_plan.specs.declared.plan.Plan.TheVariants as plans
+use Rattle.dex_plan.specs.Given.{asked_by, market_of}
 use Rattle.dex_decide.specs.Named.{party_by}
 use Rattle.dex_decide.proofs.PartLaws.{one-coin-mint, settle-given, settle-told}
 use Rattle.dex_decide.proofs.Planning.{err-planned, ok-planned}

@@ -1,8 +1,8 @@
 use Rattle.std.proofs.Common.{sym, ◌∙◌}
 use Rattle.dex_types.specs.Accounts.{market_accounts_of}
 use Rattle.dex_types.specs.Why.{why_sweep}
-use Rattle.dex_decide.specs.declared.plan.Plan.TheVariants as plans
-use Rattle.dex_decide.specs.Given.{asked_by, market_of}
+use Rattle.dex_plan.specs.declared.plan.Plan.TheVariants as plans
+use Rattle.dex_plan.specs.Given.{asked_by, market_of}
 use Rattle.dex_decide.proofs.PartLaws.{sweep-told}
 use Rattle.dex_decide.proofs.Planning.{err-planned, ok-planned}
 use Rattle.dex_decide.proofs.deciding.decide_sweep_row.Goals as goal

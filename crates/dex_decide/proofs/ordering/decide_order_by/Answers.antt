@@ -3,9 +3,9 @@ use Rattle.dex_types.specs.declared.refusals.Refusal.TheVariants.{NoAccount}
 use Rattle.dex_types.specs.Accounts.{market_accounts_of}
 use Rattle.dex_types.specs.Why.{why_order_of}
 use Rattle.dex_match.specs.OrderTerms.{order_of}
-use Rattle.dex_decide.specs.Given.{asked_by, market_of}
+use Rattle.dex_plan.specs.Given.{asked_by, market_of}
 use Rattle.dex_decide.specs.Named.{party_by}
-use Rattle.dex_decide.specs.Plans.{order_planned}
+use Rattle.dex_plan.specs.Plans.{order_planned}
 use Rattle.dex_decide.proofs.OrderLaws.{order-unpaid}
 use Rattle.dex_decide.proofs.Planning.{given-planned}
 use Rattle.dex_decide.proofs.ordering.decide_order_by.Goals as goal

@@ -11,10 +11,10 @@ use Rattle.dex_match.specs.OrderTerms.{order_of}
 use Rattle.dex_match.specs.Ordering.{ordering_in, plan_by, sums_after}
 use Rattle.dex_accounts.specs.Parts.{HasOpen}
 use Rattle.dex_accounts.specs.Parts as whole
-use Rattle.dex_decide.specs.declared.plan.Plan.TheVariants as plans
-use Rattle.dex_decide.specs.Given.{asked_by, given_on, market_of}
+use Rattle.dex_plan.specs.declared.plan.Plan.TheVariants as plans
+use Rattle.dex_plan.specs.Given.{asked_by, given_on, market_of}
 use Rattle.dex_decide.specs.Named.{party_by}
-use Rattle.dex_decide.specs.Plans.{order_planned, sums_with}
+use Rattle.dex_plan.specs.Plans.{order_planned, sums_with}
 use Rattle.dex_decide.proofs.OrderLaws.{order-decided, order-late}
 use Rattle.dex_decide.proofs.PartLaws.{has-open}
 use Rattle.dex_decide.proofs.Planning.{err-planned, given-planned, ok-planned}

@@ -3,7 +3,7 @@ use Rattle.dex_types.specs.declared.terms.Side.{Side}
 use Rattle.dex_types.specs.Accounts.{market_accounts_of}
 use Rattle.dex_match.specs.LentParts.{outcome_in}
 use Rattle.dex_match.specs.OrderParts.{IsGiven, OrderGiven}
-use Rattle.dex_decide.specs.Given.{asked_by, bytes_on}
+use Rattle.dex_plan.specs.Given.{asked_by, bytes_on}
 use Rattle.dex_decide.proofs.OrderLaws.{order-given, order-shown}
 use Rattle.dex_decide.proofs.PartLaws.{sums-told}
 use Rattle.dex_decide.proofs.ordering.decide_order_with.Goals as goal

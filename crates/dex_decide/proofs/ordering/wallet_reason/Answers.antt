@@ -3,7 +3,7 @@ use Rattle.dex_types.specs.Reasons.{missing, not_person, not_signed_by, other_di
 use Rattle.dex_types.specs.Why.{payer, payer_mint}
 use Rattle.dex_orders.specs.OrdersAccount.{account_of}
 use Rattle.dex_reasons.proofs.FirstReasons.{joined, joined-first}
-use Rattle.dex_decide.specs.Given.{market_of}
+use Rattle.dex_plan.specs.Given.{market_of}
 use Rattle.dex_decide.proofs.ordering.wallet_reason.Goals as goal
 
 pub returns : goal.returns

@@ -4,8 +4,8 @@ use Rattle.dex_types.specs.Reasons.{answered}
 use Rattle.dex_types.specs.Why.{why_instruction}
 use Rattle.dex_match.specs.declared.order_terms.Taker.{Taker}
 use Rattle.dex_take.specs.TakeTerms.{take_of}
-use Rattle.dex_decide.specs.Given.{asked_by, market_of}
-use Rattle.dex_decide.specs.Plans.{order_answer, order_by, plan_on, take_answer}
+use Rattle.dex_plan.specs.Given.{asked_by, market_of}
+use Rattle.dex_plan.specs.Plans.{order_answer, order_by, plan_on, take_answer}
 use Rattle.dex_decide.proofs.rows.decide_instruction.Goals as goal
 
 pub returns-in-NewOrderV3 : goal.returns-in-NewOrderV3

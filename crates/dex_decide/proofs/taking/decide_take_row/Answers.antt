@@ -10,9 +10,9 @@ use Rattle.dex_take.specs.declared.plan.DecidedTake.{DecidedTake}
 use Rattle.dex_take.specs.TakeGiven.{read_of}
 use Rattle.dex_take.specs.TakeTerms.{take_of}
 use Rattle.dex_take.specs.Taking.{left_in, plan_by, plan_in}
-use Rattle.dex_decide.specs.declared.plan.Plan.TheVariants as plans
-use Rattle.dex_decide.specs.Given.{asked_by, market_of, take_given_on}
-use Rattle.dex_decide.specs.Plans.{sums_with, take_planned}
+use Rattle.dex_plan.specs.declared.plan.Plan.TheVariants as plans
+use Rattle.dex_plan.specs.Given.{asked_by, market_of, take_given_on}
+use Rattle.dex_plan.specs.Plans.{sums_with, take_planned}
 use Rattle.dex_decide.proofs.Planning.{err-planned, given-planned, ok-planned}
 use Rattle.dex_decide.proofs.TakeLaws.{take-decided, take-late}
 use Rattle.dex_decide.proofs.taking.decide_take_row.Goals as goal

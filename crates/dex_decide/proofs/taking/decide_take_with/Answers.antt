@@ -4,7 +4,7 @@ use Rattle.dex_types.specs.Accounts.{market_accounts_of}
 use Rattle.dex_take.specs.TakeGiven.{IsOfSound, TakeGiven, read_of}
 use Rattle.dex_take.specs.TakeTerms.{take_of}
 use Rattle.dex_take.specs.Taking.{take_outcome}
-use Rattle.dex_decide.specs.Given.{bytes_on}
+use Rattle.dex_plan.specs.Given.{bytes_on}
 use Rattle.dex_decide.proofs.PartLaws.{sums-told}
 use Rattle.dex_decide.proofs.TakeLaws.{take-shown, take-sound}
 use Rattle.dex_decide.proofs.taking.decide_take_with.Goals as goal

@@ -1,11 +1,7 @@
 use Rattle.std.proofs.Common.{◌+◌, ◌∷◌, [], List, map, drop, take, sym, ap, subst, ◌∙◌}
-use Rattle.dex_types.specs.Rows.{PlainRow, row_of}
-use Rattle.dex_fold.specs.Fold.{act, fold}
+use Rattle.dex_fold.proofs.Common.{PlainRow, World, act, fold, row_of}
+use Rattle.dex_replay.proofs.Common.{IsReplayOf, outcome_of, start_world, world_of}
 use Rattle.dex_fold.proofs.FoldLaws.{fold-append}
-use Rattle.dex_fold.specs.World.{World}
-use Rattle.dex_bank.specs.Cells.{world_of}
-use Rattle.dex_report.specs.Outcomes.{outcome_of}
-use Rattle.dex_replay.specs.Replays.{IsReplayOf, start_world}
 use Rattle.dex_replay.proofs.Room.{AreOf, all-acted, can-act, row-of-script, rows-more, rows-split}
 use Rattle.dex_replay.proofs.RunOf.{replay-is-run, rows-replay}
 use Rattle.dex_replay.proofs.Starts.{are-of-script, its-address, opened-address, opened-opened, opened-world}

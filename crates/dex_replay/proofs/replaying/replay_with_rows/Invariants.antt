@@ -1,8 +1,6 @@
 use Rattle.std.proofs.Common.{All, ◌≡◌, take}
-use Rattle.dex_fold.specs.Fold.{fold}
-use Rattle.dex_bank.specs.Cells.{opened_of, world_of}
-use Rattle.dex_bank.specs.Opened.{opened}
-use Rattle.dex_replay.specs.Replays.{start_world}
+use Rattle.dex_fold.proofs.Common.{fold}
+use Rattle.dex_replay.proofs.Common.{opened, opened_of, start_world, world_of}
 use Rattle.dex_replay.proofs.Starts.{HasItsAddress}
 use Rattle.dex_replay.proofs.replaying.replay_with_rows.Given as goal
 

@@ -1,9 +1,7 @@
 use Rattle.std.proofs.Common.{◌≡◌, [], ◌∙◌, ap, refl}
-use Rattle.dex_cell.specs.CellState.{MarketCellState}
+use Rattle.dex_fold.proofs.Common.{range_with_len}
+use Rattle.dex_replay.proofs.Common.{CellsState, MarketCellState, market_opened, rows_naming, rows_on, wallet_opened}
 use Rattle.dex_wallet.specs.CellState as wallet
-use Rattle.dex_bank.specs.Cells.{CellsState}
-use Rattle.dex_bank.specs.Opened.{market_opened, rows_naming, rows_on, wallet_opened}
-use Rattle.std.specs.List.{range_with_len}
 use Rattle.dex_run.proofs.Openings.{all-mapped}
 use Rattle.dex_run.proofs.Seating.{market-gates, seats-at_bank, seats-fresh, seats-numbers, seats-of_bank, wallet-gates}
 use Rattle.dex_run.proofs.building.bank_over.Goals as goal

@@ -1,9 +1,7 @@
-use Rattle.dex_cell.specs.CellState.{MarketCellState}
-use Rattle.dex_gate.specs.GateView.{GateView}
-use Rattle.dex_history.specs.Journal.{Call}
-use Rattle.dex_stamps.specs.Stamped.{Stamped}
-use Rattle.dex_journals.specs.Journals.{MarketOrigin}
-use Rattle.dex_run.specs.Bank.{IsMarketGate}
+use Rattle.dex_fold.proofs.Common.{Call}
+use Rattle.dex_replay.proofs.Common.{MarketCellState}
+use Rattle.dex_order.proofs.Common.{MarketOrigin, Stamped}
+use Rattle.dex_run.proofs.Common.{GateView, IsMarketGate}
 use Rattle.dex_run.proofs.Openings.{firsts-more, zip-more}
 use Rattle.dex_run.proofs.building.market_gates.Goals as goal
 

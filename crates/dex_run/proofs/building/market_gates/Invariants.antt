@@ -1,12 +1,8 @@
 use Rattle.std.proofs.Common.{◌≡◌}
-use Rattle.std.specs.List.{AllZip}
-use Rattle.dex_cell.specs.CellState.{MarketCellState}
-use Rattle.dex_gate.specs.GateView.{GateView}
-use Rattle.dex_history.specs.Journal.{Call}
-use Rattle.dex_stamps.specs.Stamped.{Stamped}
-use Rattle.dex_journals.specs.Journals.{MarketOrigin}
-use Rattle.dex_run.specs.Bank.{IsMarketGate}
-use Rattle.dex_run.specs.Opened.{first_passes}
+use Rattle.dex_fold.proofs.Common.{AllZip, Call}
+use Rattle.dex_replay.proofs.Common.{MarketCellState}
+use Rattle.dex_order.proofs.Common.{MarketOrigin, Stamped}
+use Rattle.dex_run.proofs.Common.{GateView, IsMarketGate, first_passes}
 use Rattle.dex_run.proofs.building.market_gates.Given as goal
 
 abbrev pub invariant-loop-cell : goal.invariant-loop-cell

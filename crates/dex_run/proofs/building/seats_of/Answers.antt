@@ -1,5 +1,5 @@
 use Rattle.std.proofs.Common.{◌≡◌, ◌∙◌, arith}
-use Rattle.dex_run.specs.Bank.{BankState}
+use Rattle.dex_run.proofs.Common.{BankState}
 use Rattle.dex_run.proofs.Openings.{firsts-gates, given-are, kept-are}
 use Rattle.dex_run.proofs.Seating.{market_from, passes-are, passes-first, passes-some, seat-is, seats-all, seats-more, wallet_from}
 use Rattle.dex_run.proofs.building.seats_of.Goals as goal

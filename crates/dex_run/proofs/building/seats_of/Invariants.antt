@@ -1,6 +1,6 @@
 use Rattle.std.proofs.Common.{◌≡◌, ◌≤◌, ◌-◌, map}
-use Rattle.std.specs.List.{range_with_len}
-use Rattle.dex_run.specs.Opened.{first_passes, seat_in}
+use Rattle.dex_fold.proofs.Common.{range_with_len}
+use Rattle.dex_run.proofs.Common.{first_passes, seat_in}
 use Rattle.dex_run.proofs.building.seats_of.Given as goal
 
 abbrev pub invariant-loop-lane : goal.invariant-loop-lane

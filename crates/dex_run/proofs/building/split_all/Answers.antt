@@ -1,10 +1,6 @@
 use Rattle.std.proofs.Common.{◌≡◌, ◌<◌, ◌∙◌, ℕ, List, Some, length, get_or, map, ap, sym, subst, arith}
-use Rattle.std.proofs.lemmas.List.{take_all}
-use Rattle.std.specs.List.{AllZip}
-use Rattle.std.proofs.lemmas.Slice.Zip.{AllZip-long}
-use Rattle.dex_gate.specs.GateView.{GateView}
-use Rattle.dex_gate.specs.PassView.{PassView, next_pass}
-use Rattle.dex_run.specs.Opened.{split_once}
+use Rattle.dex_fold.proofs.Common.{AllZip, AllZip-long, take_all}
+use Rattle.dex_run.proofs.Common.{GateView, PassView, next_pass, split_once}
 use Rattle.dex_run.proofs.Openings.{half, half-all, half-at, half-set, length-half, mapped-more}
 use Rattle.dex_run.proofs.Taking.{zip-at}
 use Rattle.dex_run.proofs.building.split_all.Goals as goal

@@ -1,6 +1,5 @@
 use Rattle.std.proofs.Common.{◌≡◌, map, take}
-use Rattle.dex_gate.specs.PassView.{next_pass}
-use Rattle.dex_run.specs.Opened.{split_once}
+use Rattle.dex_run.proofs.Common.{next_pass, split_once}
 use Rattle.dex_run.proofs.Openings.{half}
 use Rattle.dex_run.proofs.building.split_all.Given as goal
 

@@ -1,9 +1,7 @@
-use Rattle.dex_types.specs.declared.movements.WalletEntry.{WalletEntry}
-use Rattle.dex_gate.specs.GateView.{GateView}
-use Rattle.dex_stamps.specs.Stamped.{Stamped}
-use Rattle.dex_wallet.specs.CellState.{CellState}
-use Rattle.dex_journals.specs.Journals.{WalletOrigin}
-use Rattle.dex_run.specs.Bank.{IsWalletGate}
+use Rattle.dex_fold.proofs.Common.{WalletEntry}
+use Rattle.dex_replay.proofs.Common.{CellState}
+use Rattle.dex_order.proofs.Common.{Stamped, WalletOrigin}
+use Rattle.dex_run.proofs.Common.{GateView, IsWalletGate}
 use Rattle.dex_run.proofs.Openings.{firsts-more, zip-more}
 use Rattle.dex_run.proofs.building.wallet_gates.Goals as goal
 

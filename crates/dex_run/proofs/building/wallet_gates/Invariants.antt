@@ -1,12 +1,8 @@
 use Rattle.std.proofs.Common.{◌≡◌}
-use Rattle.std.specs.List.{AllZip}
-use Rattle.dex_types.specs.declared.movements.WalletEntry.{WalletEntry}
-use Rattle.dex_gate.specs.GateView.{GateView}
-use Rattle.dex_stamps.specs.Stamped.{Stamped}
-use Rattle.dex_wallet.specs.CellState.{CellState}
-use Rattle.dex_journals.specs.Journals.{WalletOrigin}
-use Rattle.dex_run.specs.Bank.{IsWalletGate}
-use Rattle.dex_run.specs.Opened.{first_passes}
+use Rattle.dex_fold.proofs.Common.{AllZip, WalletEntry}
+use Rattle.dex_replay.proofs.Common.{CellState}
+use Rattle.dex_order.proofs.Common.{Stamped, WalletOrigin}
+use Rattle.dex_run.proofs.Common.{GateView, IsWalletGate, first_passes}
 use Rattle.dex_run.proofs.building.wallet_gates.Given as goal
 
 abbrev pub invariant-loop-cell : goal.invariant-loop-cell

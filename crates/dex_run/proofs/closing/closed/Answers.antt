@@ -1,17 +1,9 @@
 use Rattle.std.proofs.Common.{List, length, map, ap, sym, subst, ◌∙◌, arith}
-use Rattle.std.specs.List.{AllZip}
-use Rattle.dex_types.specs.declared.movements.WalletEntry.{WalletEntry}
-use Rattle.dex_types.specs.Accounts.{named_of}
-use Rattle.dex_bank.specs.Cells.{CellsState}
+use Rattle.dex_fold.proofs.Common.{AllZip, Call, WalletEntry, named_of}
+use Rattle.dex_replay.proofs.Common.{CellsState, outcome_of}
+use Rattle.dex_order.proofs.Common.{MarketOrigin, Stamped, WalletOrigin}
+use Rattle.dex_run.proofs.Common.{AreMarketsClosed, AreWalletsClosed, BankState, CanClose, GateView, IsBank}
 use Rattle.dex_bank.specs.Closed as cells
-use Rattle.dex_gate.specs.GateView.{GateView}
-use Rattle.dex_history.specs.Journal.{Call}
-use Rattle.dex_report.specs.Outcomes.{outcome_of}
-use Rattle.dex_stamps.specs.Stamped.{Stamped}
-use Rattle.dex_journals.specs.Journals.{MarketOrigin, WalletOrigin}
-use Rattle.dex_run.specs.Bank.{BankState, IsBank}
-use Rattle.dex_run.specs.Closing.{AreMarketsClosed, AreWalletsClosed}
-use Rattle.dex_run.specs.Columns.{CanClose}
 use Rattle.dex_run.proofs.ClosingLaws.{are-cells, closes, market-cells-length, wallet-cells-length}
 use Rattle.dex_run.proofs.ClosingPasses.{markets-close, wallets-close}
 use Rattle.dex_run.proofs.closing.closed.Goals as goal

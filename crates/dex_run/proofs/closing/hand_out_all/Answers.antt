@@ -1,10 +1,6 @@
 use Rattle.std.proofs.Common.{length, vec_len, sym, subst, rules, arith}
-use Rattle.std.proofs.lemmas.Iterator.Adapters.{YieldsList-from_vec}
-use Rattle.std.proofs.lemmas.Iterator.Consumers.{YieldsList-turn}
-use Rattle.std.proofs.lemmas.List.Elements.{All-push}
-use Rattle.dex_run.specs.Bank.{IsMarketGate, IsWalletGate}
-use Rattle.dex_run.specs.Closing.{IsMarketPassAt, IsWalletPassAt}
-use Rattle.dex_run.specs.Seats.{IsSeat, IsSeatOf, SeatState}
+use Rattle.dex_fold.proofs.Common.{All-push, YieldsList-from_vec, YieldsList-turn}
+use Rattle.dex_run.proofs.Common.{IsMarketGate, IsMarketPassAt, IsSeat, IsSeatOf, IsWalletGate, IsWalletPassAt, SeatState}
 use Rattle.dex_run.proofs.ColumnLists.{columns-free, columns-none, columns-room}
 use Rattle.dex_run.proofs.ClosingPasses.{market-count, market-more, wallet-count, wallet-more}
 use Rattle.dex_run.proofs.closing.hand_out_all.Goals as goal

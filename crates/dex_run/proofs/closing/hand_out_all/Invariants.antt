@@ -1,6 +1,5 @@
 use Rattle.std.proofs.Common.{◌≤◌, All, vec_capacity, vec_len}
-use Rattle.dex_run.specs.Closing.{MarketColumns, WalletColumns}
-use Rattle.dex_run.specs.Seats.{IsSeat}
+use Rattle.dex_run.proofs.Common.{IsSeat, MarketColumns, WalletColumns}
 use Rattle.dex_run.proofs.closing.hand_out_all.Given as goal
 
 abbrev pub invariant-loop-seat : goal.invariant-loop-seat

@@ -1,5 +1,5 @@
 use Rattle.std.proofs.Common.{arith}
-use Rattle.dex_run.specs.Closing.{IsMarketClosed}
+use Rattle.dex_run.proofs.Common.{IsMarketClosed}
 use Rattle.dex_run.proofs.ColumnLists.{AllThree-length}
 use Rattle.dex_run.proofs.closing.market_cells.Goals as goal
 

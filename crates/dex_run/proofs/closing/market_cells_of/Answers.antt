@@ -1,7 +1,7 @@
 use Rattle.std.proofs.Common.{◌∙◌, ◌∷◌, [], ◌++◌, map, ap, sym, arith}
+use Rattle.dex_fold.proofs.Common.{All-push}
+use Rattle.dex_order.proofs.Common.{BankMarketState, IsBankMarket}
 use mathlib.Core.List.{map-append}
-use Rattle.std.proofs.lemmas.List.Elements.{All-push}
-use Rattle.dex_journals.specs.Journals.{BankMarketState, IsBankMarket}
 use Rattle.dex_run.proofs.closing.market_cells_of.Goals as goal
 
 pub loop-market-preserved : goal.loop-market-preserved

@@ -1,5 +1,5 @@
 use Rattle.std.proofs.Common.{◌≡◌, ◌≤◌, All, map, vec_capacity, vec_len}
-use Rattle.dex_journals.specs.Journals.{BankMarketState, IsBankMarket}
+use Rattle.dex_order.proofs.Common.{BankMarketState, IsBankMarket}
 use Rattle.dex_run.proofs.closing.market_cells_of.Given as goal
 
 abbrev pub invariant-loop-market : goal.invariant-loop-market

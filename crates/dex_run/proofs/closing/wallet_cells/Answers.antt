@@ -1,5 +1,5 @@
 use Rattle.std.proofs.Common.{arith}
-use Rattle.dex_run.specs.Closing.{IsWalletClosed}
+use Rattle.dex_run.proofs.Common.{IsWalletClosed}
 use Rattle.dex_run.proofs.ColumnLists.{AllThree-length}
 use Rattle.dex_run.proofs.closing.wallet_cells.Goals as goal
 

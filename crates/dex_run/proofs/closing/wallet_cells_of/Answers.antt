@@ -1,7 +1,7 @@
 use Rattle.std.proofs.Common.{◌∙◌, ◌∷◌, [], ◌++◌, map, ap, sym, arith}
+use Rattle.dex_fold.proofs.Common.{All-push}
+use Rattle.dex_order.proofs.Common.{BankWalletState, IsBankWallet}
 use mathlib.Core.List.{map-append}
-use Rattle.std.proofs.lemmas.List.Elements.{All-push}
-use Rattle.dex_journals.specs.Journals.{BankWalletState, IsBankWallet}
 use Rattle.dex_run.proofs.closing.wallet_cells_of.Goals as goal
 
 pub loop-wallet-preserved : goal.loop-wallet-preserved

@@ -1,5 +1,5 @@
 use Rattle.std.proofs.Common.{◌≡◌, ◌≤◌, All, map, vec_capacity, vec_len}
-use Rattle.dex_journals.specs.Journals.{BankWalletState, IsBankWallet}
+use Rattle.dex_order.proofs.Common.{BankWalletState, IsBankWallet}
 use Rattle.dex_run.proofs.closing.wallet_cells_of.Given as goal
 
 abbrev pub invariant-loop-wallet : goal.invariant-loop-wallet

@@ -1,5 +1,5 @@
 use Rattle.std.proofs.Common.{sym, subst}
-use Rattle.dex_replay.specs.Runs.{IsOneOrder}
+use Rattle.dex_replay.proofs.Common.{IsOneOrder}
 use Rattle.dex_run.proofs.closing.what_closes_is_in_one_order.Goals as goal
 
 pub returns : goal.returns

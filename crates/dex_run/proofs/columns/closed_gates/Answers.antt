@@ -1,6 +1,6 @@
 use Rattle.std.proofs.Common.{◌∷◌, [], length, length-append, ap, subst, arith}
-use Rattle.std.specs.List.{AllZip}
-use Rattle.dex_run.specs.Columns.{CanClose, IsClosed}
+use Rattle.dex_fold.proofs.Common.{AllZip}
+use Rattle.dex_run.proofs.Common.{CanClose, IsClosed}
 use Rattle.dex_run.proofs.ColumnLists.{AllZip-empty, AllZip-ends, AllZip-not_empty, completed, completes-more, completes-none, none}
 use Rattle.dex_run.proofs.columns.closed_gates.Goals as goal
 

@@ -1,6 +1,6 @@
 use Rattle.std.proofs.Common.{◌+◌, ◌≤◌, vec_len, vec_capacity}
-use Rattle.std.specs.List.{AllZip}
-use Rattle.dex_run.specs.Columns.{CanClose, IsClosed}
+use Rattle.dex_fold.proofs.Common.{AllZip}
+use Rattle.dex_run.proofs.Common.{CanClose, IsClosed}
 use Rattle.dex_run.proofs.ColumnLists.{Completes}
 use Rattle.dex_run.proofs.columns.closed_gates.Given as goal
 

@@ -1,5 +1,5 @@
 use Rattle.std.proofs.Common.{◌≡◌, length}
-use Rattle.dex_run.specs.Columns.{AreLonger}
+use Rattle.dex_run.proofs.Common.{AreLonger}
 use Rattle.dex_run.proofs.columns.hand_out.Given as goal
 
 abbrev pub invariant-loop-item : goal.invariant-loop-item

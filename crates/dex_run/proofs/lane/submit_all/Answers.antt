@@ -1,7 +1,6 @@
 use Rattle.std.proofs.Common.{ℕ, ◌∙◌, ap, sym, length, map, take, arith}
-use Rattle.dex_types.specs.Rows.{row_of}
-use Rattle.dex_script.specs.Drafts.{PlainScript}
-use Rattle.dex_fold.specs.Items.{rows_of_lane}
+use Rattle.dex_fold.proofs.Common.{row_of, rows_of_lane}
+use Rattle.dex_replay.proofs.Common.{PlainScript}
 use Rattle.dex_run.proofs.LaneRows.{next-own}
 use Rattle.dex_run.proofs.lane.submit_all.Goals as goal
 

@@ -1,7 +1,6 @@
 use Rattle.std.proofs.Common.{◌≡◌, length, map, take}
-use Rattle.dex_types.specs.Rows.{row_of}
-use Rattle.dex_fold.specs.Items.{rows_of_lane}
-use Rattle.dex_run.specs.Seats.{IsSeatOf}
+use Rattle.dex_fold.proofs.Common.{row_of, rows_of_lane}
+use Rattle.dex_run.proofs.Common.{IsSeatOf}
 use Rattle.dex_run.proofs.lane.submit_all.Given as goal
 
 abbrev pub invariant-loop-row : goal.invariant-loop-row

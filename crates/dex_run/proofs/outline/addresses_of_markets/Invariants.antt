@@ -1,5 +1,5 @@
 use Rattle.std.proofs.Common.{◌≡◌, map, take}
-use Rattle.dex_types.specs.Accounts.{PlainMarketAccounts, market_accounts_of}
+use Rattle.dex_fold.proofs.Common.{PlainMarketAccounts, market_accounts_of}
 use Rattle.dex_run.proofs.outline.addresses_of_markets.Given as goal
 
 abbrev pub invariant-loop-accounts : goal.invariant-loop-accounts

@@ -1,5 +1,5 @@
 use Rattle.std.proofs.Common.{◌≡◌, map, take}
-use Rattle.dex_types.specs.Accounts.{PlainAccount, named_of}
+use Rattle.dex_fold.proofs.Common.{PlainAccount, named_of}
 use Rattle.dex_run.proofs.outline.addresses_of_wallets.Given as goal
 
 abbrev pub invariant-loop-account : goal.invariant-loop-account

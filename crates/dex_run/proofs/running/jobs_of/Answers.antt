@@ -1,5 +1,5 @@
 use Rattle.std.proofs.Common.{refl}
-use Rattle.dex_run.specs.Running.{IsJobOf}
+use Rattle.dex_run.proofs.Common.{IsJobOf}
 use Rattle.dex_run.proofs.Openings.{zip-more}
 use Rattle.dex_run.proofs.running.jobs_of.Goals as goal
 

@@ -1,5 +1,5 @@
-use Rattle.std.specs.List.{AllZip}
-use Rattle.dex_run.specs.Running.{IsJobOf}
+use Rattle.dex_fold.proofs.Common.{AllZip}
+use Rattle.dex_run.proofs.Common.{IsJobOf}
 use Rattle.dex_run.proofs.running.jobs_of.Given as goal
 
 abbrev pub invariant-loop-seat : goal.invariant-loop-seat

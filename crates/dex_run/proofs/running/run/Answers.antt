@@ -1,8 +1,6 @@
 use Rattle.std.proofs.Common.{ap, sym, subst, ◌∙◌}
-use Rattle.std.specs.List.{range_with_len}
-use Rattle.dex_report.specs.Outcomes.{outcome_of}
-use Rattle.dex_script.specs.Drafts.{PlainScript}
-use Rattle.dex_replay.specs.Runs.{IsOneOrder, IsRunOf}
+use Rattle.dex_fold.proofs.Common.{range_with_len}
+use Rattle.dex_replay.proofs.Common.{IsOneOrder, IsRunOf, PlainScript, outcome_of}
 use Rattle.dex_run.proofs.Jobs.{after-done, after-lanes, after-of_bank}
 use Rattle.dex_run.proofs.running.run.Goals as goal
 

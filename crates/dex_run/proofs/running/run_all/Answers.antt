@@ -1,9 +1,7 @@
 use Rattle.std.proofs.Common.{List, map, ap, ◌∙◌, sym, subst, arith}
-use Rattle.std.proofs.lemmas.List.{take_at}
-use Rattle.std.specs.List.{All, AllZip}
-use Rattle.std.proofs.lemmas.Slice.Zip.{AllZip-long}
-use Rattle.dex_run.specs.declared.lane.LaneJob.{LaneJob}
-use Rattle.dex_run.specs.Running.{CanRun, HasRun, IsJobOf}
+use Rattle.dex_fold.proofs.Common.{AllZip, AllZip-long, take_at}
+use Rattle.dex_run.proofs.Common.{CanRun, HasRun, IsJobOf, LaneJob}
+use Rattle.std.specs.List.{All}
 use Rattle.dex_run.proofs.Jobs.{jobs-ran, jobs-ready}
 use Rattle.dex_run.proofs.running.run_all.Goals as goal
 

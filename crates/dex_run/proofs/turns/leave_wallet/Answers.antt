@@ -1,14 +1,7 @@
 use Rattle.std.proofs.Common.{◌≡◌, ◌++◌, Some, sym, ap, ◌∙◌, subst}
-use Rattle.dex_types.specs.declared.movements.WalletEntry.{WalletEntry}
-use Rattle.dex_gate.specs.AwayView.{AwayView}
-use Rattle.dex_gate.specs.History.{AddsOne, Extends, added}
-use Rattle.dex_gate.specs.PassView.{PassView}
-use Rattle.dex_gate.specs.TurnView.{TurnView}
-use Rattle.dex_gate.specs.declared.stage.Stage.TheVariants.{Idle}
-use Rattle.dex_history.specs.Journal.{Call}
-use Rattle.dex_stamps.specs.Stamped.{Stamped}
-use Rattle.dex_journals.specs.Journals.{BankWalletState, IsBankWallet, WalletOrigin, left_by, wallet_entries}
-use Rattle.dex_run.specs.Inside.{call_made}
+use Rattle.dex_fold.proofs.Common.{Call, WalletEntry}
+use Rattle.dex_order.proofs.Common.{BankWalletState, IsBankWallet, Stamped, WalletOrigin, left_by, wallet_entries}
+use Rattle.dex_run.proofs.Common.{AddsOne, AwayView, Extends, Idle, PassView, TurnView, added, call_made}
 use Rattle.dex_run.proofs.LeavingTurns.{comes-back, has-left, put_back, wallet-adds}
 use Rattle.dex_run.proofs.turns.leave_wallet.Goals as goal
 

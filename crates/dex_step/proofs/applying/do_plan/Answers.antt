@@ -3,7 +3,7 @@ use Rattle.dex_types.specs.declared.addresses.Address.{Address}
 use Rattle.dex_types.specs.Accounts.{market_accounts_of}
 use Rattle.dex_types.specs.Rows.{row_of}
 use Rattle.dex_accounts.specs.Decoded.{market_in}
-use Rattle.dex_decide.specs.declared.plan.Plan.TheVariants as plans
+use Rattle.dex_plan.specs.declared.plan.Plan.TheVariants as plans
 use Rattle.dex_step.specs.ConsumeActs.{consume_step}
 use Rattle.dex_step.proofs.ApplyLaws.{first-holds, planned-as, stepped-as}
 use Rattle.dex_step.proofs.applying.do_plan.Goals as goal

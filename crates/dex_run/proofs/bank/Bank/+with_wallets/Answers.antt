@@ -1,19 +1,14 @@
 use Rattle.std.proofs.Common.{◌≡◌, ℕ, ◌+◌, [], ◌∷◌, ◌++◌, List, Some, length, map, set, refl, sym, ap, ◌∙◌, subst, arith}
-use Rattle.std.specs.List.{AllZip}
+use Rattle.dex_fold.proofs.Common.{Address, AllZip, AllZip-long, Call, le-max_left, row_of}
+use Rattle.dex_replay.proofs.Common.{CellState}
+use Rattle.dex_order.proofs.Common.{Stamped, left_by, wallet_entries}
+use Rattle.dex_run.proofs.Common.{AreInHand, AreReady, HasEntry, HaveGrown, MayDraw, call_made}
 use Rattle.std.proofs.lemmas.List.{length-append}
-use Rattle.std.proofs.Math.Nat.{le-max_left, le-max_right}
-use Rattle.std.proofs.lemmas.Slice.Zip.{AllZip-long}
-use Rattle.dex_types.specs.declared.addresses.Address.{Address}
-use Rattle.dex_types.specs.Rows.{row_of}
-use Rattle.dex_history.specs.Journal.{Call}
+use Rattle.std.proofs.Math.Nat.{le-max_right}
 use Rattle.dex_locks.specs.Places.{front}
-use Rattle.dex_stamps.specs.Stamped.{Stamped}
-use Rattle.dex_wallet.specs.CellState.{CellState}
-use Rattle.dex_journals.specs.Journals.{left_by, wallet_entries}
-use Rattle.dex_run.specs.Inside.{call_made}
-use Rattle.dex_run.specs.Turns.{AreInHand, AreReady, HasEntry, HaveGrown, MayDraw}
+use Rattle.dex_run.proofs.ColumnLists.{AllZip-last}
 use Rattle.dex_run.proofs.Growing.{WalletPass}
-use Rattle.dex_run.proofs.Taking.{Facts, facts-grown, facts-hand, facts-leave, facts-mid, facts-number, facts-ready, front-none, front-some, grown-none, last-of, rest-long, rest_of}
+use Rattle.dex_run.proofs.Taking.{Facts, facts-grown, facts-hand, facts-leave, facts-mid, facts-number, facts-ready, front-none, front-some, grown-none, rest-long, rest_of}
 use Rattle.dex_run.proofs.Taking as taking
 use Rattle.dex_run.proofs.bank.Bank.+with_wallets.Goals as goal
 
@@ -153,7 +148,7 @@ leave_wallet-requires-clause-entry g t c =
       before_is = c.index_mut.ensures.value;
       is_out = c.take_wallet-cell.ensures.out;
     } in
-    let entry = last-of (HasEntry (call_made (c.args.row.now, c.with_wallets-made.result))) c.args.hands.now.items c.take_wallet-cell.result.0 c.take_from_hand-cell.new.hands.items c.take_from_hand-cell.result
+    let entry = AllZip-last (HasEntry (call_made (c.args.row.now, c.with_wallets-made.result))) c.args.hands.now.items c.take_from_hand-cell.new.hands.items c.take_wallet-cell.result.0 c.take_from_hand-cell.result
     (subst (λ (l : List CellState). AllZip (HasEntry (call_made (c.args.row.now, c.with_wallets-made.result))) l (c.take_from_hand-cell.new.hands.items ++ c.take_from_hand-cell.result ∷ [])) c.put_in_hand.ensures.items
     (subst (AllZip (HasEntry (call_made (c.args.row.now, c.with_wallets-made.result))) c.put_in_hand.new.hands.items) c.take_from_hand-cell.ensures.items c.with_wallets-made.ensures.hands)) in
     facts-leave c.args.self.now (row_of c.args.row.now) (map call_made c.args.calls.now.items) c.in-Some.address (front (rest_of c.args.others.now)) c.args.hands.now.items c.args.passes.now.items c.wallet_place-place.result c.wallet_gate-gate.result.now
@@ -202,7 +197,7 @@ returns-in-Some-clause-passes g t c =
 
 pub returns-in-Some-clause-hands : goal.returns-in-Some-clause-hands
 returns-in-Some-clause-hands g t c =
-    (last-of (HasEntry (call_made (c.args.row.now, c.with_wallets-made.result))) c.args.hands.now.items c.take_wallet-cell.result.0 c.take_from_hand-cell.new.hands.items c.take_from_hand-cell.result
+    (AllZip-last (HasEntry (call_made (c.args.row.now, c.with_wallets-made.result))) c.args.hands.now.items c.take_from_hand-cell.new.hands.items c.take_wallet-cell.result.0 c.take_from_hand-cell.result
     (subst (λ (l : List CellState). AllZip (HasEntry (call_made (c.args.row.now, c.with_wallets-made.result))) l (c.take_from_hand-cell.new.hands.items ++ c.take_from_hand-cell.result ∷ [])) c.put_in_hand.ensures.items
     (subst (AllZip (HasEntry (call_made (c.args.row.now, c.with_wallets-made.result))) c.put_in_hand.new.hands.items) c.take_from_hand-cell.ensures.items c.with_wallets-made.ensures.hands))).0
 

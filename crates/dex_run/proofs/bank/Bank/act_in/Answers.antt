@@ -1,11 +1,7 @@
 use Rattle.std.proofs.Common.{◌≡◌, List, map, sym, ap, ◌∙◌, subst, arith}
-use Rattle.std.specs.List.{AllZip}
-use Rattle.std.proofs.lemmas.List.{with_items_is}
-use Rattle.dex_cell.specs.CellState.{MarketCellState, call_on}
-use Rattle.dex_wallet.specs.CellState.{CellState}
-use Rattle.dex_act.specs.Wallets.{made_of, states_acted, wallet_state_of}
-use Rattle.dex_run.specs.Inside.{call_made}
-use Rattle.dex_run.specs.Turns.{HasEntry}
+use Rattle.dex_fold.proofs.Common.{AllZip, with_items_is}
+use Rattle.dex_replay.proofs.Common.{CellState, MarketCellState, call_on, made_of, states_acted, wallet_state_of}
+use Rattle.dex_run.proofs.Common.{HasEntry, call_made}
 use Rattle.dex_run.proofs.Acted.{hands-acted, is-told, sees-cells, sees-row}
 use Rattle.dex_run.proofs.bank.Bank.act_in.Goals as goal
 

@@ -1,13 +1,7 @@
 use Rattle.std.proofs.Common.{◌≡◌, ◌++◌, Some, map, sym, ap, ◌∙◌, subst}
-use Rattle.dex_types.specs.Rows.{row_of}
-use Rattle.dex_gate.specs.AwayView.{AwayView}
-use Rattle.dex_gate.specs.History.{AddsOne, Extends, added}
-use Rattle.dex_gate.specs.TurnView.{TurnView}
-use Rattle.dex_gate.specs.declared.stage.Stage.TheVariants.{Idle}
-use Rattle.dex_history.specs.Journal.{Call}
-use Rattle.dex_stamps.specs.Stamped.{Stamped}
-use Rattle.dex_journals.specs.Journals.{BankMarketState, MarketOrigin, market_calls}
-use Rattle.dex_run.specs.Inside.{call_made}
+use Rattle.dex_fold.proofs.Common.{Call, row_of}
+use Rattle.dex_order.proofs.Common.{BankMarketState, MarketOrigin, Stamped, market_calls}
+use Rattle.dex_run.proofs.Common.{AddsOne, AwayView, Extends, Idle, TurnView, added, call_made}
 use Rattle.dex_run.proofs.Entering.{MarketPass, called, may-call}
 use Rattle.dex_run.proofs.LeavingTurns.{market-adds}
 use Rattle.dex_run.proofs.bank.Bank.in_market.Goals as goal

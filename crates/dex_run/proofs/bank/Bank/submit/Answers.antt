@@ -1,16 +1,10 @@
 use Rattle.std.proofs.Common.{◌≡◌, true, [], ◌∷◌, List, map, set, refl, sym, ap, ◌∙◌, subst, arith}
-use Rattle.std.specs.List.{list_any}
+use Rattle.dex_fold.proofs.Common.{Address, Call, is_same, list_any, row_of}
+use Rattle.dex_order.proofs.Common.{Stamped}
+use Rattle.dex_run.proofs.Common.{BankState, HasSubmitted, IsBank, IsNext, IsPlace, IsSeat, IsSeatOf, SeatState, call_made}
 use Rattle.std.proofs.lemmas.List.{map-append}
-use Rattle.dex_types.specs.declared.addresses.Address.{Address}
-use Rattle.dex_types.specs.Addresses.{is_same}
-use Rattle.dex_types.specs.Rows.{row_of}
-use Rattle.dex_history.specs.Journal.{Call}
-use Rattle.dex_places.specs.Places.{IsPlace}
-use Rattle.dex_stamps.specs.Stamped.{Stamped}
-use Rattle.dex_run.specs.Bank.{BankState, IsBank, market_addresses}
-use Rattle.dex_run.specs.Inside.{call_made, seat_inside}
-use Rattle.dex_run.specs.Seats.{IsSeat, IsSeatOf, SeatState}
-use Rattle.dex_run.specs.Submitted.{HasSubmitted, IsNext}
+use Rattle.dex_run.specs.Bank.{market_addresses}
+use Rattle.dex_run.specs.Inside.{seat_inside}
 use Rattle.dex_run.proofs.SeatAfter.{due, enters, market-known, ready, seat-kept, seat-of, seat-submitted, within-gates, within-passes}
 use Rattle.dex_run.proofs.bank.Bank.submit.Goals as goal
 

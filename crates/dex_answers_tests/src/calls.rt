@@ -1,0 +1,90 @@
+//! Each call once, with memory enough: none always answers that memory is wanting.
+
+use dex_call::{audit, bulk, dump, make, migrate, replay, worth};
+use std::alloc::Global;
+use std::test::Fail;
+
+/// Room for each text here.
+const ROOM: usize = 20_000;
+
+/// Two mints and two rows of a market with small sides.
+const SCRIPT: &[u8] = b"mint,coin,6
+mint,usd,6
+market,m,coin,usd,admin,5,5,8,AAAAAABkAAAAAAAAAAoAAAAAAAAAAAAAAAAAAAAAAAEAAAAAAAAA
+orders,m,amy
+do,0,m,ann,amy,-,-,-,-,init
+do,1,m,bob,amy,-,-,-,-,settle
+";
+
+/// How the report begins.
+const REPORT: &[u8] =
+    b"report 2\nmarket m 2\nentry 0 5 ok done\nentry 1 6 refused 3 NoAccount\ndump\n";
+
+// Room for a text, whose bytes are marked.
+fn room(alloc: Global) -> Result<Vec<u8>, Fail> {
+    Ok(Vec::from_elem(alloc, 165, ROOM)?)
+}
+
+// Sees that a call ended well, with a text that begins so, and left what stands behind it.
+fn tells(status: u8, room: &[u8], size: usize, front: &[u8]) -> Result<(), Fail> {
+    let Some((text, rest)) = room.split_at_checked(size) else {
+        return Err(Fail::new("does not fit"));
+    };
+    if status != 0 || !text.starts_with(front) || rest.iter().any(|byte| *byte != 165) {
+        return Err(Fail::new(format_args!("{status} {size}")));
+    }
+    Ok(())
+}
+
+// The dump of the script.
+fn dumped(alloc: Global) -> Result<Vec<u8>, Fail> {
+    let (mut text, mut size) = (room(alloc)?, 0);
+    let status = dump(alloc, SCRIPT, &mut text, &mut size);
+    tells(status, &text, size, b"dump\nmint,coin,")?;
+    text.truncate(size);
+    Ok(text)
+}
+
+#[test]
+fn scripts_are_answered(rt: HostRuntime) -> Result<(), Fail> {
+    let (mut text, mut size) = (room(rt.alloc())?, 0);
+    let status = replay(rt.alloc(), SCRIPT, &mut text, &mut size);
+    tells(status, &text, size, REPORT)
+}
+
+#[test]
+fn worths_are_told(rt: HostRuntime) -> Result<(), Fail> {
+    let (mut text, mut size) = (room(rt.alloc())?, 0);
+    let status = worth(rt.alloc(), SCRIPT, &mut text, &mut size);
+    tells(status, &text, size, b"worth 1\ntrader m amy 0 0\nend\n")
+}
+
+#[test]
+fn dumps_are_audited(rt: HostRuntime) -> Result<(), Fail> {
+    let dump = dumped(rt.alloc())?;
+    let (mut text, mut size) = (room(rt.alloc())?, 0);
+    let status = audit(rt.alloc(), &dump, &mut text, &mut size);
+    tells(status, &text, size, b"audit ok 1 0\n")
+}
+
+#[test]
+fn dumps_are_migrated(rt: HostRuntime) -> Result<(), Fail> {
+    let dump = dumped(rt.alloc())?;
+    let (mut text, mut size) = (room(rt.alloc())?, 0);
+    let status = migrate(rt.alloc(), 7, 9, &dump, &mut text, &mut size);
+    tells(status, &text, size, b"dump\nmint,coin,")
+}
+
+#[test]
+fn scripts_are_made(rt: HostRuntime) -> Result<(), Fail> {
+    let (mut text, mut size) = (room(rt.alloc())?, 0);
+    let status = make(rt.alloc(), 7, 1, &mut text, &mut size);
+    tells(status, &text, size, b"mint,base,6\n")
+}
+
+#[test]
+fn runs_are_summed_up(rt: HostRuntime) -> Result<(), Fail> {
+    let (mut text, mut size) = (room(rt.alloc())?, 0);
+    let status = bulk(rt.alloc(), 7, 1, &mut text, &mut size);
+    tells(status, &text, size, b"bulk 7 1\naccepted 17\nrefused 0\n")
+}

@@ -1,0 +1,8 @@
+//! What a row that its market does not refuse is to do there, and what that plan tells of the row's step.
+#![tactic(auto)]
+
+mod laws;
+mod plan;
+
+pub use laws::what_is_decided_is_of_the_step;
+pub use plan::{Deposit, Plan};

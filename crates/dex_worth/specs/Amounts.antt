@@ -1,0 +1,51 @@
+-- Amounts of both tokens, and sums of them for each of some owners.
+use Rattle.std.specs.Prelude.{ℕ, ◌+◌, ◌≡◌, ◌≤◌, List, [], ◌∷◌, Bool, if◌then◌else◌, map}
+use Rattle.std.specs.List.{All}
+use Rattle.dex_types.specs.declared.addresses.Address.{Address}
+use Rattle.dex_types.specs.declared.terms.Side.{Side}
+use Rattle.dex_types.specs.Addresses.{is_same}
+use Rattle.dex_types.specs.Side.{by_side}
+use Rattle.dex_tallies.specs.Sums.{capped}
+use Rattle.dex_worth.specs.declared.amounts.Amounts.{Amounts}
+
+-- no amount of either token
+abbrev pub none : Amounts
+none = record { coin = 0; pc = 0 }
+
+-- both together
+abbrev pub both : Amounts → Amounts → Amounts
+both one other = record { coin = one.coin + other.coin; pc = one.pc + other.pc }
+
+-- as sums are told: from 2^128 on as 2^128 - 1
+abbrev pub capped_amounts : Amounts → Amounts
+capped_amounts amounts = record { coin = capped amounts.coin; pc = capped amounts.pc }
+
+-- an amount of what orders of a side lock: bids quote, asks base
+abbrev pub on_side : Side → ℕ → Amounts
+on_side side amount = record { coin = by_side side 0 amount; pc = by_side side amount 0 }
+
+-- amounts of an owner, where it is this one
+abbrev pub own : Address → Address → Amounts → Amounts
+own of owner amounts = if is_same of owner then amounts else none
+
+-- a sum with more of an owner, where it is the sum of that owner
+abbrev pub with_own : Address → Amounts → Address → Amounts → Amounts
+with_own owner more of sum = if is_same of owner then capped_amounts (both sum more) else sum
+
+-- sums with more of an owner, wherever it stands among these
+abbrev pub added : Address → Amounts → List Address → List Amounts → List Amounts
+added owner more (of ∷ owners) (sum ∷ sums) = with_own owner more of sum ∷ added owner more owners sums
+added owner more _ sums = sums
+
+-- the sums are these amounts of the owners, one for each
+abbrev pub AreSums : (Address → Amounts) → List Address → List Amounts → Type 0
+AreSums amounts owners sums = sums ≡ map (λ (owner : Address). capped_amounts (amounts owner)) owners
+
+-- amounts up to a bound
+pub record IsWithin (bound : ℕ) (amounts : Amounts) : Type 0 where
+  pub coin : amounts.coin ≤ bound
+  pub pc : amounts.pc ≤ bound
+
+-- each sum is up to the bound
+abbrev pub AreWithin : ℕ → List Amounts → Type 0
+AreWithin bound sums = All (IsWithin bound) sums

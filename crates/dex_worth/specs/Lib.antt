@@ -1,0 +1,9 @@
+pub mod Debits
+pub mod Told
+pub mod Tables
+pub mod Amounts
+pub mod Entries
+pub mod Holdings
+pub mod Rows
+pub mod WorthText
+pub mod Flows

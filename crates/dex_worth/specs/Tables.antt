@@ -1,0 +1,99 @@
+-- The worth of accounts, as last accounts and the calls of a journal tell it.
+use Rattle.std.specs.Prelude.{ℕ, ℤ, pos, ◌≡◌, ◌<◌, ◌+ℤ◌, ◌-ℤ◌, List, [], ◌∷◌, ◌++◌, Some, get_or, length, map}
+use Rattle.std.specs.Option.{unwrap_or}
+use Rattle.dex_types.specs.declared.addresses.Address.{Address}
+use Rattle.dex_types.specs.Accounts.{PlainMarketAccounts}
+use Rattle.dex_types.specs.Side.{Token, Coin, Pc}
+use Rattle.dex_types.specs.Soundness.{IsSound}
+use Rattle.dex_types.specs.Totals.{total}
+use Rattle.dex_types.specs.Trader.{Trader}
+use Rattle.dex_accounts.specs.Decoded.{market_in}
+use Rattle.dex_accounts.specs.StandsFor.{StandsFor}
+use Rattle.dex_history.specs.Journal.{Call, market_after}
+use Rattle.dex_report.specs.Outcomes.{PlainMarketJournal, PlainOutcome}
+use Rattle.dex_script.specs.Drafts.{PlainScript}
+use Rattle.dex_calls.specs.EntryCalls.{TellsHistory, calls_told}
+use Rattle.dex_eager.specs.Eager.{Worths}
+use Rattle.dex_eager.specs.Histories.{Trade, counted, eager_end, eager_fills, eager_start, fills_of, moves_of, trades}
+use Rattle.dex_eager.specs.Slots.{without_slots}
+use Rattle.dex_eager.specs.Worth.{Worth, held_for, takings_of, worth_of}
+use Rattle.dex_worth.specs.Flows.{AddUp}
+use Rattle.dex_worth.specs.Rows.{PlainWorthRow}
+use Rattle.dex_worth.specs.Told.{told_in, told_out}
+
+-- an account's worth in a token: what last accounts hold for it, less what calls tell of its deposits, plus what they tell was settled
+abbrev pub told_of : Token → Address → PlainMarketAccounts → List Call → ℤ
+told_of token owner last calls = (pos (held_for token owner (market_in last)) -ℤ pos (total (told_in token owner) calls)) +ℤ pos (total (told_out token owner) calls)
+
+-- in both
+abbrev pub worth_told : Address → PlainMarketAccounts → List Call → Worth
+worth_told owner last calls = record { coin = told_of Coin owner last calls; pc = told_of Pc owner last calls }
+
+-- of each account of the market, in declared order
+abbrev pub worths_told : PlainMarketAccounts → List Call → Worths
+worths_told last calls = map (λ (entry : Address × Trader). (entry.0, worth_told entry.0 last calls)) (market_in last).traders
+
+-- ---- of outcomes
+
+-- the calls that a market's journal tells
+abbrev pub calls_of : PlainScript → PlainMarketJournal → List Call
+calls_of script journal = unwrap_or (calls_told script journal.address journal.entries) []
+
+-- the row of an account
+abbrev pub row_told : PlainScript → PlainMarketAccounts → PlainMarketJournal → Address × Trader → PlainWorthRow
+row_told script last journal entry =
+    record { market = journal.address; account = entry.0; worth = worth_told entry.0 last (calls_of script journal) }
+
+-- the rows of a market, as its last accounts and its journal tell them: its accounts in declared order
+abbrev pub rows_told : PlainScript → PlainMarketAccounts → PlainMarketJournal → List PlainWorthRow
+rows_told script last journal = map (row_told script last journal) (market_in last).traders
+
+-- the rows of all markets
+abbrev pub tables_told : PlainScript → List PlainMarketAccounts → List PlainMarketJournal → List PlainWorthRow
+tables_told script (last ∷ lasts) (journal ∷ journals) = rows_told script last journal ++ tables_told script lasts journals
+tables_told script _ _ = []
+
+-- the table of an outcome: its markets in declared order
+abbrev pub table_told : PlainScript → PlainOutcome → List PlainWorthRow
+table_told script outcome = tables_told script outcome.accounts.markets outcome.markets
+
+-- what the trades of each market go by, as its journal tells them: its accepted rows but cranks, with their tiers and program
+abbrev pub trades_told : PlainScript → List PlainMarketJournal → List (List Trade)
+trades_told script journals = map (λ (journal : PlainMarketJournal). trades (calls_of script journal)) journals
+
+-- the journal tells a legal history from the market's first accounts, which are those of a sound market
+pub record IsTold (script : PlainScript) (first last : PlainMarketAccounts) (journal : PlainMarketJournal) : Type 0 where
+  pub tells : TellsHistory script first last journal
+  pub sound : IsSound (market_in first)
+  pub address : first.address ≡ journal.address
+
+-- from some first accounts
+abbrev pub IsToldHere : PlainScript → PlainMarketAccounts → PlainMarketJournal → Type 0
+IsToldHere script last journal = (first : PlainMarketAccounts) × IsTold script first last journal
+
+-- so does each journal
+abbrev pub AreToldHere : PlainScript → List PlainMarketAccounts → List PlainMarketJournal → Type 0
+AreToldHere script lasts journals = (k : ℕ) (last : PlainMarketAccounts) (journal : PlainMarketJournal)
+    → k < length lasts → k < length journals → IsToldHere script (get_or lasts k last) (get_or journals k journal)
+
+-- an account and its worth
+abbrev pub worth_in_row : PlainWorthRow → Address × Worth
+worth_in_row row = (row.account, row.worth)
+
+-- what a market left is what one leaves that pays each fill at once: the worth of each account, which is also the sum of what is free,
+-- resting and owed at the end, less deposits, plus settlements, over the steps of the calls that the journal tells; both sides but for
+-- slots; the fills of resting orders; and what the market took, with what was swept and paid to referrers. And of each token nothing was made
+-- or lost
+pub record PaysAtOnce (script : PlainScript) (first last : PlainMarketAccounts) (journal : PlainMarketJournal) : Type 0 where
+  pub calls : List Call
+  pub told : calls_told script journal.address journal.entries ≡ Some calls
+  pub stands : StandsFor last (market_after (market_in first) calls)
+  pub worths : map worth_in_row (rows_told script last journal) ≡ (eager_end (market_in first) calls).worths
+  pub ledger : map worth_in_row (rows_told script last journal)
+      ≡ map (λ (entry : Address × Trader). (entry.0, worth_of entry.0 (market_after (market_in first) calls) (moves_of (market_in first) calls)))
+      (market_after (market_in first) calls).traders
+  pub bids : without_slots (market_after (market_in first) calls).bids ≡ (eager_end (market_in first) calls).bids
+  pub asks : without_slots (market_after (market_in first) calls).asks ≡ (eager_end (market_in first) calls).asks
+  pub fills : fills_of (market_in first) calls ≡ eager_fills (eager_start (market_in first)) (counted calls)
+  pub takings : takings_of (market_after (market_in first) calls) (moves_of (market_in first) calls) ≡ (eager_end (market_in first) calls).takings
+  pub kept : (token : Token) → AddUp token (market_in first) calls

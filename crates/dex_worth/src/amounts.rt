@@ -1,0 +1,96 @@
+//! Amounts of both tokens, summed for each account of a market.
+
+ghost use Rattle.std.specs.Prelude.{◌≡◌, ℕ, ◌+◌, [], ◌∷◌, ◌++◌, length, map, IfOk, OnOk};
+ghost use Rattle.dex_types.specs.declared.addresses.Address.{Address as AddressOf};
+ghost use Rattle.dex_worth.specs.Amounts as tally;
+
+use dex_types::{Address, NoMemory, Side, is_same};
+use std::alloc::Global;
+
+/// An amount of base (coin) and one of quote (pc), in native units. Sums stop at 2^128 - 1.
+#[derive(Clone, Copy, Debug, PartialEq, Eq)]
+pub struct Amounts {
+    pub coin: u128,
+    pub pc: u128,
+}
+
+/// No amount of either token.
+pub const NONE: Amounts = Amounts { coin: 0, pc: 0 };
+
+/// Both together.
+pub fn both(one: Amounts, other: Amounts) -> Amounts
+    ensures { result ≡ tally.capped_amounts (tally.both one other) }
+{
+    Amounts {
+        coin: one.coin.saturating_add(other.coin),
+        pc: one.pc.saturating_add(other.pc),
+    }
+}
+
+/// An amount of what orders of a side lock: bids quote, asks base.
+pub fn on_side(side: Side, amount: u128) -> Amounts
+    ensures { result ≡ tally.on_side side amount }
+{
+    match side {
+        Side::Bid => Amounts {
+            coin: 0,
+            pc: amount,
+        },
+        Side::Ask => Amounts {
+            coin: amount,
+            pc: 0,
+        },
+    }
+}
+
+/// A sum with more of an owner, where it is the sum of that owner.
+fn with_own(sum: Amounts, of: Address, owner: Address, more: Amounts) -> Amounts
+    ensures { result ≡ tally.with_own owner more of sum }
+{
+    if is_same(of, owner) {
+        both(sum, more)
+    } else {
+        sum
+    }
+}
+
+/// Adds to the sum of an owner, wherever it stands among these.
+fn add_each(sums: &mut [Amounts], owners: &[Address], owner: Address, more: Amounts)
+    requires { length sums.old ≡ length owners.now }
+    ensures long { length sums.new ≡ length owners.now }
+    ensures added { sums.new ≡ tally.added owner more owners.now sums.old }
+{
+    for place in 0..owners.len() {
+        sums[place] = with_own(sums[place], owners[place], owner, more);
+    }
+}
+
+/// Adds to the sum of an owner, wherever it stands among these.
+pub fn add(sums: &mut Vec<Amounts>, owners: &[Address], owner: Address, more: Amounts)
+    requires { length sums.old.items ≡ length owners.now }
+    ensures long { length sums.new.items ≡ length owners.now }
+    ensures added { sums.new.items ≡ tally.added owner more owners.now sums.old.items }
+{
+    add_each(sums, owners, owner, more);
+}
+
+/// Puts a sum behind the others.
+pub fn push(sums: &mut Vec<Amounts>, sum: Amounts) -> Result<(), NoMemory>
+    ensures { OnOk result (sums.new.items ≡ sums.old.items ++ sum ∷ []) }
+{
+    match sums.push(sum) {
+        Ok(()) => Ok(()),
+        Err(_) => Err(NoMemory),
+    }
+}
+
+/// A sum of nothing for each of these owners.
+pub fn zeros(alloc: Global, owners: &[Address]) -> Result<Vec<Amounts>, NoMemory>
+    ensures { IfOk result (λ all. all.items ≡ map (λ (owner : AddressOf). tally.none) owners.now) }
+{
+    let mut all = Vec::new(alloc);
+    for place in 0..owners.len() {
+        push(&mut all, NONE)?;
+    }
+    Ok(all)
+}
