@@ -2,7 +2,7 @@
 
 import { counted, numberNode } from './amounts.js';
 import { element } from './elements.js';
-import { DUMP_FAULTS, SCRIPT_FAULTS, SETUP_CODES } from './faults.js';
+import { DUMP_FAULTS, scriptFaultWords } from './faults.js';
 import { findingTable } from './finding_nodes.js';
 import { addressNode, linkTo } from './links.js';
 import { facts, section } from './parts.js';
@@ -21,15 +21,14 @@ function scriptLine(shown, row) {
 
 // A refused script: the row, what it has, how to mend it.
 function scriptAnswer(shown, answer) {
-  const [name, what, remedy] = SCRIPT_FAULTS[answer.k] || [answer.name, 'the page knows no such fault', ''];
-  const [setup, mending] = (answer.code !== undefined && SETUP_CODES[answer.code]) || [null, remedy];
+  const { name, what, remedy } = scriptFaultWords(answer);
   return [
-    verdict(`The script is refused at row ${answer.row}: ${setup || what}.`),
+    verdict(`The script is refused at row ${answer.row}: ${what}.`),
     facts([
       ['Row', shown.script === null ? answer.row : element('a', { href: linkTo('script', '', { row: answer.row }) }, answer.row)],
       ['Its text', scriptLine(shown, answer.row)],
       ['Fault', `${answer.k} ${name}${answer.code === undefined ? '' : `, setup code ${answer.code}`}`],
-      ['How to mend it', mending],
+      ['How to mend it', remedy],
     ]),
   ];
 }

@@ -89,6 +89,7 @@ function sideTable(shown, market, orders, name) {
       { title: 'Owner', isWide: true, size: 'minmax(6.2rem, 1fr)' },
       { title: 'Sequence number', isNumber: true, isWide: true, size: '5.5rem' },
       { title: 'Locked', isNumber: true, isWide: true, size: 'minmax(8rem, 1.2fr)' },
+      ...(shown.deeds === null ? [] : [{ title: '', short: '', size: '4.6rem' }]),
     ],
     count: orders.length,
     empty: `No ${name.toLowerCase()} rest.`,
@@ -103,6 +104,7 @@ function sideTable(shown, market, orders, name) {
           addressNode(shown, order.owner),
           numberNode(order.sequence),
           amountNode(lockedBy(order, market), order.isBid ? 'pc' : 'coin', market),
+          ...(shown.deeds === null ? [] : [shown.deeds.ofOrder(market, order)]),
         ],
         details: [
           ['Order id', order.id],

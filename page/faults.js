@@ -1,8 +1,8 @@
 // What commands say where they write no report, as docs/FORMATS.md tells it: statuses, faults of scripts with how to mend them, faults of
 // dumps, findings of an audit.
 
-/** Faults of a script by their number: name, what the row has, how to mend it. */
-export const SCRIPT_FAULTS = [
+// Faults of a script by their number: name, what the row has, how to mend it.
+const SCRIPT_FAULTS = [
   null,
   ['BadCsv', 'a field has a byte that is no character from space to ~', 'Write fields with the characters from space to ~ alone.'],
   ['UnknownRow', 'the first field, the program or a word that must be one of a list is not known', 'Spell the row’s first field, the '
@@ -24,8 +24,8 @@ export const SCRIPT_FAULTS = [
   ['NoBatch', 'a swap row stands in a script for batch', 'Let a script with swap rows act by replay or run.'],
 ];
 
-/** What a setup code says, and how to mend it. */
-export const SETUP_CODES = [
+// What a setup code says, and how to mend it.
+const SETUP_CODES = [
   null,
   ['a setup row stands behind an instruction row or behind a dump', 'Put setup rows before the first instruction row; leave them out behind a dump.'],
   ['the discount mint has other decimals', 'Name a mint of 6 decimals srm, one of 0 decimals msrm.'],
@@ -35,6 +35,13 @@ export const SETUP_CODES = [
   ['a side has no node, or the queue no room for an event', 'Give each side a node and the queue room for an event, at least.'],
   ['the program row does not stand first', 'Put the program row first, or first behind the dump.'],
 ];
+
+/** What a refused script's row has, and how it is mended. */
+export function scriptFaultWords(answer) {
+  const [name, what, remedy] = SCRIPT_FAULTS[answer.k] || [answer.name, 'the page knows no such fault', ''];
+  const [setup, mending] = (answer.code !== undefined && SETUP_CODES[answer.code]) || [null, remedy];
+  return { name, what: setup || what, remedy: mending };
+}
 
 /** Faults of a dump by their kind: name, what is wrong. */
 export const DUMP_FAULTS = [

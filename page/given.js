@@ -8,17 +8,20 @@ function unescaped(text) {
   return text.includes('\\') ? text.replace(/\\[\\lr0]/g, (escape) => ESCAPES[escape]) : text;
 }
 
-/** The texts that ./view put into the page, each with its name. */
-export function givenTexts() {
-  return [...document.querySelectorAll('script.given')]
+/** The texts of a class that stand in the page, each with its name; `given` are those that ./view put there. */
+export function givenTexts(kind = 'given') {
+  return [...document.querySelectorAll(`script.${kind}`)]
     .map((holder) => ({ name: holder.dataset.name, text: unescaped(holder.textContent) }))
     .filter(({ text }) => text !== '');
 }
 
-/** Hears of files that are chosen in a field or dropped on the page. */
-export function hearFiles(field, open) {
+// A file as a text by its name.
+async function textOfFile(file) { return { name: file.name, text: await file.text() }; }
+
+/** Hears of files that are chosen in a field or dropped on the page; `read` says what is made of each. */
+export function hearFiles(field, open, read = textOfFile) {
   const take = async (files) => {
-    const texts = await Promise.all([...files].map(async (file) => ({ name: file.name, text: await file.text() })));
+    const texts = await Promise.all([...files].map(read));
     if (texts.length > 0) open(texts);
   };
   field.addEventListener('change', () => { take(field.files).then(() => { field.value = ''; }); });

@@ -1,22 +1,17 @@
 // The page: puts its frame together, opens texts, and hears keys.
 
-import { choice, element } from './elements.js';
+import { faultNode, hearKeys, KEYS, keysNode, skipLink, themeChoice, unitsChoice } from './bar.js';
+import { element } from './elements.js';
 import { givenTexts, hearFiles } from './given.js';
-import { drawView, frame, goToView } from './navigation.js';
-import { addTexts, faultText, toldTexts } from './opening.js';
+import { drawView, frame } from './navigation.js';
+import { addTexts, toldTexts } from './opening.js';
 import { notice } from './parts.js';
 import { searchField } from './search.js';
 import { hearPrinting } from './table.js';
-import { units } from './units.js';
 
 const told = element('p', { class: 'file' });
 const faults = element('div', { class: 'faults' });
 let texts = {};
-
-// What is wrong with a text, as an element.
-function faultNode({ name, fault }) {
-  return element('p', { 'class': 'fault', 'role': 'alert', 'data-name': 'fault' }, `${name}: ${faultText(fault)}`);
-}
 
 // Shows what is wrong where no text could be read.
 function drawFaults(faulty) {
@@ -46,45 +41,6 @@ async function openTexts(given) {
   }
 }
 
-// The units in which amounts are shown.
-function unitsChoice() {
-  const change = (value) => {
-    units.isNative = value === 'native';
-    drawView();
-  };
-  return choice('Amounts', [['tokens', 'in tokens'], ['native', 'native, lots']], 'tokens', change);
-}
-
-// The light or dark look, or the one that the system has.
-function themeChoice() {
-  const change = (theme) => {
-    if (theme === '') delete document.documentElement.dataset.theme;
-    else document.documentElement.dataset.theme = theme;
-  };
-  return choice('Look', [['', 'as the system'], ['light', 'light'], ['dark', 'dark']], '', change);
-}
-
-// What keys do, as the page tells it.
-const KEYS = [
-  ['/', 'search'], ['1 to 9', 'the first nine views'], ['o', 'open files'], ['arrows, Page, Home, End', 'move in a table that has the focus'],
-  ['Enter', 'follow the chosen row’s first link to elsewhere'], ['Escape', 'leave the search'],
-];
-
-// Hears keys that are no text in a field.
-function hearKeys(search, file) {
-  document.addEventListener('keydown', (event) => {
-    if (event.ctrlKey || event.metaKey || event.altKey) return;
-    if (event.target.closest('input, select')) {
-      if (event.key === 'Escape') event.target.blur();
-      return;
-    }
-    if (event.key === '/') search.focus();
-    else if (event.key === 'o') file.click();
-    else if (!/^[1-9]$/.test(event.key) || !goToView(Number(event.key) - 1)) return;
-    event.preventDefault();
-  });
-}
-
 // What stands on the page before a text is opened.
 function welcome() {
   return [
@@ -98,7 +54,7 @@ function welcome() {
 function footNode() {
   return element('footer', {},
     element('p', {}, 'This page reads texts beside the product, and no proof stands behind what it shows. ./dex audit reads the same dump.'),
-    element('p', { class: 'keys' }, KEYS.map(([key, what]) => [element('kbd', {}, key), ` ${what} `])));
+    keysNode(KEYS));
 }
 
 // Puts the page together.
@@ -112,12 +68,9 @@ function begin() {
     told, faults, frame.tabs);
   frame.main.replaceChildren(...welcome());
   frame.main.dataset.view = 'welcome';
-  document.body.replaceChildren(element('a', { href: '#main', class: 'skip', click: (event) => {
-    event.preventDefault();
-    frame.main.focus();
-  } }, 'To the content'), header, frame.main, footNode());
+  document.body.replaceChildren(skipLink('To the content', frame.main), header, frame.main, footNode());
   hearFiles(file, openTexts);
-  hearKeys(search.field, file);
+  hearKeys(search.field, () => file.click());
   hearPrinting();
   window.addEventListener('hashchange', drawView);
 }

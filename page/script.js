@@ -40,8 +40,8 @@ function quotedRecord(text, from) {
   return { fields: [...fields, field], next: at };
 }
 
-// Where the records of a text begin, without lines that are empty.
-function recordStarts(text) {
+/** Where the records of a text begin, without lines that are empty. */
+export function recordStarts(text) {
   const starts = [];
   const isQuoted = text.includes('"');
   const ends = text.includes('\r') ? /[\r\n]|$/g : /\n|$/g;

@@ -30,6 +30,8 @@ export class Shown {
     this.replays = new Map();
     this.allDealings = new Map();
     this.worth = this.joinWorth();
+    // Buttons of orders and accounts, in a page where rows can be written: `ofOrder` and `ofAccount`.
+    this.deeds = null;
   }
 
   // The script where it is the one of the report; what is wrong with it is told.

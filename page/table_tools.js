@@ -33,8 +33,8 @@ async function putOnClipboard(text) {
   }
 }
 
-// Lets the browser keep a text as a file.
-function keepAsFile(text, name) {
+/** Lets the browser keep a text, or bytes, as a file. */
+export function keepAsFile(text, name) {
   const address = URL.createObjectURL(new Blob([text], { type: 'text/csv' }));
   const link = element('a', { href: address, download: name });
   link.click();

@@ -12,8 +12,8 @@ function isDumpAlone(text) {
   return end === null || text.slice(end.index + end[0].length).trim() === '';
 }
 
-// The kind of a text; null where it begins like none.
-function kindOfText(text) {
+/** The kind of a text; null where it begins like none. */
+export function kindOfText(text) {
   if (/^report [0-9]+\r?(\n|$)/.test(text)) return 'report';
   if (/^dump\r?(\n|$)/.test(text) && isDumpAlone(text)) return 'dump';
   if (isWorth(text)) return 'worth';

@@ -31,13 +31,14 @@ function dealingFacts(shown, market, trader) {
 // One account's cells and details.
 function traderRow(shown, market, trader) {
   const account = [addressNode(shown, trader.address), ' '];
-  if (trader.state === 'blank') return { name: `trader ${trader.address}`, cells: [account, 'blank', '', '', '', '', '', '', '', ''] };
+  if (trader.state === 'blank') return { name: `trader ${trader.address}`, cells: [account, 'blank', '', '', '', '', '', '', '', '', ...(shown.deeds === null ? [] : [''])] };
   const amounts = ['coin', 'pc'].flatMap((token) => ['free', 'resting', 'owed']
     .map((what) => amountNode(trader[what][token], token, market, `${trader.address} ${what} ${token}`)));
   const owner = [element('span', { class: 'quiet' }, 'of '), addressNode(shown, trader.owner)];
   return {
     name: `trader ${trader.address}`,
-    cells: [[account, owner], trader.state, ...amounts, amountNode(trader.referrer, 'pc', market), totalsText(trader)],
+    cells: [[account, owner], trader.state, ...amounts, amountNode(trader.referrer, 'pc', market), totalsText(trader),
+      ...(shown.deeds === null ? [] : [shown.deeds.ofAccount(market, trader)])],
     details: [
       ['Slots taken', `${trader.taken} of 128`],
       ['Orders', `${counted(trader.bids, 'bid')}, ${counted(trader.asks, 'ask')}`],
@@ -62,6 +63,7 @@ export function tradersView(shown, market, words) {
       ...titles.map((title) => ({ title, isNumber: true, isWide: true })),
       { title: 'Referrer part', isNumber: true },
       { title: 'Totals', size: '6rem' },
+      ...(shown.deeds === null ? [] : [{ title: '', size: '4.4rem' }]),
     ].map((column) => ({ ...column, lines: 2, narrowLines: 1 })),
     count: traders.length,
     least: 1100,

@@ -1,0 +1,52 @@
+// A call of one command in the module: bytes in, the status and the text out. Each call has an instance and a memory of its own, which go
+// with it; so no call sees what another left. docs/LIBRARY.md tells what the functions promise of their bytes, room and size.
+
+const FIRST_PAGES = 32;
+const LEAST_ROOM = 2097152;
+const LARGEST_FIRST_ROOM = 67108864;
+/** The most pages of 64 KiB that a memory may have. */
+export const MOST_PAGES = 65536;
+/** The status of a call for which memory was wanting. */
+export const NO_MEMORY = 7;
+
+// The room for a text at first: enough for most.
+function firstRoom(length) { return Math.min(5 * length + LEAST_ROOM, LARGEST_FIRST_ROOM); }
+
+// An instance with a memory of its own of so many pages at most.
+function instanceOf(module, mostPages) {
+  const memory = new WebAssembly.Memory({ initial: FIRST_PAGES, maximum: mostPages });
+  const { exports } = new WebAssembly.Instance(module, { env: { memory } });
+  return { memory, exports, take: (size) => Number(BigInt.asUintN(32, exports.play_alloc(BigInt(size)))) };
+}
+
+// The bytes in the memory of an instance, as its functions take them; null where memory is wanting.
+function handIn({ memory, take }, bytes) {
+  const place = take(bytes.length);
+  if (place === 0) return null;
+  new Uint8Array(memory.buffer, place, bytes.length).set(bytes);
+  return [BigInt(place), BigInt(bytes.length)];
+}
+
+// Calls with a room, and once more with a larger one where the text does not fit.
+function answerOf({ memory, exports, take }, call, words, length) {
+  const size = take(8);
+  let room = firstRoom(length);
+  for (;;) {
+    const place = take(room);
+    if (size === 0 || place === 0) return { status: NO_MEMORY, text: new Uint8Array(0) };
+    const status = exports[call](...words, BigInt(place), BigInt(room), BigInt(size)) & 255;
+    const told = Number(new DataView(memory.buffer).getBigUint64(size, true));
+    if (told <= room) return { status, text: new Uint8Array(memory.buffer, place, told).slice() };
+    exports.play_free(BigInt(place));
+    room = told;
+  }
+}
+
+/** What a command of the module answers to numbers and bytes (null where it reads none): its status, its text, and the memory that it took. */
+export function callCommand(module, { call, numbers, bytes }, mostPages = MOST_PAGES) {
+  const instance = instanceOf(module, mostPages);
+  const input = bytes === null ? [] : handIn(instance, bytes);
+  if (input === null) return { status: NO_MEMORY, text: new Uint8Array(0), memory: instance.memory.buffer.byteLength };
+  const { status, text } = answerOf(instance, call, [...numbers, ...input], bytes === null ? 0 : bytes.length);
+  return { status, text, memory: instance.memory.buffer.byteLength };
+}

@@ -1,0 +1,112 @@
+// What stands at a place of a row: the row's fields by name, which of them it is, what may stand there, and the words that are offered.
+
+import { restingOrders, signersOf, walletsOf } from './declared.js';
+import { marketData, ROW_FORMS, WORD_FORMS, WORD_LISTS, WORD_TITLES } from './forms.js';
+
+const WORDS_FIELD = 9;
+const ACCOUNTS_FIELD = 4;
+const MOST_OFFERS = 12;
+
+// The piece of a line around a column between separators, as its place and text.
+function pieceAt(line, column, separator, least = 0) {
+  const from = Math.max(least, line.lastIndexOf(separator, column - 1) + 1);
+  let to = line.indexOf(separator, column);
+  if (to < 0) to = line.length;
+  return { from, to: Math.max(from, to), text: line.slice(from, Math.max(from, to)) };
+}
+
+// Words of a list as offers.
+function offered(words, title = () => '') { return [...words].map((word) => ({ word, title: title(word) })); }
+
+// The wallets of a role of a row.
+function walletOffers(known, fields, mint) {
+  const dash = { word: '-', title: 'none' };
+  if (mint === undefined) return [dash];
+  return [...offered(walletsOf(known, mint, fields[3]), (wallet) => `of ${known.wallets.get(wallet).owner}`), dash];
+}
+
+// The best prices of a row's market.
+function priceOffers(known, fields) {
+  const market = known.exchange === null ? undefined : known.exchange.markets.get(fields[2]);
+  if (market === undefined) return [];
+  const best = [['best bid', market.bids.orders[0]], ['best ask', market.asks.orders[0]]];
+  return best.filter(([, order]) => order !== undefined).map(([title, order]) => ({ word: String(order.price), title }));
+}
+
+// The orders of a row's account by a word of each.
+function orderOffers(known, fields, word) {
+  const account = (fields[ACCOUNTS_FIELD] || '-').split(' ')[0];
+  return restingOrders(known, fields[2], account).map((order) => ({
+    word: String(word(order)), title: `${order.isBid ? 'bid' : 'ask'} of ${order.lots} at ${order.price}`,
+  }));
+}
+
+// What is offered for a kind of field.
+function offersOf(kind, fields, known) {
+  const market = known.markets.get(kind === 'accounts' || fields[0] !== 'orders' ? fields[2] : fields[1]) || {};
+  switch (kind) {
+    case 'mint': return offered(known.mints);
+    case 'market': return offered(known.markets.keys());
+    case 'signer': return offered(signersOf(known));
+    case 'accounts': return [...offered([...known.accounts].filter(([, account]) => account.market === fields[2]).map(([address]) => address)),
+      { word: '-', title: 'none' }];
+    case 'coin': return walletOffers(known, fields, market.coin);
+    case 'pc': return walletOffers(known, fields, market.pc);
+    case 'discount': return [...known.discounts].flatMap((mint) => walletOffers(known, fields, mint).slice(0, -1)).concat({ word: '-', title: 'none' });
+    case 'lane': return offered(['0', '1', '2', '3']);
+    case 'do': return offered(Object.keys(WORD_FORMS), (word) => WORD_TITLES[word]);
+    case 'price': return priceOffers(known, fields);
+    case 'order': return orderOffers(known, fields, ({ id }) => id);
+    case 'client': return orderOffers(known, fields, ({ client }) => client);
+    case 'data': return [{ word: marketData({ coinLot: 100n, pcLot: 10n }), title: 'lots of 100 and 10' }, { word: marketData({ coinLot: 1n, pcLot: 1n }), title: 'lots of 1 and 1' }];
+    default: return kind === null ? [] : offered(WORD_LISTS[kind]);
+  }
+}
+
+// Offers that go on from what is typed first, then the others.
+function sortedOffers(offers, typed) {
+  const isFit = ({ word }) => typed !== '' && word.startsWith(typed);
+  return [...offers.filter(isFit), ...offers.filter((offer) => !isFit(offer))].slice(0, MOST_OFFERS);
+}
+
+// A hint of named fields, of which one is at the place.
+function hintOf(names, now, piece, field, offers, typed) {
+  return { names, now, says: field === undefined ? 'There is no further field in such a row.' : field.says, piece, offers: sortedOffers(offers, typed) };
+}
+
+// The hint at the first field of a row.
+function kindHint(piece, typed) {
+  const field = { says: 'The kind of the row.' };
+  return hintOf(['Row'], 0, piece, field, offered(Object.keys(ROW_FORMS)), typed);
+}
+
+// The hint at a word of an instruction.
+function wordHint(line, column, start, fields, known) {
+  const piece = pieceAt(line, column, ' ', start);
+  const typed = line.slice(piece.from, column);
+  const words = line.slice(start).split(' ');
+  const at = line.slice(start, column).split(' ').length - 1;
+  const form = Object.hasOwn(WORD_FORMS, words[0]) ? WORD_FORMS[words[0]] : null;
+  if (at === 0) {
+    const title = form === null ? 'The instruction.' : `${WORD_TITLES[words[0]]}.`;
+    return hintOf([words[0] || 'Instruction', ...(form || []).map(({ name }) => name)], 0, piece, { says: title }, offersOf('do', fields, known), typed);
+  }
+  if (form === null) return { names: [words[0]], now: 0, says: 'No instruction is called so.', piece, offers: [] };
+  const field = form[at - 1];
+  return hintOf([words[0], ...form.map(({ name }) => name)], at, piece, field, field === undefined ? [] : offersOf(field.offers, fields, known), typed);
+}
+
+/** What stands at a column of a line of a script; null where the line is empty and none of its words begun. */
+export function hintAt(line, column, known) {
+  const fields = line.split(',');
+  const at = line.slice(0, column).split(',').length - 1;
+  const piece = pieceAt(line, column, ',');
+  if (at === 0) return kindHint(piece, line.slice(0, column));
+  const form = Object.hasOwn(ROW_FORMS, fields[0]) ? ROW_FORMS[fields[0]] : null;
+  if (form === null) return { names: [fields[0]], now: 0, says: 'No row begins so.', piece, offers: [] };
+  if (fields[0] === 'do' && at === WORDS_FIELD) return wordHint(line, column, piece.from, fields, known);
+  const field = form[at - 1];
+  const own = field !== undefined && field.offers === 'accounts' ? pieceAt(line.slice(0, piece.to), column, ' ', piece.from) : piece;
+  const offers = field === undefined ? [] : offersOf(field.offers, fields, known);
+  return hintOf([fields[0], ...form.map(({ name }) => name)], at, own, field, offers, line.slice(own.from, column));
+}

@@ -1,0 +1,53 @@
+// The page in which the library's module runs: a script and its report side by side, run anew at each change.
+
+import { faultNode, hearKeys, KEYS, keysNode, skipLink, themeChoice, unitsChoice } from '../page/bar.js';
+import { element } from '../page/elements.js';
+import { givenTexts, hearFiles } from '../page/given.js';
+import { drawView, frame } from '../page/navigation.js';
+import { searchField } from '../page/search.js';
+import { hearPrinting } from '../page/table.js';
+import { AnswerPane } from './answer_pane.js';
+import { Runner } from './runner.js';
+import { SourcePane } from './source_pane.js';
+
+// What is proved of what the page shows, and what is not.
+const PROVED = 'What answers here is the proved static library’s own module, compiled a second time, for browsers: what its functions promise is proved. '
+  + 'Not proved are that compiling, the lowering to 32-bit memory, the functions for memory and 128-bit numbers under it (shims), the browser, and '
+  + 'this page with its views. Nothing leaves this computer.';
+
+// The bytes of a text in base64.
+function bytesOfBase64(text) { return Uint8Array.from(atob(text), (sign) => sign.charCodeAt(0)); }
+
+// The text that stands in the page by a class.
+function givenText(kind) { return givenTexts(kind)[0].text; }
+
+// The page's bar.
+function barNode(search) {
+  return element('header', {}, element('div', { class: 'bar' }, element('strong', {}, 'Daisyhook'), search.node, unitsChoice(), themeChoice()));
+}
+
+// A file's bytes by its name.
+async function bytesOfFile(file) { return { name: file.name, bytes: new Uint8Array(await file.arrayBuffer()) }; }
+
+// Puts the page together.
+function beginPlay() {
+  const runner = new Runner(bytesOfBase64(givenText('module')), givenText('worker'));
+  const examples = givenTexts('example');
+  const search = searchField(() => frame.shown);
+  const file = element('input', { type: 'file', id: 'file', class: 'hidden' });
+  const sources = new SourcePane({ examples, file, change: () => answers.answer(sources.source) });
+  const answers = new AnswerPane({ runner, pane: sources });
+  const footer = element('footer', {}, element('p', { 'data-name': 'proved' }, PROVED), keysNode([...KEYS, ['Ctrl Space', 'in the field, takes the first word that is offered']]));
+  document.body.replaceChildren(skipLink('To the script', sources.editor.area), skipLink('To the report', frame.main), barNode(search),
+    element('div', { class: 'play' }, sources.node, answers.node), footer);
+  document.body.classList.add('playing');
+  hearFiles(file, ([first]) => sources.open(first), bytesOfFile);
+  hearKeys(search.field, () => file.click());
+  hearPrinting();
+  window.addEventListener('hashchange', drawView);
+  if (window.location.hash === '') window.history.replaceState(null, '', '#book');
+  runner.ready.then(() => answers.offerCommands(), (fault) => frame.main.replaceChildren(faultNode({ name: 'The module', fault })));
+  sources.takeExample(examples[0]);
+}
+
+beginPlay();

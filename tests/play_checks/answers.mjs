@@ -1,0 +1,124 @@
+// What the page answers: examples and stored cases as they are stored, a change at once, rows at fault, commands on what a script leaves.
+
+import { readdirSync } from 'node:fs';
+import { join } from 'node:path';
+import { root, stored } from '../view_browser/texts.mjs';
+
+// The names of the cases of a folder.
+function casesOf(folder) {
+  return readdirSync(join(root, 'tests/cases', folder)).filter((name) => name.endsWith('.words')).map((name) => name.slice(0, -6)).sort();
+}
+
+// The first thing that one sees: two_traders and its report, and how long that took.
+async function checkFirst(suite, player) {
+  await player.open();
+  const first = (await player.page.run(() => window.performance.getEntriesByName('first answer')[0].startTime)) / 1000;
+  console.log(`play: two_traders and its report stood ${first.toFixed(2)} s after the page was opened`);
+  suite.same('at first: the script', await player.rows(), stored('examples/two_traders.csv'));
+  suite.same('at first: the report', (await player.saved()).text, stored('examples/two_traders.report'));
+  suite.same('at first: the view', await player.page.run(() => document.querySelector('main').dataset.view), 'book');
+  suite.same('at first: the best ask', await player.page.run(() => document.querySelector('[data-name="best ask"]').value), '50');
+  suite.holds('at first: what is proved', (await player.named('proved')).includes('Not proved are'));
+  suite.same('at first: nothing is asked for', player.page.requests(), []);
+}
+
+// All examples of the choice, by their stored reports.
+async function checkExamples(suite, player) {
+  const names = await player.page.run(() => [...document.querySelectorAll('[data-key="choice Example"] option')].map(({ value }) => value).filter((name) => name !== ''));
+  suite.holds('there are examples', names.length > 5);
+  for (const name of names) {
+    await player.page.run((value) => {
+      const select = document.querySelector('[data-key="choice Example"]');
+      select.value = value;
+      select.dispatchEvent(new Event('change'));
+    }, name);
+    await player.calm();
+    const { text } = await player.saved();
+    suite.same(`example ${name}`, text, stored(`examples/${name}.report`));
+  }
+}
+
+// Some stored cases of each command.
+async function checkCases(suite, player) {
+  const offered = await player.commands();
+  for (const name of ['replay/0008', 'replay/0021', 'scripts/fault_6_unknown_wallet', 'faulty/0', 'dump/0301', 'audit/0408', 'audit/0446', 'audit/0452', 'migrate/0', 'made/']) {
+    const [folder, front] = name.split('/');
+    const full = casesOf(folder).find((one) => one.startsWith(front));
+    const path = `tests/cases/${folder}/${full}`;
+    const words = stored(`${path}.words`).trim().split('\n');
+    if (!offered.includes(words[0])) continue;
+    if (folder !== 'made') await player.drop(`${full}.csv`, stored(`${path}.in`));
+    await player.command(...words);
+    suite.same(`case ${path}`, (await player.saved()).text, stored(`${path}.out`));
+  }
+  await player.command('replay');
+}
+
+// A price that is changed, and what follows at once.
+async function checkChange(suite, player) {
+  await player.open();
+  await player.replace('new bid 60 3 2000', 'new bid 45 3 2000');
+  suite.same('a price that nobody meets: the ask rests whole', await player.page.run(() => document.querySelector('main .rows .row').dataset.row), 'ask 50 4 4');
+  suite.holds('the row at the caret: how it was answered', (await player.named('reply')).includes('filled nothing'));
+  await player.replace('new bid 45 3 2000', 'new bid 60 3 2000');
+  suite.same('the price as it was: the report too', (await player.saved()).text, stored('examples/two_traders.report'));
+}
+
+// A row at fault: it is marked, told with its remedy, and the views stay as they stood.
+async function checkFault(suite, player) {
+  await player.replace('settle\ndo,1', 'setle\ndo,1');
+  const fault = await player.named('row fault');
+  suite.holds('a row at fault: it is told', fault.startsWith('Row 16: 2 UnknownRow.') && fault.includes('Spell the row’s first field'), fault);
+  suite.same('a row at fault: its number is marked', await player.page.texts('.gutter .fault-row'), ['16']);
+  suite.holds('a row at fault: its line is marked', await player.page.run(() => {
+    const [band, area] = [document.querySelector('.band'), document.querySelector('textarea')].map((node) => node.getBoundingClientRect());
+    return !document.querySelector('.band').hidden && Math.abs(band.top - area.top - 6 - 15 * 20) < 2;
+  }));
+  suite.holds('a row at fault: the views are told to be older', (await player.named('told')).startsWith('Row 16 is at fault'));
+  suite.same('a row at fault: the views stay', await player.page.run(() => document.querySelector('main').dataset.view), 'book');
+  await player.click('Go to row 16');
+  suite.same('a row at fault: one goes to it', await player.page.run(() => window.getSelection().toString()), 'do,0,m,ann,amy,ann_coin,ann_usd,-,-,setle');
+  await player.replace('setle', 'settle');
+  suite.same('mended: no fault is told', await player.named('row fault'), '');
+  suite.same('mended: no mark', await player.page.texts('.gutter .fault-row'), []);
+}
+
+// Refused rows are marked beside the field, as the report has them.
+async function checkMarks(suite, player) {
+  suite.same('refused rows are marked', await player.page.texts('.gutter .refused-row'), ['14', '18']);
+}
+
+// Commands that read a dump are handed the dump that the script leaves.
+async function checkAfterScript(suite, player) {
+  await player.command('audit');
+  suite.same('audit of a script: of the accounts that it leaves', (await player.saved()).text, 'audit ok 1 4\n');
+  suite.holds('audit of a script: it is said', (await player.named('told')).startsWith('audit of the accounts that the script leaves: status 0'));
+  await player.command('migrate', '3', '4');
+  suite.holds('migrate: a dump', (await player.saved()).text.startsWith('dump\nmint,coin,'));
+  await player.click('Play on from it');
+  suite.holds('played on: the dump is folded', (await player.named('folded')).startsWith('A dump of 11 rows'));
+  suite.same('played on: the field is empty', await player.rows(), '');
+  await player.page.run(() => document.querySelector('textarea').focus());
+  await player.replace('', 'do,0,m,ann,amy,-,-,-,-,consume 10\n');
+  suite.same('played on: rows count behind the dump', await player.page.text('.gutter span'), '12');
+  suite.holds('played on: its report', (await player.saved()).text.startsWith('report 1\nmarket m 1\nentry 0 12 ok consumed 0'));
+  await player.command('migrate', '0', '4');
+  suite.holds('a number out of its limits is told', (await player.named('told')).startsWith('migrate wants Nodes from 1 to 65,536'));
+  await player.command('make', '7', '100');
+  suite.holds('make: a script', (await player.saved()).text.startsWith('mint,base,6\n'));
+  await player.click('Play on from it');
+  suite.holds('a made script is played', (await player.saved()).text.startsWith('report 116\n'));
+}
+
+/** What is answered. */
+export async function answerCases(suite) {
+  const player = await suite.player(1280, 900);
+  await checkFirst(suite, player);
+  await checkExamples(suite, player);
+  await checkCases(suite, player);
+  await checkChange(suite, player);
+  await checkMarks(suite, player);
+  await checkFault(suite, player);
+  await checkAfterScript(suite, player);
+  await player.page.close();
+}
