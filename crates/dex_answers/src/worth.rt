@@ -1,6 +1,6 @@
 //! The command `worth`.
 
-ghost use Rattle.std.specs.Prelude.{◌≡◌, ◌≤◌, IfOk, length, map};
+ghost use Rattle.std.specs.Prelude.{◌≡◌, ◌≤◌, IfOk, map};
 ghost use Rattle.std.specs.List.{All, AllPairs};
 ghost use Rattle.dex_types.specs.Rows.{PlainRow, row_of};
 ghost use Rattle.dex_accounts.specs.Accepted.{IsAccepted};
@@ -12,7 +12,7 @@ ghost use Rattle.dex_script.specs.Facts.{IsScript};
 ghost use Rattle.dex_worth.specs.Rows.{plain_row};
 ghost use Rattle.dex_worth.specs.Tables.{table_told};
 ghost use Rattle.dex_worth.specs.WorthText.{worth_text};
-ghost use Rattle.dex_answers.specs.Answers.{Answers, IsPlayed};
+ghost use Rattle.dex_answers.specs.Answers.{Answers};
 ghost use Rattle.dex_answers.specs.Telling.{IsText};
 ghost use Rattle.dex_answers.specs.declared.status.Status.TheVariants as status;
 
@@ -22,7 +22,7 @@ use crate::told::StatusText;
 use dex_replay::laws::without_swaps_rows_act_one_by_one;
 use dex_replay::replay_with_rows;
 use dex_report::Outcome;
-use dex_script::{Script, read_script};
+use dex_script::read_script;
 use dex_types::{NoMemory, Row};
 use dex_worth::{WorthRow, worth_table, worth_text};
 use std::alloc::Global;
@@ -33,40 +33,30 @@ pub(crate) fn worth_answer(alloc: Global, bytes: &[u8]) -> Result<StatusText, No
 {
     match read_script(alloc, bytes) {
         Ok(script) => {
-            let (outcome, rows) = play_rows(alloc, script)?;
-            table_of(alloc, &rows, &outcome)
+            let markets = script.start.markets.len();
+            let (outcome, rows) = replay_with_rows(alloc, script)?;
+            without_swaps_rows_act_one_by_one();
+            table_of(alloc, markets, &rows, &outcome)
         }
         Err(error) => no_script(alloc, error),
     }
 }
 
-/// What every script is.
-fn is_script(script: &Script)
-    ensures { IsScript script.now }
-{}
-
-/// What is left when all rows of a script have acted in their order, and the rows.
-fn play_rows(alloc: Global, script: Script) -> Result<(Outcome, Vec<Row>), NoMemory>
-    ensures script { IsScript script }
-    ensures played { IfOk result (λ left. IsPlayed script (outcome_of left.0)) }
-    ensures rows { IfOk result (λ left. map row_of left.1.items ≡ script.rows) }
-{
-    is_script(&script);
-    let left = replay_with_rows(alloc, script)?;
-    without_swaps_rows_act_one_by_one();
-    Ok(left)
-}
-
-/// The table of a lawful outcome of these rows.
-fn table_of(alloc: Global, rows: &[Row], outcome: &Outcome) -> Result<StatusText, NoMemory>
+/// The table of so many markets, of a lawful outcome of these rows.
+fn table_of(
+    alloc: Global,
+    markets: usize,
+    rows: &[Row],
+    outcome: &Outcome,
+) -> Result<StatusText, NoMemory>
     requires accepted { All IsAccepted (outcome_of outcome.now).accounts.markets }
     requires rising { AllPairs (λ (one other : PlainRow). one.number ≤ other.number) (map row_of rows.now) }
     ensures { IfOk result (λ told. (script : PlainScript) → IsScript script → map row_of rows.now ≡ script.rows
         → IsLawful script (outcome_of outcome.now) → IsText told status.Ok
-        (worth_text (length (outcome_of outcome.now).markets) (table_told script (outcome_of outcome.now)))) }
+        (worth_text markets (table_told script (outcome_of outcome.now)))) }
 {
     let table = worth_table(alloc, rows, outcome)?;
-    text_of(alloc, outcome.markets.len(), &table)
+    text_of(alloc, markets, &table)
 }
 
 /// The text of a table of so many markets.

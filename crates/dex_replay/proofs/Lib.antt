@@ -19,3 +19,4 @@ mod Runs
 mod Sights
 mod Singles
 pub mod Starts
+mod OneReplay

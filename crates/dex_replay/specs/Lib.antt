@@ -1,3 +1,4 @@
 pub mod Replays
 pub mod Lawful
 pub mod Runs
+pub mod Alike

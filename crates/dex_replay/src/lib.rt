@@ -3,5 +3,6 @@
 
 pub mod laws;
 mod replaying;
+pub mod reports;
 
 pub use replaying::{replay, replay_with_rows};

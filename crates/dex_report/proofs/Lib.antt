@@ -7,3 +7,5 @@ pub mod Digits
 pub mod Entries
 pub mod Journals
 pub mod Written
+pub mod Fronts
+mod Collected

@@ -78,6 +78,12 @@ pub record FitWalletEntry (entry : WalletEntry) : Type 0 where
   pub amount : entry.amount < 2 ^ 64
   pub before : entry.before < 2 ^ 64
 
+-- the values of a market's journal fit
+pub record FitMarket (journal : PlainMarketJournal) : Type 0 where
+  pub address : IsAddress journal.address
+  pub count : length journal.entries < 2 ^ 64
+  pub entries : All FitEntry journal.entries
+
 -- an entry whose values fit, and whose movements stand from the front
 pub record IsTold (entry : Entry) : Type 0 where
   pub fits : FitEntry entry
@@ -100,3 +106,13 @@ pub record IsToldOutcome (outcome : PlainOutcome) : Type 0 where
   pub accounts : HoldBytes outcome.accounts
   pub markets : All IsToldMarket outcome.markets
   pub wallets : All IsToldWallet outcome.wallets
+
+-- all values of an outcome fit, as their types have it
+pub record FitOutcome (outcome : PlainOutcome) : Type 0 where
+  pub accounts : HoldBytes outcome.accounts
+  pub markets : All FitMarket outcome.markets
+  pub wallets : All IsToldWallet outcome.wallets
+
+-- the movements of each entry of a market's journal stand from the front
+abbrev pub AreInFront : PlainMarketJournal → Type 0
+AreInFront journal = All (λ (entry : Entry). stand_from_front entry.moves ≡ true) journal.entries

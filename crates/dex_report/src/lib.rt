@@ -11,7 +11,7 @@ mod outcome;
 mod report;
 
 pub use bulk::bulk_text;
-pub use laws::one_reading;
+pub use laws::{movements_stand_from_the_front, one_reading, what_fits_is_told};
 pub use made::make_script;
 pub use outcome::{MarketJournal, Outcome, WalletJournal};
 pub use report::report_text;

@@ -1,23 +1,26 @@
 //! The lines of journals, piece by piece behind a text.
 
-ghost use Rattle.std.specs.Prelude.{◌≡◌, ◌+◌, ◌≤◌, ◌++◌, OnOk, Some, drop};
+ghost use Rattle.std.specs.Prelude.{◌≡◌, ◌+◌, ◌≤◌, ◌++◌, OnOk, Some, drop, length};
 ghost use Rattle.std.specs.Fmt.{decimal};
-ghost use Rattle.std.specs.List.{flat_map};
+ghost use Rattle.std.specs.List.{All, flat_map};
 ghost use Rattle.std.specs.Str.{IsUtf8};
 ghost use Rattle.std.specs.String.{string_bytes};
 ghost use Rattle.dex_types.specs.MovementText.{kind_text};
-ghost use Rattle.dex_types.specs.Text.{address_text, reply_text, spaced};
+ghost use Rattle.dex_types.specs.Text.{address_text, refusal_text, reply_text, spaced};
+ghost use Rattle.dex_dump.specs.Accepted.{IsAddress};
 ghost use Rattle.dex_report.specs.Report as texts;
+ghost use Rattle.dex_report.specs.Telling.{FitEntry, FitMove, FitRefusal, FitReply, FitWalletEntry};
 
-use dex_types::{Address, Entry, MoveKind, Movement, Reply, WalletEntry};
+use dex_types::{Address, Entry, MoveKind, Movement, Refusal, Reply, WalletEntry};
 use itoa::{Buffer, write_digits};
 use std::alloc::AllocError;
 use std::fmt::Write;
 use std::str::from_utf8;
 
-/// Writes the line of an entry of a market's journal.
+/// Writes the line of an entry of a market's journal. What was written fits, as the types of its values have it.
 pub fn write_entry(text: &mut String, entry: &Entry) -> Result<(), AllocError>
-    ensures { OnOk result (string_bytes text.new ≡ string_bytes text.old ++ texts.entry_line entry.now) }
+    ensures fits { OnOk result (FitEntry entry.now) }
+    ensures text { OnOk result (string_bytes text.new ≡ string_bytes text.old ++ texts.entry_line entry.now) }
 {
     let Entry {
         lane,
@@ -32,9 +35,10 @@ pub fn write_entry(text: &mut String, entry: &Entry) -> Result<(), AllocError>
     text.push_str("\n")
 }
 
-/// Writes the line of an entry of a wallet's journal.
+/// Writes the line of an entry of a wallet's journal, whose values fit likewise.
 pub fn write_move(text: &mut String, entry: &WalletEntry) -> Result<(), AllocError>
-    ensures { OnOk result (string_bytes text.new ≡ string_bytes text.old ++ texts.move_line entry.now) }
+    ensures fits { OnOk result (FitWalletEntry entry.now) }
+    ensures text { OnOk result (string_bytes text.new ≡ string_bytes text.old ++ texts.move_line entry.now) }
 {
     let WalletEntry {
         market,
@@ -53,7 +57,9 @@ pub fn write_move(text: &mut String, entry: &WalletEntry) -> Result<(), AllocErr
 }
 
 fn push_moves(text: &mut String, moves: [Option<Movement>; 4]) -> Result<(), AllocError>
-    ensures { OnOk result (string_bytes text.new ≡ string_bytes text.old ++ flat_map texts.move_text moves) }
+    ensures fits { OnOk result (All FitMove moves) }
+    ensures four { OnOk result (length moves ≡ 4) }
+    ensures text { OnOk result (string_bytes text.new ≡ string_bytes text.old ++ flat_map texts.move_text moves) }
 {
     let [first, second, third, fourth] = moves;
     push_move(text, first)?;
@@ -64,7 +70,8 @@ fn push_moves(text: &mut String, moves: [Option<Movement>; 4]) -> Result<(), All
 
 /// A space and a movement, or nothing.
 fn push_move(text: &mut String, movement: Option<Movement>) -> Result<(), AllocError>
-    ensures { OnOk result (string_bytes text.new ≡ string_bytes text.old ++ texts.move_text movement) }
+    ensures fits { OnOk result (FitMove movement) }
+    ensures text { OnOk result (string_bytes text.new ≡ string_bytes text.old ++ texts.move_text movement) }
 {
     match movement {
         Some(movement) => push_movement(text, movement),
@@ -74,7 +81,8 @@ fn push_move(text: &mut String, movement: Option<Movement>) -> Result<(), AllocE
 
 /// A space and a movement.
 fn push_movement(text: &mut String, movement: Movement) -> Result<(), AllocError>
-    ensures { OnOk result (string_bytes text.new ≡ string_bytes text.old ++ texts.move_text (Some movement)) }
+    ensures fits { OnOk result (FitMove (Some movement)) }
+    ensures text { OnOk result (string_bytes text.new ≡ string_bytes text.old ++ texts.move_text (Some movement)) }
 {
     let Movement {
         wallet,
@@ -89,7 +97,8 @@ fn push_movement(text: &mut String, movement: Movement) -> Result<(), AllocError
 
 /// A space and a reply.
 fn push_reply(text: &mut String, reply: Reply) -> Result<(), AllocError>
-    ensures { OnOk result (string_bytes text.new ≡ string_bytes text.old ++ spaced (reply_text reply)) }
+    ensures fits { OnOk result (FitReply reply) }
+    ensures text { OnOk result (string_bytes text.new ≡ string_bytes text.old ++ spaced (reply_text reply)) }
 {
     match reply {
         Reply::Ordered {
@@ -118,9 +127,37 @@ fn push_reply(text: &mut String, reply: Reply) -> Result<(), AllocError>
         }
         Reply::Done => text.push_str(" ok done"),
         Reply::Swept(pc) => push_told(text, " ok swept", pc),
-        Reply::Refused(why) => write!(text, " {why}"),
+        Reply::Refused(why) => push_refusal(text, why),
     }
 }
+
+/// A space and a refusal.
+fn push_refusal(text: &mut String, why: Refusal) -> Result<(), AllocError>
+    ensures fits { OnOk result (FitRefusal why) }
+    ensures text { OnOk result (string_bytes text.new ≡ string_bytes text.old ++ spaced (refusal_text why)) }
+{
+    refusal_fits(why);
+    write!(text, " {why}")
+}
+
+/// The values of a refusal fit.
+fn refusal_fits(why: Refusal)
+    ensures { FitRefusal why }
+{
+    match why {
+        Refusal::NotOwner { owner } => address_fits(owner),
+        Refusal::NotAuthority { authority } => address_fits(authority),
+        Refusal::WrongMint { mint } => address_fits(mint),
+        Refusal::WalletNotSigned { owner } => address_fits(owner),
+        Refusal::OrderNotYours { owner } => address_fits(owner),
+        _ => {}
+    }
+}
+
+/// An address has 32 bytes.
+pub(crate) fn address_fits(address: Address)
+    ensures { IsAddress address }
+{}
 
 /// A word, a space and a number.
 fn push_told(text: &mut String, word: &str, number: u64) -> Result<(), AllocError>
@@ -144,7 +181,8 @@ fn push_kind(text: &mut String, kind: MoveKind) -> Result<(), AllocError>
 
 /// A space and an address.
 fn push_address(text: &mut String, address: Address) -> Result<(), AllocError>
-    ensures { OnOk result (string_bytes text.new ≡ string_bytes text.old ++ spaced (address_text address)) }
+    ensures fits { OnOk result (IsAddress address) }
+    ensures text { OnOk result (string_bytes text.new ≡ string_bytes text.old ++ spaced (address_text address)) }
 {
     write!(text, " {address}")
 }

@@ -326,4 +326,3 @@ grown-none call [] [] long = tt
 grown-none call [] (p ∷ passes) long = absurd (omega (arith, long))
 grown-none call (start ∷ starts) [] long = absurd (omega (arith, long))
 grown-none call (start ∷ starts) (p ∷ passes) long = (refl, grown-none call starts passes (omega (arith, long)))
-

@@ -47,10 +47,15 @@ returns-clause-replies c =
     ] in
     subst (λ (rows : List PlainRow). AllZip (IsReply (world_of c.args.cells.now)) rows (c.act_or_wait-one.result ∷ c.act_or_wait-two.result ∷ []))
     (sym (chosen-two (world_of c.args.cells.now) first second one two c.if-first_refused.any c.waits.result c.waits-2.result
-    c.is_refused-first_refused.ensures.refused c.is_refused-second_refused.ensures.refused any_is c.waits.ensures c.waits-2.ensures))
-    (c.act_or_wait-one.ensures.reply, (reply-still first second c.requires.share c.args.cells.now c.act_or_wait-one.new.cells c.is_refused-first_refused.ensures.cells
-    c.act_or_wait-one.ensures.cells c.act_or_wait-one.ensures.kept c.act_or_wait-one.ensures.others c.waits.result c.act_or_wait-one.ensures.acted
-    c.waits-2.result c.act_or_wait-two.result c.act_or_wait-two.ensures.reply, tt))
+    c.is_refused-first_refused.ensures.refused c.is_refused-second_refused.ensures.refused any_is c.waits.ensures c.waits-2.ensures)) (
+      c.act_or_wait-one.ensures.reply,
+      (
+        reply-still first second c.requires.share c.args.cells.now c.act_or_wait-one.new.cells c.is_refused-first_refused.ensures.cells
+            c.act_or_wait-one.ensures.cells c.act_or_wait-one.ensures.kept c.act_or_wait-one.ensures.others c.waits.result c.act_or_wait-one.ensures.acted
+            c.waits-2.result c.act_or_wait-two.result c.act_or_wait-two.ensures.reply,
+        tt,
+      ),
+    )
 
 pub returns-clause-acted : goal.returns-clause-acted
 returns-clause-acted c =
