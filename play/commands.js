@@ -7,7 +7,7 @@
 export const COMMANDS = [
   { name: 'replay', call: 'dex_replay', reads: 'script', gives: 'report', numbers: [], says: 'all rows act, one after the other: the report' },
   { name: 'dump', call: 'dex_dump', reads: 'script', gives: 'dump', numbers: [], says: 'the accounts that the rows leave' },
-  { name: 'worth', call: 'dex_worth', reads: 'script', gives: 'worth', numbers: [], says: 'what each account is worth' },
+  { name: 'worth', call: 'dex_worth', reads: 'script', gives: 'worth', numbers: [], says: 'what trading gained or lost each account' },
   { name: 'audit', call: 'dex_audit', reads: 'dump', gives: 'answer', numbers: [], says: 'whether the accounts agree with one another' },
   {
     name: 'migrate', call: 'dex_migrate', reads: 'dump', gives: 'dump', says: 'the same accounts with other sizes',

@@ -38,6 +38,9 @@ export class RowForm {
     return !this.node.hidden;
   }
 
+  /** Hides the form. */
+  hide() { this.node.hidden = true; }
+
   /** Takes what may be named anew, where the form is shown and nobody is typing in it. */
   refresh() {
     if (!this.node.hidden && !this.node.contains(document.activeElement)) this.draw();
@@ -92,7 +95,7 @@ export class RowForm {
     this.show(values);
   }
 
-  // The row of the values; null where a number is wanted and none stands.
+  // The row of the values; null where none can be made of them.
   row(values) {
     try {
       return FORM_ROWS[this.kind].row(values);
@@ -104,7 +107,7 @@ export class RowForm {
   // Shows the row as it will stand.
   show(values) {
     const row = this.row(values);
-    this.preview.textContent = row === null ? 'A lot, fee rate or dust is no number.' : row;
+    this.preview.textContent = row === null ? 'It cannot be written yet: an order, or a number, is wanting.' : row;
     this.add.disabled = row === null;
   }
 

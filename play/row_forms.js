@@ -88,7 +88,7 @@ const ORDER = asks('order', 'Order', {
   start: (known, { market, account }) => restingOrders(known, market, account || '-').map(({ isBid, id }) => `${isBid ? 'bid' : 'ask'} ${id}`)[0] || '',
 });
 
-/** The rows, in the order in which they are offered; `isSetup` rows stand before the first instruction. */
+/** The rows, in the order in which they are offered; one that cannot be made yet is null, or throws. `isSetup` rows stand before the first instruction. */
 export const FORM_ROWS = {
   'an order': {
     fields: [MARKET, ACCOUNT, ...DEAL_FIELDS, oneOf('type', 'Type', WORD_LISTS.type), BUDGET, oneOf('self', 'Self-trade', WORD_LISTS.self),
@@ -102,7 +102,7 @@ export const FORM_ROWS = {
     row: (values) => actRow(values, ['take', values.side, values.price, values.lots, values.most, values.leastLots, values.leastPc, values.limit].join(' '),
       { coin: values.coin, pc: values.pc }),
   },
-  'a cancel': { fields: [MARKET, ACCOUNT, ORDER, SIGNER, LANE], row: (values) => actRow(values, `cancel ${values.order}`) },
+  'a cancel': { fields: [MARKET, ACCOUNT, ORDER, SIGNER, LANE], row: (values) => (values.order === '' ? null : actRow(values, `cancel ${values.order}`)) },
   'a settling': { fields: [MARKET, ACCOUNT, SIGNER, ...BOTH, LANE], row: (values) => actRow(values, 'settle', { coin: values.coin, pc: values.pc }) },
   'a crank': {
     fields: [MARKET, asks('account', 'Accounts', { start: (known, { market }) => accountsIn(known, market).slice(0, 16).join(' ') }),

@@ -21,6 +21,13 @@ function splitDump(text) {
   return [text.slice(0, place), text.slice(place)];
 }
 
+// The text that is played of a file: of a report the dump in it, so that rows can go on from there.
+function playedOf(text) {
+  const begin = /^report [0-9]+\r?\n/.test(text) ? text.indexOf('\ndump\n') : -1;
+  const end = begin < 0 ? -1 : text.indexOf('\nenddump\n', begin);
+  return end < 0 ? text : text.slice(begin + 1, end + 9);
+}
+
 // Why the field does not show a text; null where it does.
 function whyNotShown(text) {
   if (text.length > MOST_IN_FIELD) return `it has ${grouped(text.length)} characters, and the field takes ${grouped(MOST_IN_FIELD)} at most`;
@@ -92,7 +99,7 @@ export class Source {
     const text = bytes.length > MOST_BYTES ? null : textOfBytes(bytes);
     if (bytes.length > MOST_BYTES) this.held = { bytes, text, why: `it has ${grouped(bytes.length)} bytes, and a command reads ${grouped(MOST_BYTES)} at most` };
     else if (text === null) this.held = { bytes, text, why: 'its bytes are no text' };
-    else this.takeText(text, bytes);
+    else this.takeText(playedOf(text), bytes);
   }
 
   // Takes a text with its bytes. A text area has line feeds alone at the ends of its lines, which mean the same.

@@ -36,10 +36,11 @@ export class SourcePane {
   // The pane's elements.
   paneNode(file) {
     this.exampleChoice = choice('Example', [['', 'none'], ...this.examples.map(({ name }) => [name, name])], '', (name) => this.chooseExample(name));
-    const adder = element('button', { 'type': 'button', 'aria-expanded': 'false', 'click': () => adder.setAttribute('aria-expanded', String(this.form.toggle())) }, 'Add a row');
+    const turn = () => this.adder.setAttribute('aria-expanded', String(this.form.toggle()));
+    this.adder = element('button', { 'type': 'button', 'aria-expanded': 'false', 'click': turn }, 'Add a row');
     return element('section', { 'class': 'source', 'aria-label': 'Script' },
       element('div', { class: 'bar' }, this.exampleChoice, element('label', { for: 'file', class: 'button' }, 'Open a file'), file,
-        element('button', { type: 'button', click: () => this.save() }, 'Save the script'), adder),
+        element('button', { type: 'button', click: () => this.save() }, 'Save the script'), this.adder),
       this.form.node, this.folded, this.parts, this.editor.node, this.help.node);
   }
 
@@ -82,6 +83,8 @@ export class SourcePane {
     this.shownBelongs = false;
     this.editor.setMarks(new Map());
     this.editor.area.disabled = held !== null;
+    this.adder.disabled = held !== null;
+    if (held !== null) this.form.hide();
     this.folded.hidden = held === null && start === '';
     this.folded.replaceChildren(...(held === null ? this.startNodes(start, dumpRows) : this.heldNodes(held)));
     this.drawPart();

@@ -1,6 +1,6 @@
 // What the page answers: examples and stored cases as they are stored, a change at once, rows at fault, commands on what a script leaves.
 
-import { readdirSync } from 'node:fs';
+import { existsSync, readdirSync } from 'node:fs';
 import { join } from 'node:path';
 import { root, stored } from '../view_browser/texts.mjs';
 
@@ -41,7 +41,8 @@ async function checkExamples(suite, player) {
 // Some stored cases of each command.
 async function checkCases(suite, player) {
   const offered = await player.commands();
-  for (const name of ['replay/0008', 'replay/0021', 'scripts/fault_6_unknown_wallet', 'faulty/0', 'dump/0301', 'audit/0408', 'audit/0446', 'audit/0452', 'migrate/0', 'made/']) {
+  for (const name of ['replay/0008', 'replay/0021', 'scripts/fault_6_unknown_wallet', 'faulty/0', 'dump/0301', 'audit/0408', 'audit/0446', 'audit/0452', 'migrate/0', 'worth/', 'made/']) {
+    if (!existsSync(join(root, 'tests/cases', name.split('/')[0]))) continue;
     const [folder, front] = name.split('/');
     const full = casesOf(folder).find((one) => one.startsWith(front));
     const path = `tests/cases/${folder}/${full}`;

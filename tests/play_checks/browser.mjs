@@ -2,7 +2,7 @@
 
 import { mkdtempSync, rmSync } from 'node:fs';
 import { tmpdir } from 'node:os';
-import { join } from 'node:path';
+import { join, resolve } from 'node:path';
 import { Browser } from '../view_browser/browser.mjs';
 import { Suite } from '../view_browser/suite.mjs';
 import { root } from '../view_browser/texts.mjs';
@@ -18,8 +18,8 @@ const [, , chromium, file = join(root, 'play.html'), ...names] = process.argv;
 const folder = mkdtempSync(join(tmpdir(), 'play'));
 const browser = new Browser(chromium, join(folder, 'profile'));
 const suite = new Suite(browser, folder);
-suite.file = file;
-suite.player = async (width, height) => new Player(await browser.page(width, height), file);
+suite.file = resolve(file);
+suite.player = async (width, height) => new Player(await browser.page(width, height), suite.file);
 try {
   for (const name of names.length > 0 ? names : Object.keys(GROUPS)) await suite.group(name, GROUPS[name]);
 } finally {

@@ -24,6 +24,9 @@ async function checkDump(suite, player) {
   suite.same('the dump left out: nothing is played', (await player.saved()).text, 'report 0\ndump\nenddump\nend\n');
   await player.drop('from_a_dump.csv', stored('examples/from_a_dump.csv'));
   suite.same('a script behind a dump', (await player.saved()).text, stored('examples/from_a_dump.report'));
+  await player.drop('two.report', stored('examples/two_traders.report'));
+  suite.same('of a report: its dump', (await player.saved('Save the script')).text, dump);
+  await player.drop('from_a_dump.csv', stored('examples/from_a_dump.csv'));
   suite.same('a script behind a dump, saved', (await player.saved('Save the script')).text, stored('examples/from_a_dump.csv'));
 }
 
@@ -34,6 +37,7 @@ async function checkEnds(suite, player) {
   suite.same('an empty file', (await player.saved()).text, 'report 0\ndump\nenddump\nend\n');
   await player.drop('bytes.bin', [255, 254, 0, 128, 44, 200]);
   suite.same('bytes that are no text', (await player.saved()).text, 'script refused row 1: 1 BadCsv\n');
+  suite.same('bytes that are no text: no row is added', await player.page.run(() => [...document.querySelectorAll('.source button')].find((button) => button.textContent === 'Add a row').disabled), true);
   suite.holds('bytes that are no text: it is said', (await player.named('folded')).includes('its bytes are no text'));
   await player.drop('lines.csv', 'mint,a,6\r\nmint,b,6\rmint,c,6\n');
   suite.holds('ends of lines of all kinds', (await player.saved()).text.startsWith('report 0\ndump\nmint,a,'));

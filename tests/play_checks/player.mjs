@@ -1,6 +1,6 @@
 // The page as one who plays uses it: files that are dropped, keys, clicks, and what it answers.
 
-const PATIENCE = 90000;
+const PATIENCE = 300000;
 
 /** A page with play.html in it. */
 export class Player {
