@@ -20,7 +20,10 @@ const FIRST_VIEWS = { report: '#book', dump: '#book', answer: '#answer', script:
 const FIRST = 'first answer';
 
 // How long a time is, in words.
-function timeText(milliseconds) { return milliseconds < 1000 ? `${milliseconds.toFixed(milliseconds < 10 ? 1 : 0)} ms` : `${(milliseconds / 1000).toFixed(1)} s`; }
+function timeText(milliseconds) {
+  if (milliseconds >= 1000) return `${(milliseconds / 1000).toFixed(1)} s`;
+  return `${milliseconds.toFixed(milliseconds < 10 ? 1 : 0)} ms`;
+}
 
 /** The pane; `pane` is that of the source. */
 export class AnswerPane {
@@ -172,7 +175,8 @@ export class AnswerPane {
 
   // What was answered, in a line.
   toldText({ name }, { status, text, milliseconds, isOfScript }) {
-    return `${name}${isOfScript ? ' of the accounts that the script leaves' : ''}: status ${status}, ${counted(text.length, 'byte')}, ${timeText(milliseconds)}`;
+    const of = isOfScript ? ' of the accounts that the script leaves' : '';
+    return `${name}${of}: status ${status}, ${counted(text.length, 'byte')}, ${timeText(milliseconds)}`;
   }
 
   // Stops what runs.

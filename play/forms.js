@@ -34,7 +34,8 @@ export const ROW_FORMS = {
     field('Amount', NATIVE),
   ],
   market: [
-    field('Address', `${NEW_ADDRESS}, the last two of them 00`), field('Coin', 'the mint that is traded', 'mint'), field('Pc', 'the mint that it is paid in', 'mint'),
+    field('Address', `${NEW_ADDRESS}, the last two of them 00`), field('Coin', 'the mint that is traded', 'mint'),
+    field('Pc', 'the mint that it is paid in', 'mint'),
     field('Authority', 'who may sweep fees, prune and disable', 'signer'), field('Bid nodes', '1 to 65,536; n orders need 2n - 1'),
     field('Ask nodes', '1 to 65,536; n orders need 2n - 1'), field('Events', 'room of the event queue, 1 to 65,535'),
     field('Data', 'lots, fee rate and dust in base64: “Add a row” makes it', 'data'),

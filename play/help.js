@@ -43,13 +43,15 @@ export class Help {
     }
     const { row, title, what, remedy, canGo } = fault;
     const go = element('button', { type: 'button', click: () => this.go(row) }, `Go to row ${row}`);
-    this.faultNode.replaceChildren(element('p', { class: 'fault' }, element('strong', {}, `Row ${row}: ${title}. `), `Here ${what}. ${remedy} `, canGo ? go : null));
+    this.faultNode.replaceChildren(
+      element('p', { class: 'fault' }, element('strong', {}, `Row ${row}: ${title}. `), `Here ${what}. ${remedy} `, canGo ? go : null));
   }
 
   /** Shows what stands at the caret: a hint, the row's number (null: none) and its fields; `shown` is the report that belongs to it, or null. */
   setPlace(hint, row, fields, shown) {
-    const mark = (name, at) => [at === 0 ? '' : at > 0 ? ' · ' : '', element(at === hint.now ? 'strong' : 'span', { class: at === hint.now ? null : 'quiet' }, name)];
-    this.fields.replaceChildren(...[row === null ? '' : `Row ${row}: `, hint.names.map(mark), ' – ', element('span', { 'data-name': 'says' }, hint.says)].flat(3));
+    const mark = (name, at) => [at === 0 ? '' : ' · ', at === hint.now ? element('strong', {}, name) : element('span', { class: 'quiet' }, name)];
+    const says = element('span', { 'data-name': 'says' }, hint.says);
+    this.fields.replaceChildren(...[row === null ? '' : `Row ${row}: `, hint.names.map(mark), ' – ', says].flat(3));
     this.offers = hint.offers;
     this.piece = hint.piece;
     const chip = (offer) => element('button', { type: 'button', class: 'offer', title: offer.title || null, click: () => this.choose(offer) },

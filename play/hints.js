@@ -58,7 +58,7 @@ function offersOf(kind, fields, known) {
     case 'price': return priceOffers(known, fields);
     case 'order': return orderOffers(known, fields, ({ id }) => id);
     case 'client': return orderOffers(known, fields, ({ client }) => client);
-    case 'data': return [{ word: marketData({ coinLot: 100n, pcLot: 10n }), title: 'lots of 100 and 10' }, { word: marketData({ coinLot: 1n, pcLot: 1n }), title: 'lots of 1 and 1' }];
+    case 'data': return [[100n, 10n], [1n, 1n]].map(([coinLot, pcLot]) => ({ word: marketData({ coinLot, pcLot }), title: `lots of ${coinLot} and ${pcLot}` }));
     default: return kind === null ? [] : offered(WORD_LISTS[kind]);
   }
 }

@@ -37,7 +37,8 @@ function beginPlay() {
   const file = element('input', { type: 'file', id: 'file', class: 'hidden' });
   const sources = new SourcePane({ examples, file, change: () => answers.answer(sources.source) });
   const answers = new AnswerPane({ runner, pane: sources });
-  const footer = element('footer', {}, element('p', { 'data-name': 'proved' }, PROVED), keysNode([...KEYS, ['Ctrl Space', 'in the field, takes the first word that is offered']]));
+  const keys = [...KEYS, ['Ctrl Space', 'in the field, takes the first word that is offered']];
+  const footer = element('footer', {}, element('p', { 'data-name': 'proved' }, PROVED), keysNode(keys));
   document.body.replaceChildren(skipLink('To the script', sources.editor.area), skipLink('To the report', frame.main), barNode(search),
     element('div', { class: 'play' }, sources.node, answers.node), footer);
   document.body.classList.add('playing');

@@ -66,6 +66,7 @@ function nextClient(known, values) {
 const MARKET = among('market', 'Market', marketsOf);
 const ACCOUNT = among('account', 'Account', (known, { market }) => accountsIn(known, market));
 const SIGNER = asks('signer', 'Signer', { offers: signersOf, start: ownerOf });
+const ANYBODY = among('signer', 'Signer', signersOf);
 const LANE = asks('lane', 'Lane', { start: (known, { signer }) => known.laneOf(signer) });
 const DEAL_FIELDS = [oneOf('side', 'Side', WORD_LISTS.side), count('price', 'Price, pc lots a coin lot', bestPrice), count('lots', 'Coin lots', '1')];
 const PAYER = asks('wallet', 'Wallet that pays', {
@@ -75,6 +76,9 @@ const PAYER = asks('wallet', 'Wallet that pays', {
 const BUDGET = count('pc', 'At most, native pc with fee', budgetFor);
 const LIMIT_FIELD = count('limit', 'Orders it may meet', '10');
 const BOTH = [among('coin', 'Coin wallet', walletsFor('coin')), among('pc', 'Pc wallet', walletsFor('pc'))];
+
+// The words of an instruction: its name, and the values of fields.
+function wordsFrom(name, values, fields) { return [name, ...fields.map((one) => values[one])].join(' '); }
 
 // A do row of a form's values.
 function actRow(values, words, wallets = {}) {
@@ -93,20 +97,30 @@ export const FORM_ROWS = {
   'an order': {
     fields: [MARKET, ACCOUNT, ...DEAL_FIELDS, oneOf('type', 'Type', WORD_LISTS.type), BUDGET, oneOf('self', 'Self-trade', WORD_LISTS.self),
       count('client', 'Client id', nextClient), LIMIT_FIELD, SIGNER, PAYER, LANE],
-    row: (values) => actRow(values, ['new', values.side, values.price, values.lots, values.pc, values.self, values.type, values.client, values.limit].join(' '),
-      { [values.side === 'bid' ? 'pc' : 'coin']: values.wallet }),
+    row: (values) => {
+      const words = wordsFrom('new', values, ['side', 'price', 'lots', 'pc', 'self', 'type', 'client', 'limit']);
+      return actRow(values, words, { [values.side === 'bid' ? 'pc' : 'coin']: values.wallet });
+    },
   },
   'a take': {
-    fields: [MARKET, ...DEAL_FIELDS, count('most', 'At most, native pc with fee', budgetFor), count('leastLots', 'Least lots', '0'), count('leastPc', 'Least native pc', '0'), LIMIT_FIELD,
-      asks('signer', 'Signer', { offers: signersOf, start: (known) => signersOf(known)[0] || '' }), ...BOTH, LANE],
-    row: (values) => actRow(values, ['take', values.side, values.price, values.lots, values.most, values.leastLots, values.leastPc, values.limit].join(' '),
-      { coin: values.coin, pc: values.pc }),
+    fields: [MARKET, ...DEAL_FIELDS, count('most', 'At most, native pc with fee', budgetFor), count('leastLots', 'Least lots', '0'),
+      count('leastPc', 'Least native pc', '0'), LIMIT_FIELD, ANYBODY, ...BOTH, LANE],
+    row: (values) => {
+      const words = wordsFrom('take', values, ['side', 'price', 'lots', 'most', 'leastLots', 'leastPc', 'limit']);
+      return actRow(values, words, { coin: values.coin, pc: values.pc });
+    },
   },
-  'a cancel': { fields: [MARKET, ACCOUNT, ORDER, SIGNER, LANE], row: (values) => (values.order === '' ? null : actRow(values, `cancel ${values.order}`)) },
-  'a settling': { fields: [MARKET, ACCOUNT, SIGNER, ...BOTH, LANE], row: (values) => actRow(values, 'settle', { coin: values.coin, pc: values.pc }) },
+  'a cancel': {
+    fields: [MARKET, ACCOUNT, ORDER, SIGNER, LANE],
+    row: (values) => (values.order === '' ? null : actRow(values, `cancel ${values.order}`)),
+  },
+  'a settling': {
+    fields: [MARKET, ACCOUNT, SIGNER, ...BOTH, LANE],
+    row: (values) => actRow(values, 'settle', { coin: values.coin, pc: values.pc }),
+  },
   'a crank': {
     fields: [MARKET, asks('account', 'Accounts', { start: (known, { market }) => accountsIn(known, market).slice(0, 16).join(' ') }),
-      count('limit', 'Events at most', '10'), asks('signer', 'Signer', { offers: signersOf, start: (known) => signersOf(known)[0] || '' }), LANE],
+      count('limit', 'Events at most', '10'), ANYBODY, LANE],
     row: (values) => actRow(values, `consume ${values.limit}`),
   },
   'an opening': { fields: [MARKET, ACCOUNT, SIGNER, LANE], row: (values) => actRow(values, 'init') },
@@ -114,20 +128,29 @@ export const FORM_ROWS = {
     isSetup: true,
     fields: [count('address', 'Address', 'm2'), among('coin', 'Coin', mintsOf),
       asks('pcMint', 'Pc', { offers: mintsOf, start: (known, { coin }) => mintsOf(known).find((mint) => mint !== coin) || '' }),
-      asks('authority', 'Authority', { offers: signersOf, start: () => 'admin' }), count('coinLot', 'Coin lot, native', '100'), count('pcLot', 'Pc lot, native', '10'),
-      count('bids', 'Bid nodes', '909'), count('asks', 'Ask nodes', '909'), count('events', 'Events', '2978'), count('feeRate', 'Fee rate', '0'), count('dust', 'Dust', '1')],
+      asks('authority', 'Authority', { offers: signersOf, start: () => 'admin' }), count('coinLot', 'Coin lot, native', '100'),
+      count('pcLot', 'Pc lot, native', '10'), count('bids', 'Bid nodes', '909'), count('asks', 'Ask nodes', '909'), count('events', 'Events', '2978'),
+      count('feeRate', 'Fee rate', '0'), count('dust', 'Dust', '1')],
     row: (values) => {
       const [coinLot, pcLot, feeRate, dust] = [values.coinLot, values.pcLot, values.feeRate, values.dust].map((word) => BigInt(word));
       const data = marketData({ coinLot, pcLot, feeRate, dust });
       return ['market', values.address, values.coin, values.pcMint, values.authority, values.bids, values.asks, values.events, data].join(',');
     },
   },
-  'an open-orders account': { isSetup: true, fields: [MARKET, count('address', 'Address', 'account')], row: ({ market, address }) => `orders,${market},${address}` },
+  'an open-orders account': {
+    isSetup: true,
+    fields: [MARKET, count('address', 'Address', 'account')],
+    row: ({ market, address }) => `orders,${market},${address}`,
+  },
   'a wallet': {
     isSetup: true,
-    fields: [count('address', 'Address', 'wallet'), among('mint', 'Mint', mintsOf), asks('owner', 'Owner', { offers: signersOf, start: (known) => signersOf(known)[0] || '' }),
+    fields: [count('address', 'Address', 'wallet'), among('mint', 'Mint', mintsOf), among('owner', 'Owner', signersOf),
       count('amount', 'Native amount', '1000000')],
     row: ({ address, mint, owner, amount }) => `wallet,${address},${mint},${owner},${amount}`,
   },
-  'a mint': { isSetup: true, fields: [count('address', 'Address', 'mint'), count('decimals', 'Decimals', '6')], row: ({ address, decimals }) => `mint,${address},${decimals}` },
+  'a mint': {
+    isSetup: true,
+    fields: [count('address', 'Address', 'mint'), count('decimals', 'Decimals', '6')],
+    row: ({ address, decimals }) => `mint,${address},${decimals}`,
+  },
 };

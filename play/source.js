@@ -30,12 +30,13 @@ function playedOf(text) {
 
 // Why the field does not show a text; null where it does.
 function whyNotShown(text) {
-  if (text.length > MOST_IN_FIELD) return `it has ${grouped(text.length)} characters, and the field takes ${grouped(MOST_IN_FIELD)} at most`;
+  const most = (count, what) => `${grouped(count)} characters, and the field takes ${grouped(what)} at most`;
+  if (text.length > MOST_IN_FIELD) return `it has ${most(text.length, MOST_IN_FIELD)}`;
   let lines = 0;
   for (let from = 0; from <= text.length && lines <= MOST_LINES; lines += 1) {
     let end = text.indexOf('\n', from);
     if (end < 0) end = text.length;
-    if (end - from > LONGEST_LINE) return `its line ${grouped(lines + 1)} has ${grouped(end - from)} characters, and the field takes ${grouped(LONGEST_LINE)} at most`;
+    if (end - from > LONGEST_LINE) return `its line ${grouped(lines + 1)} has ${most(end - from, LONGEST_LINE)}`;
     from = end + 1;
   }
   return lines > MOST_LINES ? `it has more than ${grouped(MOST_LINES)} lines` : null;
@@ -97,7 +98,8 @@ export class Source {
     this.name = name;
     this.empty();
     const text = bytes.length > MOST_BYTES ? null : textOfBytes(bytes);
-    if (bytes.length > MOST_BYTES) this.held = { bytes, text, why: `it has ${grouped(bytes.length)} bytes, and a command reads ${grouped(MOST_BYTES)} at most` };
+    const most = `it has ${grouped(bytes.length)} bytes, and a command reads ${grouped(MOST_BYTES)} at most`;
+    if (bytes.length > MOST_BYTES) this.held = { bytes, text, why: most };
     else if (text === null) this.held = { bytes, text, why: 'its bytes are no text' };
     else this.takeText(playedOf(text), bytes);
   }

@@ -106,7 +106,8 @@ export class SourcePane {
     if (!isParted) return;
     const step = (text, place, isThere) => element('button', { type: 'button', disabled: !isThere, click: () => this.goToPart(place) }, text);
     this.parts.replaceChildren(`The field shows rows ${grouped(rowsBefore + 1)} to ${grouped(rowsBefore + this.editor.starts.length)}. `,
-      step('First', 0, from > 0), ' ', step('Before', from - 1, from > 0), ' ', step('Behind', to, to < rows.length), ' ', step('Last', rows.length, to < rows.length));
+      step('First', 0, from > 0), ' ', step('Before', from - 1, from > 0), ' ',
+      step('Behind', to, to < rows.length), ' ', step('Last', rows.length, to < rows.length));
   }
 
   // Shows the part around a place.

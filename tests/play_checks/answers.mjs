@@ -24,7 +24,8 @@ async function checkFirst(suite, player) {
 
 // All examples of the choice, by their stored reports.
 async function checkExamples(suite, player) {
-  const names = await player.page.run(() => [...document.querySelectorAll('[data-key="choice Example"] option')].map(({ value }) => value).filter((name) => name !== ''));
+  const options = await player.page.run(() => [...document.querySelectorAll('[data-key="choice Example"] option')].map(({ value }) => value));
+  const names = options.filter((name) => name !== '');
   suite.holds('there are examples', names.length > 5);
   for (const name of names) {
     await player.page.run((value) => {
@@ -38,10 +39,14 @@ async function checkExamples(suite, player) {
   }
 }
 
+// Cases by their folder and the front of their name.
+const CASES = ['replay/0008', 'replay/0021', 'scripts/fault_6_unknown_wallet', 'faulty/0', 'dump/0301', 'audit/0408', 'audit/0446', 'audit/0452',
+  'migrate/0', 'worth/', 'made/'];
+
 // Some stored cases of each command.
 async function checkCases(suite, player) {
   const offered = await player.commands();
-  for (const name of ['replay/0008', 'replay/0021', 'scripts/fault_6_unknown_wallet', 'faulty/0', 'dump/0301', 'audit/0408', 'audit/0446', 'audit/0452', 'migrate/0', 'worth/', 'made/']) {
+  for (const name of CASES) {
     if (!existsSync(join(root, 'tests/cases', name.split('/')[0]))) continue;
     const [folder, front] = name.split('/');
     const full = casesOf(folder).find((one) => one.startsWith(front));

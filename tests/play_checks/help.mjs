@@ -37,7 +37,10 @@ async function checkOffers(suite, player) {
   suite.holds('a word that is clicked', (await player.rows()).includes('new bid 50 4 1'));
   await player.replace('new bid 50 4 1', 'new ask 50 4 1');
   await player.caretBehind('ann,amy,an');
-  await player.page.run(() => document.querySelector('textarea').dispatchEvent(new KeyboardEvent('keydown', { key: ' ', ctrlKey: true, bubbles: true, cancelable: true })));
+  await player.page.run(() => {
+    const words = { key: ' ', ctrlKey: true, bubbles: true, cancelable: true };
+    document.querySelector('textarea').dispatchEvent(new KeyboardEvent('keydown', words));
+  });
   await player.calm();
   suite.holds('a word that is taken by keys', (await player.rows()).includes('ann,amy,bob_coin,-,-,-,new ask'));
 }
@@ -125,7 +128,8 @@ async function checkKeys(suite, player) {
   await player.page.press('/');
   suite.same('a stroke goes to the search', await player.page.run(() => document.activeElement.type), 'search');
   const unnamed = await player.page.run(() => [...document.querySelectorAll('button, input, select, textarea')]
-    .filter((node) => !(node.labels && node.labels.length > 0) && node.textContent.trim() === '' && !node.getAttribute('aria-label')).map((node) => node.outerHTML.slice(0, 80)));
+    .filter((node) => !(node.labels && node.labels.length > 0) && node.textContent.trim() === '' && !node.getAttribute('aria-label'))
+    .map((node) => node.outerHTML.slice(0, 80)));
   suite.same('all that is pressed or typed in has a name', unnamed, []);
 }
 

@@ -37,7 +37,8 @@ async function checkEnds(suite, player) {
   suite.same('an empty file', (await player.saved()).text, 'report 0\ndump\nenddump\nend\n');
   await player.drop('bytes.bin', [255, 254, 0, 128, 44, 200]);
   suite.same('bytes that are no text', (await player.saved()).text, 'script refused row 1: 1 BadCsv\n');
-  suite.same('bytes that are no text: no row is added', await player.page.run(() => [...document.querySelectorAll('.source button')].find((button) => button.textContent === 'Add a row').disabled), true);
+  const adder = () => [...document.querySelectorAll('.source button')].find((button) => button.textContent === 'Add a row').disabled;
+  suite.same('bytes that are no text: no row is added', await player.page.run(adder), true);
   suite.holds('bytes that are no text: it is said', (await player.named('folded')).includes('its bytes are no text'));
   await player.drop('lines.csv', 'mint,a,6\r\nmint,b,6\rmint,c,6\n');
   suite.holds('ends of lines of all kinds', (await player.saved()).text.startsWith('report 0\ndump\nmint,a,'));
@@ -57,7 +58,8 @@ async function checkEnds(suite, player) {
 function manyRows(count) {
   const lines = stored('examples/two_traders.csv').split('\n').filter((line) => line !== '');
   const acts = lines.filter((line) => /^(do|ix),/.test(line));
-  return `${[...lines.filter((line) => !/^(do|ix),/.test(line)), ...Array.from({ length: count }, (_, at) => acts[at % acts.length])].join('\n')}\n`;
+  const setup = lines.filter((line) => !/^(do|ix),/.test(line));
+  return `${[...setup, ...Array.from({ length: count }, (_, at) => acts[at % acts.length])].join('\n')}\n`;
 }
 
 // 100,000 rows: the field shows a part, a fault leads to its own part, a row is written at the end.
@@ -109,13 +111,15 @@ async function checkStop(suite, player) {
 // A page with another worker: what the page says where memory is wanting, the module breaks off, or none can be loaded.
 async function checkLosses(suite) {
   const text = readFileSync(suite.file, 'utf8');
-  const withWorker = (source) => text.replace(/(<script type="text\/plain" class="worker"[^>]*>)[\s\S]*?(<\/script>)/, (_, front, end) => front + source.replace(/</g, '\\l') + end);
+  const holder = /(<script type="text\/plain" class="worker"[^>]*>)[\s\S]*?(<\/script>)/;
+  const withWorker = (source) => text.replace(holder, (_, front, end) => front + source.replace(/</g, '\\l') + end);
+  const answering = (answer) => `self.onmessage = ({ data }) => { if (!data.module) self.postMessage(${answer}); };`;
   const file = join(suite.folder, 'loss.html');
   const player = await suite.player(1280, 900);
   player.file = file;
   const answers = {
-    'memory': ['self.onmessage = ({ data }) => { if (!data.module) self.postMessage({ status: 7, text: new Uint8Array(0), milliseconds: 1 }); };', 'Memory ran out'],
-    'a trap': ['self.onmessage = ({ data }) => { if (!data.module) self.postMessage({ fault: "RuntimeError: unreachable" }); };', 'The module broke off: RuntimeError: unreachable.'],
+    'memory': [answering('{ status: 7, text: new Uint8Array(0), milliseconds: 1 }'), 'Memory ran out'],
+    'a trap': [answering('{ fault: "RuntimeError: unreachable" }'), 'The module broke off: RuntimeError: unreachable.'],
     'a worker that fails': ['throw new Error("no worker");', 'The module broke off: '],
   };
   for (const [name, [source, words]] of Object.entries(answers)) {

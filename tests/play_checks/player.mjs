@@ -30,25 +30,32 @@ export class Player {
   async drop(name, content) {
     const text = typeof content === 'string' ? content : Buffer.from(content).toString('latin1');
     await this.page.run((file, signs, isText) => {
-      const transfer = new DataTransfer();
-      transfer.items.add(new File([isText ? signs : Uint8Array.from(signs, (sign) => sign.charCodeAt(0))], file));
-      const heard = new Promise((done) => { new MutationObserver((_, self) => { self.disconnect(); done(); }).observe(document.querySelector('.source'), { subtree: true, childList: true, attributes: true }); });
-      document.dispatchEvent(new DragEvent('drop', { dataTransfer: transfer, bubbles: true, cancelable: true }));
-      return heard;
+      window.dropped = new File([isText ? signs : Uint8Array.from(signs, (sign) => sign.charCodeAt(0))], file);
     }, name, text, typeof content === 'string');
-    await this.calm();
+    await this.letGo();
   }
 
   /** Drops bytes that are made in the page: a text so many times over. */
   async dropRepeated(name, front, text, length) {
     await this.page.run((file, head, piece, count) => {
       const pieces = [head, ...Array.from({ length: Math.ceil(count / (piece.length * 65536)) }, () => piece.repeat(65536))];
-      const transfer = new DataTransfer();
-      transfer.items.add(new File([new Blob(pieces).slice(0, count)], file));
-      const heard = new Promise((done) => { new MutationObserver((_, self) => { self.disconnect(); done(); }).observe(document.querySelector('.source'), { subtree: true, childList: true, attributes: true }); });
-      document.dispatchEvent(new DragEvent('drop', { dataTransfer: transfer, bubbles: true, cancelable: true }));
-      return heard;
+      window.dropped = new File([new Blob(pieces).slice(0, count)], file);
     }, name, front, text, length);
+    await this.letGo();
+  }
+
+  // Drops the file that was made, and waits until the page has taken it and is calm.
+  async letGo() {
+    await this.page.run(() => {
+      const transfer = new DataTransfer();
+      transfer.items.add(window.dropped);
+      const taken = new Promise((done) => {
+        const observer = new MutationObserver(() => { observer.disconnect(); done(); });
+        observer.observe(document.querySelector('.source'), { subtree: true, childList: true, attributes: true });
+      });
+      document.dispatchEvent(new DragEvent('drop', { dataTransfer: transfer, bubbles: true, cancelable: true }));
+      return taken;
+    });
     await this.calm();
   }
 
