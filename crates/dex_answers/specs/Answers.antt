@@ -20,6 +20,7 @@ use Rattle.dex_report.specs.Bulk.{bulk_text}
 use Rattle.dex_report.specs.Made.{made_text}
 use Rattle.dex_report.specs.Outcomes.{PlainOutcome}
 use Rattle.dex_report.specs.Report.{report_text}
+use Rattle.dex_report.specs.Telling.{IsToldOutcome}
 use Rattle.dex_fold.specs.Items.{items_of}
 use Rattle.dex_replay.specs.Replays.{IsLeftByRows, IsReplayOf}
 use Rattle.dex_replay.specs.Runs.{IsRunOf}
@@ -45,6 +46,13 @@ abbrev pub Replayed : List ℕ → (PlainScript → PlainOutcome → List ℕ) �
 Replayed bytes told text =
     (script : PlainScript) × (outcome : PlainOutcome) × Reads bytes script × IsPlayed script outcome
     × (text ≡ told script outcome)
+
+-- the bytes are a script, this is what is left when all its items have acted, and the text is its report. The values of the outcome
+-- fit and its movements stand from the front, so no other such outcome has this report
+abbrev pub Reported : List ℕ → List ℕ → Type 0
+Reported bytes text =
+    (script : PlainScript) × (outcome : PlainOutcome) × Reads bytes script × IsPlayed script outcome × IsToldOutcome outcome
+    × (text ≡ report_text outcome (rows_told script))
 
 -- the bytes are the dump of accounts without findings
 abbrev pub IsClean : List ℕ → PlainAccounts → Type 0
@@ -76,7 +84,7 @@ IsNotClean bytes _ text = ⊥
 
 -- what a command on one thread answers to bytes: the status and the text. `make` and `bulk` look at no bytes, and `run` has lanes
 abbrev pub Answers : Command → List ℕ → Status → List ℕ → Type 0
-Answers Replay bytes status.Ok text = Replayed bytes (λ script outcome. report_text outcome (rows_told script)) text
+Answers Replay bytes status.Ok text = Reported bytes text
 Answers Replay bytes stood text = IsNoScript bytes stood text
 Answers Run bytes stood text = ⊥
 Answers Dump bytes status.Ok text = Replayed bytes (λ script outcome. dump_text outcome.accounts) text

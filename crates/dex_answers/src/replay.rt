@@ -4,6 +4,7 @@ ghost use Rattle.std.specs.Prelude.{IfOk};
 ghost use Rattle.dex_words.specs.declared.command.Command.TheVariants.{Replay};
 ghost use Rattle.dex_report.specs.Outcomes.{outcome_of};
 ghost use Rattle.dex_report.specs.Report.{report_text};
+ghost use Rattle.dex_report.specs.Telling.{FitOutcome};
 ghost use Rattle.dex_answers.specs.Answers.{Answers};
 ghost use Rattle.dex_answers.specs.Telling.{IsText};
 ghost use Rattle.dex_answers.specs.declared.status.Status.TheVariants as status;
@@ -25,9 +26,10 @@ pub(crate) fn replay_answer(alloc: Global, bytes: &[u8]) -> Result<StatusText, N
     }
 }
 
-/// The report of an outcome that tells of so many rows.
+/// The report of an outcome that tells of so many rows. All values that it tells fit.
 pub fn report_of(alloc: Global, outcome: &Outcome, rows: u32) -> Result<StatusText, NoMemory>
-    ensures { IfOk result (λ told. IsText told status.Ok (report_text (outcome_of outcome.now) rows)) }
+    ensures fits { IfOk result (λ told. FitOutcome (outcome_of outcome.now)) }
+    ensures text { IfOk result (λ told. IsText told status.Ok (report_text (outcome_of outcome.now) rows)) }
 {
     let text = report_text(alloc, outcome, rows)?;
     Ok(StatusText {

@@ -187,7 +187,8 @@ fn tell_beyond(
 /// Tells the taken slots whose order does not rest or is not ended once.
 fn tell_ends(alloc: Global, found: &mut Vec<Finding>, book: &Book<'_>) -> Result<(), NoMemory>
     requires { IsBook book.now }
-    ensures { (m : Market) → IsOf book.now m → OnOk result (found.new.items ≡ found.old.items ++ rules.unpaired_in m) }
+    ensures { (m : Market) → IsOf book.now m
+        → OnOk result (found.new.items ≡ found.old.items ++ rules.unpaired_in m) }
 {
     let taken = taken_slots(alloc, book.accounts)?;
     let resting = all_resting(alloc, book.bids, book.asks)?;
@@ -227,7 +228,8 @@ fn tell_numbers(
 
 fn tell_doubles(alloc: Global, found: &mut Vec<Finding>, book: &Book<'_>) -> Result<(), NoMemory>
     requires { IsBook book.now }
-    ensures { (m : Market) → IsOf book.now m → OnOk result (found.new.items ≡ found.old.items ++ rules.repeated_in m) }
+    ensures { (m : Market) → IsOf book.now m
+        → OnOk result (found.new.items ≡ found.old.items ++ rules.repeated_in m) }
 {
     let taken = taken_slots(alloc, book.accounts)?;
     tell_repeated(alloc, found, &taken)

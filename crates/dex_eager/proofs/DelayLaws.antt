@@ -27,7 +27,7 @@ use Rattle.dex_history.proofs.HeldLaws.{acted-priced}
 use Rattle.dex_history.proofs.PriceLaws.{asked-sound}
 use Rattle.dex_history.specs.Journal.{Call, IsLegal, acted_of, is_refusal, step_of, entry_on, market_after}
 use Rattle.dex_eager.specs.Eager.{Eager, EagerStep, eager_at, worth_at, unchanged, by_account, eager_order, eager_take, eager_act, eager_decoded, eager_step}
-use Rattle.dex_eager.specs.Histories.{IsPaidAs, Fill, Trade, is_crank, counts, counted, trade_of, trades, eager_call, eager_after, eager_start, eager_end, eager_fills, fills_by, fills_of, appended, moves_after, moves_of}
+use Rattle.dex_eager.specs.Histories.{IsPaidAs, Fill, Deal, Trade, is_crank, counts, counted, deal_of, trade_of, trades, eager_call, eager_after, eager_start, eager_end, eager_fills, fills_by, fills_of, appended, moves_after, moves_of}
 use Rattle.dex_eager.specs.Slots.{maker_fills}
 use Rattle.dex_eager.specs.Worth.{Worth, Ledger, no_moves, with_step, free_in, own_owed, worth_in, worth_of}
 use Rattle.dex_eager.proofs.HistorySteps.{Goes, step-goes}
@@ -146,11 +146,16 @@ decoded-sees : (instruction : Result Ix BadData) (request : Request) (seen other
 decoded-sees (Err rule) request seen other e tier program = refl
 decoded-sees (Ok ix) request seen other e tier program = act-sees ix request seen other e tier program
 
--- so one trade does one thing
+-- so one deal does one thing
+deal-same : (call other : Call) (e : Eager) → deal_of call ≡ deal_of other → eager_call call e ≡ eager_call other e
+deal-same call other e same =
+    ap (λ (deal : Deal). eager_step deal.request call.seen e) same
+    ∙ decoded-sees (acted_of other).request.instruction (acted_of other).request call.seen other.seen e (ap (λ (deal : Deal). deal.tier) same) (ap (λ (deal : Deal). deal.program) same)
+
+-- and so does one trade
 trade-same : (call other : Call) (e : Eager) → trade_of call ≡ trade_of other → eager_call call e ≡ eager_call other e
 trade-same call other e same =
-    ap (λ (trade : Trade). eager_step trade.asked.request call.seen e) same
-    ∙ decoded-sees (acted_of other).request.instruction (acted_of other).request call.seen other.seen e (ap (λ (trade : Trade). trade.tier) same) (ap (λ (trade : Trade). trade.program) same)
+    deal-same call other e (ap (λ (trade : Trade). record { request = trade.asked.request; tier = trade.tier; program = trade.program }) same)
 
 -- the first and the others of two equal lists
 abbrev first_or : Trade → List Trade → Trade
@@ -160,6 +165,24 @@ first_or none (trade ∷ others) = trade
 abbrev behind : List Trade → List Trade
 behind [] = []
 behind (trade ∷ others) = others
+
+-- equal deals leave equal eager markets
+abbrev deal_or : Deal → List Deal → Deal
+deal_or none [] = none
+deal_or none (deal ∷ others) = deal
+
+abbrev deals_behind : List Deal → List Deal
+deals_behind [] = []
+deals_behind (deal ∷ others) = others
+
+pub deals-after : (calls others : List Call) (e : Eager) → map deal_of calls ≡ map deal_of others → eager_after e calls ≡ eager_after e others
+deals-after [] [] e same = refl
+deals-after [] (other ∷ others) e same = absurd cc
+deals-after (call ∷ calls) [] e same = absurd cc
+deals-after (call ∷ calls) (other ∷ others) e same =
+    let one : deal_of call ≡ deal_of other = ap (deal_or (deal_of call)) same in
+    ap (λ (s : EagerStep). eager_after s.market calls) (deal-same call other e one)
+    ∙ deals-after calls others (eager_call other e).market (ap deals_behind same)
 
 -- equal trades leave equal eager markets
 pub trades-after : (calls others : List Call) (e : Eager) → map trade_of calls ≡ map trade_of others → eager_after e calls ≡ eager_after e others

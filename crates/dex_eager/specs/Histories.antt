@@ -8,6 +8,7 @@ use Rattle.dex_types.specs.declared.terms.Program.{Program}
 use Rattle.dex_types.specs.declared.terms.Tier.{Tier}
 use Rattle.dex_types.specs.Market.{Market}
 use Rattle.dex_types.specs.QueuedEvent.{QueuedEvent}
+use Rattle.dex_types.specs.Requests.{Request}
 use Rattle.dex_types.specs.Steps.{Step}
 use Rattle.dex_types.specs.Terms.{tier_seen}
 use Rattle.dex_history.specs.Journal.{Asked, Call, acted_of, is_refusal, step_of}
@@ -91,6 +92,20 @@ trade_of call = record { asked = acted_of call; tier = tier_seen call.seen; prog
 -- what the accepted calls of a history but cranks go by
 abbrev pub trades : List Call → List Trade
 trades calls = map trade_of (counted calls)
+
+-- what a trade does goes by: its row's request (instruction, signer, accounts and time, but no lane, number or wallet), the tier and the program
+pub record Deal : Type 0 where
+  pub request : Request
+  pub tier : Tier
+  pub program : Program
+
+-- what a call's trade does goes by
+abbrev pub deal_of : Call → Deal
+deal_of call = record { request = (acted_of call).request; tier = tier_seen call.seen; program = call.seen.program }
+
+-- what the accepted calls of a history but cranks do goes by
+abbrev pub deals : List Call → List Deal
+deals calls = map deal_of (counted calls)
 
 -- the step of a row (`named`: the accounts that it names) leaves the eager market that the eager step leaves, and appends the fills of that
 pub record IsPaidAs (m : Market) (ledger : Ledger) (named : List Address) (s : Step) (paid : EagerStep) : Type 0 where

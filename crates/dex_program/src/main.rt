@@ -1,7 +1,12 @@
 //! The program `dex`: it replays scripts or lets their lanes run side by side, and writes reports, dumps, audits, made scripts and summaries.
 #![tactic(auto)]
 
+#[cfg(test)]
+mod borrowed;
 mod program;
+mod run;
+#[cfg(test)]
+mod tests;
 
 use crate::program::dex_main;
 use dex_answers::Status;

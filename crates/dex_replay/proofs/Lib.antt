@@ -20,3 +20,7 @@ mod Sights
 mod Singles
 pub mod Starts
 mod OneReplay
+pub mod InFront
+mod CallsTold
+mod Finding
+mod SightTold

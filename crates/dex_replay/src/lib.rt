@@ -1,6 +1,7 @@
 //! All rows of a script, one after the other.
 #![tactic(auto)]
 
+pub mod calls;
 pub mod laws;
 mod replaying;
 pub mod reports;

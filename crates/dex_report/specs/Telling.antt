@@ -19,7 +19,7 @@ stand_from_front [] = true
 stand_from_front (Some movement ∷ rest) = stand_from_front rest
 stand_from_front (None ∷ rest) = list_all is_none rest
 
--- the values of a refusal
+-- the values of a refusal fit: addresses 32 bytes, times 64 bits, other numbers 128
 abbrev pub FitRefusal : Refusal → Type 0
 FitRefusal (refusal.BadData a) = Unit {0}
 FitRefusal refusal.MarketDisabled = Unit {0}
@@ -46,7 +46,7 @@ FitRefusal (refusal.InsufficientFunds a b) = (a < 2 ^ 128) × (b < 2 ^ 128)
 FitRefusal (refusal.BalanceTooLarge a b) = (a < 2 ^ 128) × (b < 2 ^ 128)
 FitRefusal (refusal.SumTooLarge a b) = (a < 2 ^ 128) × (b < 2 ^ 128)
 
--- the values of a reply
+-- the values of a reply fit 128 bits
 abbrev pub FitReply : Reply → Type 0
 FitReply (Ordered a b c d e f) = (a < 2 ^ 128) × (b < 2 ^ 128) × (c < 2 ^ 128) × (d < 2 ^ 128) × (e < 2 ^ 128) × (f < 2 ^ 128)
 FitReply (Took a b c) = (a < 2 ^ 128) × (b < 2 ^ 128) × (c < 2 ^ 128)
@@ -107,7 +107,7 @@ pub record IsToldOutcome (outcome : PlainOutcome) : Type 0 where
   pub markets : All IsToldMarket outcome.markets
   pub wallets : All IsToldWallet outcome.wallets
 
--- all values of an outcome fit, as their types have it
+-- all values of an outcome fit: addresses 32 bytes, lanes and rows 32 bits, amounts of movements 64, numbers of replies and refusals 128
 pub record FitOutcome (outcome : PlainOutcome) : Type 0 where
   pub accounts : HoldBytes outcome.accounts
   pub markets : All FitMarket outcome.markets

@@ -25,5 +25,6 @@ pub fn movements_stand_from_the_front()
 /// An outcome whose values fit, as those of each outcome whose report was written do, and whose movements stand from the
 /// front is told in one way.
 pub fn what_fits_is_told()
-    ensures { (outcome : PlainOutcome) → FitOutcome outcome → All AreInFront outcome.markets → IsToldOutcome outcome }
+    ensures { (outcome : PlainOutcome) → FitOutcome outcome → All AreInFront outcome.markets
+        → IsToldOutcome outcome }
 {}

@@ -15,7 +15,8 @@ use std::alloc::{AllocError, Global};
 use std::fmt::Write;
 
 /// The report of an outcome of so many rows, in one buffer: the number of rows, each market's journal, each wallet's,
-/// the dump of the last accounts, and the end. All values that it tells fit, as their types have it.
+/// the dump of the last accounts, and the end. All values that it tells fit: addresses 32 bytes,
+/// amounts of movements 64 bits, and numbers of replies 128.
 pub fn report_text(alloc: Global, outcome: &Outcome, rows: u32) -> Result<Vec<u8>, NoMemory>
     ensures fits { IfOk result (λ text. FitOutcome (outcome_of outcome.now)) }
     ensures text { IfOk result (λ text. text.items ≡ texts.report_text (outcome_of outcome.now) rows) }

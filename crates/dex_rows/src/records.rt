@@ -1,4 +1,4 @@
-ghost use Rattle.std.specs.Prelude.{◌≡◌, ◌<◌, [], ◌∷◌, IfOk, IsTrue, MatchOption, OnErr, false, length, map, slice_index_or};
+ghost use Rattle.std.specs.Prelude.{◌≡◌, ◌<◌, [], ◌∷◌, IfOk, IsTrue, MatchOption, OnErr, false, length, slice_index_or};
 ghost use Rattle.csv.specs.Records.{fields_of};
 ghost use Rattle.dex_rows.specs.Records.{rows_of};
 ghost use Rattle.dex_rows.specs.RowReader.{GivesRows, rows_left};
@@ -88,21 +88,6 @@ fn read_row(reader: &mut Reader<&[u8]>, row: &mut ByteRecord) -> Result<bool, No
         return Err(NoMemory);
     };
     Ok(found)
-}
-
-/// The records of a text: its rows, each of its fields. A row may have any number of fields, and no row is a header.
-/// A byte-order mark at the start is no part of the first field, and an empty text has no rows.
-pub fn records(alloc: Global, text: &[u8]) -> Result<Vec<ByteRecord>, NoMemory>
-    ensures { IfOk result (λ rows. map fields_of rows.items ≡ rows_of text.now) }
-{
-    let mut left = Rows::new(alloc, text);
-    let mut rows = Vec::new(alloc);
-    'rows: while let Some(row) = left.next_row()? {
-        if rows.push(row).is_err() {
-            return Err(NoMemory);
-        }
-    }
-    Ok(rows)
 }
 
 /// How many fields a row has.

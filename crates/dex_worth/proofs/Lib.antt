@@ -11,3 +11,4 @@ pub mod Outcomes
 pub mod Showing
 pub mod Markets
 pub mod Flows
+mod Examples

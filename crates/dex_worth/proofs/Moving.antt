@@ -13,7 +13,7 @@ use Rattle.dex_instruction.specs.Reading.{decoded}
 use Rattle.dex_eager.specs.Worth.{is_first}
 use Rattle.dex_script.specs.Drafts.{PlainScript}
 use Rattle.dex_script.specs.Firsts.{first_of}
-use Rattle.dex_calls.specs.EntryCalls.{call_by, call_told, is_row_on}
+use Rattle.dex_replay.specs.EntryCalls.{call_by, call_told, is_row_on}
 use Rattle.dex_worth.specs.declared.amounts.Amounts.{Amounts}
 use Rattle.dex_worth.specs.declared.entries.Moved.{Moved}
 use Rattle.dex_worth.specs.Amounts.{none}

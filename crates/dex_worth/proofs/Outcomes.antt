@@ -13,16 +13,16 @@ use Rattle.dex_accounts.specs.Decoded.{AreSound, market_in}
 use Rattle.dex_accounts.specs.StandsFor.{StandsFor}
 use Rattle.dex_history.specs.Journal.{Call, market_after}
 use Rattle.dex_eager.specs.Eager.{Eager, eager_at}
-use Rattle.dex_eager.specs.Histories.{Trade, counted, eager_end, eager_start, moves_of, trades}
+use Rattle.dex_eager.specs.Histories.{Deal, counted, deals, eager_end, eager_start, moves_of}
 use Rattle.dex_eager.specs.Worth.{Worth, no_moves}
-use Rattle.dex_eager.proofs.DelayLaws.{history-fills, history-market, trades-after}
+use Rattle.dex_eager.proofs.DelayLaws.{deals-after, history-fills, history-market}
 use Rattle.dex_replay.specs.Lawful.{AllThree, IsLawful}
 use Rattle.dex_report.specs.Outcomes.{PlainMarketJournal, PlainOutcome}
 use Rattle.dex_script.specs.Drafts.{PlainScript}
 use Rattle.dex_script.specs.Facts.{IsScript}
-use Rattle.dex_calls.specs.EntryCalls.{TellsHistory, calls_told}
+use Rattle.dex_replay.specs.EntryCalls.{TellsHistory, calls_told}
 use Rattle.dex_worth.specs.Rows.{PlainWorthRow}
-use Rattle.dex_worth.specs.Tables.{AreToldHere, IsTold, IsToldHere, PaysAtOnce, calls_of, row_told, rows_told, table_told, tables_told, trades_told, worth_in_row, worth_told, worths_told}
+use Rattle.dex_worth.specs.Tables.{AreToldHere, IsTold, IsToldHere, PaysAtOnce, calls_of, deals_told, row_told, rows_told, table_told, tables_told, worth_in_row, worth_told, worths_told}
 use Rattle.dex_worth.proofs.Flows.{add-up}
 use Rattle.dex_worth.proofs.Tables.{worths-told}
 
@@ -132,13 +132,13 @@ rows-on script last journal [] = refl
 rows-on script last journal (entry ∷ others) = ap (λ (rows : List PlainWorthRow). row_told script last journal entry ∷ rows) (rows-on script last journal others)
 
 one-market : (script other : PlainScript) (first last late : PlainMarketAccounts) (journal second : PlainMarketJournal) → IsTold script first last journal → IsTold other first late second
-    → trades (calls_of script journal) ≡ trades (calls_of other second) → rows_told script last journal ≡ rows_told other late second
+    → deals (calls_of script journal) ≡ deals (calls_of other second) → rows_told script last journal ≡ rows_told other late second
 one-market script other first last late journal second one two same =
-    let equal : trades one.tells.calls ≡ trades two.tells.calls =
-    ap trades (sym (calls-are script first last journal one)) ∙ same ∙ ap trades (calls-are other first late second two) in
+    let equal : deals one.tells.calls ≡ deals two.tells.calls =
+    ap deals (sym (calls-are script first last journal one)) ∙ same ∙ ap deals (calls-are other first late second two) in
     let worths : map worth_in_row (rows_told script last journal) ≡ map worth_in_row (rows_told other late second) =
     worths-are script first last journal one
-    ∙ ap (λ (e : Eager). e.worths) (trades-after (counted one.tells.calls) (counted two.tells.calls) (eager_start (market_in first)) equal)
+    ∙ ap (λ (e : Eager). e.worths) (deals-after (counted one.tells.calls) (counted two.tells.calls) (eager_start (market_in first)) equal)
     ∙ sym (worths-are other first late second two) in
     rows-on script last journal (market_in last).traders
     ∙ ap (map (row_on journal.address)) worths
@@ -146,7 +146,7 @@ one-market script other first last late journal second one two same =
     ∙ sym (rows-on other late second (market_in late).traders)
 
 one-tables : (script other : PlainScript) (firsts lasts : List PlainMarketAccounts) (journals : List PlainMarketJournal) (lates : List PlainMarketAccounts) (seconds : List PlainMarketJournal)
-    → AllThree (IsTold script) firsts lasts journals → AllThree (IsTold other) firsts lates seconds → trades_told script journals ≡ trades_told other seconds
+    → AllThree (IsTold script) firsts lasts journals → AllThree (IsTold other) firsts lates seconds → deals_told script journals ≡ deals_told other seconds
     → tables_told script lasts journals ≡ tables_told other lates seconds
 one-tables script other [] [] [] [] [] one two same = refl
 one-tables script other [] [] [] [] (z ∷ seconds) one two same = absurd two
@@ -159,13 +159,13 @@ one-tables script other (x ∷ firsts) (y ∷ lasts) (z ∷ journals) [] seconds
 one-tables script other (x ∷ firsts) (y ∷ lasts) (z ∷ journals) (late ∷ lates) [] one two same = absurd two
 one-tables script other (x ∷ firsts) (y ∷ lasts) (z ∷ journals) (late ∷ lates) (second ∷ seconds) one two same =
     ap (λ (rows : List PlainWorthRow). rows ++ tables_told script lasts journals)
-    (one-market script other x y late z second one.0 two.0 (ap (λ (some : List (List Trade)). get_or some 0 []) same))
+    (one-market script other x y late z second one.0 two.0 (ap (λ (some : List (List Deal)). get_or some 0 []) same))
     ∙ ap (λ (rows : List PlainWorthRow). rows_told other late second ++ rows) (one-tables script other firsts lasts journals lates seconds one.1 two.1 (ap (drop 1) same))
 
 pub one-table : (script other : PlainScript) (outcome second : PlainOutcome) → IsScript script → IsScript other → IsLawful script outcome → IsLawful other second
     → AllThree (TellsHistory script) script.start.markets outcome.accounts.markets outcome.markets
     → AllThree (TellsHistory other) other.start.markets second.accounts.markets second.markets
-    → script.start.markets ≡ other.start.markets → trades_told script outcome.markets ≡ trades_told other second.markets
+    → script.start.markets ≡ other.start.markets → deals_told script outcome.markets ≡ deals_told other second.markets
     → table_told script outcome ≡ table_told other second
 one-table script other outcome second is is_other lawful lawful_other tells tells_other start same =
     one-tables script other script.start.markets outcome.accounts.markets outcome.markets second.accounts.markets second.markets (all-told-here script is outcome lawful tells)

@@ -9,7 +9,7 @@ use Rattle.dex_types.specs.declared.rows.Row.{Row}
 use Rattle.dex_types.specs.Addresses.{is_same}
 use Rattle.dex_types.specs.Rows.{PlainRow, row_of}
 use Rattle.dex_script.specs.Firsts.{first_of}
-use Rattle.dex_calls.specs.EntryCalls.{is_row_on}
+use Rattle.dex_replay.specs.EntryCalls.{is_row_on}
 
 -- the row stands before this number
 abbrev pub is_before : ℕ → Row → Bool

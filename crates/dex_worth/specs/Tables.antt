@@ -12,9 +12,9 @@ use Rattle.dex_accounts.specs.StandsFor.{StandsFor}
 use Rattle.dex_history.specs.Journal.{Call, market_after}
 use Rattle.dex_report.specs.Outcomes.{PlainMarketJournal, PlainOutcome}
 use Rattle.dex_script.specs.Drafts.{PlainScript}
-use Rattle.dex_calls.specs.EntryCalls.{TellsHistory, calls_told}
+use Rattle.dex_replay.specs.EntryCalls.{TellsHistory, calls_told}
 use Rattle.dex_eager.specs.Eager.{Worths}
-use Rattle.dex_eager.specs.Histories.{Trade, counted, eager_end, eager_fills, eager_start, fills_of, moves_of, trades}
+use Rattle.dex_eager.specs.Histories.{Deal, counted, deals, eager_end, eager_fills, eager_start, fills_of, moves_of}
 use Rattle.dex_eager.specs.Slots.{without_slots}
 use Rattle.dex_eager.specs.Worth.{Worth, held_for, takings_of, worth_of}
 use Rattle.dex_worth.specs.Flows.{AddUp}
@@ -57,9 +57,10 @@ tables_told script _ _ = []
 abbrev pub table_told : PlainScript → PlainOutcome → List PlainWorthRow
 table_told script outcome = tables_told script outcome.accounts.markets outcome.markets
 
--- what the trades of each market go by, as its journal tells them: its accepted rows but cranks, with their tiers and program
-abbrev pub trades_told : PlainScript → List PlainMarketJournal → List (List Trade)
-trades_told script journals = map (λ (journal : PlainMarketJournal). trades (calls_of script journal)) journals
+-- what the trades of each market do goes by, as its journal tells them: the requests of its accepted rows but cranks, with their tiers and
+-- program, whatever lanes, numbers and wallets the rows have
+abbrev pub deals_told : PlainScript → List PlainMarketJournal → List (List Deal)
+deals_told script journals = map (λ (journal : PlainMarketJournal). deals (calls_of script journal)) journals
 
 -- the journal tells a legal history from the market's first accounts, which are those of a sound market
 pub record IsTold (script : PlainScript) (first last : PlainMarketAccounts) (journal : PlainMarketJournal) : Type 0 where

@@ -9,7 +9,7 @@ ghost use Rattle.dex_types.specs.Totals.{total};
 ghost use Rattle.dex_history.specs.Journal.{Call, asked_of, front};
 ghost use Rattle.dex_history.specs.Mints.{debited};
 ghost use Rattle.dex_instruction.specs.Reading.{decoded};
-ghost use Rattle.dex_calls.specs.EntryCalls.{call_told, calls_told};
+ghost use Rattle.dex_replay.specs.EntryCalls.{call_told, calls_told};
 ghost use Rattle.dex_script.specs.Drafts.{PlainScript};
 ghost use Rattle.dex_worth.specs.Amounts as tally;
 ghost use Rattle.dex_worth.specs.Debits.{debits_in};

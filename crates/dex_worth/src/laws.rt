@@ -5,13 +5,13 @@ ghost use Rattle.dex_types.specs.declared.addresses.Address.{Address};
 ghost use Rattle.dex_types.specs.Market.{Market};
 ghost use Rattle.dex_types.specs.Accounts.{PlainMarketAccounts};
 ghost use Rattle.dex_accounts.specs.Decoded.{market_in};
-ghost use Rattle.dex_calls.specs.EntryCalls.{TellsHistory};
-ghost use Rattle.dex_eager.specs.Histories.{eager_end, trades};
+ghost use Rattle.dex_replay.specs.EntryCalls.{TellsHistory};
+ghost use Rattle.dex_eager.specs.Histories.{deals, eager_end};
 ghost use Rattle.dex_replay.specs.Lawful.{AllThree, IsLawful};
 ghost use Rattle.dex_report.specs.Outcomes.{PlainMarketJournal, PlainOutcome};
 ghost use Rattle.dex_script.specs.Facts.{IsScript};
 ghost use Rattle.dex_script.specs.Drafts.{PlainScript};
-ghost use Rattle.dex_worth.specs.Tables.{PaysAtOnce, rows_told, table_told, trades_told, worth_in_row, worths_told};
+ghost use Rattle.dex_worth.specs.Tables.{PaysAtOnce, deals_told, rows_told, table_told, worth_in_row, worths_told};
 ghost use Rattle.dex_types.specs.Side.{Token};
 ghost use Rattle.dex_types.specs.Soundness.{IsSound};
 ghost use Rattle.dex_types.specs.Totals.{total};
@@ -21,7 +21,7 @@ ghost use Rattle.dex_worth.specs.Debits.{debits_in};
 ghost use Rattle.dex_worth.specs.Flows.{AddUp};
 ghost use Rattle.dex_worth.specs.Told.{told_in, told_out};
 
-use dex_calls::laws::an_entry_tells_its_call;
+use dex_replay::calls::an_entry_tells_its_call;
 
 /// What an entry debits is what its row deposits.
 pub fn an_entry_debits_what_its_row_deposits()
@@ -31,10 +31,10 @@ pub fn an_entry_debits_what_its_row_deposits()
 
 /// The entries of a history tell what moved for each account.
 pub fn entries_tell_what_moved()
-    ensures deposited { (token : Token) (owner : Address) (m : Market) (calls : List Call) → IsSound m → IsLegal m calls
-        → (moves_of m calls).deposited token owner ≡ total (told_in token owner) calls }
-    ensures settled { (token : Token) (owner : Address) (m : Market) (calls : List Call) → IsSound m → IsLegal m calls
-        → (moves_of m calls).settled token owner ≡ total (told_out token owner) calls }
+    ensures deposited { (token : Token) (owner : Address) (m : Market) (calls : List Call)
+        → IsSound m → IsLegal m calls → (moves_of m calls).deposited token owner ≡ total (told_in token owner) calls }
+    ensures settled { (token : Token) (owner : Address) (m : Market) (calls : List Call)
+        → IsSound m → IsLegal m calls → (moves_of m calls).settled token owner ≡ total (told_out token owner) calls }
 {}
 
 /// What a journal and the last accounts tell of worth is what a market has that pays at once.
@@ -59,16 +59,16 @@ pub fn nothing_is_made_or_lost()
 {}
 
 /// However late cranks come, and in whatever order lanes act: where the journals of a market in two lawful outcomes tell the
-/// same accepted rows but cranks, in one order, with the same tiers and program, its rows are the same. Where this is so of
-/// each market, the two outcomes have one table.
+/// same requests of accepted rows but cranks, in one order, with the same tiers and program, its rows are the same. Where
+/// this is so of each market, the two outcomes have one table. The rows may have other lanes, numbers and wallets.
 pub fn equal_trades_give_one_table()
     ensures market { (script other : PlainScript) (first last late : PlainMarketAccounts)
         (journal second : PlainMarketJournal) → (one : PaysAtOnce script first last journal)
-        → (two : PaysAtOnce other first late second) → trades one.calls ≡ trades two.calls
+        → (two : PaysAtOnce other first late second) → deals one.calls ≡ deals two.calls
         → map worth_in_row (rows_told script last journal) ≡ map worth_in_row (rows_told other late second) }
     ensures table { (script other : PlainScript) (outcome second : PlainOutcome) → IsScript script → IsScript other
         → IsLawful script outcome → IsLawful other second → script.start.markets ≡ other.start.markets
-        → trades_told script outcome.markets ≡ trades_told other second.markets
+        → deals_told script outcome.markets ≡ deals_told other second.markets
         → table_told script outcome ≡ table_told other second }
 {
     an_entry_tells_its_call();

@@ -5,7 +5,7 @@ ghost use Rattle.std.specs.List.{AllPairs};
 ghost use Rattle.dex_types.specs.declared.rows.Row.{Row as RowOf};
 ghost use Rattle.dex_types.specs.Rows.{PlainRow, row_of};
 ghost use Rattle.dex_script.specs.Firsts.{first_of};
-ghost use Rattle.dex_calls.specs.EntryCalls.{is_row_on};
+ghost use Rattle.dex_replay.specs.EntryCalls.{is_row_on};
 
 use dex_types::{Address, Row, is_same};
 

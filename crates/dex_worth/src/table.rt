@@ -20,7 +20,7 @@ ghost use Rattle.dex_worth.specs.Tables as book;
 use crate::amounts::Amounts;
 use crate::entries::ledger_of;
 use crate::holdings::held_of;
-use dex_calls::laws::an_entry_tells_its_call;
+use dex_replay::calls::an_entry_tells_its_call;
 use dex_report::{MarketJournal, Outcome};
 use dex_types::{Address, MarketAccounts, NoMemory, OrdersAccount, Row};
 use std::alloc::Global;

@@ -1,4 +1,5 @@
-use Rattle.dex_program.proofs.Endings.{all-complete, legal, ordered}
+use Rattle.dex_plain.proofs.Endings.{all-complete}
+use Rattle.dex_program.proofs.Endings.{legal, ordered}
 use Rattle.dex_program.proofs.program.dex_main.Goals as goal
 
 pub returns-clause-one_legal_history : goal.returns-clause-one_legal_history

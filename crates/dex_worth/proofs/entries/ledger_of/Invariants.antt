@@ -1,7 +1,7 @@
 use Rattle.std.proofs.Common.{◌≡◌, ◌*◌, ◌^◌, Some, List, length, map, take}
 use Rattle.dex_types.specs.Rows.{row_of}
 use Rattle.dex_history.specs.Journal.{Call}
-use Rattle.dex_calls.specs.EntryCalls.{calls_told}
+use Rattle.dex_replay.specs.EntryCalls.{calls_told}
 use Rattle.dex_script.specs.Drafts.{PlainScript}
 use Rattle.dex_worth.specs.Amounts.{AreSums, AreWithin}
 use Rattle.dex_worth.specs.Entries.{all_in, all_out}

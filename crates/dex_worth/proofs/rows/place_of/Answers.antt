@@ -3,7 +3,7 @@ use Rattle.std.proofs.lemmas.List.{get_or-map, get_or_default, length-map}
 use Rattle.std.proofs.lemmas.List.Sorted.{IsPartitionPoint-from_clause}
 use Rattle.dex_types.specs.declared.rows.Row.{Row}
 use Rattle.dex_types.specs.Rows.{PlainRow, row_of}
-use Rattle.dex_calls.specs.EntryCalls.{is_row_on}
+use Rattle.dex_replay.specs.EntryCalls.{is_row_on}
 use Rattle.dex_worth.proofs.Lists.{first-here, first-later}
 use Rattle.dex_worth.proofs.Rising.{found-behind, is_before, parted-rising}
 use Rattle.dex_worth.proofs.rows.place_of.Goals as goal

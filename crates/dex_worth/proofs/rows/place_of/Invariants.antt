@@ -1,7 +1,7 @@
 use Rattle.std.proofs.Common.{◌≡◌, drop, map}
 use Rattle.dex_types.specs.Rows.{PlainRow, row_of}
 use Rattle.dex_script.specs.Firsts.{first_of}
-use Rattle.dex_calls.specs.EntryCalls.{is_row_on}
+use Rattle.dex_replay.specs.EntryCalls.{is_row_on}
 use Rattle.dex_worth.proofs.rows.place_of.Given as goal
 
 abbrev pub invariant-loop-place : goal.invariant-loop-place

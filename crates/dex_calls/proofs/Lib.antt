@@ -1,3 +1,0 @@
-mod CallsTold
-mod Finding
-mod SightTold

@@ -1,0 +1,18 @@
+//! What a sink takes of a text.
+
+ghost use Rattle.dex_plain.specs.Ending.{output};
+ghost use Rattle.dex_plain.specs.Stops.{Writes};
+
+use dex_answers::Status;
+use dex_io::{Sink, write_all};
+
+/// Writes the text of a status that stands.
+pub fn written<K: Sink>(sink: &mut K, text: &[u8], stands: Status) -> Status
+    ensures { Writes
+        (output (K.taken sink.old) (K.taken sink.new) (K.faults sink.old) (K.faults sink.new)) stands text.now result }
+{
+    match write_all(sink, text) {
+        Ok(()) => stands,
+        Err(_) => Status::WriteFault,
+    }
+}

@@ -1,0 +1,36 @@
+//! What `run` answers to the bytes that it read: the report of what a script's lanes leave side by side.
+
+ghost use Rattle.std.specs.Prelude.{IfOk};
+ghost use Rattle.dex_plain.specs.LaneAnswers.{AnswersRun};
+
+use dex_answers::{StatusText, items_in, no_script, report_of};
+use dex_io::Pace;
+use dex_replay::laws::without_swaps_rows_act_one_by_one;
+use dex_run::run;
+use dex_script::read_script;
+use dex_types::NoMemory;
+use std::alloc::Global;
+use std::marker::Sync;
+use std::sync::Wait;
+use std::thread::Threads;
+
+/// The report of what is left when the lanes of a script have run side by side, or why the bytes are no script. Each row is let
+/// in by the pace.
+pub fn run_answer<R: Threads + Wait + Sync, P: Pace + Sync>(
+    rt: &R,
+    alloc: Global,
+    bytes: &[u8],
+    pace: &P,
+) -> Result<StatusText, NoMemory>
+    ensures { IfOk result (λ told. AnswersRun bytes.now told.status told.text.items) }
+{
+    match read_script(alloc, bytes) {
+        Ok(script) => {
+            let rows = items_in(&script.rows);
+            let outcome = run(rt, alloc, script, pace)?;
+            without_swaps_rows_act_one_by_one();
+            report_of(alloc, &outcome, rows)
+        }
+        Err(error) => no_script(alloc, error),
+    }
+}

@@ -1,0 +1,141 @@
+-- The calls of lawful journals are those that their entries tell.
+use Rattle.std.proofs.Common.{◌≡◌, ◌==◌, ℕ, Bool, true, false, cond, List, [], ◌∷◌, map, Option, Some, refl, sym, ap, subst, ◌∙◌}
+use Rattle.std.specs.List.{All, Contains, filter}
+use Rattle.std.proofs.lemmas.Bool.{cond-true, eq-eqb}
+use Rattle.std.proofs.lemmas.List.Elements.{All-cons, All-contains_itself, All-filter, All-head, All-nil, All-tail, All-weaker}
+use Rattle.dex_types.specs.declared.addresses.Address.{Address}
+use Rattle.dex_types.specs.declared.movements.Entry.{Entry}
+use Rattle.dex_types.specs.declared.rows.Seen.{Seen}
+use Rattle.dex_types.specs.Accounts.{PlainMarketAccounts}
+use Rattle.dex_types.specs.Addresses.{is_same}
+use Rattle.dex_types.specs.Market.{Listing, Market}
+use Rattle.dex_types.specs.Rows.{PlainRow}
+use Rattle.dex_accounts.specs.Decoded.{market_in}
+use Rattle.dex_sound.proofs.KeepLaws.{step-keeps}
+use Rattle.dex_history.specs.Journal.{Asked, Call, IsLegal, acted_of, asked_of, step_of}
+use Rattle.dex_report.specs.Outcomes.{PlainMarketJournal, PlainOutcome}
+use Rattle.dex_script.specs.Drafts.{PlainScript}
+use Rattle.dex_script.specs.Facts.{IsScript}
+use Rattle.dex_script.specs.Firsts.{first_of}
+use Rattle.dex_replay.specs.Lawful.{AllThree, IsLawful, IsLawfulMarket, IsSight, rows_of_market}
+use Rattle.dex_replay.proofs.LastAccounts.{listing-in}
+use Rattle.dex_replay.proofs.MappedLists.{All-across}
+use Rattle.dex_replay.specs.EntryCalls.{IsCallOf, TellsHistory, call_by, call_told, calls_told, is_row_on, with_call}
+use Rattle.dex_replay.proofs.Finding.{row-found, wallets-once}
+use Rattle.dex_replay.proofs.SightTold.{sight-told}
+
+-- ---- one call
+
+pub call-told : (script : PlainScript) → IsScript script → (row : PlainRow) (m : Market) (call : Call) → IsCallOf script row m call
+    → call_told script row.market call.entry ≡ Some call
+call-told script facts row m call is =
+    let number : call.entry.row ≡ row.number =
+    ap (λ (entry : Entry). entry.row) is.stands.entry ∙ ap (λ (asked : Asked). asked.number) is.asks in
+    let seen = sight-told script row call m (wallets-once script.start facts.start.accepted) is.asks is.sight is.stands in
+    ap (λ (n : ℕ). first_of (is_row_on row.market n) (call_by script call.entry) script.rows) number
+    ∙ row-found (call_by script call.entry) row script.rows facts.rows.legs is.row_is
+    ∙ ap (λ (one : Seen). Some (record (call_by script call.entry row) { seen = one })) seen
+    ∙ ap (λ (asked : Asked). Some (record call { asked = asked })) (sym is.asks)
+
+-- ---- a legal history
+
+-- one of these rows asks this
+record IsAskedIn (rows : List PlainRow) (asked : Asked) : Type 0 where
+  row : PlainRow
+  there : Contains rows row
+  asks : asked ≡ asked_of row
+
+calls-told : (script : PlainScript) → IsScript script → (m : Market) (calls : List Call) → IsLegal m calls
+    → All (λ (call : Call). IsAskedIn script.rows call.asked) calls → All (λ (call : Call). IsSight script call.seen) calls
+    → calls_told script m.listing.address (map (λ (call : Call). call.entry) calls) ≡ Some calls
+calls-told script facts m [] legal asked sees = refl
+calls-told script facts m (call ∷ calls) legal asked sees =
+    let by : IsAskedIn script.rows call.asked = All-head (λ (one : Call). IsAskedIn script.rows one.asked) call calls asked in
+    let address : Address = m.listing.address in
+    let on : by.row.market ≡ address = sym (ap (λ (asked : Asked). asked.market) by.asks) ∙ legal.0.market in
+    let stays : (step_of call m).market.listing.address ≡ address =
+    ap (λ (listing : Listing). listing.address) (step-keeps (acted_of call).request call.seen m).listing in
+    let first : call_told script by.row.market call.entry ≡ Some call = call-told script facts by.row m call (record {
+      row_is = by.there;
+      asks = by.asks;
+      sight = All-head (λ (one : Call). IsSight script one.seen) call calls sees;
+      stands = legal.0;
+    }) in
+    let later : List Entry = map (λ (other : Call). other.entry) calls in
+    ap (λ (one : Option Call). with_call one (calls_told script address later)) (ap (λ (a : Address). call_told script a call.entry) (sym on) ∙ first)
+    ∙ ap (with_call (Some call)) (ap (λ (a : Address). calls_told script a later) (sym stays)
+    ∙ calls-told script facts (step_of call m).market calls legal.1 (All-tail (λ (one : Call). IsAskedIn script.rows one.asked) call calls asked)
+    (All-tail (λ (one : Call). IsSight script one.seen) call calls sees))
+
+-- ---- a lawful market
+
+-- what holds of the elements of each lane holds of all
+module _ {X : Type 0} (lane_of : X → ℕ) (P : X → Type 0) where
+  abbrev in_lane : ℕ → List X → List X
+  in_lane lane xs = filter (λ (x : X). lane_of x == lane) xs
+
+  each-lane : (xs : List X) → ((lane : ℕ) → All P (in_lane lane xs)) → All P xs
+  each-lane [] each = All-nil P
+  each-lane (x ∷ xs) each =
+      let lane : ℕ = lane_of x in
+      let own : All P (x ∷ in_lane lane xs) =
+      subst (All P) (cond-true (lane == lane) (x ∷ in_lane lane xs) (in_lane lane xs) (eq-eqb lane lane refl)) (each lane) in
+      All-cons P x xs (All-head P x (in_lane lane xs) own) (each-lane xs (λ other. rest (lane == other) (in_lane other xs) (each other)))
+    where
+      rest : (b : Bool) (ys : List X) → All P (cond b (x ∷ ys) ys) → All P ys
+      rest true ys all = All-tail P x ys all
+      rest false ys all = all
+
+module _ (script : PlainScript) (first last : PlainMarketAccounts) (journal : PlainMarketJournal) (lawful : IsLawfulMarket script first last journal) where
+  abbrev Asks : PlainRow → Type 0
+  Asks row = IsAskedIn script.rows (asked_of row)
+
+  each-asks : All Asks script.rows
+  each-asks =
+      All-weaker (Contains script.rows) Asks (λ row there. record { row = row; there = there; asks = refl }) script.rows (All-contains_itself script.rows)
+
+  -- each of its calls was asked by a row of the script
+  all-asked : All (λ (call : Call). IsAskedIn script.rows call.asked) lawful.calls
+  all-asked =
+      each-lane (λ (call : Call). call.asked.lane) (λ (call : Call). IsAskedIn script.rows call.asked) lawful.calls
+      (λ lane. All-across (IsAskedIn script.rows) (λ (call : Call). call.asked) asked_of
+      (filter (λ (call : Call). call.asked.lane == lane) lawful.calls) (rows_of_market lane first.address script.rows) (lawful.rows lane)
+      (All-filter (λ (row : PlainRow). row.lane == lane) Asks (filter (λ (row : PlainRow). is_same row.market first.address) script.rows)
+      (All-filter (λ (row : PlainRow). is_same row.market first.address) Asks script.rows each-asks)))
+
+  of-lawful : IsScript script → calls_told script first.address journal.entries ≡ Some lawful.calls
+  of-lawful facts =
+      ap (calls_told script first.address) lawful.entries
+      ∙ ap (λ (listing : Listing). calls_told script listing.address (map (λ (call : Call). call.entry) lawful.calls)) (sym (listing-in first))
+      ∙ calls-told script facts (market_in first) lawful.calls lawful.legal all-asked lawful.sees
+
+pub lawful-told : (script : PlainScript) → IsScript script → (first last : PlainMarketAccounts) (journal : PlainMarketJournal)
+    → (lawful : IsLawfulMarket script first last journal) → calls_told script first.address journal.entries ≡ Some lawful.calls
+lawful-told script facts first last journal lawful = of-lawful script first last journal lawful facts
+
+pub history-told : (script : PlainScript) → IsScript script → (first last : PlainMarketAccounts) (journal : PlainMarketJournal)
+    → IsLawfulMarket script first last journal → TellsHistory script first last journal
+history-told script facts first last journal lawful = record {
+  calls = lawful.calls;
+  told = lawful-told script facts first last journal lawful;
+  entries = sym lawful.entries;
+  legal = lawful.legal;
+  stands = lawful.stands;
+}
+
+-- ---- an outcome
+
+all-told : (script : PlainScript) → IsScript script → (starts lasts : List PlainMarketAccounts) (journals : List PlainMarketJournal)
+    → AllThree (IsLawfulMarket script) starts lasts journals → AllThree (TellsHistory script) starts lasts journals
+all-told script facts [] [] [] all = tt
+all-told script facts (first ∷ starts) (last ∷ lasts) (journal ∷ journals) all =
+    (history-told script facts first last journal all.0, all-told script facts starts lasts journals all.1)
+all-told script facts [] [] (journal ∷ journals) all = absurd all
+all-told script facts [] (last ∷ lasts) journals all = absurd all
+all-told script facts (first ∷ starts) [] journals all = absurd all
+all-told script facts (first ∷ starts) (last ∷ lasts) [] all = absurd all
+
+pub outcome-told : (script : PlainScript) → IsScript script → (outcome : PlainOutcome) → IsLawful script outcome
+    → AllThree (TellsHistory script) script.start.markets outcome.accounts.markets outcome.markets
+outcome-told script facts outcome lawful =
+    all-told script facts script.start.markets outcome.accounts.markets outcome.markets lawful.markets

@@ -1,0 +1,172 @@
+-- What a call saw is what its entry tells.
+use Rattle.std.proofs.Common.{◌≡◌, ℕ, ◌≤◌, ◌⊎◌, inl, inr, ⊎_elim, Bool, true, false, ◌||◌, ltb, List, [], ◌∷◌, map, Option, Some, None, refl, sym, ap, ◌∙◌, subst}
+use Rattle.std.specs.List.{list_any}
+use Rattle.std.proofs.lemmas.Bool.{both_ways, cases_Bool, cond-false, cond-true, cond_both, false≢true, or_left, or_right}
+use Rattle.std.proofs.lemmas.Option.{same_Some}
+use Rattle.dex_types.specs.declared.addresses.Address.{Address}
+use Rattle.dex_types.specs.declared.movements.Entry.{Entry}
+use Rattle.dex_types.specs.declared.movements.Movement.{Movement}
+use Rattle.dex_types.specs.declared.rows.Seen.{Seen}
+use Rattle.dex_types.specs.declared.rows.WalletSeen.{WalletSeen}
+use Rattle.dex_types.specs.declared.terms.Program.{Program}
+use Rattle.dex_types.specs.Accounts.{PlainAccount}
+use Rattle.dex_types.specs.Addresses.{is_same}
+use Rattle.dex_types.specs.Market.{Market}
+use Rattle.dex_types.specs.Rows.{PlainRow}
+use Rattle.dex_types.specs.Transfers.{Transfers}
+use Rattle.dex_types.specs.Wallets.{address_seen, balance_in, balance_seen, brought_to, movement_by, movement_of, seen_wallets, taken_from}
+use Rattle.dex_laws.proofs.TraderLaws.{is_same-refl, is_same-true}
+use Rattle.dex_history.specs.Journal.{Agree, Asked, Call, Sees, Stands, asked_of, front, step_of}
+use Rattle.dex_history.proofs.BalanceLaws.{agree-one, agree-one_back}
+use Rattle.dex_history.proofs.MoveLaws.{AreOneWith, IsIn, coin-one, pc-one, referrer-one, roles_of}
+use Rattle.dex_history.proofs.WalletLaws.{places-movements, wallet-movement_by}
+use Rattle.dex_act.specs.Wallets.{any_hit, hits}
+use Rattle.dex_act.proofs.Seeing.{any-seen}
+use Rattle.dex_dump.specs.Accepted.{address_of, times}
+use Rattle.dex_script.specs.Drafts.{PlainScript}
+use Rattle.dex_replay.specs.Lawful.{IsSight, IsWalletSeen}
+use Rattle.dex_replay.specs.EntryCalls.{before_of, role_told, seen_told, wallet_told}
+use Rattle.dex_replay.proofs.Finding.{wallet-found}
+
+-- ---- the balance before, in movements
+
+before-movement : (address : Address) (before taken brought : ℕ) → (movement_by address before taken brought).before ≡ before
+before-movement address before taken brought =
+    cond_both (ltb 0 taken) _ _ (λ (move : Movement). move.before ≡ before) (λ some. refl)
+    (λ none. cond_both (ltb 0 brought) _ _ (λ (move : Movement). move.before ≡ before) (λ some. refl) (λ probe. refl))
+
+module _ (seen : Seen) (t : Transfers) (address : Address) where
+  abbrev moved : Address → Movement
+  moved one = movement_of seen t one
+
+  -- the first movement on a wallet that is seen states the balance that is seen
+  before-moved : (addresses : List Address) → list_any (is_same address) addresses ≡ true → before_of address (map (movement_of seen t) addresses) ≡ balance_seen seen address
+  before-moved [] any = absurd (false≢true any)
+  before-moved (first ∷ others) any =
+      let wallet : is_same address (moved first).wallet ≡ is_same address first =
+      ap (is_same address) (wallet-movement_by first (balance_seen seen first) (taken_from seen t first) (brought_to seen t first)) in
+      let before : (moved first).before ≡ balance_seen seen first =
+      before-movement first (balance_seen seen first) (taken_from seen t first) (brought_to seen t first) in
+      let rest : ℕ = before_of address (map (movement_of seen t) others) in
+      ⊎_elim
+      (λ (same : is_same address first ≡ true).
+      cond-true (is_same address (moved first).wallet) (moved first).before rest (wallet ∙ same)
+      ∙ before ∙ sym (ap (balance_seen seen) (is_same-true address first same)))
+      (λ (apart : is_same address first ≡ false).
+      cond-false (is_same address (moved first).wallet) (moved first).before rest (wallet ∙ apart)
+      ∙ before-moved others (sym (ap (λ (b : Bool). b || list_any (is_same address) others) apart) ∙ any))
+      (cases_Bool (is_same address first))
+
+-- ---- the balance that is seen, of the wallet of a role
+
+-- a wallet that a role sees, and with which all roles are one
+record IsRole (seen : Seen) (wallet : WalletSeen) : Type 0 where
+  one : AreOneWith wallet (roles_of seen)
+  there : IsIn wallet (roles_of seen)
+
+module _ (asked : Asked) (seen : Seen) (sees : Sees asked seen) (wallet : WalletSeen) where
+  coin-role : seen.coin ≡ Some wallet → IsRole seen wallet
+  coin-role is = record { one = coin-one asked seen wallet sees is; there = inl is }
+
+  pc-role : seen.pc ≡ Some wallet → IsRole seen wallet
+  pc-role is = record { one = pc-one asked seen wallet sees is; there = inr (inl is) }
+
+  referrer-role : seen.referrer ≡ Some wallet → IsRole seen wallet
+  referrer-role is = record { one = referrer-one asked seen wallet sees is; there = inr (inr (inr (inl is))) }
+
+  discount-role : seen.discount ≡ Some wallet → IsRole seen wallet
+  discount-role is = record {
+    one = (
+      agree-one_back wallet seen.coin (subst (λ role. Agree seen.coin role) is sees.coin_discount),
+      (
+        agree-one_back wallet seen.pc (subst (λ role. Agree seen.pc role) is sees.pc_discount),
+        (
+          λ other there same. same_Some wallet other (sym is ∙ there),
+          (agree-one wallet seen.referrer (subst (λ role. Agree role seen.referrer) is sees.discount_referrer), tt),
+        ),
+      ),
+    );
+    there = inr (inr (inl is));
+  }
+
+balance-in : (wallet : WalletSeen) (roles : List (Option WalletSeen)) → AreOneWith wallet roles → IsIn wallet roles → balance_in wallet.address roles ≡ wallet.balance
+balance-in wallet [] one here = absurd here
+balance-in wallet (None ∷ roles) one (inl is) = absurd (cc)
+balance-in wallet (None ∷ roles) one (inr later) = balance-in wallet roles one.1 later
+balance-in wallet (Some first ∷ roles) one here =
+    ⊎_elim
+    (λ (same : is_same wallet.address first.address ≡ true).
+    cond-true (is_same wallet.address first.address) first.balance (balance_in wallet.address roles) same
+    ∙ sym (ap (λ (w : WalletSeen). w.balance) (one.0 first refl (is_same-true wallet.address first.address same))))
+    (λ (apart : is_same wallet.address first.address ≡ false).
+    cond-false (is_same wallet.address first.address) first.balance (balance_in wallet.address roles) apart
+    ∙ balance-in wallet roles one.1 (later apart here))
+    (cases_Bool (is_same wallet.address first.address))
+  where
+    later : is_same wallet.address first.address ≡ false → (Some first ≡ Some wallet) ⊎ IsIn wallet roles → IsIn wallet roles
+    later apart (inl is) =
+        absurd (both_ways (is_same wallet.address first.address) apart
+        (subst (λ (w : WalletSeen). is_same wallet.address w.address ≡ true) (sym (same_Some first wallet is)) (is_same-refl wallet.address)))
+    later apart (inr there) = there
+
+hit-in : (wallet : WalletSeen) (roles : List (Option WalletSeen)) → IsIn wallet roles → any_hit wallet.address roles ≡ true
+hit-in wallet [] here = absurd here
+hit-in wallet (role ∷ roles) (inl is) =
+    or_left (hits wallet.address role) (any_hit wallet.address roles) (ap (hits wallet.address) is ∙ is_same-refl wallet.address)
+hit-in wallet (role ∷ roles) (inr later) = or_right (hits wallet.address role) (any_hit wallet.address roles) (hit-in wallet roles later)
+
+-- it is the one that the entry states before
+before-told : (call : Call) (m : Market) → Stands call m → (wallet : WalletSeen) → IsRole call.seen wallet
+    → before_of wallet.address (front call.entry.moves) ≡ wallet.balance
+before-told call m stands wallet role =
+    ap (λ (entry : Entry). before_of wallet.address (front entry.moves)) stands.entry
+    ∙ ap (before_of wallet.address) (places-movements call.seen (step_of call m).transfers)
+    ∙ before-moved call.seen (step_of call m).transfers wallet.address (seen_wallets call.seen)
+    (any-seen wallet.address call.seen ∙ hit-in wallet (roles_of call.seen) role.there)
+    ∙ balance-in wallet (roles_of call.seen) role.one role.there
+
+-- ---- what is seen
+
+module _ (wallets : List PlainAccount) (once : (address : Address) → times address (map address_of wallets) ≤ 1) (moves : List Movement) where
+  wallet-told : (wallet : WalletSeen) → IsWalletSeen wallets (Some wallet) → before_of wallet.address moves ≡ wallet.balance
+      → role_told wallets moves (Some wallet.address) ≡ Some wallet
+  wallet-told wallet there before =
+      let account : PlainAccount = there.1 in
+      let same : wallet.address ≡ account.address = ap (λ (w : WalletSeen). w.address) there.4 in
+      let balance : before_of account.address moves ≡ wallet.balance = ap (λ (a : Address). before_of a moves) (sym same) ∙ before in
+      ap (λ (a : Address). role_told wallets moves (Some a)) same
+      ∙ wallet-found (wallet_told moves) account wallets (once account.address) (there.0, there.2, there.3)
+      ∙ ap (λ (n : ℕ). Some (record (wallet_told moves account) { balance = n })) balance
+      ∙ ap (λ (w : WalletSeen). Some w) (sym there.4)
+
+  role-told : (role : Option Address) (one : Option WalletSeen) → address_seen one ≡ role → IsWalletSeen wallets one
+      → ((wallet : WalletSeen) → one ≡ Some wallet → before_of wallet.address moves ≡ wallet.balance) → role_told wallets moves role ≡ one
+  role-told role None same there before = ap (role_told wallets moves) (sym same)
+  role-told role (Some wallet) same there before = ap (role_told wallets moves) (sym same) ∙ wallet-told wallet there (before wallet refl)
+
+-- all that the call saw
+pub sight-told : (script : PlainScript) (row : PlainRow) (call : Call) (m : Market) → ((address : Address) → times address (map address_of script.start.wallets) ≤ 1)
+    → call.asked ≡ asked_of row → IsSight script call.seen → Stands call m → seen_told script row call.entry ≡ call.seen
+sight-told script row call m once asks sight stands =
+    let seen : Seen = call.seen in
+    let sees : Sees (asked_of row) seen = subst (λ (asked : Asked). Sees asked seen) asks stands.sees in
+    let moves : List Movement = front call.entry.moves in
+    let wallets : List PlainAccount = script.start.wallets in
+    let before : (wallet : WalletSeen) → IsRole seen wallet → before_of wallet.address moves ≡ wallet.balance = before-told call m stands in
+    let told = role-told wallets once moves in
+    let coin : role_told wallets moves row.coin ≡ seen.coin =
+    told row.coin seen.coin sees.coin sight.coin (λ wallet is. before wallet (coin-role (asked_of row) seen sees wallet is)) in
+    let pc : role_told wallets moves row.pc ≡ seen.pc =
+    told row.pc seen.pc sees.pc sight.pc (λ wallet is. before wallet (pc-role (asked_of row) seen sees wallet is)) in
+    let discount : role_told wallets moves row.discount ≡ seen.discount =
+    told row.discount seen.discount sees.discount sight.discount (λ wallet is. before wallet (discount-role (asked_of row) seen sees wallet is)) in
+    let referrer : role_told wallets moves row.referrer ≡ seen.referrer =
+    told row.referrer seen.referrer sees.referrer sight.referrer (λ wallet is. before wallet (referrer-role (asked_of row) seen sees wallet is)) in
+    let start : Seen = seen_told script row call.entry in
+    ap (λ (one : Option WalletSeen). record start { coin = one }) coin
+    ∙ ap (λ (one : Option WalletSeen). record start { coin = seen.coin; pc = one }) pc
+    ∙ ap (λ (one : Option WalletSeen). record start { coin = seen.coin; pc = seen.pc; discount = one }) discount
+    ∙ ap (λ (one : Option WalletSeen). record start { coin = seen.coin; pc = seen.pc; discount = seen.discount; referrer = one }) referrer
+    ∙ ap (λ (one : Option Address). record seen { srm = one; msrm = script.start.msrm; program = script.program }) (sym sight.srm)
+    ∙ ap (λ (one : Option Address). record seen { msrm = one; program = script.program }) (sym sight.msrm)
+    ∙ ap (λ (one : Program). record seen { program = one }) (sym sight.program)
