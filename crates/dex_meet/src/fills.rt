@@ -59,7 +59,7 @@ fn want_after_own(rule: SelfTrade, want: Want, lots: u64) -> Want
 
 /// What a taker still wants after an order lost these lots to it.
 #[tactic(auto, unfolding(dex_types::specs::Meeting::demand_after))]
-pub(crate) fn want_after(side: Side, taker: Terms, want: Want, order: Order, lots: u64) -> Want
+pub fn want_after(side: Side, taker: Terms, want: Want, order: Order, lots: u64) -> Want
     ensures { demand result ≡ meeting.demand_after side (taking taker) (demand want) order lots }
 {
     if is_own(taker.owner, order) {
@@ -112,7 +112,7 @@ pub(crate) fn fill_of(taker: Terms, order: Order, lots: u64) -> Fill
 }
 
 /// What an order that was met and lost these lots moves: nothing where it is the taker's own.
-pub(crate) fn fill_met(taker: Terms, order: Order, lots: u64) -> Fill
+pub fn fill_met(taker: Terms, order: Order, lots: u64) -> Fill
     requires tier { order.tier < 7 }
     requires base { meeting.met_lots (taking taker) order lots * taker.sizes.coin < 2 ^ 64 }
     requires pc { meeting.met_pc (taking taker) order lots < 2 ^ 64 }

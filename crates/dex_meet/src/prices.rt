@@ -16,7 +16,7 @@ pub fn quotient(amount: u128, by: u128) -> u128
 
 /// The price in an order id, in quote lots per base lot.
 #[tactic(auto, unfolding(dex_types::specs::Side::price_of))]
-pub(crate) fn price_of(id: u128) -> u64
+pub fn price_of(id: u128) -> u64
     ensures { result ≡ book.price_of id }
 {
     (id / PER_PRICE) as u64
@@ -35,7 +35,7 @@ pub fn id_of(side: Side, price: u64, sequence: u64) -> u128
 }
 
 /// An order of this side and limit price crosses an opposite order of the price.
-pub(crate) fn crosses(side: Side, limit: u64, price: u64) -> bool
+pub fn crosses(side: Side, limit: u64, price: u64) -> bool
     ensures { result ≡ book.crosses side limit price }
 {
     match side {

@@ -7,7 +7,7 @@ use crate::wants::{Terms, Want};
 use dex_types::{Address, Order, OrderType, SelfTrade, Side, is_same};
 
 /// The order is one of the taker's own trader.
-pub(crate) fn is_own(owner: Option<Address>, order: Order) -> bool
+pub fn is_own(owner: Option<Address>, order: Order) -> bool
     ensures { result ≡ meeting.is_own owner order }
 {
     match owner {
@@ -26,7 +26,7 @@ fn is_post_only(order_type: OrderType) -> bool
 }
 
 /// The taker meets the best opposite order.
-pub(crate) fn reaches(side: Side, taker: Terms, want: Want, order: Order) -> bool
+pub fn reaches(side: Side, taker: Terms, want: Want, order: Order) -> bool
     ensures { result ≡ meeting.reaches side (taking taker) (demand want) order }
 {
     0 < want.matches
@@ -59,7 +59,7 @@ fn filled(side: Side, want: Want, order: Order) -> u64
 
 /// The lots that the best opposite order loses; with 0 the meeting is over.
 #[tactic(auto, unfolding(dex_types::specs::Meeting::taken))]
-pub(crate) fn taken(side: Side, taker: Terms, want: Want, order: Order) -> u64
+pub fn taken(side: Side, taker: Terms, want: Want, order: Order) -> u64
     ensures { result ≡ meeting.taken side (taking taker) (demand want) order }
 {
     if !reaches(side, taker, want, order) {

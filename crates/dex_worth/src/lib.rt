@@ -2,9 +2,9 @@
 //! last accounts, and the law that a market that pays each fill at once has the same.
 #![tactic(auto)]
 
-mod amounts;
+pub mod amounts;
 mod entries;
-mod holdings;
+pub mod holdings;
 pub mod laws;
 mod rows;
 mod table;
