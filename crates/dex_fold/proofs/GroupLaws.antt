@@ -1,5 +1,5 @@
 -- lists in groups
-use Rattle.std.proofs.Common.{◌≡◌, ℕ, ◌+◌, ◌<◌, ◌≤◌, Bool, true, false, cond, eqb, List, [], ◌∷◌, ◌++◌, length, map, refl, sym, ap, ◌∙◌, arith}
+use Rattle.std.proofs.Common.{◌≡◌, ℕ, ◌+◌, ◌<◌, ◌≤◌, Bool, true, false, cond, eqb, List, [], ◌∷◌, ◌++◌, length, map, refl, sym, ap, ◌∙◌, subst, arith}
 use Rattle.std.specs.List.{All, flat_map}
 use Rattle.std.proofs.lemmas.Bool.{cond-false, cond-true, cond_both, eq-eqb}
 use Rattle.std.proofs.lemmas.List.Elements.{All-nil, All-cons, All-head, All-tail, All-weaker}
@@ -172,3 +172,16 @@ module _ {A : Type 0} (key : A → ℕ) where
       ap (joined key x) (grouped-behind xs ys (All-tail Apart x xs apart))
       ∙ joined-behind x (grouped key xs) (grouped key ys)
       (grouped-firsts key (λ (y : A). eqb (key x) (key y) ≡ false) ys (All-head Apart x xs apart))
+
+  -- an element of a number of its own stands alone
+  pub grouped-apart : (x : A) (xs : List A) → All (λ (y : A). eqb (key x) (key y) ≡ false) xs → grouped key (x ∷ xs) ≡ alone x ∷ grouped key xs
+  grouped-apart x xs apart = grouped-behind (x ∷ []) xs (All-cons (λ (one : A). All (λ (y : A). eqb (key one) (key y) ≡ false) xs) x [] apart (All-nil _))
+
+  -- and two of one number are a group
+  pub grouped-pair : (x y : A) (xs : List A) → key y ≡ key x → All (λ (z : A). eqb (key x) (key z) ≡ false) xs
+      → grouped key (x ∷ y ∷ xs) ≡ record { first = x; others = y ∷ [] } ∷ grouped key xs
+  grouped-pair x y xs same apart =
+      let Apart : A → Type 0 = λ (one : A). All (λ (z : A). eqb (key one) (key z) ≡ false) xs in
+      grouped-behind (x ∷ y ∷ []) xs
+      (All-cons Apart x (y ∷ []) apart (All-cons Apart y [] (subst (λ (n : ℕ). All (λ (z : A). eqb n (key z) ≡ false) xs) (sym same) apart) (All-nil Apart)))
+      ∙ ap (λ (groups : List (Group A)). groups ++ grouped key xs) (grouped-one x (y ∷ []) (All-cons (λ (z : A). key z ≡ key x) y [] same (All-nil _)))

@@ -5,3 +5,4 @@ pub mod ItemLaws
 pub mod NameLaws
 pub mod FarLaws
 pub mod OnceLaws
+pub mod QuietLaws

@@ -1,5 +1,5 @@
 -- Items: the rows of one number, which act together, all or none.
-use Rattle.std.specs.Prelude.{ℕ, ◌≡◌, ◌==◌, true, false, List, [], ◌∷◌, All, Option, Some, None, is_some, map, if◌then◌else◌}
+use Rattle.std.specs.Prelude.{ℕ, ◌≡◌, ◌==◌, Bool, true, false, List, [], ◌∷◌, All, Option, Some, None, is_some, map, if◌then◌else◌}
 use Rattle.std.specs.List.{filter, list_any}
 use Rattle.dex_types.specs.declared.addresses.Address.{Address}
 use Rattle.dex_types.specs.declared.refusals.Refusal.{Refusal}
@@ -66,9 +66,13 @@ idle_row row = record row { bytes = nothing_to_do }
 abbrev pub held_in : World → PlainRow → PlainRow
 held_in world row = if is_some (why_in world row) then row else idle_row row
 
+-- one of these rows would be refused
+abbrev pub is_any_refused : World → List PlainRow → Bool
+is_any_refused world rows = list_any (λ (row : PlainRow). is_some (why_in world row)) rows
+
 -- what the rows of an item do: each what it asks; but where one of them would be refused, none does anything
 abbrev pub chosen : World → List PlainRow → List PlainRow
-chosen world rows = if list_any (λ (row : PlainRow). is_some (why_in world row)) rows then map (held_in world) rows else rows
+chosen world rows = if is_any_refused world rows then map (held_in world) rows else rows
 
 -- an item acts: each of its rows is looked at in the world before it
 abbrev pub act_item : Item → World → World

@@ -1,5 +1,5 @@
 -- The world that rows act on: all markets and all wallets of an exchange, with their journals.
-use Rattle.std.specs.Prelude.{List, [], ◌∷◌, Option, Some, None, if◌then◌else◌}
+use Rattle.std.specs.Prelude.{List, [], ◌∷◌, map, Option, Some, None, if◌then◌else◌}
 use Rattle.dex_types.specs.declared.addresses.Address.{Address}
 use Rattle.dex_types.specs.declared.movements.Entry.{Entry}
 use Rattle.dex_types.specs.declared.movements.WalletEntry.{WalletEntry}
@@ -27,6 +27,14 @@ pub record World : Type 0 where
   pub srm : Option Address
   pub msrm : Option Address
   pub program : Program
+
+-- its markets, without their journals
+abbrev pub markets_in : World → List Market
+markets_in world = map (λ (state : MarketState). state.market) world.markets
+
+-- what a row would see of its wallets, their amounts among it, without their journals
+abbrev pub wallets_in : World → List WalletSeen
+wallets_in world = map (λ (state : WalletState). state.seen) world.wallets
 
 -- the market of an address
 abbrev pub market_at : Address → List MarketState → Option Market

@@ -1,11 +1,11 @@
 //! Laws of rows that act.
 
-ghost use Rattle.std.specs.Prelude.{◌≡◌, ◌≤◌, List, ◌++◌, ◌∷◌, [], length};
+ghost use Rattle.std.specs.Prelude.{◌≡◌, ◌≤◌, List, ◌++◌, ◌∷◌, [], length, true};
 ghost use Rattle.dex_types.specs.Rows.{PlainRow};
 ghost use Rattle.dex_fold.specs.Fold.{act, fold};
 ghost use Rattle.dex_fold.specs.Groups.{alone, members};
-ghost use Rattle.dex_fold.specs.Items.{ShareNothing, act_item, items_of, why_in};
-ghost use Rattle.dex_fold.specs.World.{World, seen_by};
+ghost use Rattle.dex_fold.specs.Items.{Item, ShareNothing, act_item, is_any_refused, items_of, why_in};
+ghost use Rattle.dex_fold.specs.World.{World, markets_in, seen_by, wallets_in};
 ghost use Rattle.std.specs.List.{flat_map};
 
 /// Rows that act behind others act on the world that these leave.
@@ -29,4 +29,13 @@ pub fn rows_that_share_nothing_leave_each_other()
         → why_in (act row world) other ≡ why_in world other }
     ensures sees { (row other : PlainRow) (world : World) → ShareNothing row other
         → seen_by other (act row world) ≡ seen_by other world }
+{}
+
+/// An item of which a row would be refused moves nothing: each market is as it was, and so is what a row sees of each wallet, its
+/// amount among it. Journals alone have entries more.
+pub fn an_item_of_which_one_is_refused_moves_nothing()
+    ensures markets { (item : Item) (world : World) → is_any_refused world (members item) ≡ true
+        → markets_in (act_item item world) ≡ markets_in world }
+    ensures wallets { (item : Item) (world : World) → is_any_refused world (members item) ≡ true
+        → wallets_in (act_item item world) ≡ wallets_in world }
 {}

@@ -7,9 +7,9 @@ use Rattle.dex_types.specs.declared.rows.Row.{Row}
 use Rattle.dex_types.specs.declared.rows.Seen.{Seen}
 use Rattle.dex_types.specs.Accounts.{PlainMarketAccounts}
 use Rattle.dex_types.specs.Addresses.{is_same}
-use Rattle.dex_types.specs.Rows.{PlainRow}
+use Rattle.dex_types.specs.Rows.{PlainRow, row_of}
 use Rattle.dex_history.specs.Journal.{Call}
-use Rattle.dex_cell.specs.CellState.{HasActed, HasSpare, IsMarketCell, MarketCellState, call_on}
+use Rattle.dex_cell.specs.CellState.{HasActed, HasSpare, IsMarketCell, MarketCellState, call_on, held_made, held_on}
 use Rattle.dex_script.specs.Drafts.{PlainScript}
 use Rattle.dex_fold.specs.RowsOf.{rows_of_market, rows_on}
 use Rattle.dex_stamps.specs.Stamped.{AreRising, items_of, stamped}
@@ -102,3 +102,14 @@ has-acted market row seen cell stamp last stamps kept may is_cell acted stamped_
     (subst (λ (one : ℕ). IsBankMarket (market_of cell market.script (market.stamps ++ stamp ∷ []) one)) (sym last_is)
     (market-more market cell (call_on row seen market.cell) stamp kept is_cell acted.calls acted.start acted.room
     may.lane may.above))
+
+-- the same where it was held back
+pub has-held : (market : BankMarketState) (row : Row) (seen : Seen) (cell : MarketCellState) (stamp last : ℕ)
+    (stamps : List ℕ) → IsBankMarket market → MayAct row stamp market → IsMarketCell cell
+    → cell ≡ held_on row seen market.cell → stamps ≡ market.stamps ++ stamp ∷ [] → last ≡ stamp
+    → IsBankMarket (market_of cell market.script stamps last)
+has-held market row seen cell stamp last stamps kept may is_cell held stamped_is last_is =
+    subst (λ (one : List ℕ). IsBankMarket (market_of cell market.script one last)) (sym stamped_is)
+    (subst (λ (one : ℕ). IsBankMarket (market_of cell market.script (market.stamps ++ stamp ∷ []) one)) (sym last_is)
+    (market-more market cell (held_made (row_of row) seen) stamp kept is_cell (ap (λ (one : MarketCellState). one.calls) held)
+    (ap (λ (one : MarketCellState). one.start) held) (ap (λ (one : MarketCellState). one.room) held) may.lane may.above))

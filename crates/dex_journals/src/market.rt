@@ -2,18 +2,20 @@
 
 ghost use Rattle.std.specs.Prelude.{◌≡◌, ◌<◌, ◌++◌, ◌∷◌, [], All, length, map, max};
 ghost use Rattle.dex_types.specs.declared.refusals.Refusal.{Refusal};
-ghost use Rattle.dex_types.specs.declared.replies.Reply.TheVariants.{Refused};
+ghost use Rattle.dex_types.specs.declared.replies.Reply.TheVariants.{Done, Refused};
 ghost use Rattle.dex_types.specs.Rows.{row_of};
 ghost use Rattle.dex_history.specs.Journal.{Call};
-ghost use Rattle.dex_cell.specs.CellState.{HasActed, IsFor, refused_on, step_on};
+ghost use Rattle.dex_types.specs.Transfers.{no_transfers};
+ghost use Rattle.dex_cell.specs.CellState.{CanHold, HasActed, IsFor, held_on, refused_on, step_on};
 ghost use Rattle.dex_wallet.specs.CellState.{IsWalletCell};
 ghost use Rattle.dex_act.specs.Wallets.{AreApart, SeesCells, made_of, states_acted, wallet_state_of};
+ghost use Rattle.dex_fold.specs.Fold.{wallet_acted};
 ghost use Rattle.dex_fold.specs.RowsOf.{rows_of_market, rows_on};
 ghost use Rattle.dex_stamps.specs.Stamped.{Stamped};
 ghost use Rattle.dex_journals.specs.Journals.{IsBankMarket, calls_by, market_calls, market_origin};
 
 use crate::items::{MarketStart, StampedCall};
-use dex_act::act;
+use dex_act::{act, hold};
 use dex_cell::MarketCell;
 use dex_gate::Journaled;
 use dex_script::Script;
@@ -123,6 +125,41 @@ impl BankMarket {
         ensures kept { IsBankMarket self.new }
     {
         let reply = act(&mut self.cell, wallets, row, seen);
+        self.stamps = self.stamps.and(stamp, &());
+        self.last = stamp.later(stamp);
+        reply
+    }
+
+    /// A take is held back on the market, as `dex_act::hold` says, since another row of its item would be refused; under a stamp and
+    /// of a lane as a row that acts. It takes no memory.
+    pub fn hold(
+        &mut self,
+        wallets: &mut [WalletCell],
+        row: &Row,
+        seen: &Seen,
+        stamp: &Stamp,
+    ) -> Reply
+        requires row { IsFor row.now seen.now self.old.cell }
+        requires held { CanHold row.now seen.now self.old.cell }
+        requires wallets { SeesCells seen.now wallets.old }
+        requires lane { calls_by row.now.lane self.old.cell.calls
+            < length (rows_of_market row.now.lane self.old.cell.start.address self.old.script.rows) }
+        requires stamp { self.old.last < stamp.now.number }
+        ensures reply { result ≡ Done }
+        ensures held { self.new.cell ≡ held_on row.entry.now seen.now self.old.cell }
+        ensures stamped { self.new ≡ record self.old {
+          cell = self.new.cell;
+          stamps = self.old.stamps ++ stamp.now.number ∷ [];
+          last = stamp.now.number;
+        } }
+        ensures states { map wallet_state_of wallets.new
+            ≡ map (wallet_acted (row_of row.entry.now) seen.now no_transfers) (map wallet_state_of wallets.old) }
+        ensures wallets { All IsWalletCell wallets.new }
+        ensures apart { AreApart wallets.new }
+        ensures made { map made_of wallets.new ≡ map made_of wallets.old }
+        ensures kept { IsBankMarket self.new }
+    {
+        let reply = hold(&mut self.cell, wallets, row, seen);
         self.stamps = self.stamps.and(stamp, &());
         self.last = stamp.later(stamp);
         reply

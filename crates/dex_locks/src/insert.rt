@@ -109,7 +109,7 @@ fn put_before(place: &mut Option<Address>, first: Address, address: Address) -> 
 }
 
 /// Whether the first address is less than the second, by their bytes.
-fn is_lower(address: Address, other: Address) -> bool
+pub fn is_lower(address: Address, other: Address) -> bool
     ensures { result ≡ wallets.is_lower address other }
 {
     address.0 < other.0

@@ -4,4 +4,4 @@
 mod insert;
 mod plan;
 
-pub use plan::{LockPlan, plan_locks};
+pub use plan::{LockPlan, by_address, plan_locks, plan_wallets};

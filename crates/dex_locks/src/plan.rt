@@ -1,11 +1,12 @@
 //! The plan of a row.
 
-ghost use Rattle.std.specs.Prelude.{◌≡◌};
+ghost use Rattle.std.specs.Prelude.{◌≡◌, [], false};
+ghost use Rattle.dex_types.specs.Addresses as addresses;
 ghost use Rattle.dex_types.specs.Rows.{row_of};
-ghost use Rattle.dex_types.specs.Wallets.{row_wallets};
+ghost use Rattle.dex_types.specs.Wallets.{row_wallets, with_address, with_role};
 ghost use Rattle.dex_locks.specs.Places.{StandInFront, front};
 
-use crate::insert::put_role;
+use crate::insert::{is_lower, put_role};
 use dex_types::{Address, Row};
 
 /// What a row takes, in the order in which it takes it: its market, and then the wallets from the front, as far as there
@@ -22,28 +23,42 @@ pub fn plan_locks(row: &Row) -> LockPlan
     ensures wallets { front result.wallets ≡ row_wallets (row_of row.entry.now) }
     ensures none_between { StandInFront result.wallets }
 {
+    LockPlan {
+        market: row.market,
+        wallets: plan_wallets(&row.coin, &row.pc, &row.discount, &row.referrer),
+    }
+}
+
+/// The wallets of four roles, by rising address, each once, from the front of four places.
+pub fn plan_wallets(
+    coin: &Option<Address>,
+    pc: &Option<Address>,
+    discount: &Option<Address>,
+    referrer: &Option<Address>,
+) -> [Option<Address>; 4]
+    ensures wallets { front result ≡ with_role coin.entry.now
+        (with_role pc.entry.now (with_role discount.entry.now (with_role referrer.entry.now []))) }
+    ensures none_between { StandInFront result }
+{
     let mut first = None;
     let mut second = None;
     let mut third = None;
     let mut fourth = None;
-    put_role(
-        &mut first,
-        &mut second,
-        &mut third,
-        &mut fourth,
-        &row.referrer,
-    );
-    put_role(
-        &mut first,
-        &mut second,
-        &mut third,
-        &mut fourth,
-        &row.discount,
-    );
-    put_role(&mut first, &mut second, &mut third, &mut fourth, &row.pc);
-    put_role(&mut first, &mut second, &mut third, &mut fourth, &row.coin);
-    LockPlan {
-        market: row.market,
-        wallets: [first, second, third, fourth],
+    put_role(&mut first, &mut second, &mut third, &mut fourth, referrer);
+    put_role(&mut first, &mut second, &mut third, &mut fourth, discount);
+    put_role(&mut first, &mut second, &mut third, &mut fourth, pc);
+    put_role(&mut first, &mut second, &mut third, &mut fourth, coin);
+    [first, second, third, fourth]
+}
+
+/// Two addresses that are not one, the lower one first.
+pub fn by_address(one: Address, other: Address) -> [Address; 2]
+    requires { addresses.is_same one other ≡ false }
+    ensures { result ≡ with_address one (with_address other []) }
+{
+    if is_lower(one, other) {
+        [one, other]
+    } else {
+        [other, one]
     }
 }

@@ -9,6 +9,6 @@ pub use Rattle.dex_replay.proofs.Groups.{each-two, each-two-weaker, filter-all, 
 pub use Rattle.dex_replay.proofs.LastAccounts.{listing-in, market_after-listing}
 pub use Rattle.dex_replay.proofs.MappedLists.{All-unmap, any-here, any-there, filter-of, filter-push_no, filter-push_yes, filter-swap, flat_map-agree, head-same, list_any-map, map-agree, map-map, tail-same}
 pub use Rattle.dex_replay.proofs.Once.{market-once, wallet-once}
-pub use Rattle.dex_replay.proofs.Room.{roles-all}
+pub use Rattle.dex_replay.proofs.Roles.{roles-all}
 pub use Rattle.dex_replay.proofs.Starts.{AreOfScript, start_account}
 pub use Rattle.dex_stamps.specs.Stamped.{Stamped, stamped}

@@ -2,7 +2,6 @@
 //! many rows. Without words it goes through them once, and prints what each gave, which is the same at each run.
 #![tactic(auto)]
 
-mod acting;
 mod bulk;
 mod replay;
 mod watch;

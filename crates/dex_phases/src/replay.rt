@@ -1,10 +1,10 @@
 //! The phases of a replay.
 
-use crate::acting::act_all;
 use crate::watch::{ROUNDS, Watch};
 use anyhow::Error;
 use dex_answers::items_in;
 use dex_bank::Cells;
+use dex_replay::act_all;
 use dex_report::report_text;
 use dex_script::read_script;
 use dex_types::NoMemory;

@@ -151,7 +151,7 @@ pub record IsSettled (all : List RowReply) (item : Item) : Type 0 where
 
 module _ (script : PlainScript) (start : IsStart script.start) (done : List RowReply) (world : World) (run : IsRun script done world) where
   -- of more rows than one each is a leg, and so a take, unless it is refused
-  take-or-refused : (row : PlainRow) → IsRowOf script.start row → IsLeg row → is_some (why_in world row) ≡ false → is_take (decoded row.bytes) ≡ true
+  pub take-or-refused : (row : PlainRow) → IsRowOf script.start row → IsLeg row → is_some (why_in world row) ≡ false → is_take (decoded row.bytes) ≡ true
   take-or-refused row fits leg spared =
       let at = found-market script start done world run row fits in
       told (decoded row.bytes) (request_of row) (seen_by row world) at.0 leg.take (ap is_some (sym (ap (why_on row (seen_by row world)) at.1)) ∙ spared)

@@ -12,7 +12,9 @@ pub mod MappedLists
 mod Numbers
 pub mod Once
 pub mod Orders
+pub mod Roles
 pub mod Room
+mod ActedTo
 mod RunOf
 mod RunSteps
 mod Runs

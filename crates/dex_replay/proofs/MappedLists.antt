@@ -127,3 +127,27 @@ filter-of f test (x ∷ xs) = either (test (f x)) (filter-of f test xs)
 pub filter-across : {A B C : Type 0} (f : A → C) (g : B → C) (test : C → Bool) (xs : List A) (ys : List B) → map f xs ≡ map g ys
     → map f (filter (λ x. test (f x)) xs) ≡ map g (filter (λ y. test (g y)) ys)
 filter-across f g test xs ys same = filter-of f test xs ∙ ap (λ zs. filter test zs) same ∙ sym (filter-of g test ys)
+
+-- as many pass among what is made of elements as elements of which what is made passes
+pub length-filter_map : {A B : Type 0} (q : B → Bool) (f : A → B) (xs : List A) → length (filter q (map f xs)) ≡ length (filter (λ (x : A). q (f x)) xs)
+length-filter_map {A} q f xs = ap length (sym (filter-of f q xs)) ∙ length-map (filter (λ (x : A). q (f x)) xs) f
+
+-- ---- two lists, place by place
+
+-- what R gives of the second holds of all the second ones
+pub All-second : {A B : Type 0} (R : A → B → Type 0) (P : B → Type 0) → ((x : A) (y : B) → R x y → P y) → (xs : List A) (ys : List B) → AllZip R xs ys → All P ys
+All-second R P each [] [] all = All-nil P
+All-second R P each [] (y ∷ ys) all = absurd all
+All-second R P each (x ∷ xs) [] all = absurd all
+All-second R P each (x ∷ xs) (y ∷ ys) all = All-cons P y ys (each x y all.0) (All-second R P each xs ys all.1)
+
+-- whatever stands for what is not there
+pub same-get : {A : Type 0} (xs : List A) (place : ℕ) (d e : A) → place < length xs → get_or xs place d ≡ get_or xs place e
+same-get [] place d e within = absurd (omega (arith, within))
+same-get (x ∷ xs) zero d e within = refl
+same-get (x ∷ xs) (suc place) d e within = same-get xs place d e (omega (arith, within))
+
+-- what holds of all holds of those in front
+pub All-front : {A : Type 0} (P : A → Type 0) (xs ys : List A) → All P (xs ++ ys) → All P xs
+All-front P [] ys all = All-nil P
+All-front P (x ∷ xs) ys all = All-cons P x xs (All-head P x (xs ++ ys) all) (All-front P xs ys (All-tail P x (xs ++ ys) all))

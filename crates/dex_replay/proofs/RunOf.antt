@@ -1,7 +1,7 @@
 -- What items leave in an order that keeps the lanes is a run of the script: lawful, of sound markets, and with each mint conserved.
 use Rattle.std.proofs.Common.{◌≡◌, ℕ, ◌+◌, cond, List, [], ◌∷◌, map, refl, sym, ap, ◌∙◌, subst, arith}
-use Rattle.dex_fold.proofs.Common.{Address, All-cons, All-head, All-nil, All-tail, All-weaker, AllZip, MarketState, PlainAccount, PlainMarketAccounts, WalletState, World, fold, is_same, total}
-use Rattle.dex_replay.proofs.Common.{AreCells, AreSound, CellsState, IsAccepted, IsLeftBy, IsOneOrder, IsReplayOf, IsRunOf, IsScript, KeepsLanes, PlainOutcome, PlainScript, StandsFor, WalletWords, balance_of, closed, market_state, market_words, opened, opened_of, start_world, wallet_state, wallet_words, wallet_words-with_amount, with_amount, with_amounts, world_after, world_of}
+use Rattle.dex_fold.proofs.Common.{Address, All-cons, All-head, All-nil, All-tail, All-weaker, AllZip, MarketState, PlainAccount, PlainMarketAccounts, WalletState, World, is_same, total}
+use Rattle.dex_replay.proofs.Common.{AreCells, AreSound, CellsState, IsAccepted, IsLeftBy, IsOneOrder, IsReplayOf, IsRunOf, IsScript, KeepsLanes, PlainOutcome, PlainScript, StandsFor, WalletWords, balance_of, closed, market_state, market_words, opened, opened_of, wallet_state, wallet_words, wallet_words-with_amount, with_amount, with_amounts, world_after, world_of}
 use Rattle.dex_accounts.specs.Decoded.{market_in}
 use Rattle.std.specs.List.{All}
 use Rattle.dex_accounts.proofs.Decoded.{AreSound-of}
@@ -16,7 +16,6 @@ use Rattle.dex_replay.proofs.MappedLists.{head-same, tail-same}
 use Rattle.dex_replay.proofs.Orders.{own-order}
 use Rattle.dex_replay.proofs.RunSteps.{history-sound}
 use Rattle.dex_replay.proofs.Runs.{IsHistory, IsMoved, IsRun, RowReply}
-use Rattle.dex_replay.proofs.Singles.{script-acts}
 use Rattle.dex_replay.proofs.Starts.{are-of-script}
 
 -- ---- what accounts hold is what their world holds
@@ -121,8 +120,7 @@ replay-in-order script outcome is replay = record { order = items_of script.rows
 pub replay-is-run : (script : PlainScript) (outcome : PlainOutcome) → IsScript script → IsReplayOf script outcome → IsRunOf script outcome
 replay-is-run script outcome is replay = order-is-run script outcome is (replay-in-order script outcome is replay)
 
--- cells on which all rows of their script acted, of which no two have one number, leave its replay
-pub rows-replay : (script : PlainScript) (cells : CellsState) → IsScript script → opened_of cells ≡ opened script → AreCells cells
-    → world_of cells ≡ fold script.rows (start_world script) → IsReplayOf script (closed cells)
-rows-replay script cells is same kept ended =
-    is-left script cells (are-of-script script cells same) kept (items_of script.rows) is.start.accepted (ended ∙ sym (script-acts script is.rows.single))
+-- cells on which all items of their script acted leave its replay
+pub items-replay : (script : PlainScript) (cells : CellsState) → IsScript script → opened_of cells ≡ opened script → AreCells cells
+    → world_of cells ≡ world_after script (items_of script.rows) → IsReplayOf script (closed cells)
+items-replay script cells is same kept ended = is-left script cells (are-of-script script cells same) kept (items_of script.rows) is.start.accepted ended

@@ -1,9 +1,11 @@
 //! All rows of a script, one after the other.
 #![tactic(auto)]
 
+mod acting;
 pub mod calls;
 pub mod laws;
 mod replaying;
 pub mod reports;
 
+pub use acting::{act_all, is_swap};
 pub use replaying::{replay, replay_with_rows};

@@ -1,4 +1,4 @@
-//! A script's rows act one after the other.
+//! A script's items act one after the other.
 
 ghost use Rattle.std.specs.Prelude.{◌≡◌, IfOk, map};
 ghost use Rattle.dex_types.specs.Rows.{row_of};
@@ -6,6 +6,7 @@ ghost use Rattle.dex_report.specs.Outcomes.{outcome_of};
 ghost use Rattle.dex_replay.specs.Replays.{IsReplayOf};
 ghost use Rattle.dex_replay.specs.Runs.{IsRunOf};
 
+use crate::acting::act_all;
 use dex_bank::Cells;
 use dex_report::Outcome;
 use dex_script::Script;
@@ -19,10 +20,8 @@ pub fn replay_with_rows(alloc: Global, script: Script) -> Result<(Outcome, Vec<R
     ensures run { IfOk result (λ left. IsRunOf script (outcome_of left.0)) }
     ensures rows { IfOk result (λ left. map row_of left.1.items ≡ script.rows) }
 {
-    let (mut cells, rows) = Cells::of_script(alloc, script)?;
-    for row in &rows {
-        cells.step(row);
-    }
+    let (cells, rows) = Cells::of_script(alloc, script)?;
+    let cells = act_all(cells, &rows);
     match cells.close(alloc) {
         Ok(outcome) => Ok((outcome, rows)),
         Err(_) => Err(NoMemory),

@@ -1,6 +1,6 @@
 -- A row that acts on its market and on the cells in hand, and what is told of it.
 use Rattle.std.proofs.Common.{◌≡◌, ℕ, ◌+◌, List, [], map, sym, ap, ◌∙◌, subst, arith}
-use Rattle.dex_fold.proofs.Common.{AllZip, Call, Entry, Row, Seen, Sees, asked_of, row_of, seen_by}
+use Rattle.dex_fold.proofs.Common.{AllZip, Call, Entry, Row, Seen, Sees, asked_of, row_of, row_wallets, seen_by}
 use Rattle.dex_replay.proofs.Common.{CellState, Fits, IsSight, IsWalletCell, MarketCellState, PlainScript, SeesCells, call_on, made_of, roles_of, states_acted, step_on, wallet_state_of}
 use Rattle.dex_order.proofs.Common.{MovesEach, Stamped}
 use Rattle.dex_run.proofs.Common.{AreInHand, HasEntry, world_in}
@@ -9,8 +9,9 @@ use Rattle.dex_history.proofs.HeldLaws.{own-not_held}
 use Rattle.dex_cell.specs.CellState.{market_at}
 use Rattle.dex_run.specs.Turns.{IsTold}
 use Rattle.dex_run.proofs.InHand.{call_by, cells-named, have-entries, moves-each, sees-asked, sees-hand, sight}
+use Rattle.dex_run.specs.Submitted.{written_by}
 
-module _ (script : PlainScript) (row : Row) (cells lent : List CellState) (seen : Seen) (hand : AreInHand script (row_of row) [] cells) (value : lent ≡ cells)
+module _ (script : PlainScript) (row : Row) (cells lent : List CellState) (seen : Seen) (hand : AreInHand script (row_wallets (row_of row)) [] cells) (value : lent ≡ cells)
     (seen_so : seen ≡ seen_by (row_of row) (world_in script lent)) where
   seen-is : seen ≡ seen_by (row_of row) (world_in script cells)
   seen-is = seen_so ∙ ap (λ (l : List CellState). seen_by (row_of row) (world_in script l)) value
@@ -41,8 +42,8 @@ module _ (script : PlainScript) (row : Row) (cells lent : List CellState) (seen 
     }
 
     pub hands-acted : (after : List CellState) → map wallet_state_of after ≡ states_acted row seen market (map wallet_state_of cells) → All IsWalletCell after
-        → map made_of after ≡ map made_of cells → AllZip (HasEntry call) cells after
+        → map made_of after ≡ map made_of cells → AllZip (HasEntry (written_by call)) cells after
     hands-acted after states kept made =
-        subst (λ (c : Stamped Call). AllZip (HasEntry c) cells after) (sym call-is)
+        subst (λ (c : Stamped Call). AllZip (HasEntry (written_by c)) cells after) (sym call-is)
         (have-entries (row_of row) seen (step_on row seen market).reply (step_on row seen market).transfers next sees-row cells after
         (cells-named script (row_of row) cells hand) states kept made)

@@ -3,8 +3,9 @@ use Rattle.std.proofs.Common.{◌≡◌, ℕ, zero, suc, ◌<◌, ◌≤◌, Boo
 use Rattle.dex_fold.proofs.Common.{Address, AllZip, PlainAccount, WalletEntry, false≢true, is_same, is_same-refl, is_same-sym, list_any, or_parts, or_right}
 use Rattle.dex_replay.proofs.Common.{AllThree}
 use Rattle.dex_order.proofs.Common.{Stamped, WalletOrigin}
-use Rattle.dex_run.proofs.Common.{GateView, HasMoved, IsPass, MayDraw, OneGrows, PassView, Where}
+use Rattle.dex_run.proofs.Common.{GateView, IsPass, MayDraw, OneGrows, PassView, Where}
 use Rattle.dex_run.specs.Submitted.{HasMade}
+use Rattle.dex_run.specs.Submitted.{HasWritten, Written}
 
 -- ---- by place
 
@@ -95,40 +96,40 @@ module _ (address : Address) (others : List Address) where
   )
 
   -- another wallet's pass grows as it did
-  other-grows : (call : Stamped _) (start : PlainAccount) → is_same start.address address ≡ false → (p q : WalletPass) → OneGrows others call start p q
-      → OneGrows (address ∷ others) call start p q
-  other-grows call start apart p q grows =
-      subst (λ (b : Bool). Where (b || list_any (is_same start.address) others) (HasMoved call start p q) (q ≡ p)) (sym apart) grows
+  other-grows : (written : Written) (start : PlainAccount) → is_same start.address address ≡ false → (p q : WalletPass) → OneGrows others written start p q
+      → OneGrows (address ∷ others) written start p q
+  other-grows written start apart p q grows =
+      subst (λ (b : Bool). Where (b || list_any (is_same start.address) others) (HasWritten written start p q) (q ≡ p)) (sym apart) grows
 
   -- the pass of the wallet has grown with the others
-  pub one-grows : (call : Stamped _) (starts : List PlainAccount) (before mid : List WalletPass) (place : ℕ) (out left : WalletPass)
+  pub one-grows : (written : Written) (starts : List PlainAccount) (before mid : List WalletPass) (place : ℕ) (out left : WalletPass)
       → Differ (λ (start : PlainAccount). start.address) starts → place < length starts → ((d : PlainAccount) → (get_or starts place d).address ≡ address)
-      → AllThree (OneGrows others call) starts (set before place out) mid
-      → ((d : PlainAccount) (e : WalletPass) → HasMoved call (get_or starts place d) (get_or before place e) left)
-      → AllThree (OneGrows (address ∷ others) call) starts before (set mid place left)
-  one-grows call starts before mid place out left differ within here grown moved =
-      set-three (λ (start : PlainAccount). start.address) (OneGrows others call) (OneGrows (address ∷ others) call) address (other-grows call) starts before mid place out left
+      → AllThree (OneGrows others written) starts (set before place out) mid
+      → ((d : PlainAccount) (e : WalletPass) → HasWritten written (get_or starts place d) (get_or before place e) left)
+      → AllThree (OneGrows (address ∷ others) written) starts before (set mid place left)
+  one-grows written starts before mid place out left differ within here grown moved =
+      set-three (λ (start : PlainAccount). start.address) (OneGrows others written) (OneGrows (address ∷ others) written) address (other-grows written) starts before mid place out left
       differ within here grown
       (λ d e.
       let same : is_same (get_or starts place d).address address ≡ true =
       ap (λ (a : Address). is_same a address) (here d) ∙ is_same-refl address in
-      subst (λ (b : Bool). Where (b || list_any (is_same (get_or starts place d).address) others) (HasMoved call (get_or starts place d) (get_or before place e) left) (left ≡ get_or before place e))
+      subst (λ (b : Bool). Where (b || list_any (is_same (get_or starts place d).address) others) (HasWritten written (get_or starts place d) (get_or before place e) left) (left ≡ get_or before place e))
       (sym same) (moved d e))
 
 -- the turn that is out is as it was taken
-pub still-out : (others : List Address) (call : Stamped _) (starts : List PlainAccount) (before mid : List WalletPass) (place : ℕ) (out : WalletPass) (address : Address)
+pub still-out : (others : List Address) (written : Written) (starts : List PlainAccount) (before mid : List WalletPass) (place : ℕ) (out : WalletPass) (address : Address)
     → list_any (is_same address) others ≡ false → place < length starts → ((d : PlainAccount) → (get_or starts place d).address ≡ address)
-    → AllThree (OneGrows others call) starts (set before place out) mid → (e : WalletPass) → get_or mid place e ≡ out
-still-out others call [] before mid place out address none within here grown e = absurd (omega (arith, within))
-still-out others call (start ∷ starts) [] [] place out address none within here grown e = absurd grown
-still-out others call (start ∷ starts) [] (m ∷ mid) place out address none within here grown e = absurd grown
-still-out others call (start ∷ starts) (b ∷ before) [] zero out address none within here grown e = absurd grown
-still-out others call (start ∷ starts) (b ∷ before) [] (suc place) out address none within here grown e = absurd grown
-still-out others call (start ∷ starts) (b ∷ before) (m ∷ mid) zero out address none within here grown e =
+    → AllThree (OneGrows others written) starts (set before place out) mid → (e : WalletPass) → get_or mid place e ≡ out
+still-out others written [] before mid place out address none within here grown e = absurd (omega (arith, within))
+still-out others written (start ∷ starts) [] [] place out address none within here grown e = absurd grown
+still-out others written (start ∷ starts) [] (m ∷ mid) place out address none within here grown e = absurd grown
+still-out others written (start ∷ starts) (b ∷ before) [] zero out address none within here grown e = absurd grown
+still-out others written (start ∷ starts) (b ∷ before) [] (suc place) out address none within here grown e = absurd grown
+still-out others written (start ∷ starts) (b ∷ before) (m ∷ mid) zero out address none within here grown e =
     let apart : list_any (is_same start.address) others ≡ false = ap (λ (a : Address). list_any (is_same a) others) (here start) ∙ none in
-    subst (λ (x : Bool). Where x (HasMoved call start out m) (m ≡ out)) apart grown.0
-still-out others call (start ∷ starts) (b ∷ before) (m ∷ mid) (suc place) out address none within here grown e =
-    still-out others call starts before mid place out address none (omega (arith, within)) here grown.1 e
+    subst (λ (x : Bool). Where x (HasWritten written start out m) (m ≡ out)) apart grown.0
+still-out others written (start ∷ starts) (b ∷ before) (m ∷ mid) (suc place) out address none within here grown e =
+    still-out others written starts before mid place out address none (omega (arith, within)) here grown.1 e
 
 -- ---- passes of any kind
 

@@ -13,6 +13,7 @@ use Rattle.dex_act.proofs.Sights.{row-sees, sees-cells}
 use Rattle.dex_replay.proofs.Room.{is_among-any}
 use Rattle.dex_order.proofs.CallEntries.{moves-kept}
 use Rattle.dex_fold.proofs.OnceLaws.{AreOnce, once-tail}
+use Rattle.dex_run.specs.Submitted.{written_by}
 
 abbrev address_in : CellState → Address
 address_in cell = cell.address
@@ -71,7 +72,7 @@ at-sight script address (cell ∷ others) ready =
     (λ same. cell-sight script cell (All-head (IsReady script) cell others ready))
     (λ apart. at-sight script address others (All-tail (IsReady script) cell others ready))
 
-module _ (script : PlainScript) (row : PlainRow) (cells : List CellState) (hand : AreInHand script row [] cells) where
+module _ (script : PlainScript) (row : PlainRow) (cells : List CellState) (hand : AreInHand script (row_wallets row) [] cells) where
   addresses : map address_in cells ≡ row_wallets row
   addresses = sym (append-nil (map address_in cells)) ∙ hand.are
 
@@ -134,7 +135,7 @@ module _ (row : PlainRow) (seen : Seen) (reply : Reply) (t : Transfers) (stamp :
 
   -- a cell that acted has it
   has-entry : (before after : CellState) → names row before.address ≡ true → wallet_state_of after ≡ wallet_acted row seen t (wallet_state_of before) → IsWalletCell after
-      → made_of after ≡ made_of before → HasEntry call_by before after
+      → made_of after ≡ made_of before → HasEntry (written_by call_by) before after
   has-entry before after named acted kept made = record {
     entry = wallet_entry_by row (movement_of seen t before.address);
     is = entry-named before.address named;
@@ -152,7 +153,7 @@ module _ (row : PlainRow) (seen : Seen) (reply : Reply) (t : Transfers) (stamp :
 
   pub have-entries : (before after : List CellState) → All (λ (cell : CellState). names row cell.address ≡ true) before
       → states_of after ≡ map (wallet_acted row seen t) (states_of before) → All IsWalletCell after → map made_of after ≡ map made_of before
-      → AllZip (HasEntry call_by) before after
+      → AllZip (HasEntry (written_by call_by)) before after
   have-entries [] [] named acted kept made = tt
   have-entries [] (cell ∷ after) named acted kept made = absurd (omega (arith, ap length made))
   have-entries (cell ∷ before) [] named acted kept made = absurd (omega (arith, ap length made))

@@ -1,7 +1,6 @@
 -- The jobs of all lanes, and their seats.
-use Rattle.std.proofs.Common.{◌≡◌, List, [], ◌∷◌, map, sym, ap, ◌∙◌, subst}
-use Rattle.dex_fold.proofs.Common.{All-cons, All-head, All-nil, All-tail, AllZip, Row, row_of}
-use Rattle.dex_replay.proofs.Common.{PlainScript}
+use Rattle.std.proofs.Common.{◌≡◌, List, [], ◌∷◌, map, sym, subst}
+use Rattle.dex_fold.proofs.Common.{All-cons, All-head, All-nil, All-tail, AllZip, Row}
 use Rattle.dex_run.proofs.Common.{BankState, CanRun, HasRun, IsDone, IsJobOf, IsSeatOf, LaneJob, SeatState}
 use Rattle.std.specs.List.{All}
 use Rattle.dex_replay.proofs.MappedLists.{zip-map}
@@ -40,20 +39,6 @@ module _ {R P : Type 0} where
   )
 
 -- ---- all seats, before and after
-
--- the seats that a bank is built with may run all rows of its script
-pub seats-can_run : (bank : BankState) (rows : List Row) (script : PlainScript) (seats : List SeatState) → bank.script ≡ script → map row_of rows ≡ script.rows
-    → All (IsSeatOf bank) seats → All (λ (seat : SeatState). seat.calls ≡ []) seats → All (CanRun bank rows) seats
-seats-can_run bank rows script [] same are of_bank fresh = All-nil (CanRun bank rows)
-seats-can_run bank rows script (seat ∷ seats) same are of_bank fresh =
-    let here = All-head (IsSeatOf bank) seat seats of_bank in
-    All-cons (CanRun bank rows) seat seats
-    (record {
-      of_bank = here;
-      fresh = All-head (λ (s : SeatState). s.calls ≡ []) seat seats fresh;
-      rows_are = are ∙ ap (λ (s : PlainScript). s.rows) (sym (here.script ∙ same));
-    })
-    (seats-can_run bank rows script seats same are (All-tail (IsSeatOf bank) seat seats of_bank) (All-tail (λ (s : SeatState). s.calls ≡ []) seat seats fresh))
 
 pub after-of_bank : (bank : BankState) (before after : List SeatState) → AllZip (HasRun bank) before after → All (IsSeatOf bank) after
 after-of_bank bank before after ran = All-second (HasRun bank) (IsSeatOf bank) (λ seat done has. has.of_bank) before after ran

@@ -2,12 +2,13 @@
 use Rattle.std.proofs.Common.{◌≡◌, ℕ, ◌<◌, ◌==◌, Bool, true, cond, List, [], ◌∷◌, ◌++◌, length, sym, ap, ◌∙◌, subst, arith}
 use Rattle.dex_fold.proofs.Common.{Address, Call, IsLegal, IsWalletLegal, PlainAccount, PlainMarketAccounts, WalletEntry, eq-eqb}
 use Rattle.dex_replay.proofs.Common.{CellState, balance_of, market_in, rows_of_wallet}
-use Rattle.dex_order.proofs.Common.{BankMarketState, BankWalletState, IsBankWallet, MarketOrigin, Stamped, TrailState, WalletOrigin, entries_by, entries_in, left_by, market_calls, stamped, wallet_entries}
-use Rattle.dex_run.proofs.Common.{AddsOne, Extends, GateView, HasCall, HasCalled, HasEntry, HasLeft, HasMoved, Idle, MayLeave, PassView, added, of_lane}
+use Rattle.dex_order.proofs.Common.{BankMarketState, BankWalletState, IsBankWallet, MarketOrigin, Stamped, TrailState, WalletOrigin, entries_by, left_by, market_calls, stamped, wallet_entries}
+use Rattle.dex_run.proofs.Common.{AddsOne, Extends, GateView, HasCall, HasCalled, HasEntry, HasLeft, Idle, MayLeave, PassView, added, of_lane}
 use Rattle.std.proofs.lemmas.List.{length-append}
 use Rattle.std.proofs.Math.Seq.{drop-append_seam}
 use Rattle.dex_gate.specs.declared.stage.Stage.{Stage}
 use Rattle.dex_stamps.specs.Stamped.{items_of}
+use Rattle.dex_run.specs.Submitted.{HasWritten, Written}
 use Rattle.dex_journals.specs.Journals.{MayComeBack}
 use Rattle.dex_journals.proofs.MarketLaws.{items_of-calls}
 use Rattle.dex_journals.proofs.StampedLists.{stamped-more}
@@ -28,38 +29,38 @@ module _ {E : Type 0} where
 -- ---- a wallet
 
 -- what is given back
-module _ (call : Stamped Call) (trail : TrailState) (cell : CellState) (entry : HasEntry call trail.before cell) where
+module _ (written : Written) (trail : TrailState) (cell : CellState) (entry : HasEntry written trail.before cell) where
   abbrev pub put_back : BankWalletState
-  put_back = record { cell = cell; stamps = trail.stamps ++ call.stamp ∷ []; last = call.stamp; script = trail.script }
+  put_back = record { cell = cell; stamps = trail.stamps ++ written.stamp ∷ []; last = written.stamp; script = trail.script }
 
   counted-before : IsBankWallet put_back → length trail.stamps ≡ length trail.before.entries
   counted-before kept =
       omega (
         arith,
         kept.counted,
-        length-append trail.stamps (call.stamp ∷ []),
+        length-append trail.stamps (written.stamp ∷ []),
         ap length entry.entries,
         length-append trail.before.entries (entry.entry ∷ []),
       )
 
-  -- its journal has the call's entry behind the others
-  pub entries-put : IsBankWallet put_back → wallet_entries put_back ≡ wallet_entries (left_by trail) ++ entries_in trail.before.address call
+  -- its journal has the item's entry behind the others
+  pub entries-put : IsBankWallet put_back → wallet_entries put_back ≡ wallet_entries (left_by trail) ++ written.at trail.before.address
   entries-put kept =
-      ap (λ (l : List WalletEntry). stamped l (trail.stamps ++ call.stamp ∷ [])) entry.entries
-      ∙ stamped-more trail.before.entries trail.stamps entry.entry call.stamp (counted-before kept)
+      ap (λ (l : List WalletEntry). stamped l (trail.stamps ++ written.stamp ∷ [])) entry.entries
+      ∙ stamped-more trail.before.entries trail.stamps entry.entry written.stamp (counted-before kept)
       ∙ ap (λ (l : List (Stamped WalletEntry)). wallet_entries (left_by trail) ++ l) (sym entry.is)
 
-  pub wallet-adds : (number : ℕ) → IsBankWallet put_back → call.item.asked.lane ≡ number
+  pub wallet-adds : (number : ℕ) → IsBankWallet put_back → written.lane ≡ number
       → AddsOne (λ (e : Stamped WalletEntry). e.item.lane) number (wallet_entries (left_by trail)) (wallet_entries put_back)
   wallet-adds number kept same =
-      adds-one (λ (e : Stamped WalletEntry). e.item.lane) number (wallet_entries (left_by trail)) (wallet_entries put_back) (record { item = entry.entry; stamp = call.stamp })
+      adds-one (λ (e : Stamped WalletEntry). e.item.lane) number (wallet_entries (left_by trail)) (wallet_entries put_back) (record { item = entry.entry; stamp = written.stamp })
       (entries-put kept ∙ ap (λ (l : List (Stamped WalletEntry)). wallet_entries (left_by trail) ++ l) entry.is) (entry.lane ∙ same)
 
   pub has-left : (before after : PassView (Stamped WalletEntry) WalletOrigin) → IsBankWallet put_back
       → after ≡ record before { seen = wallet_entries put_back; mine = before.mine ++ added (wallet_entries (left_by trail)) (wallet_entries put_back); stage = Idle }
-      → Extends before.seen (wallet_entries put_back) → HasLeft call trail before after
+      → Extends before.seen (wallet_entries put_back) → HasLeft written trail before after
   has-left before after kept left seen =
-      let made : List (Stamped WalletEntry) = entries_in trail.before.address call in
+      let made : List (Stamped WalletEntry) = written.at trail.before.address in
       let Pass : Type 0 = PassView (Stamped WalletEntry) WalletOrigin in
       let pass_of : List (Stamped WalletEntry) → List (Stamped WalletEntry) → Pass = λ all new. record before { seen = all; mine = before.mine ++ new; stage = Idle } in
       let new : added (wallet_entries (left_by trail)) (wallet_entries put_back) ≡ made =
@@ -75,9 +76,9 @@ module _ (call : Stamped Call) (trail : TrailState) (cell : CellState) (entry : 
       }
 
 -- what may be put back
-pub comes-back : (call : Stamped Call) (gate : GateView (Stamped WalletEntry) WalletOrigin) (pass : PassView (Stamped WalletEntry) WalletOrigin) (trail : TrailState)
-    (cell : CellState) → MayLeave call gate pass trail cell → MayComeBack trail cell
-comes-back call gate pass trail cell may = record {
+pub comes-back : (written : Written) (gate : GateView (Stamped WalletEntry) WalletOrigin) (pass : PassView (Stamped WalletEntry) WalletOrigin) (trail : TrailState)
+    (cell : CellState) → MayLeave written gate pass trail cell → MayComeBack trail cell
+comes-back written gate pass trail cell may = record {
   adds = record { entry = may.entry.entry; entries = may.entry.entries; made = may.entry.made };
   lane =
       subst (λ (lane : ℕ). entries_by lane trail.before.entries < length (rows_of_wallet lane trail.before.address trail.script.rows)) (sym may.entry.lane)
@@ -135,29 +136,29 @@ module _ (call : Stamped Call) (before after : BankMarketState) (has : HasCall c
 -- ---- from where the wallet's turn was drawn
 
 -- a turn that was drawn, taken and left
-pub has-moved : (call : Stamped Call) (start : PlainAccount) (trail : TrailState) (before out left : PassView (Stamped WalletEntry) WalletOrigin) (stage : Stage (Stamped WalletEntry))
-    → before.stage ≡ Idle → out ≡ record before { stage = stage } → HasLeft call trail out left → trail.before.address ≡ start.address → trail.before.start ≡ start.bytes
-    → HasMoved call start before left
-has-moved call start trail before out left stage idle is has address bytes =
+pub has-moved : (written : Written) (start : PlainAccount) (trail : TrailState) (before out left : PassView (Stamped WalletEntry) WalletOrigin) (stage : Stage (Stamped WalletEntry))
+    → before.stage ≡ Idle → out ≡ record before { stage = stage } → HasLeft written trail out left → trail.before.address ≡ start.address → trail.before.start ≡ start.bytes
+    → HasWritten written start before left
+has-moved written start trail before out left stage idle is has address bytes =
     let Pass : Type 0 = PassView (Stamped WalletEntry) WalletOrigin in
-    let all : left.seen ≡ wallet_entries (left_by trail) ++ entries_in start.address call =
-    ap (λ (p : Pass). p.seen) has.pass ∙ ap (λ (a : Address). wallet_entries (left_by trail) ++ entries_in a call) address in
+    let all : left.seen ≡ wallet_entries (left_by trail) ++ written.at start.address =
+    ap (λ (p : Pass). p.seen) has.pass ∙ ap (λ (a : Address). wallet_entries (left_by trail) ++ written.at a) address in
     let pass_of : List (Stamped WalletEntry) → List (Stamped WalletEntry) → Pass = λ l made. record before { seen = l; mine = before.mine ++ made } in
     record {
       pass =
           has.pass
           ∙ ap (λ (p : Pass). record p {
-            seen = wallet_entries (left_by trail) ++ entries_in trail.before.address call;
-            mine = p.mine ++ entries_in trail.before.address call;
+            seen = wallet_entries (left_by trail) ++ written.at trail.before.address;
+            mine = p.mine ++ written.at trail.before.address;
             stage = Idle;
           }) is
           ∙ ap (λ (s : Stage (Stamped WalletEntry)). record before {
-            seen = wallet_entries (left_by trail) ++ entries_in trail.before.address call;
-            mine = before.mine ++ entries_in trail.before.address call;
+            seen = wallet_entries (left_by trail) ++ written.at trail.before.address;
+            mine = before.mine ++ written.at trail.before.address;
             stage = s;
           }) (sym idle)
-          ∙ ap (λ (a : Address). pass_of (wallet_entries (left_by trail) ++ entries_in a call) (entries_in a call)) address
-          ∙ ap (λ (l : List (Stamped WalletEntry)). pass_of l (entries_in start.address call)) (sym all);
+          ∙ ap (λ (a : Address). pass_of (wallet_entries (left_by trail) ++ written.at a) (written.at a)) address
+          ∙ ap (λ (l : List (Stamped WalletEntry)). pass_of l (written.at start.address)) (sym all);
       seen = subst (λ (l : List (Stamped WalletEntry)). Extends l left.seen) (ap (λ (p : Pass). p.seen) is) has.seen;
       earlier = wallet_entries (left_by trail);
       last = all;

@@ -1,32 +1,22 @@
 -- A row that is submitted alone is an item of one call.
-use Rattle.std.proofs.Common.{◌≡◌, ℕ, ◌<◌, ◌≤◌, ◌||◌, ◌&&◌, not, Bool, true, false, eqb, List, [], ◌∷◌, ◌++◌, length, take, refl, ap, ◌∙◌, subst, arith}
-use Rattle.dex_fold.proofs.Common.{All-cons, All-nil, All-weaker, AllPairs-filter, Asked, Call, EachTwo, PlainRow, asked_of, is_refused, ne_eqb, rows_of_lane}
-use Rattle.dex_replay.proofs.Common.{HasNoSwap, IsSight, PlainScript}
-use Rattle.dex_order.proofs.Common.{IsAsOthers, IsLane, MovesEach, Stamped, each-two, number_in}
+use Rattle.std.proofs.Common.{◌≡◌, ℕ, ◌<◌, ◌≤◌, ◌||◌, ◌&&◌, not, Bool, true, false, eqb, List, [], ◌∷◌, ◌++◌, length, take, refl, ap, ◌∙◌, arith}
+use Rattle.dex_fold.proofs.Common.{All-cons, All-nil, All-weaker, Asked, Call, PlainRow, asked_of, is_refused, ne_eqb, rows_of_lane}
+use Rattle.dex_replay.proofs.Common.{IsSight, PlainScript}
+use Rattle.dex_order.proofs.Common.{IsAsOthers, IsLane, MovesEach, Stamped, number_in}
 use Rattle.std.specs.List.{All}
 use Rattle.dex_replay.proofs.MappedLists.{All-across}
 use Rattle.dex_order.proofs.LaneGrowth.{IsItemMore}
 use Rattle.dex_run.specs.Turns.{IsTold}
-use Rattle.dex_run.proofs.Taking.{all-midst}
-
--- what holds of each two holds of those before one and it
-before-midst : {A : Type 0} (R : A → A → Type 0) (xs : List A) (y : A) (ys : List A) → EachTwo R (xs ++ y ∷ ys) → All (λ x. R x y) xs
-before-midst R [] y ys each = All-nil (λ x. R x y)
-before-midst R (x ∷ xs) y ys each = All-cons (λ z. R z y) x xs (all-midst (R x) xs y ys each.0) (before-midst R xs y ys each.1)
 
 module _ (row : PlainRow) (call : Stamped Call) (asked : call.item.asked ≡ asked_of row) (script : PlainScript) (lane last : ℕ) (calls : List (Stamped Call))
-    (later : List PlainRow) (single : HasNoSwap script.rows) (is : IsLane script lane calls)
+    (later : List PlainRow) (lower_rows : All (λ (one : PlainRow). one.number < row.number) (take (length calls) (rows_of_lane lane script.rows))) (is : IsLane script lane calls)
     (next : rows_of_lane lane script.rows ≡ take (length calls) (rows_of_lane lane script.rows) ++ row ∷ later) where
   abbrev done : List PlainRow
   done = take (length calls) (rows_of_lane lane script.rows)
 
   -- the rows before it have lower numbers, and so have their calls
   lower : All (λ (c : Stamped Call). number_in c < row.number) calls
-  lower =
-      let Lower : PlainRow → PlainRow → Type 0 = λ one other. one.number < other.number in
-      All-across (λ (a : Asked). a.number < row.number) (λ (c : Stamped Call). c.item.asked) asked_of calls done is.asks
-      (before-midst Lower done row later
-      (subst (EachTwo Lower) next (each-two Lower (rows_of_lane lane script.rows) (AllPairs-filter Lower (λ (r : PlainRow). eqb r.lane lane) script.rows single))))
+  lower = All-across (λ (a : Asked). a.number < row.number) (λ (c : Stamped Call). c.item.asked) asked_of calls done is.asks lower_rows
 
   pub row-more : All (λ (c : Stamped Call). c.stamp ≤ last) calls → IsTold script last call → IsItemMore script lane calls (row ∷ []) call []
   row-more below told =

@@ -17,6 +17,7 @@ use Rattle.dex_order.proofs.LaneGrowth.{lane-more}
 use Rattle.dex_run.proofs.Growing.{Differ, WalletPass, gates-grown, passes-grown, set-three}
 use Rattle.dex_run.proofs.RowMore.{row-more}
 use Rattle.dex_run.proofs.Taking.{all-midst, same-get, zip-at}
+use Rattle.dex_run.specs.Submitted.{written_by}
 
 -- ---- before
 
@@ -213,7 +214,7 @@ module _ (bank : BankState) (row : PlainRow) (before : SeatState) (next : IsNext
     (place : ℕ) (at : IsPlace row.market (market_addresses bank.script) place) (call : Stamped Call) (asked : call.item.asked ≡ asked_of row)
     (told : IsTold bank.script before.last call) (gate : GateView (Stamped Call) MarketOrigin) (pass left : MarketPass) (gate_is : gate ≡ get_or bank.markets place gate)
     (pass_is : pass ≡ get_or before.markets place pass) (called : HasCalled call gate.origin.start pass left) (wallets : List WalletPass)
-    (grown : HaveGrown bank (row_wallets row) call before.wallets wallets) where
+    (grown : HaveGrown bank (row_wallets row) (written_by call) before.wallets wallets) where
   abbrev pub seat_after : SeatState
   seat_after = record {
     lane = before.lane;
@@ -270,7 +271,7 @@ module _ (bank : BankState) (row : PlainRow) (before : SeatState) (next : IsNext
       record {
         calls =
             lane-more before.script before.lane before.calls (row ∷ []) call [] kept.calls
-            (row-more row call asked before.script before.lane before.last before.calls next.later (script-kept bank row before next bank_kept of).rows.single kept.calls next.is
+            (row-more row call asked before.script before.lane before.last before.calls next.later next.lower kept.calls next.is
             kept.below told_here);
         below = below-more row call asked before.script before.last before.calls kept.below told_here;
         markets =

@@ -1,9 +1,9 @@
 -- The turn of a row's next wallet: what is known when it is taken, and when it is left.
 use Rattle.std.proofs.Common.{◌≡◌, ℕ, zero, suc, ◌+◌, ◌-◌, ◌<◌, ◌==◌, true, false, List, [], ◌∷◌, ◌++◌, drop, length, map, set, take, get_or, Option, Some, None, refl, sym, ap, ◌∙◌, subst, arith}
-use Rattle.dex_fold.proofs.Common.{Address, All-head, All-push, All-tail, AllZip, AllZip-long, Call, PlainAccount, PlainRow, WalletEntry, asked-once, asked_of, get_or-map, is_same, is_same-refl, length-map, list_any, names, once-head, or_left, or_right}
+use Rattle.dex_fold.proofs.Common.{Address, All-head, All-push, All-tail, AllZip, AllZip-long, Call, PlainAccount, PlainRow, WalletEntry, asked-once, asked_of, get_or-map, is_same, is_same-refl, length-map, list_any, names, once-head, or_left, or_right, row_wallets}
 use Rattle.dex_replay.proofs.Common.{AllThree, CellState, PlainScript, has_account, rows_of_wallet}
 use Rattle.dex_order.proofs.Common.{Stamped, TrailState, WalletOrigin, entries_by, entries_on, left_by, list_any-map, roles-all, wallet_entries}
-use Rattle.dex_run.proofs.Common.{AreInHand, AreReady, BankState, GateView, HasEntry, HasLeft, HasMoved, HaveGrown, Idle, IsBank, IsDue, IsPlace, IsReady, IsWalletGate, MayDraw, MayLeave, OneGrows, added, of_lane}
+use Rattle.dex_run.proofs.Common.{AreInHand, AreReady, BankState, GateView, HasEntry, HasLeft, HaveGrown, Idle, IsBank, IsDue, IsPlace, IsReady, IsWalletGate, MayDraw, MayLeave, OneGrows, added, of_lane}
 use Rattle.std.specs.List.{All}
 use Rattle.std.proofs.Math.Seq.{take-length}
 use Rattle.dex_gate.specs.declared.stage.Stage.TheVariants.{Out}
@@ -17,6 +17,7 @@ use Rattle.dex_run.proofs.Counts.{entries-left, length-stamped}
 use Rattle.dex_run.proofs.Distinct.{wallets-differ}
 use Rattle.dex_run.proofs.Growing.{Differ, IsAtGate, WalletPass, drawn-ready, gates-set, one-grows, still-out}
 use Rattle.dex_run.proofs.LeavingTurns.{has-moved}
+use Rattle.dex_run.specs.Submitted.{HasWritten, Written}
 
 -- ---- lists
 
@@ -77,7 +78,7 @@ address_in cell = cell.address
 -- ---- the next wallet of a row
 
 module _ (bank : BankState) (row : PlainRow) (calls : List (Stamped _)) (address : Address) (others : List Address) (hands : List CellState) (passes : List WalletPass)
-    (due : IsDue bank.script calls row) (hand : AreInHand bank.script row (address ∷ others) hands) (ready : AreReady bank row.lane calls (address ∷ others) passes) where
+    (due : IsDue bank.script calls row) (hand : AreInHand bank.script (row_wallets row) (address ∷ others) hands) (ready : AreReady bank row.lane calls (address ∷ others) passes) where
   abbrev starts : List PlainAccount
   starts = bank.script.start.wallets
 
@@ -180,7 +181,7 @@ module _ (bank : BankState) (row : PlainRow) (calls : List (Stamped _)) (address
             };
           }
 
-      pub in-hand : AreInHand bank.script row others (hands ++ trail.before ∷ [])
+      pub in-hand : AreInHand bank.script (row_wallets row) others (hands ++ trail.before ∷ [])
       in-hand = record {
         ready = All-push (IsReady bank.script) hands trail.before hand.ready ready-cell;
         are = shift hands ∙ ap (λ (a : Address). map address_in hands ++ a ∷ others) cell-here ∙ hand.are;
@@ -208,15 +209,15 @@ module _ (bank : BankState) (row : PlainRow) (calls : List (Stamped _)) (address
 
       -- ---- and left
 
-      module _ (call : Stamped Call) (mid : List WalletPass) (asked : call.item.asked.lane ≡ row.lane) (grown : HaveGrown bank others call (set passes place out) mid) where
+      module _ (written : Written) (mid : List WalletPass) (asked : written.lane ≡ row.lane) (grown : HaveGrown bank others written (set passes place out) mid) where
         pub mid-is : (p : WalletPass) → get_or mid place p ≡ out
-        mid-is p = still-out others call starts passes mid place out address none within here grown p
+        mid-is p = still-out others written starts passes mid place out address none within here grown p
 
         pub within-mid : place < length mid
-        within-mid = omega (arith, within, (three-long (OneGrows others call) starts (set passes place out) mid grown).1)
+        within-mid = omega (arith, within, (three-long (OneGrows others written) starts (set passes place out) mid grown).1)
 
-        pub may-leave : (now : WalletPass) (cell : CellState) → now ≡ get_or mid place now → HasEntry call trail.before cell → trail.last < call.stamp
-            → MayLeave call gate now trail cell
+        pub may-leave : (now : WalletPass) (cell : CellState) → now ≡ get_or mid place now → HasEntry written trail.before cell → trail.last < written.stamp
+            → MayLeave written gate now trail cell
         may-leave now cell now_is entry above =
             let is : now ≡ record before { stage = Out (wallet_entries (left_by trail)) } = now_is ∙ mid-is now ∙ is_out.pass in
             record {
@@ -232,16 +233,16 @@ module _ (bank : BankState) (row : PlainRow) (calls : List (Stamped _)) (address
         pub number-mid : (now : WalletPass) → now ≡ get_or mid place now → now.number ≡ before.number
         number-mid now now_is = ap (λ (p : WalletPass). p.number) (now_is ∙ mid-is now ∙ is_out.pass)
 
-        pub have-grown : (now left : WalletPass) → Differ (λ (account : PlainAccount). account.address) starts → now ≡ get_or mid place now → HasLeft call trail now left
-            → HaveGrown bank (address ∷ others) call passes (set mid place left)
+        pub have-grown : (now left : WalletPass) → Differ (λ (account : PlainAccount). account.address) starts → now ≡ get_or mid place now → HasLeft written trail now left
+            → HaveGrown bank (address ∷ others) written passes (set mid place left)
         have-grown now left differ now_is has =
-            let moved : HasMoved call start before left =
-            has-moved call start trail before now left (Out (wallet_entries (left_by trail))) (ap (λ (p : WalletPass). p.stage) before_is ∙ idle-at d before)
+            let moved : HasWritten written start before left =
+            has-moved written start trail before now left (Out (wallet_entries (left_by trail))) (ap (λ (p : WalletPass). p.stage) before_is ∙ idle-at d before)
             (now_is ∙ mid-is now ∙ is_out.pass) has cell-address cell-start in
-            one-grows address others call starts passes mid place out left differ within here grown
+            one-grows address others written starts passes mid place out left differ within here grown
             (λ x p.
-            subst (λ (q : WalletPass). HasMoved call (get_or starts place x) q left) (before_is ∙ same-get passes place before p within-passes)
-            (subst (λ (s : PlainAccount). HasMoved call s before left) (same-get starts place d x within) moved))
+            subst (λ (q : WalletPass). HasWritten written (get_or starts place x) q left) (before_is ∙ same-get passes place before p within-passes)
+            (subst (λ (s : PlainAccount). HasWritten written s before left) (same-get starts place d x within) moved))
 
 -- ---- all that is known of the turn of the next wallet
 
@@ -249,7 +250,7 @@ module _ (bank : BankState) (row : PlainRow) (calls : List (Stamped _)) (address
 pub record Facts (bank : BankState) (row : PlainRow) (calls : List (Stamped Call)) (address : Address) (others : List Address) (hands : List CellState)
     (passes : List WalletPass) (place : ℕ) (gate : GateView (Stamped WalletEntry) WalletOrigin) (before out : WalletPass) (trail : TrailState) : Type 0 where
   pub due : IsDue bank.script calls row
-  pub hand : AreInHand bank.script row (address ∷ others) hands
+  pub hand : AreInHand bank.script (row_wallets row) (address ∷ others) hands
   pub ready : AreReady bank row.lane calls (address ∷ others) passes
   pub kept : IsBank bank
   pub at : IsPlace address (wallet_addresses bank.script) place
@@ -263,7 +264,7 @@ module _ (bank : BankState) (row : PlainRow) (calls : List (Stamped Call)) (addr
   abbrev any_start : PlainAccount
   any_start = record { address = address; bytes = [] }
 
-  pub facts-hand : AreInHand bank.script row others (hands ++ trail.before ∷ [])
+  pub facts-hand : AreInHand bank.script (row_wallets row) others (hands ++ trail.before ∷ [])
   facts-hand =
       in-hand bank row calls address others hands passes f.due f.hand f.ready f.kept place f.at any_start gate before out trail f.gate_is f.before_is f.is_out
 
@@ -271,26 +272,26 @@ module _ (bank : BankState) (row : PlainRow) (calls : List (Stamped Call)) (addr
   facts-ready =
       ready-others bank row calls address others hands passes f.due f.hand f.ready f.kept place f.at any_start gate before out trail f.gate_is f.before_is f.is_out
 
-  module _ (call : Stamped Call) (mid : List WalletPass) (asked : call.item.asked.lane ≡ row.lane) (grown : HaveGrown bank others call (set passes place out) mid) where
+  module _ (written : Written) (mid : List WalletPass) (asked : written.lane ≡ row.lane) (grown : HaveGrown bank others written (set passes place out) mid) where
     pub facts-mid : place < length mid
     facts-mid =
-        within-mid bank row calls address others hands passes f.due f.hand f.ready f.kept place f.at any_start gate before out trail f.gate_is f.before_is f.is_out call mid asked
+        within-mid bank row calls address others hands passes f.due f.hand f.ready f.kept place f.at any_start gate before out trail f.gate_is f.before_is f.is_out written mid asked
         grown
 
     module _ (now : WalletPass) (now_is : now ≡ get_or mid place now) where
       pub facts-number : now.number ≡ before.number
       facts-number =
-          number-mid bank row calls address others hands passes f.due f.hand f.ready f.kept place f.at any_start gate before out trail f.gate_is f.before_is f.is_out call mid
+          number-mid bank row calls address others hands passes f.due f.hand f.ready f.kept place f.at any_start gate before out trail f.gate_is f.before_is f.is_out written mid
           asked grown now now_is
 
-      pub facts-leave : (cell : CellState) → HasEntry call trail.before cell → trail.last < call.stamp → MayLeave call gate now trail cell
+      pub facts-leave : (cell : CellState) → HasEntry written trail.before cell → trail.last < written.stamp → MayLeave written gate now trail cell
       facts-leave cell entry above =
-          may-leave bank row calls address others hands passes f.due f.hand f.ready f.kept place f.at any_start gate before out trail f.gate_is f.before_is f.is_out call mid
+          may-leave bank row calls address others hands passes f.due f.hand f.ready f.kept place f.at any_start gate before out trail f.gate_is f.before_is f.is_out written mid
           asked grown now cell now_is entry above
 
-      pub facts-grown : (left : WalletPass) → HasLeft call trail now left → HaveGrown bank (address ∷ others) call passes (set mid place left)
+      pub facts-grown : (left : WalletPass) → HasLeft written trail now left → HaveGrown bank (address ∷ others) written passes (set mid place left)
       facts-grown left has =
-          have-grown bank row calls address others hands passes f.due f.hand f.ready f.kept place f.at any_start gate before out trail f.gate_is f.before_is f.is_out call mid
+          have-grown bank row calls address others hands passes f.due f.hand f.ready f.kept place f.at any_start gate before out trail f.gate_is f.before_is f.is_out written mid
           asked grown now left (wallets-differ bank.script.start f.kept.script.start.accepted) now_is has
 
 -- ---- the wallets still to come
@@ -321,8 +322,8 @@ front-none (None ∷ others) is = refl
 front-none (Some first ∷ others) is = absurd (cc)
 
 -- where none is still to come the passes are as they were
-pub grown-none : (call : Stamped Call) (starts : List PlainAccount) (passes : List WalletPass) → length passes ≡ length starts → AllThree (OneGrows [] call) starts passes passes
-grown-none call [] [] long = tt
-grown-none call [] (p ∷ passes) long = absurd (omega (arith, long))
-grown-none call (start ∷ starts) [] long = absurd (omega (arith, long))
-grown-none call (start ∷ starts) (p ∷ passes) long = (refl, grown-none call starts passes (omega (arith, long)))
+pub grown-none : (written : Written) (starts : List PlainAccount) (passes : List WalletPass) → length passes ≡ length starts → AllThree (OneGrows [] written) starts passes passes
+grown-none written [] [] long = tt
+grown-none written [] (p ∷ passes) long = absurd (omega (arith, long))
+grown-none written (start ∷ starts) [] long = absurd (omega (arith, long))
+grown-none written (start ∷ starts) (p ∷ passes) long = (refl, grown-none written starts passes (omega (arith, long)))

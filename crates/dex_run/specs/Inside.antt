@@ -10,6 +10,7 @@ use Rattle.dex_run.specs.declared.seat.LaneSeat.TheInside as seat
 use Rattle.dex_run.specs.declared.stamped_record.StampedRecord.{StampedRecord}
 use Rattle.dex_run.specs.Bank.{BankState, IsBank}
 use Rattle.dex_run.specs.Seats.{IsSeat, SeatState}
+use Rattle.dex_run.specs.Submitted.{Written, written_by}
 
 -- the bank that its fields stand for
 abbrev pub bank_inside : bank.Inside → BankState
@@ -37,6 +38,10 @@ call_made made = record {
   item = record { asked = asked_of (row_of made.0); seen = made.1.seen; entry = made.1.entry };
   stamp = made.1.stamp.number;
 }
+
+-- what it writes into the journals of wallets
+abbrev pub written_of : Row × StampedRecord → Written
+written_of made = written_by (call_made made)
 
 -- the seat that its fields stand for
 abbrev pub seat_inside : seat.Inside → SeatState

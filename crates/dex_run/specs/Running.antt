@@ -2,12 +2,14 @@
 use Rattle.std.specs.Prelude.{◌≡◌, List, [], map}
 use Rattle.dex_types.specs.declared.rows.Row.{Row}
 use Rattle.dex_types.specs.Rows.{row_of}
+use Rattle.dex_script.specs.Facts.{IsScript}
 use Rattle.dex_run.specs.declared.lane.LaneJob.{LaneJob}
 use Rattle.dex_run.specs.Bank.{BankState}
 use Rattle.dex_run.specs.Seats.{IsDone, IsSeatOf, SeatState}
 
 -- a seat of this bank of whose rows none has acted, and all rows of its script
 pub record CanRun (bank : BankState) (rows : List Row) (seat : SeatState) : Type 0 where
+  pub is : IsScript seat.script
   pub of_bank : IsSeatOf bank seat
   pub fresh : seat.calls ≡ []
   pub rows_are : map row_of rows ≡ seat.script.rows

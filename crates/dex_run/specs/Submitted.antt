@@ -1,5 +1,6 @@
 -- What a row leaves of a seat.
-use Rattle.std.specs.Prelude.{◌≡◌, ◌++◌, ◌∷◌, [], Bool, true, false, List, length, take}
+use Rattle.std.specs.Prelude.{ℕ, ◌≡◌, ◌<◌, ◌++◌, ◌∷◌, [], All, Bool, true, false, List, length, take}
+use Rattle.dex_types.specs.declared.addresses.Address.{Address}
 use Rattle.dex_types.specs.declared.movements.WalletEntry.{WalletEntry}
 use Rattle.dex_types.specs.declared.replies.Reply.{Reply}
 use Rattle.dex_types.specs.Accounts.{PlainAccount, PlainMarketAccounts}
@@ -39,12 +40,28 @@ abbrev pub HasCalled : Stamped Call → PlainMarketAccounts → PassView (Stampe
 HasCalled call start before after =
     HasMade (call ∷ []) (λ (seen : List (Stamped Call)). IsLegal (market_in start) (items_of seen)) before after
 
--- the row names this wallet: the pass has seen a longer history of movements, which is legal from the wallet's first amount and
--- ends with the movement that the call has for the wallet, and has made it
+-- what an item writes into the journals of wallets: its lane, its stamp, and its entries in the journal of each
+pub record Written : Type 0 where
+  pub lane : ℕ
+  pub stamp : ℕ
+  pub at : Address → List (Stamped WalletEntry)
+
+-- what the call of a row writes
+abbrev pub written_by : Stamped Call → Written
+written_by call = record { lane = call.item.asked.lane; stamp = call.stamp; at = λ address. entries_in address call }
+
+-- the item names this wallet: the pass has seen a longer history of movements, which is legal from the wallet's first amount and
+-- ends with what the item writes there, and has made that
+abbrev pub HasWritten : Written → PlainAccount → PassView (Stamped WalletEntry) WalletOrigin
+    → PassView (Stamped WalletEntry) WalletOrigin → Type 0
+HasWritten written start before after =
+    HasMade (written.at start.address)
+    (λ (seen : List (Stamped WalletEntry)). IsWalletLegal (balance_of start.bytes) (items_of seen)) before after
+
+-- the same of a row and its call
 abbrev pub HasMoved : Stamped Call → PlainAccount → PassView (Stamped WalletEntry) WalletOrigin
     → PassView (Stamped WalletEntry) WalletOrigin → Type 0
-HasMoved call start before after =
-    HasMade (entries_in start.address call) (λ (seen : List (Stamped WalletEntry)). IsWalletLegal (balance_of start.bytes) (items_of seen)) before after
+HasMoved call start before after = HasWritten (written_by call) start before after
 
 -- where a row acts on a market or wallet, this holds of its pass; and else the pass is as it was
 abbrev pub Where : Bool → Type 0 → Type 0 → Type 0
@@ -61,11 +78,13 @@ abbrev pub WalletGrows : PlainRow → Stamped Call → PlainAccount → PassView
     → PassView (Stamped WalletEntry) WalletOrigin → Type 0
 WalletGrows row call start before after = Where (names row start.address) (HasMoved call start before after) (after ≡ before)
 
--- the row is the next of the seat's lane, behind those of its calls
+-- the row is the next of the seat's lane, behind those of its calls, whose numbers are lower
 pub record IsNext (row : PlainRow) (seat : SeatState) : Type 0 where
   pub later : List PlainRow
   pub is : rows_of_lane seat.lane seat.script.rows
       ≡ take (length seat.calls) (rows_of_lane seat.lane seat.script.rows) ++ row ∷ later
+  pub lower : All (λ (one : PlainRow). one.number < row.number)
+      (take (length seat.calls) (rows_of_lane seat.lane seat.script.rows))
 
 -- a row was submitted at a seat: its lane has one call more, which is this row's, has this reply, was not held back, saw the script's wallets,
 -- and moves each wallet that the row names once; and the passes of its market and of these wallets have grown by it, and no others

@@ -6,7 +6,6 @@ use Rattle.dex_types.specs.declared.movements.WalletEntry.{WalletEntry}
 use Rattle.dex_types.specs.Accounts.{PlainAccount}
 use Rattle.dex_types.specs.Addresses.{is_same}
 use Rattle.dex_types.specs.Rows.{PlainRow}
-use Rattle.dex_types.specs.Wallets.{row_wallets}
 use Rattle.dex_types.specs.WalletJournal.{IsWalletLegal}
 use Rattle.dex_gate.specs.GateView.{GateView}
 use Rattle.dex_gate.specs.History.{Extends, added, of_lane}
@@ -22,11 +21,11 @@ use Rattle.dex_replay.specs.Lawful.{AllThree, IsSight, rows_of_market, rows_of_w
 use Rattle.dex_stamps.specs.Stamped.{Stamped, items_of}
 use Rattle.dex_journals.specs.Journals.{BankMarketState, IsBankMarket, IsBankWallet, MarketOrigin, TrailState, WalletOrigin}
 use Rattle.dex_journals.specs.Journals.{calls_by, entries_by, left_by, market_calls, market_origin, wallet_entries, wallet_origin}
-use Rattle.dex_journals.specs.StampedCalls.{calls_on, entries_in, entries_on}
+use Rattle.dex_journals.specs.StampedCalls.{calls_on, entries_on}
 use Rattle.dex_fold.specs.Items.{rows_of_lane}
 use Rattle.dex_order.specs.Lanes.{IsLane, MovesEach}
 use Rattle.dex_run.specs.Bank.{BankState}
-use Rattle.dex_run.specs.Submitted.{HasMoved, Where}
+use Rattle.dex_run.specs.Submitted.{HasWritten, Where, Written}
 
 -- ---- the row
 
@@ -94,17 +93,17 @@ pub record IsReady (script : PlainScript) (cell : CellState) : Type 0 where
   pub spare : HasSpare cell
   pub start : IsOfStart script.start.wallets cell
 
--- the cells are those of the first wallets that the row names, and these are the others' addresses
-pub record AreInHand (script : PlainScript) (row : PlainRow) (others : List Address) (cells : List CellState)
+-- the cells are those of the first of these wallets, and these are the others' addresses
+pub record AreInHand (script : PlainScript) (named : List Address) (others : List Address) (cells : List CellState)
     : Type 0 where
   pub ready : All (IsReady script) cells
-  pub are : map (λ (cell : CellState). cell.address) cells ++ others ≡ row_wallets row
+  pub are : map (λ (cell : CellState). cell.address) cells ++ others ≡ named
 
--- the cell has the call's entry behind its others
-pub record HasEntry (call : Stamped Call) (before after : CellState) : Type 0 where
+-- the cell has the item's entry behind its others
+pub record HasEntry (written : Written) (before after : CellState) : Type 0 where
   pub entry : WalletEntry
-  pub is : entries_in before.address call ≡ record { item = entry; stamp = call.stamp } ∷ []
-  pub lane : entry.lane ≡ call.item.asked.lane
+  pub is : written.at before.address ≡ record { item = entry; stamp = written.stamp } ∷ []
+  pub lane : entry.lane ≡ written.lane
   pub entries : after.entries ≡ before.entries ++ entry ∷ []
   pub made : made_of after ≡ made_of before
   pub kept : IsWalletCell after
@@ -125,16 +124,16 @@ pub record AreReady (bank : BankState) (lane : ℕ) (calls : List (Stamped Call)
       (pass : PassView (Stamped WalletEntry) WalletOrigin). pass.gate ≡ Some gate) bank.wallets passes
   pub each : AllZip (MayDraw lane calls others) bank.script.start.wallets passes
 
--- the pass of a wallet has grown by the call where it was still to come, and else is as it was
-abbrev pub OneGrows : List Address → Stamped Call → PlainAccount → PassView (Stamped WalletEntry) WalletOrigin
+-- the pass of a wallet has grown by what the item writes where it was still to come, and else is as it was
+abbrev pub OneGrows : List Address → Written → PlainAccount → PassView (Stamped WalletEntry) WalletOrigin
     → PassView (Stamped WalletEntry) WalletOrigin → Type 0
-OneGrows others call start before after =
-    Where (list_any (is_same start.address) others) (HasMoved call start before after) (after ≡ before)
+OneGrows others written start before after =
+    Where (list_any (is_same start.address) others) (HasWritten written start before after) (after ≡ before)
 
--- the passes of the wallets that were still to come have grown by the call, and the others are as they were
-abbrev pub HaveGrown : BankState → List Address → Stamped Call → List (PassView (Stamped WalletEntry) WalletOrigin)
+-- the passes of the wallets that were still to come have grown by what the item writes, and the others are as they were
+abbrev pub HaveGrown : BankState → List Address → Written → List (PassView (Stamped WalletEntry) WalletOrigin)
     → List (PassView (Stamped WalletEntry) WalletOrigin) → Type 0
-HaveGrown bank others call before after = AllThree (OneGrows others call) bank.script.start.wallets before after
+HaveGrown bank others written before after = AllThree (OneGrows others written) bank.script.start.wallets before after
 
 -- ---- the turn of one wallet
 
@@ -148,24 +147,24 @@ pub record IsOut (gate : GateView (Stamped WalletEntry) WalletOrigin)
       (added gate.opening (wallet_entries (left_by trail))) ≡ before.mine
   pub kept : IsBankWallet (left_by trail)
 
--- the call's entry may be given back with the cell
-pub record MayLeave (call : Stamped Call) (gate : GateView (Stamped WalletEntry) WalletOrigin)
+-- the item's entry may be given back with the cell
+pub record MayLeave (written : Written) (gate : GateView (Stamped WalletEntry) WalletOrigin)
     (pass : PassView (Stamped WalletEntry) WalletOrigin) (trail : TrailState) (cell : CellState) : Type 0 where
   pub home : pass.gate ≡ Some gate
   pub out : pass.stage ≡ Out (wallet_entries (left_by trail))
   pub origin : wallet_origin (left_by trail) ≡ gate.origin
-  pub entry : HasEntry call trail.before cell
-  pub number : call.item.asked.lane ≡ pass.number
-  pub lane : entries_by call.item.asked.lane trail.before.entries
-      < length (rows_of_wallet call.item.asked.lane trail.before.address trail.script.rows)
-  pub stamp : trail.last < call.stamp
+  pub entry : HasEntry written trail.before cell
+  pub number : written.lane ≡ pass.number
+  pub lane : entries_by written.lane trail.before.entries
+      < length (rows_of_wallet written.lane trail.before.address trail.script.rows)
+  pub stamp : trail.last < written.stamp
 
 -- the turn was left: the pass has seen the entry behind the others, and has made it
-pub record HasLeft (call : Stamped Call) (trail : TrailState)
+pub record HasLeft (written : Written) (trail : TrailState)
     (before after : PassView (Stamped WalletEntry) WalletOrigin) : Type 0 where
   pub pass : after ≡ record before {
-    seen = wallet_entries (left_by trail) ++ entries_in trail.before.address call;
-    mine = before.mine ++ entries_in trail.before.address call;
+    seen = wallet_entries (left_by trail) ++ written.at trail.before.address;
+    mine = before.mine ++ written.at trail.before.address;
     stage = Idle;
   }
   pub seen : Extends before.seen after.seen

@@ -7,7 +7,7 @@ ghost use Rattle.dex_types.specs.Wallets.{row_wallets};
 ghost use Rattle.dex_locks.specs.Places.{front};
 ghost use Rattle.dex_fold.specs.World as world;
 ghost use Rattle.dex_act.specs.Wallets.{Fits, roles_of};
-ghost use Rattle.dex_run.specs.Inside.{call_made};
+ghost use Rattle.dex_run.specs.Inside.{call_made, written_of};
 ghost use Rattle.dex_run.specs.Seats.{IsSeat, IsSeatOf};
 ghost use Rattle.dex_run.specs.Submitted.{HasCalled, HasSubmitted, IsNext};
 ghost use Rattle.dex_run.specs.Turns.{AreInHand, AreReady, HasCall, HasEntry, HaveGrown, IsDue, IsTold};
@@ -92,7 +92,7 @@ impl Bank {
         requires room { length wallets.now ≤ vec_capacity hands.old }
         ensures told { IsTold self.now.script last.now.number (call_made (row.entry.now, result)) }
         ensures market { HasCalled (call_made (row.entry.now, result)) gate.now.origin.start pass.old pass.new }
-        ensures passes { HaveGrown self.now (row_wallets (row_of row.entry.now)) (call_made (row.entry.now, result))
+        ensures passes { HaveGrown self.now (row_wallets (row_of row.entry.now)) (written_of (row.entry.now, result))
             passes.old.items passes.new.items }
         ensures hands { hands.new.items ≡ [] }
         ensures room { vec_capacity hands.old ≤ vec_capacity hands.new }
@@ -128,15 +128,16 @@ impl Bank {
     ) -> StampedRecord
         requires due { IsDue self.now.script (map call_made calls.now.items) (row_of row.now) }
         requires market { MayCall (row_of row.now) stamp.now.number market.old }
-        requires hands { AreInHand self.now.script (row_of row.now) (front others.now) hands.old.items }
+        requires hands { AreInHand self.now.script (row_wallets (row_of row.now)) (front others.now)
+            hands.old.items }
         requires passes { AreReady self.now row.now.lane (map call_made calls.now.items) (front others.now)
             passes.old.items }
         requires room { length hands.old.items + length others.now ≤ vec_capacity hands.old }
         ensures told { IsTold self.now.script stamp.now.number (call_made (row.entry.now, result)) }
         ensures market { HasCall (call_made (row.entry.now, result)) market.old market.new }
-        ensures passes { HaveGrown self.now (front others.now) (call_made (row.entry.now, result))
+        ensures passes { HaveGrown self.now (front others.now) (written_of (row.entry.now, result))
             passes.old.items passes.new.items }
-        ensures hands { AllZip (HasEntry (call_made (row.entry.now, result))) hands.old.items hands.new.items }
+        ensures hands { AllZip (HasEntry (written_of (row.entry.now, result))) hands.old.items hands.new.items }
         ensures room { vec_capacity hands.old ≤ vec_capacity hands.new }
     {
         match first_of(others) {
@@ -168,10 +169,10 @@ impl Bank {
         pace: &P,
     ) -> StampedRecord
         requires market { MayCall (row_of row.now) stamp.now.number market.old }
-        requires hands { AreInHand self.now.script (row_of row.now) [] hands.old.items }
+        requires hands { AreInHand self.now.script (row_wallets (row_of row.now)) [] hands.old.items }
         ensures told { IsTold self.now.script stamp.now.number (call_made (row.entry.now, result)) }
         ensures market { HasCall (call_made (row.entry.now, result)) market.old market.new }
-        ensures hands { AllZip (HasEntry (call_made (row.entry.now, result))) hands.old.items hands.new.items }
+        ensures hands { AllZip (HasEntry (written_of (row.entry.now, result))) hands.old.items hands.new.items }
         ensures room { vec_capacity hands.old ≤ vec_capacity hands.new }
     {
         pace.inside(row.lane, row.number);

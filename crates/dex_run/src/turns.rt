@@ -4,7 +4,7 @@ ghost use Rattle.std.specs.Prelude.{◌≡◌, ◌<◌, ◌≤◌, ◌++◌, ◌
 ghost use Rattle.dex_gate.specs.declared.stage.Stage.TheVariants.{Idle, Out};
 ghost use Rattle.dex_gate.specs.History.{Extends, added, of_lane};
 ghost use Rattle.dex_journals.specs.Journals.{IsBankMarket, left_by, market_calls, wallet_entries};
-ghost use Rattle.dex_run.specs.Inside.{call_made};
+ghost use Rattle.dex_run.specs.Inside.{written_of};
 ghost use Rattle.dex_run.specs.Turns.{HasLeft, IsMarketOut, IsOut, MayLeave, first_in};
 
 use crate::stamped_record::StampedRecord;
@@ -93,13 +93,13 @@ pub(crate) fn leave_wallet(
     row: &Row,
     made: &StampedRecord,
 )
-    requires entry { MayLeave (call_made (row.now, made.now)) gate.now pass.old trail cell }
+    requires entry { MayLeave (written_of (row.now, made.now)) gate.now pass.old trail cell }
     requires away { away ≡ record {
       gate = Some gate.now;
       number = pass.old.number;
       start = wallet_entries (left_by trail);
     } }
-    ensures { HasLeft (call_made (row.entry.now, made.now)) trail pass.old pass.new }
+    ensures { HasLeft (written_of (row.entry.now, made.now)) trail pass.old pass.new }
 {
     let wallet = trail.with(cell, &made.stamp);
     gate.leave(pass, away.put(wallet));

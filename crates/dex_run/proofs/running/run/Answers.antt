@@ -1,8 +1,20 @@
-use Rattle.std.proofs.Common.{ap, sym, subst, ◌∙◌}
-use Rattle.dex_fold.proofs.Common.{range_with_len}
-use Rattle.dex_replay.proofs.Common.{IsOneOrder, IsRunOf, PlainScript, outcome_of}
+use Rattle.std.proofs.Common.{List, ap, map, sym, subst, ◌∙◌}
+use Rattle.dex_fold.proofs.Common.{Row, range_with_len, row_of}
+use Rattle.dex_replay.proofs.Common.{IsOneOrder, IsRunOf, IsScript, PlainScript, outcome_of}
 use Rattle.dex_run.proofs.Jobs.{after-done, after-lanes, after-of_bank}
 use Rattle.dex_run.proofs.running.run.Goals as goal
+
+-- each seat may run all rows of the script
+pub run_all-seats-requires : goal.run_all-seats-requires
+run_all-seats-requires g c = λ k d within.
+    let here = c.in_ok-bank.ensures.seats k d within in
+    let script_is = here.script ∙ c.in_ok-bank.ensures.bank ∙ c.in_ok-outline.ensures in
+    record {
+      is = subst IsScript (sym script_is) c.in_ok-cells.ensures.script;
+      of_bank = here;
+      fresh = c.in_ok-bank.ensures.fresh k d within;
+      rows_are = ap (λ (rows : List Row). map row_of rows) c.deref.ensures.value ∙ c.in_ok-cells.ensures.rows ∙ ap (λ (s : PlainScript). s.rows) (sym script_is);
+    }
 
 pub close-requires-clause-seats : goal.close-requires-clause-seats
 close-requires-clause-seats g c = after-of_bank c.in_ok-bank.bank c.in_ok-bank.seats.items c.in_ok-seats.seats.items c.in_ok-seats.ensures

@@ -1,7 +1,7 @@
 use Rattle.std.proofs.Common.{◌≡◌, ℕ, ◌+◌, [], ◌∷◌, ◌++◌, List, Some, length, map, set, refl, sym, ap, ◌∙◌, subst, arith}
-use Rattle.dex_fold.proofs.Common.{Address, AllZip, AllZip-long, Call, le-max_left, row_of}
+use Rattle.dex_fold.proofs.Common.{Address, AllZip, AllZip-long, le-max_left, row_of, row_wallets}
 use Rattle.dex_replay.proofs.Common.{CellState}
-use Rattle.dex_order.proofs.Common.{Stamped, left_by, wallet_entries}
+use Rattle.dex_order.proofs.Common.{left_by, wallet_entries}
 use Rattle.dex_run.proofs.Common.{AreInHand, AreReady, HasEntry, HaveGrown, MayDraw, call_made}
 use Rattle.std.proofs.lemmas.List.{length-append}
 use Rattle.std.proofs.Math.Nat.{le-max_right}
@@ -10,6 +10,8 @@ use Rattle.dex_run.proofs.ColumnLists.{AllZip-last}
 use Rattle.dex_run.proofs.Growing.{WalletPass}
 use Rattle.dex_run.proofs.Taking.{Facts, facts-grown, facts-hand, facts-leave, facts-mid, facts-number, facts-ready, front-none, front-some, grown-none, rest-long, rest_of}
 use Rattle.dex_run.proofs.Taking as taking
+use Rattle.dex_run.specs.Inside.{written_of}
+use Rattle.dex_run.specs.Submitted.{Written}
 use Rattle.dex_run.proofs.bank.Bank.+with_wallets.Goals as goal
 
 -- ---- before the turn
@@ -17,13 +19,13 @@ use Rattle.dex_run.proofs.bank.Bank.+with_wallets.Goals as goal
 pub wallet_place-place-requires : goal.wallet_place-place-requires
 wallet_place-place-requires g t c =
     taking.known c.args.self.now (row_of c.args.row.now) (map call_made c.args.calls.now.items) c.in-Some.address (front (rest_of c.args.others.now)) c.args.hands.now.items c.args.passes.now.items c.requires.due
-    (subst (λ (l : List Address). AreInHand c.args.self.now.script (row_of c.args.row.now) l c.args.hands.now.items) (front-some c.args.others.now c.in-Some.address (sym c.first_of.ensures ∙ c.in-Some.is)) c.requires.hands)
+    (subst (λ (l : List Address). AreInHand c.args.self.now.script (row_wallets (row_of c.args.row.now)) l c.args.hands.now.items) (front-some c.args.others.now c.in-Some.address (sym c.first_of.ensures ∙ c.in-Some.is)) c.requires.hands)
     (subst (λ (l : List Address). AreReady c.args.self.now c.args.row.now.lane (map call_made c.args.calls.now.items) l c.args.passes.now.items) (front-some c.args.others.now c.in-Some.address (sym c.first_of.ensures ∙ c.in-Some.is)) c.requires.passes)
 
 pub wallet_gate-gate-requires : goal.wallet_gate-gate-requires
 wallet_gate-gate-requires g t c =
     taking.within-gates c.args.self.now (row_of c.args.row.now) (map call_made c.args.calls.now.items) c.in-Some.address (front (rest_of c.args.others.now)) c.args.hands.now.items c.args.passes.now.items c.requires.due
-    (subst (λ (l : List Address). AreInHand c.args.self.now.script (row_of c.args.row.now) l c.args.hands.now.items) (front-some c.args.others.now c.in-Some.address (sym c.first_of.ensures ∙ c.in-Some.is)) c.requires.hands)
+    (subst (λ (l : List Address). AreInHand c.args.self.now.script (row_wallets (row_of c.args.row.now)) l c.args.hands.now.items) (front-some c.args.others.now c.in-Some.address (sym c.first_of.ensures ∙ c.in-Some.is)) c.requires.hands)
     (subst (λ (l : List Address). AreReady c.args.self.now c.args.row.now.lane (map call_made c.args.calls.now.items) l c.args.passes.now.items) (front-some c.args.others.now c.in-Some.address (sym c.first_of.ensures ∙ c.in-Some.is)) c.requires.passes)
     c.wallet_place-place.ensures.bank c.wallet_place-place.result c.wallet_place-place.ensures.place
 
@@ -32,7 +34,7 @@ index_mut-requires g t c =
     omega (
       arith,
       (taking.within-passes c.args.self.now (row_of c.args.row.now) (map call_made c.args.calls.now.items) c.in-Some.address (front (rest_of c.args.others.now)) c.args.hands.now.items c.args.passes.now.items c.requires.due
-          (subst (λ (l : List Address). AreInHand c.args.self.now.script (row_of c.args.row.now) l c.args.hands.now.items) (front-some c.args.others.now c.in-Some.address (sym c.first_of.ensures ∙ c.in-Some.is)) c.requires.hands)
+          (subst (λ (l : List Address). AreInHand c.args.self.now.script (row_wallets (row_of c.args.row.now)) l c.args.hands.now.items) (front-some c.args.others.now c.in-Some.address (sym c.first_of.ensures ∙ c.in-Some.is)) c.requires.hands)
           (subst (λ (l : List Address). AreReady c.args.self.now c.args.row.now.lane (map call_made c.args.calls.now.items) l c.args.passes.now.items) (front-some c.args.others.now c.in-Some.address (sym c.first_of.ensures ∙ c.in-Some.is)) c.requires.passes)
           c.wallet_place-place.ensures.bank c.wallet_place-place.result c.wallet_place-place.ensures.place),
     )
@@ -41,7 +43,7 @@ pub take_wallet-cell-requires-clause-gate : goal.take_wallet-cell-requires-claus
 take_wallet-cell-requires-clause-gate g t c =
     ap (λ (p : WalletPass). p.gate) c.index_mut.ensures.value
     ∙ taking.gate-at c.args.self.now (row_of c.args.row.now) (map call_made c.args.calls.now.items) c.in-Some.address (front (rest_of c.args.others.now)) c.args.hands.now.items c.args.passes.now.items c.requires.due
-    (subst (λ (l : List Address). AreInHand c.args.self.now.script (row_of c.args.row.now) l c.args.hands.now.items) (front-some c.args.others.now c.in-Some.address (sym c.first_of.ensures ∙ c.in-Some.is)) c.requires.hands)
+    (subst (λ (l : List Address). AreInHand c.args.self.now.script (row_wallets (row_of c.args.row.now)) l c.args.hands.now.items) (front-some c.args.others.now c.in-Some.address (sym c.first_of.ensures ∙ c.in-Some.is)) c.requires.hands)
     (subst (λ (l : List Address). AreReady c.args.self.now c.args.row.now.lane (map call_made c.args.calls.now.items) l c.args.passes.now.items) (front-some c.args.others.now c.in-Some.address (sym c.first_of.ensures ∙ c.in-Some.is)) c.requires.passes)
     c.wallet_place-place.ensures.bank c.wallet_place-place.result c.wallet_place-place.ensures.place c.wallet_gate-gate.result.now c.index_mut.result.now
     ∙ ap (λ (x : _). Some x) (sym (c.wallet_gate-gate.ensures c.wallet_gate-gate.result.now))
@@ -50,7 +52,7 @@ pub take_wallet-cell-requires-clause-idle : goal.take_wallet-cell-requires-claus
 take_wallet-cell-requires-clause-idle g t c =
     ap (λ (p : WalletPass). p.stage) c.index_mut.ensures.value
     ∙ taking.idle-at c.args.self.now (row_of c.args.row.now) (map call_made c.args.calls.now.items) c.in-Some.address (front (rest_of c.args.others.now)) c.args.hands.now.items c.args.passes.now.items c.requires.due
-    (subst (λ (l : List Address). AreInHand c.args.self.now.script (row_of c.args.row.now) l c.args.hands.now.items) (front-some c.args.others.now c.in-Some.address (sym c.first_of.ensures ∙ c.in-Some.is)) c.requires.hands)
+    (subst (λ (l : List Address). AreInHand c.args.self.now.script (row_wallets (row_of c.args.row.now)) l c.args.hands.now.items) (front-some c.args.others.now c.in-Some.address (sym c.first_of.ensures ∙ c.in-Some.is)) c.requires.hands)
     (subst (λ (l : List Address). AreReady c.args.self.now c.args.row.now.lane (map call_made c.args.calls.now.items) l c.args.passes.now.items) (front-some c.args.others.now c.in-Some.address (sym c.first_of.ensures ∙ c.in-Some.is)) c.requires.passes)
     c.wallet_place-place.ensures.bank c.wallet_place-place.result c.wallet_place-place.ensures.place (record { address = c.in-Some.address; bytes = [] }) c.index_mut.result.now
 
@@ -66,7 +68,7 @@ with_wallets-made-requires g t c κs within =
     let facts : Facts c.args.self.now (row_of c.args.row.now) (map call_made c.args.calls.now.items) c.in-Some.address (front (rest_of c.args.others.now)) c.args.hands.now.items c.args.passes.now.items c.wallet_place-place.result c.wallet_gate-gate.result.now
     c.index_mut.result.now c.take_wallet-cell.new.pass c.take_wallet-cell.result.1 = record {
       due = c.requires.due;
-      hand = subst (λ (l : List Address). AreInHand c.args.self.now.script (row_of c.args.row.now) l c.args.hands.now.items) (front-some c.args.others.now c.in-Some.address (sym c.first_of.ensures ∙ c.in-Some.is)) c.requires.hands;
+      hand = subst (λ (l : List Address). AreInHand c.args.self.now.script (row_wallets (row_of c.args.row.now)) l c.args.hands.now.items) (front-some c.args.others.now c.in-Some.address (sym c.first_of.ensures ∙ c.in-Some.is)) c.requires.hands;
       ready = subst (λ (l : List Address). AreReady c.args.self.now c.args.row.now.lane (map call_made c.args.calls.now.items) l c.args.passes.now.items) (front-some c.args.others.now c.in-Some.address (sym c.first_of.ensures ∙ c.in-Some.is)) c.requires.passes;
       kept = c.wallet_place-place.ensures.bank;
       at = c.wallet_place-place.ensures.place;
@@ -91,7 +93,7 @@ with_wallets-made-requires g t c κs within =
                 last = omega (arith, c.requires.market.last, c.later-later.ensures, le-max_right c.take_wallet-cell.result.1.last c.args.stamp.now.number);
               },
               (
-                subst (AreInHand c.args.self.now.script (row_of c.args.row.now) (front (rest_of c.args.others.now)))
+                subst (AreInHand c.args.self.now.script (row_wallets (row_of c.args.row.now)) (front (rest_of c.args.others.now)))
                     (sym (c.put_in_hand.ensures.items ∙ ap (λ (x : CellState). c.args.hands.now.items ++ x ∷ []) c.take_wallet-cell.ensures.cell))
                     (facts-hand c.args.self.now (row_of c.args.row.now) (map call_made c.args.calls.now.items) c.in-Some.address (front (rest_of c.args.others.now)) c.args.hands.now.items c.args.passes.now.items c.wallet_place-place.result c.wallet_gate-gate.result.now
                     c.index_mut.result.now c.take_wallet-cell.new.pass c.take_wallet-cell.result.1 facts),
@@ -111,7 +113,7 @@ pub take_from_hand-cell-requires : goal.take_from_hand-cell-requires
 take_from_hand-cell-requires g t c =
     let hands_long : length c.put_in_hand.new.hands.items ≡ length c.args.hands.now.items + 1 =
     ap length c.put_in_hand.ensures.items ∙ length-append c.args.hands.now.items (c.take_wallet-cell.result.0 ∷ []) in
-    omega (arith, hands_long, AllZip-long (HasEntry (call_made (c.args.row.now, c.with_wallets-made.result))) c.put_in_hand.new.hands.items c.with_wallets-made.new.hands.items c.with_wallets-made.ensures.hands)
+    omega (arith, hands_long, AllZip-long (HasEntry (written_of (c.args.row.now, c.with_wallets-made.result))) c.put_in_hand.new.hands.items c.with_wallets-made.new.hands.items c.with_wallets-made.ensures.hands)
 
 -- ---- behind them
 
@@ -120,7 +122,7 @@ index_mut-requires-in-Some g t c =
     let facts : Facts c.args.self.now (row_of c.args.row.now) (map call_made c.args.calls.now.items) c.in-Some.address (front (rest_of c.args.others.now)) c.args.hands.now.items c.args.passes.now.items c.wallet_place-place.result c.wallet_gate-gate.result.now
     c.index_mut.result.now c.take_wallet-cell.new.pass c.take_wallet-cell.result.1 = record {
       due = c.requires.due;
-      hand = subst (λ (l : List Address). AreInHand c.args.self.now.script (row_of c.args.row.now) l c.args.hands.now.items) (front-some c.args.others.now c.in-Some.address (sym c.first_of.ensures ∙ c.in-Some.is)) c.requires.hands;
+      hand = subst (λ (l : List Address). AreInHand c.args.self.now.script (row_wallets (row_of c.args.row.now)) l c.args.hands.now.items) (front-some c.args.others.now c.in-Some.address (sym c.first_of.ensures ∙ c.in-Some.is)) c.requires.hands;
       ready = subst (λ (l : List Address). AreReady c.args.self.now c.args.row.now.lane (map call_made c.args.calls.now.items) l c.args.passes.now.items) (front-some c.args.others.now c.in-Some.address (sym c.first_of.ensures ∙ c.in-Some.is)) c.requires.passes;
       kept = c.wallet_place-place.ensures.bank;
       at = c.wallet_place-place.ensures.place;
@@ -132,7 +134,7 @@ index_mut-requires-in-Some g t c =
       arith,
       (facts-mid c.args.self.now (row_of c.args.row.now) (map call_made c.args.calls.now.items) c.in-Some.address (front (rest_of c.args.others.now)) c.args.hands.now.items c.args.passes.now.items c.wallet_place-place.result c.wallet_gate-gate.result.now
           c.index_mut.result.now c.take_wallet-cell.new.pass c.take_wallet-cell.result.1 facts
-          (call_made (c.args.row.now, c.with_wallets-made.result)) c.with_wallets-made.new.passes.items refl c.with_wallets-made.ensures.passes),
+          (written_of (c.args.row.now, c.with_wallets-made.result)) c.with_wallets-made.new.passes.items refl c.with_wallets-made.ensures.passes),
     )
 
 pub leave_wallet-requires-clause-entry : goal.leave_wallet-requires-clause-entry
@@ -140,7 +142,7 @@ leave_wallet-requires-clause-entry g t c =
     let facts : Facts c.args.self.now (row_of c.args.row.now) (map call_made c.args.calls.now.items) c.in-Some.address (front (rest_of c.args.others.now)) c.args.hands.now.items c.args.passes.now.items c.wallet_place-place.result c.wallet_gate-gate.result.now
     c.index_mut.result.now c.take_wallet-cell.new.pass c.take_wallet-cell.result.1 = record {
       due = c.requires.due;
-      hand = subst (λ (l : List Address). AreInHand c.args.self.now.script (row_of c.args.row.now) l c.args.hands.now.items) (front-some c.args.others.now c.in-Some.address (sym c.first_of.ensures ∙ c.in-Some.is)) c.requires.hands;
+      hand = subst (λ (l : List Address). AreInHand c.args.self.now.script (row_wallets (row_of c.args.row.now)) l c.args.hands.now.items) (front-some c.args.others.now c.in-Some.address (sym c.first_of.ensures ∙ c.in-Some.is)) c.requires.hands;
       ready = subst (λ (l : List Address). AreReady c.args.self.now c.args.row.now.lane (map call_made c.args.calls.now.items) l c.args.passes.now.items) (front-some c.args.others.now c.in-Some.address (sym c.first_of.ensures ∙ c.in-Some.is)) c.requires.passes;
       kept = c.wallet_place-place.ensures.bank;
       at = c.wallet_place-place.ensures.place;
@@ -148,13 +150,13 @@ leave_wallet-requires-clause-entry g t c =
       before_is = c.index_mut.ensures.value;
       is_out = c.take_wallet-cell.ensures.out;
     } in
-    let entry = AllZip-last (HasEntry (call_made (c.args.row.now, c.with_wallets-made.result))) c.args.hands.now.items c.take_from_hand-cell.new.hands.items c.take_wallet-cell.result.0 c.take_from_hand-cell.result
-    (subst (λ (l : List CellState). AllZip (HasEntry (call_made (c.args.row.now, c.with_wallets-made.result))) l (c.take_from_hand-cell.new.hands.items ++ c.take_from_hand-cell.result ∷ [])) c.put_in_hand.ensures.items
-    (subst (AllZip (HasEntry (call_made (c.args.row.now, c.with_wallets-made.result))) c.put_in_hand.new.hands.items) c.take_from_hand-cell.ensures.items c.with_wallets-made.ensures.hands)) in
+    let entry = AllZip-last (HasEntry (written_of (c.args.row.now, c.with_wallets-made.result))) c.args.hands.now.items c.take_from_hand-cell.new.hands.items c.take_wallet-cell.result.0 c.take_from_hand-cell.result
+    (subst (λ (l : List CellState). AllZip (HasEntry (written_of (c.args.row.now, c.with_wallets-made.result))) l (c.take_from_hand-cell.new.hands.items ++ c.take_from_hand-cell.result ∷ [])) c.put_in_hand.ensures.items
+    (subst (AllZip (HasEntry (written_of (c.args.row.now, c.with_wallets-made.result))) c.put_in_hand.new.hands.items) c.take_from_hand-cell.ensures.items c.with_wallets-made.ensures.hands)) in
     facts-leave c.args.self.now (row_of c.args.row.now) (map call_made c.args.calls.now.items) c.in-Some.address (front (rest_of c.args.others.now)) c.args.hands.now.items c.args.passes.now.items c.wallet_place-place.result c.wallet_gate-gate.result.now
     c.index_mut.result.now c.take_wallet-cell.new.pass c.take_wallet-cell.result.1 facts
-    (call_made (c.args.row.now, c.with_wallets-made.result)) c.with_wallets-made.new.passes.items refl c.with_wallets-made.ensures.passes c.index_mut-in-Some.result.now c.index_mut-in-Some.ensures.value c.take_from_hand-cell.result
-    (subst (λ (x : CellState). HasEntry (call_made (c.args.row.now, c.with_wallets-made.result)) x c.take_from_hand-cell.result) c.take_wallet-cell.ensures.cell entry.1)
+    (written_of (c.args.row.now, c.with_wallets-made.result)) c.with_wallets-made.new.passes.items refl c.with_wallets-made.ensures.passes c.index_mut-in-Some.result.now c.index_mut-in-Some.ensures.value c.take_from_hand-cell.result
+    (subst (λ (x : CellState). HasEntry (written_of (c.args.row.now, c.with_wallets-made.result)) x c.take_from_hand-cell.result) c.take_wallet-cell.ensures.cell entry.1)
     (omega (arith, c.with_wallets-made.ensures.told.later, c.later-later.ensures, le-max_left c.take_wallet-cell.result.1.last c.args.stamp.now.number))
 
 pub leave_wallet-requires-clause-away : goal.leave_wallet-requires-clause-away
@@ -162,7 +164,7 @@ leave_wallet-requires-clause-away g t c =
     let facts : Facts c.args.self.now (row_of c.args.row.now) (map call_made c.args.calls.now.items) c.in-Some.address (front (rest_of c.args.others.now)) c.args.hands.now.items c.args.passes.now.items c.wallet_place-place.result c.wallet_gate-gate.result.now
     c.index_mut.result.now c.take_wallet-cell.new.pass c.take_wallet-cell.result.1 = record {
       due = c.requires.due;
-      hand = subst (λ (l : List Address). AreInHand c.args.self.now.script (row_of c.args.row.now) l c.args.hands.now.items) (front-some c.args.others.now c.in-Some.address (sym c.first_of.ensures ∙ c.in-Some.is)) c.requires.hands;
+      hand = subst (λ (l : List Address). AreInHand c.args.self.now.script (row_wallets (row_of c.args.row.now)) l c.args.hands.now.items) (front-some c.args.others.now c.in-Some.address (sym c.first_of.ensures ∙ c.in-Some.is)) c.requires.hands;
       ready = subst (λ (l : List Address). AreReady c.args.self.now c.args.row.now.lane (map call_made c.args.calls.now.items) l c.args.passes.now.items) (front-some c.args.others.now c.in-Some.address (sym c.first_of.ensures ∙ c.in-Some.is)) c.requires.passes;
       kept = c.wallet_place-place.ensures.bank;
       at = c.wallet_place-place.ensures.place;
@@ -172,7 +174,7 @@ leave_wallet-requires-clause-away g t c =
     } in
     let number = facts-number c.args.self.now (row_of c.args.row.now) (map call_made c.args.calls.now.items) c.in-Some.address (front (rest_of c.args.others.now)) c.args.hands.now.items c.args.passes.now.items c.wallet_place-place.result c.wallet_gate-gate.result.now
     c.index_mut.result.now c.take_wallet-cell.new.pass c.take_wallet-cell.result.1 facts
-    (call_made (c.args.row.now, c.with_wallets-made.result)) c.with_wallets-made.new.passes.items refl c.with_wallets-made.ensures.passes c.index_mut-in-Some.result.now c.index_mut-in-Some.ensures.value in
+    (written_of (c.args.row.now, c.with_wallets-made.result)) c.with_wallets-made.new.passes.items refl c.with_wallets-made.ensures.passes c.index_mut-in-Some.result.now c.index_mut-in-Some.ensures.value in
     c.take_wallet-cell.ensures.away
     ∙ ap (λ (n : ℕ). record { gate = Some c.wallet_gate-gate.result.now; number = n; start = wallet_entries (left_by c.take_wallet-cell.result.1) }) (sym number)
 
@@ -181,7 +183,7 @@ returns-in-Some-clause-passes g t c =
     let facts : Facts c.args.self.now (row_of c.args.row.now) (map call_made c.args.calls.now.items) c.in-Some.address (front (rest_of c.args.others.now)) c.args.hands.now.items c.args.passes.now.items c.wallet_place-place.result c.wallet_gate-gate.result.now
     c.index_mut.result.now c.take_wallet-cell.new.pass c.take_wallet-cell.result.1 = record {
       due = c.requires.due;
-      hand = subst (λ (l : List Address). AreInHand c.args.self.now.script (row_of c.args.row.now) l c.args.hands.now.items) (front-some c.args.others.now c.in-Some.address (sym c.first_of.ensures ∙ c.in-Some.is)) c.requires.hands;
+      hand = subst (λ (l : List Address). AreInHand c.args.self.now.script (row_wallets (row_of c.args.row.now)) l c.args.hands.now.items) (front-some c.args.others.now c.in-Some.address (sym c.first_of.ensures ∙ c.in-Some.is)) c.requires.hands;
       ready = subst (λ (l : List Address). AreReady c.args.self.now c.args.row.now.lane (map call_made c.args.calls.now.items) l c.args.passes.now.items) (front-some c.args.others.now c.in-Some.address (sym c.first_of.ensures ∙ c.in-Some.is)) c.requires.passes;
       kept = c.wallet_place-place.ensures.bank;
       at = c.wallet_place-place.ensures.place;
@@ -189,30 +191,30 @@ returns-in-Some-clause-passes g t c =
       before_is = c.index_mut.ensures.value;
       is_out = c.take_wallet-cell.ensures.out;
     } in
-    subst (λ (l : List Address). HaveGrown c.args.self.now l (call_made (c.args.row.now, c.with_wallets-made.result)) c.args.passes.now.items
+    subst (λ (l : List Address). HaveGrown c.args.self.now l (written_of (c.args.row.now, c.with_wallets-made.result)) c.args.passes.now.items
     (set c.with_wallets-made.new.passes.items c.wallet_place-place.result c.leave_wallet.new.pass)) (sym (front-some c.args.others.now c.in-Some.address (sym c.first_of.ensures ∙ c.in-Some.is)))
     (facts-grown c.args.self.now (row_of c.args.row.now) (map call_made c.args.calls.now.items) c.in-Some.address (front (rest_of c.args.others.now)) c.args.hands.now.items c.args.passes.now.items c.wallet_place-place.result c.wallet_gate-gate.result.now
     c.index_mut.result.now c.take_wallet-cell.new.pass c.take_wallet-cell.result.1 facts
-    (call_made (c.args.row.now, c.with_wallets-made.result)) c.with_wallets-made.new.passes.items refl c.with_wallets-made.ensures.passes c.index_mut-in-Some.result.now c.index_mut-in-Some.ensures.value c.leave_wallet.new.pass c.leave_wallet.ensures)
+    (written_of (c.args.row.now, c.with_wallets-made.result)) c.with_wallets-made.new.passes.items refl c.with_wallets-made.ensures.passes c.index_mut-in-Some.result.now c.index_mut-in-Some.ensures.value c.leave_wallet.new.pass c.leave_wallet.ensures)
 
 pub returns-in-Some-clause-hands : goal.returns-in-Some-clause-hands
 returns-in-Some-clause-hands g t c =
-    (AllZip-last (HasEntry (call_made (c.args.row.now, c.with_wallets-made.result))) c.args.hands.now.items c.take_from_hand-cell.new.hands.items c.take_wallet-cell.result.0 c.take_from_hand-cell.result
-    (subst (λ (l : List CellState). AllZip (HasEntry (call_made (c.args.row.now, c.with_wallets-made.result))) l (c.take_from_hand-cell.new.hands.items ++ c.take_from_hand-cell.result ∷ [])) c.put_in_hand.ensures.items
-    (subst (AllZip (HasEntry (call_made (c.args.row.now, c.with_wallets-made.result))) c.put_in_hand.new.hands.items) c.take_from_hand-cell.ensures.items c.with_wallets-made.ensures.hands))).0
+    (AllZip-last (HasEntry (written_of (c.args.row.now, c.with_wallets-made.result))) c.args.hands.now.items c.take_from_hand-cell.new.hands.items c.take_wallet-cell.result.0 c.take_from_hand-cell.result
+    (subst (λ (l : List CellState). AllZip (HasEntry (written_of (c.args.row.now, c.with_wallets-made.result))) l (c.take_from_hand-cell.new.hands.items ++ c.take_from_hand-cell.result ∷ [])) c.put_in_hand.ensures.items
+    (subst (AllZip (HasEntry (written_of (c.args.row.now, c.with_wallets-made.result))) c.put_in_hand.new.hands.items) c.take_from_hand-cell.ensures.items c.with_wallets-made.ensures.hands))).0
 
 -- ---- where no wallet is still to come
 
 pub act_in-requires-clause-hands : goal.act_in-requires-clause-hands
 act_in-requires-clause-hands g t c =
-    subst (λ (l : List Address). AreInHand c.args.self.now.script (row_of c.args.row.now) l c.args.hands.now.items)
+    subst (λ (l : List Address). AreInHand c.args.self.now.script (row_wallets (row_of c.args.row.now)) l c.args.hands.now.items)
     (front-none c.args.others.now (sym c.first_of.ensures ∙ c.in-None.is)) c.requires.hands
 
 pub returns-in-None-clause-passes : goal.returns-in-None-clause-passes
 returns-in-None-clause-passes g t c =
-    let call : Stamped Call = call_made (c.args.row.now, c.act_in.result) in
-    subst (λ (l : List Address). HaveGrown c.args.self.now l call c.args.passes.now.items c.args.passes.now.items)
+    let written : Written = written_of (c.args.row.now, c.act_in.result) in
+    subst (λ (l : List Address). HaveGrown c.args.self.now l written c.args.passes.now.items c.args.passes.now.items)
     (sym (front-none c.args.others.now (sym c.first_of.ensures ∙ c.in-None.is)))
-    (grown-none call c.args.self.now.script.start.wallets c.args.passes.now.items
+    (grown-none written c.args.self.now.script.start.wallets c.args.passes.now.items
     (AllZip-long (MayDraw c.args.row.now.lane (map call_made c.args.calls.now.items) (front c.args.others.now)) c.args.self.now.script.start.wallets c.args.passes.now.items
     c.requires.passes.each))

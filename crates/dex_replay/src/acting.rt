@@ -1,0 +1,47 @@
+//! All items of a script act on its cells, one after the other.
+
+ghost use Rattle.std.specs.Prelude.{◌≡◌, ◌+◌, ◌<◌, length, map, slice_index_or, true, false};
+ghost use Rattle.dex_types.specs.declared.rows.Row.{Row as PlainBuffer};
+ghost use Rattle.dex_types.specs.Rows.{row_of};
+ghost use Rattle.dex_fold.specs.Items.{items_of};
+ghost use Rattle.dex_bank.specs.Cells.{opened_of, world_of};
+ghost use Rattle.dex_bank.specs.Opened.{opened};
+ghost use Rattle.dex_script.specs.Drafts.{PlainScript};
+ghost use Rattle.dex_script.specs.Facts.{IsScript};
+ghost use Rattle.dex_replay.specs.Replays.{world_after};
+
+use dex_bank::Cells;
+use dex_types::Row;
+
+/// Whether the row at a place and the one behind it are the legs of one swap: they have one number.
+pub fn is_swap(rows: &[Row], place: usize) -> bool
+    requires { place < length rows.now }
+    ensures yes { result ≡ true → (row : PlainBuffer) → (place + 1 < length rows.now)
+        × ((slice_index_or rows.now place row).number ≡ (slice_index_or rows.now (place + 1) row).number) }
+    ensures no { result ≡ false → (row : PlainBuffer) → place + 1 < length rows.now
+        → (slice_index_or rows.now place row).number ≡ (slice_index_or rows.now (place + 1) row).number → ⊥ }
+{
+    rows.len() - place > 1 && rows[place].number == rows[place + 1].number
+}
+
+/// All items of a script act in their order on the cells with which it starts: each row, or the two legs of a swap.
+pub fn act_all(cells: Cells, rows: &[Row]) -> Cells
+    requires { (script : PlainScript) × IsScript script × (cells ≡ opened script)
+        × (map row_of rows.now ≡ script.rows) }
+    ensures acted { (script : PlainScript) → IsScript script → cells ≡ opened script
+        → map row_of rows.entry.now ≡ script.rows → world_of result ≡ world_after script (items_of script.rows) }
+    ensures kept { opened_of result ≡ opened_of cells }
+{
+    let mut cells = cells;
+    let mut place = 0;
+    'item: while place < rows.len() {
+        if is_swap(rows, place) {
+            cells.step_two(&rows[place], &rows[place + 1]);
+            place += 2;
+        } else {
+            cells.step(&rows[place]);
+            place += 1;
+        }
+    }
+    cells
+}
