@@ -43,7 +43,6 @@ are-rows script are = record {
   rising = λ i j d before within. let less = are.single i j d before within in omega (arith, less);
   legs = λ i j d before within same. let less = are.single i j d before within in absurd (omega (arith, less, same));
   two = λ place row within. are.single place (place + 2) row (omega arith) within;
-  single = are.single;
   lanes = are.lanes;
 }
 

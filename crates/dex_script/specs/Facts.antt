@@ -65,15 +65,13 @@ HasNoThree rows =
     (place : ℕ) (row : PlainRow) → place + 2 < length rows
     → (slice_index_or rows place row).number < (slice_index_or rows (place + 2) row).number
 
--- the rows of a script: not too many items, each row of the start, with numbers that never fall, and rows of one number are two legs.
--- Today no two rows have one number (`single`)
+-- the rows of a script: not too many items, each row of the start, with numbers that never fall, and rows of one number are two legs
 pub record AreRows (script : PlainScript) : Type 0 where
   pub few : length (items_of script.rows) ≤ 100000
   pub each : All (IsRowOf script.start) script.rows
   pub rising : AllPairs (λ (one other : PlainRow). one.number ≤ other.number) script.rows
   pub legs : AllPairs (λ (one other : PlainRow). one.number ≡ other.number → AreLegs one other) script.rows
   pub two : HasNoThree script.rows
-  pub single : HasNoSwap script.rows
   pub lanes : script.lanes ≡ lanes_of script.rows
 
 -- what holds of every script
