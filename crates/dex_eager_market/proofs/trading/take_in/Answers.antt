@@ -1,0 +1,28 @@
+use Rattle.std.proofs.Common.{Some, ◌≡◌, ◌∙◌, ◌+◌, ◌^◌, sym, subst, arith}
+use Rattle.dex_take.specs.TakeTerms.{meeting_with, take_of}
+use Rattle.dex_eager_market.specs.States.{market_by}
+use Rattle.dex_eager_market.specs.Trading.{IsTakeForeseen}
+use Rattle.dex_eager_market.proofs.Changes.{all-more}
+use Rattle.dex_eager_market.proofs.Trades.{take-known, take-left, take-moves}
+use Rattle.dex_eager_market.proofs.trading.take_in.Goals as goal
+
+pub settle_take-requires-clause-modest : goal.settle_take-requires-clause-modest
+settle_take-requires-clause-modest c = (take-known c.args.sizes c.args.taker c.args.opposing.now.orders.items c.foresee_take.result c.in-Some.foreseen c.in-Some.is c.foresee_take.ensures).1.modest
+
+pub settle_take-requires-clause-foreseen : goal.settle_take-requires-clause-foreseen
+settle_take-requires-clause-foreseen c = (take-known c.args.sizes c.args.taker c.args.opposing.now.orders.items c.foresee_take.result c.in-Some.foreseen c.in-Some.is c.foresee_take.ensures).1.reached
+
+pub settle_take-requires-clause-pc : goal.settle_take-requires-clause-pc
+settle_take-requires-clause-pc c = (take-known c.args.sizes c.args.taker c.args.opposing.now.orders.items c.foresee_take.result c.in-Some.foreseen c.in-Some.is c.foresee_take.ensures).1.pc
+
+pub returns-in-Some-clause-market : goal.returns-in-Some-clause-market
+returns-in-Some-clause-market c = λ own next min_lots min_pc.
+    let side = c.args.taker.id_side in
+    let t = take_of c.args.taker min_lots min_pc in
+    let met = meeting_with c.args.sizes c.args.taker c.args.opposing.now.orders.items in
+    take-left side c.args.sizes t met own c.args.opposing.now c.settle_take.new.opposing next c.args.accounts.now.items c.settle_take.new.accounts.items c.args.takings.now
+    c.settle_take.new.takings c.settle_take.ensures.opposing.1 c.settle_take.ensures.left c.settle_take.ensures.worths c.settle_take.ensures.takings
+    ∙ sym (take-moves side t met (market_by side c.args.sizes own c.args.opposing.now next c.args.accounts.now.items c.args.takings.now) (take-known c.args.sizes c.args.taker c.args.opposing.now.orders.items c.foresee_take.result c.in-Some.foreseen c.in-Some.is c.foresee_take.ensures).0)
+
+pub returns-in-Some-clause-within : goal.returns-in-Some-clause-within
+returns-in-Some-clause-within c = λ bound all. all-more (bound + 2 ^ 81) (bound + 2 ^ 82) _ (omega arith) (c.settle_take.ensures.within bound all)
