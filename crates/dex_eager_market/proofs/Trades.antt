@@ -242,6 +242,14 @@ pub take-demand : (side : Side) (sizes : Lots) (taker : Taker) → take_demand s
 take-demand Bid sizes taker = refl
 take-demand Ask sizes taker = refl
 
+-- it meets the same, whatever it has to fill at least
+pub take-bare : (sizes : Lots) (taker : Taker) (min_lots min_pc : ℕ) (items : List Order) → take_meets sizes taker items ≡ take_meeting taker.id_side sizes (take_of taker min_lots min_pc) items
+take-bare sizes taker min_lots min_pc items = by taker.id_side
+  where
+    by : (side : Side) → take_meeting side sizes (take_of taker 0 0) items ≡ take_meeting side sizes (take_of taker min_lots min_pc) items
+    by Bid = refl
+    by Ask = refl
+
 -- ---- sides afterwards
 
 -- a side of which a front is gone

@@ -210,7 +210,7 @@ fn cancel(state: &mut State, owner: Address, what: CancelWhat)
     match what {
         CancelWhat::ById { side, id } => cancel_id(state, owner, side, id),
         CancelWhat::ByClient(client) => cancel_client(state, owner, client),
-        CancelWhat::ByClients(ids) => cancel_clients(state, owner, ids),
+        CancelWhat::ByClients(ids) => cancel_clients(state, owner, &ids),
         CancelWhat::Prune(limit) => cancel_first(state, owner, limit),
     }
 }

@@ -14,7 +14,7 @@ use dex_types::{Address, ClientIds, Order, Side, is_same};
 /// Takes an order off its side.
 fn take_off(state: &mut State, gone: Resting)
     ensures off { eager_of state.new ≡ eager.without_all (resting_of gone ∷ []) (eager_of state.old) }
-    ensures listed { state.new.listed ≡ state.old.listed }
+    ensures listed { state.new.listed.items ≡ state.old.listed.items }
     ensures kept { (bound : ℕ) → IsKept bound state.old → IsKept bound state.new }
 {
     match gone.side {
@@ -27,7 +27,7 @@ fn take_off(state: &mut State, gone: Resting)
 fn take_found(state: &mut State, found: Option<Resting>)
     ensures off { eager_of state.new
         ≡ eager.without_all (cancel.at_most_one (resting_there found)) (eager_of state.old) }
-    ensures listed { state.new.listed ≡ state.old.listed }
+    ensures listed { state.new.listed.items ≡ state.old.listed.items }
     ensures kept { (bound : ℕ) → IsKept bound state.old → IsKept bound state.new }
 {
     if let Some(gone) = found {
@@ -126,10 +126,10 @@ fn cancel_next(state: &mut State, client: u64)
 }
 
 /// Cancels for each client id of a list the account's oldest order that has it.
-pub fn cancel_clients(state: &mut State, owner: Address, ids: ClientIds)
+pub fn cancel_clients(state: &mut State, owner: Address, ids: &ClientIds)
     requires { CanList state.old }
     ensures does { eager_of state.new
-        ≡ (eager.eager_cancel (cancel.ByClients (take ids.count ids.ids)) (eager_of state.old) owner).market }
+        ≡ (eager.eager_cancel (cancel.ByClients (take ids.now.count ids.now.ids)) (eager_of state.old) owner).market }
     ensures kept { (bound : ℕ) → IsKept bound state.old → IsKept bound state.new }
 {
     list_orders(state, owner);

@@ -18,3 +18,6 @@ returns-clause-does c =
     ∙ ap (λ (m : Eager). without_all (at_most_one (resting_there found)) m) c.list_orders.ensures.same
     ∙ ap (λ (g : Option RestingOrder). without_all (at_most_one g) e) found_is
     ∙ sym (client-taken c.args.owner c.args.client e)
+
+pub returns-clause-kept : goal.returns-clause-kept
+returns-clause-kept c = λ bound kept. c.take_found.ensures.kept bound (c.list_orders.ensures.kept bound kept)

@@ -7,7 +7,7 @@ use Rattle.dex_eager_market.proofs.cancelling.cancel_first.Given as goal
 
 abbrev pub invariant-loop-place : goal.invariant-loop-place
 invariant-loop-place l = record {
-  off : eager_of l.state ≡ without_all (take l.place (all_orders_of l.owner l.fn.state.now.bids.orders.items l.fn.state.now.asks.orders.items)) (eager_of l.fn.state.now);
-  listed : map resting_of l.state.listed.items ≡ all_orders_of l.owner l.fn.state.now.bids.orders.items l.fn.state.now.asks.orders.items;
-  kept : (bound : ℕ) → IsKept bound l.fn.state.now → IsKept bound l.state;
+  off : eager_of l.state ≡ without_all (take l.place (all_orders_of l.fn.owner l.fn.state.bids.orders.items l.fn.state.asks.orders.items)) (eager_of l.fn.state);
+  listed : map resting_of l.state.listed.items ≡ all_orders_of l.fn.owner l.fn.state.bids.orders.items l.fn.state.asks.orders.items;
+  kept : (bound : ℕ) → IsKept bound l.fn.state → IsKept bound l.state;
 }

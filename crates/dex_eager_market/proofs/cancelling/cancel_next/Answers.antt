@@ -1,4 +1,4 @@
-use Rattle.std.proofs.Common.{List, Vec, ◌≡◌, ◌∙◌, map, ap, arith}
+use Rattle.std.proofs.Common.{List, ◌≡◌, ◌∙◌, map, ap, arith}
 use Rattle.dex_types.specs.Cancel.{taken_by, without_taken}
 use Rattle.dex_eager_market.specs.declared.listing.Resting.{Resting}
 use Rattle.dex_eager_market.specs.Listing.{resting_of, resting_there}
@@ -12,7 +12,7 @@ returns-clause-does c = λ clients.
     ids-next c.args.client clients (resting_there found) (map resting_of c.args.state.now.listed.items) (map resting_of c.forget.new.list.items) (eager_of c.args.state.now)
     (eager_of c.take_found.new.state)
     (c.taken_by-found.ensures ∙ ap (λ (l : List Resting). taken_by c.args.client (map resting_of l)) c.deref.ensures.value)
-    (c.forget.ensures.list ∙ ap (λ (l : Vec Resting). without_taken (resting_there found) (map resting_of l.items)) c.take_found.ensures.listed) c.take_found.ensures.off
+    (c.forget.ensures.list ∙ ap (λ (l : List Resting). without_taken (resting_there found) (map resting_of l)) c.take_found.ensures.listed) c.take_found.ensures.off
 
 pub returns-clause-kept : goal.returns-clause-kept
 returns-clause-kept c = λ bound kept.
