@@ -181,6 +181,17 @@ fn take_taker(
     }
 }
 
+/// The same order of this account.
+fn for_account(taker: Taker, owner: Address) -> Taker
+    ensures side { result.id_side ≡ taker.id_side }
+    ensures order { order_of result ≡ acts.order_for owner taker }
+{
+    Taker {
+        account: owner,
+        ..taker
+    }
+}
+
 /// A new order of the account that its row names first.
 fn order_row(state: &mut State, row: &Row, taker: Taker)
     requires { IsKept (2 ^ 124) state.old }
@@ -191,13 +202,7 @@ fn order_row(state: &mut State, row: &Row, taker: Taker)
 {
     match acting(state, &row.named) {
         None => {}
-        Some(owner) => order(
-            state,
-            Taker {
-                account: owner,
-                ..taker
-            },
-        ),
+        Some(owner) => order(state, for_account(taker, owner)),
     }
 }
 

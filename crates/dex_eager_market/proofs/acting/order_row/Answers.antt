@@ -1,6 +1,8 @@
 use Rattle.std.proofs.Common.{List, ◌∙◌, ◌+◌, ◌^◌, ap, sym, arith}
 use Rattle.dex_types.specs.declared.addresses.Address.{Address}
+use Rattle.dex_types.specs.declared.terms.Side.{Side}
 use Rattle.dex_types.specs.NewOrder.{NewOrder}
+use Rattle.dex_match.specs.OrderTerms.{order_of}
 use Rattle.dex_eager.specs.Eager.{Eager, EagerStep, eager_order, order_by, order_meeting}
 use Rattle.dex_eager_market.specs.Acting.{account_named, acted}
 use Rattle.dex_eager_market.specs.States.{eager_of}
@@ -14,8 +16,10 @@ returns-in-Some-clause-does c = λ order same.
     let side = c.args.taker.id_side in
     let act : Address → EagerStep = eager_order side order e in
     let named = c.acting.ensures ∙ ap (λ (l : List Address). account_named l e.worths) c.deref.ensures.value in
+    let n = order_of c.for_account.result in
     c.order.ensures.does
-    ∙ ap (λ (n : NewOrder). (order_by side n (order_meeting side n e) e).market) (same c.in-Some.owner)
+    ∙ ap (λ (s : Side). (order_by s n (order_meeting s n e) e).market) c.for_account.ensures.side
+    ∙ ap (λ (n : NewOrder). (order_by side n (order_meeting side n e) e).market) (c.for_account.ensures.order ∙ same c.in-Some.owner)
     ∙ sym (ap (λ (s : EagerStep). s.market) (acts-named act e c.args.row.now.named.items ∙ ap (acted act e) (sym named ∙ c.in-Some.is)))
 
 pub returns-in-None-clause-does : goal.returns-in-None-clause-does
