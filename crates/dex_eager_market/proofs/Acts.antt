@@ -1,5 +1,5 @@
 -- The account that a row names first.
-use Rattle.std.proofs.Common.{ℕ, zero, suc, ◌<◌, ◌≡◌, Bool, true, false, List, [], ◌∷◌, length, get_or, Option, Some, None, refl, ap, ◌∙◌, arith, if◌then◌else◌}
+use Rattle.std.proofs.Common.{◌<◌, ◌≡◌, Bool, true, false, List, [], ◌∷◌, length, get_or, Some, None, refl, arith, if◌then◌else◌}
 use Rattle.dex_types.specs.declared.addresses.Address.{Address}
 use Rattle.dex_eager.specs.Eager.{Eager, EagerStep, Worths, by_account, has_account, unchanged}
 use Rattle.dex_eager_market.specs.Acting.{account_named, acted}

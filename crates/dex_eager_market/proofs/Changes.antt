@@ -1,12 +1,12 @@
 -- Changes of what accounts gained and paid.
-use Rattle.std.proofs.Common.{ℕ, zero, suc, pos, ◌+◌, ◌-ℤ◌, ◌+ℤ◌, ◌^◌, ◌<◌, ◌≤◌, ◌≡◌, ⊎_elim, Bool, true, false, if◌then◌else◌, List, [], ◌∷◌, ◌++◌, length, map, get_or, take, drop, refl, sym, ap, ◌∙◌, subst, arith}
+use Rattle.std.proofs.Common.{ℕ, zero, suc, pos, ◌+◌, ◌-ℤ◌, ◌+ℤ◌, ◌<◌, ◌≤◌, ◌≡◌, ⊎_elim, Bool, true, false, if◌then◌else◌, List, [], ◌∷◌, ◌++◌, length, map, get_or, take, drop, refl, sym, ap, ◌∙◌, subst, arith}
 use Rattle.std.specs.List.{All}
 use Rattle.std.proofs.lemmas.Bool.{cases_Bool, cond-true, cond-false}
 use Rattle.std.proofs.lemmas.Int.{ints}
 use Rattle.std.proofs.lemmas.List.Elements.{All-nil, All-cons, All-head, All-tail, All-weaker}
 use Rattle.dex_types.specs.declared.addresses.Address.{Address}
 use Rattle.dex_types.specs.Addresses.{is_same}
-use Rattle.dex_eager.specs.Eager.{Worths, with_change}
+use Rattle.dex_eager.specs.Eager.{with_change}
 use Rattle.dex_eager.specs.Worth.{Worth, plus}
 use Rattle.dex_worth.specs.Amounts as amounts
 use Rattle.dex_eager_market.specs.declared.accounts.Account.{Account}

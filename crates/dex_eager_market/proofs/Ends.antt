@@ -1,5 +1,5 @@
 -- A meeting that goes no further was foreseen.
-use Rattle.std.proofs.Common.{ℕ, zero, suc, ◌+◌, ◌-◌, ◌*◌, ◌^◌, ◌<◌, ◌≤◌, ◌≡◌, Bool, true, false, List, [], ◌∷◌, length, drop, Option, is_some, refl, sym, ap, ◌∙◌, subst, arith}
+use Rattle.std.proofs.Common.{ℕ, zero, suc, ◌-◌, ◌*◌, ◌≤◌, ◌≡◌, false, List, [], ◌∷◌, length, drop, is_some, refl, sym, ap, ◌∙◌, arith}
 use Rattle.std.specs.List.{All}
 use Rattle.std.proofs.Math.Nat.{mul-le-mul_right, mul-le-mul_left}
 use Rattle.std.proofs.lemmas.List.Elements.{All-nil, All-cons, All-head, All-tail, All-drop}
@@ -7,7 +7,7 @@ use Rattle.dex_types.specs.declared.orders.Order.{Order}
 use Rattle.dex_types.specs.declared.terms.Lots.{Lots}
 use Rattle.dex_types.specs.declared.terms.Side.{Side}
 use Rattle.dex_types.specs.declared.terms.Side.TheVariants.{Bid, Ask}
-use Rattle.dex_types.specs.Meeting.{TakerTerms, Demand, Meeting, aborts_at, less, met_none}
+use Rattle.dex_types.specs.Meeting.{TakerTerms, Meeting, aborts_at, less, met_none}
 use Rattle.dex_types.specs.Posting.{still_crosses}
 use Rattle.dex_types.specs.Side.{crosses, price_of}
 use Rattle.dex_meet.specs.Taker.{demand}

@@ -1,12 +1,10 @@
 -- What makers are paid is what a market that pays at once pays them.
-use Rattle.std.proofs.Common.{ℕ, ◌+◌, ◌-◌, ◌*◌, ◌^◌, ◌<◌, ◌≤◌, ◌≡◌, eqb, Bool, true, false, List, [], ◌∷◌, ◌++◌, map, refl, sym, ap, ◌∙◌, arith, if◌then◌else◌}
-use Rattle.std.specs.List.{All}
+use Rattle.std.proofs.Common.{ℕ, ◌≡◌, eqb, Bool, true, false, List, [], ◌∷◌, ◌++◌, refl, ap, ◌∙◌, if◌then◌else◌}
 use Rattle.dex_types.specs.declared.orders.Order.{Order}
 use Rattle.dex_types.specs.declared.terms.Side.{Side}
 use Rattle.dex_types.specs.declared.terms.Side.TheVariants.{Bid, Ask}
 use Rattle.dex_types.specs.Meeting.{TakerTerms, Demand, Meeting, is_own, maker_fill, met_events, met_first, met_none, plain_out}
 use Rattle.dex_types.specs.QueuedEvent.{QueuedEvent}
-use Rattle.dex_types.specs.Side.{opposite}
 use Rattle.dex_meet.specs.declared.wants.Terms.{Terms}
 use Rattle.dex_meet.specs.Taker.{fill_met, taking}
 use Rattle.dex_eager.specs.Eager.{Worths, with_change, with_fills}

@@ -1,32 +1,30 @@
 -- What a new order or a take leaves, part by part, is the market after it.
-use Rattle.std.proofs.Common.{ℕ, ◌+◌, ◌-◌, ◌*◌, ◌/◌, ◌^◌, ◌<◌, ◌≤◌, ◌≡◌, ◌||◌, ⊎_elim, Bool, true, false, cond, eqb, List, [], ◌∷◌, length, map, take, Option, Some, is_some, refl, sym, ap, ◌∙◌, subst, arith, inl, inr}
+use Rattle.std.proofs.Common.{ℕ, ◌+◌, ◌-◌, ◌*◌, ◌/◌, ◌^◌, ◌<◌, ◌≤◌, ◌≡◌, ◌||◌, Bool, true, false, eqb, List, length, map, take, Option, Some, is_some, refl, sym, ap, ◌∙◌, subst, arith, inl, inr}
 use Rattle.std.specs.List.{All}
 use Rattle.std.specs.Vec.{vec_capacity}
-use Rattle.std.proofs.Math.Nat.{mul-div-le, mul_comm, mul-le-mul_right}
-use Rattle.std.proofs.lemmas.Bool.{cases_Bool, cond-true, cond-false, cases_lt, eqb-false}
+use Rattle.std.proofs.Math.Nat.{mul-div-le, mul_comm}
+use Rattle.std.proofs.lemmas.Bool.{cond-true, cond-false, cases_lt, eqb-false}
 use Rattle.std.proofs.lemmas.Bool.Decides.{nat_tests}
 use Rattle.std.proofs.lemmas.List.Elements.{All-take}
 use Rattle.dex_types.specs.declared.orders.Order.{Order}
 use Rattle.dex_types.specs.declared.terms.Lots.{Lots}
-use Rattle.dex_types.specs.declared.terms.OrderType.{OrderType}
 use Rattle.dex_types.specs.declared.terms.Side.{Side}
 use Rattle.dex_types.specs.declared.terms.Side.TheVariants.{Bid, Ask}
 use Rattle.dex_types.specs.declared.terms.Tier.{Tier}
 use Rattle.dex_types.specs.declared.terms.Tier.TheVariants.{Base, Srm2, Srm3, Srm4, Srm5, Srm6, Msrm}
 use Rattle.dex_types.specs.Cancel.{without_order}
-use Rattle.dex_types.specs.Fees.{spendable, tier_number, taker_fee}
+use Rattle.dex_types.specs.Fees.{spendable, tier_number}
 use Rattle.dex_types.specs.Meeting.{TakerTerms, Demand, Meeting, meet}
-use Rattle.dex_types.specs.NewOrder.{NewOrder, budget, demand_of, fee_of, full_lock, rested, resting, spent, terms_of}
-use Rattle.dex_types.specs.Owed.{order_lock}
-use Rattle.dex_types.specs.Posting.{affordable, can_rest, post, rested_lots, still_crosses}
-use Rattle.dex_types.specs.Side.{by_side, id_of, lock, opposite, price_of}
-use Rattle.dex_types.specs.Take.{Take, take_budget, take_demand, take_fee, take_meeting, take_terms}
+use Rattle.dex_types.specs.NewOrder.{NewOrder, budget, demand_of, fee_of, full_lock, rested, resting, terms_of}
+use Rattle.dex_types.specs.Posting.{post, still_crosses}
+use Rattle.dex_types.specs.Side.{by_side, id_of, lock, price_of}
+use Rattle.dex_types.specs.Take.{Take, take_demand, take_fee, take_meeting, take_terms}
 use Rattle.dex_fees.proofs.FeeLaws.{spendable-within}
 use Rattle.dex_laws.proofs.BookSideLaws.{All-without_order, length-without_order}
 use Rattle.dex_laws.proofs.DemandLaws.{meet-budget}
 use Rattle.dex_laws.proofs.IdLaws.{price_of-id_of}
 use Rattle.dex_laws.proofs.PostLaws.{All-posted, post-full, post-none, post-room}
-use Rattle.dex_laws.proofs.SpendLaws.{meet-spendable, rested-paid, spent-le}
+use Rattle.dex_laws.proofs.SpendLaws.{rested-paid}
 use Rattle.dex_match.specs.declared.order_terms.Taker.{Taker}
 use Rattle.dex_match.specs.OrderTerms.{meeting_with as order_meets, order_of}
 use Rattle.dex_meet.specs.declared.wants.Terms.{Terms}
@@ -34,9 +32,9 @@ use Rattle.dex_meet.specs.declared.wants.Want.{Want}
 use Rattle.dex_meet.specs.Taker.{demand, taking}
 use Rattle.dex_sound.specs.Exchange.{taker_gets, taker_pays}
 use Rattle.dex_take.specs.TakeTerms.{meeting_with as take_meets, take_of}
-use Rattle.dex_eager.specs.Eager.{Eager, EagerStep, Worths, after_meeting, after_new_order, is_too_large, order_by, order_meeting, take_by, unchanged, with_change, with_fills}
+use Rattle.dex_eager.specs.Eager.{Eager, EagerStep, Worths, after_meeting, after_new_order, is_too_large, order_by, take_by, with_change, with_fills}
 use Rattle.dex_eager.specs.Slots.{maker_fills}
-use Rattle.dex_eager.specs.Worth.{Worth, net}
+use Rattle.dex_eager.specs.Worth.{net}
 use Rattle.dex_eager_market.specs.declared.accounts.Account.{Account}
 use Rattle.dex_eager_market.specs.declared.states.Book.{Book}
 use Rattle.dex_eager_market.specs.declared.states.State.{State}

@@ -1,9 +1,8 @@
 -- Accounts of a market that pays at once: what came in for each, and what it paid.
-use Rattle.std.specs.Prelude.{ℕ, pos, ◌+◌, ◌-ℤ◌, Option, Some, None, if◌then◌else◌}
+use Rattle.std.specs.Prelude.{ℕ, pos, ◌-ℤ◌, Option, Some, None, if◌then◌else◌}
 use Rattle.dex_types.specs.declared.addresses.Address.{Address}
 use Rattle.dex_types.specs.Addresses.{is_same}
 use Rattle.dex_eager.specs.Worth.{Worth}
-use Rattle.dex_worth.specs.declared.amounts.Amounts.{Amounts}
 use Rattle.dex_worth.specs.Amounts as amounts
 use Rattle.dex_worth.specs.Rows.{plain_worth}
 use Rattle.dex_worth.specs.declared.table.Worth as declared

@@ -1,4 +1,4 @@
-use Rattle.std.proofs.Common.{List, Option, None, ◌≡◌, ◌∙◌, ◌+◌, ◌^◌, map, ap, sym, arith}
+use Rattle.std.proofs.Common.{List, ◌∙◌, ◌+◌, ◌^◌, ap, sym, arith}
 use Rattle.dex_types.specs.declared.addresses.Address.{Address}
 use Rattle.dex_cancel.specs.Cancelling.{named_by}
 use Rattle.dex_eager.specs.Eager.{Eager, EagerStep, eager_cancel}

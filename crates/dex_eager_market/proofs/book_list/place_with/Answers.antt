@@ -1,4 +1,4 @@
-use Rattle.std.proofs.Common.{◌∙◌, ◌++◌, take, ap, sym, arith}
+use Rattle.std.proofs.Common.{◌∙◌, ◌++◌, take, ap, arith}
 use Rattle.std.proofs.lemmas.Bool.{eq-eqb, ne_eqb}
 use Rattle.dex_eager_market.proofs.Lists.{find-here, find-more, find-none, without-here, without-more, without-none}
 use Rattle.dex_eager_market.proofs.Meetings.{no_order}

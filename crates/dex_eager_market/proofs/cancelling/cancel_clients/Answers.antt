@@ -1,6 +1,6 @@
-use Rattle.std.proofs.Common.{ℕ, List, ◌≡◌, ◌≤◌, ◌<◌, ◌∙◌, ◌∷◌, [], ◌+◌, drop, get_or, length, map, take, ap, sym, arith}
+use Rattle.std.proofs.Common.{ℕ, List, ◌≡◌, ◌≤◌, ◌<◌, ◌∙◌, ◌∷◌, ◌+◌, drop, get_or, length, map, take, ap, sym, arith}
 use Rattle.std.proofs.lemmas.List.{drop_all, drop_more, get_or-take, length-take-le}
-use Rattle.dex_types.specs.Cancel.{RestingOrder, all_orders_of, taken_by_all}
+use Rattle.dex_types.specs.Cancel.{RestingOrder, taken_by_all}
 use Rattle.dex_eager.specs.Eager.{Eager, without_all}
 use Rattle.dex_eager_market.specs.Listing.{resting_of}
 use Rattle.dex_eager_market.specs.States.{eager_of}

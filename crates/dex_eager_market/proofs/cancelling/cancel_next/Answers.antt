@@ -1,4 +1,4 @@
-use Rattle.std.proofs.Common.{List, ◌≡◌, ◌∙◌, map, ap, arith}
+use Rattle.std.proofs.Common.{List, ◌∙◌, map, ap, arith}
 use Rattle.dex_types.specs.Cancel.{taken_by, without_taken}
 use Rattle.dex_eager_market.specs.declared.listing.Resting.{Resting}
 use Rattle.dex_eager_market.specs.Listing.{resting_of, resting_there}

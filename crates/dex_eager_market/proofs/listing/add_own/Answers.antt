@@ -1,4 +1,4 @@
-use Rattle.std.proofs.Common.{List, ◌≡◌, ◌∙◌, ◌++◌, ◌∷◌, [], append-nil, get_or, map, take_all, ap, sym, arith}
+use Rattle.std.proofs.Common.{List, ◌∙◌, ◌++◌, ◌∷◌, [], append-nil, get_or, map, take_all, ap, sym, arith}
 use Rattle.dex_types.specs.Cancel.{RestingOrder, orders_of}
 use Rattle.dex_eager_market.specs.Listing.{resting_of}
 use Rattle.dex_eager_market.proofs.Lists.{owned-more}

@@ -1,4 +1,4 @@
-use Rattle.std.proofs.Common.{Option, Some, ◌≡◌, ◌∙◌, ◌+◌, ◌-◌, drop, eqb, get_or, map, ap, sym, arith, if◌then◌else◌}
+use Rattle.std.proofs.Common.{Option, Some, ◌≡◌, ◌∙◌, ◌-◌, drop, eqb, get_or, map, ap, sym, arith, if◌then◌else◌}
 use Rattle.std.proofs.lemmas.List.{drop_all}
 use Rattle.dex_types.specs.Cancel.{RestingOrder, older, oldest}
 use Rattle.dex_eager_market.specs.Listing.{resting_of}

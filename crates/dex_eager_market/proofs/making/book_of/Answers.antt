@@ -1,4 +1,4 @@
-use Rattle.std.proofs.Common.{List, ◌≡◌, ◌∙◌, ◌∷◌, [], ◌++◌, get_or, take_all, ap, sym, arith}
+use Rattle.std.proofs.Common.{List, ◌∙◌, ◌∷◌, [], ◌++◌, get_or, take_all, ap, sym, arith}
 use Rattle.dex_types.specs.declared.orders.Order.{Order}
 use Rattle.dex_worth.proofs.Lists.{map-more}
 use Rattle.dex_eager.specs.Slots.{without_slot, without_slots}

@@ -1,4 +1,4 @@
-use Rattle.std.proofs.Common.{◌≡◌, ◌≤◌, map, take}
+use Rattle.std.proofs.Common.{◌≡◌, ◌≤◌, take}
 use Rattle.std.specs.Vec.{vec_capacity}
 use Rattle.dex_eager.specs.Slots.{without_slots}
 use Rattle.dex_eager_market.proofs.making.book_of.Given as goal

@@ -1,4 +1,4 @@
-use Rattle.std.proofs.Common.{List, ◌≡◌, ◌∙◌, length, map, ap, sym, subst, arith}
+use Rattle.std.proofs.Common.{List, ◌≡◌, ◌∙◌, length, map, ap, sym}
 use Rattle.std.proofs.lemmas.List.{length-map}
 use Rattle.std.proofs.lemmas.Result.{IfOk-weaker}
 use Rattle.dex_types.specs.declared.account_bytes.OrdersAccount.{OrdersAccount}
@@ -10,7 +10,6 @@ use Rattle.dex_worth.specs.declared.amounts.Amounts.{Amounts}
 use Rattle.dex_worth.specs.Amounts.{AreSums, capped_amounts}
 use Rattle.dex_worth.specs.Holdings.{held_amounts}
 use Rattle.dex_worth.proofs.Markets.{owners-are}
-use Rattle.dex_eager_market.specs.declared.accounts.Account.{Account}
 use Rattle.dex_eager_market.specs.Making.{accounts_with, held_accounts}
 use Rattle.dex_eager_market.proofs.Starts.{accounts-made}
 use Rattle.dex_eager_market.proofs.making.held_accounts.Goals as goal

@@ -1,14 +1,12 @@
-use Rattle.std.proofs.Common.{ℕ, List, ◌≡◌, ◌≤◌, ◌+◌, ◌∙◌, ap, sym, subst, arith}
+use Rattle.std.proofs.Common.{◌≡◌, ◌≤◌, ◌+◌, ◌∙◌, ap, sym, subst, arith}
 use Rattle.std.specs.Vec.{vec_capacity}
-use Rattle.dex_types.specs.declared.orders.Order.{Order}
 use Rattle.dex_types.specs.Accounts.{market_accounts_of}
 use Rattle.dex_types.specs.Market.{Market}
 use Rattle.dex_accounts.specs.Decoded.{market_in}
 use Rattle.dex_audit_rules.specs.Books.{PlainGathered}
 use Rattle.dex_eager.specs.Slots.{without_slots}
 use Rattle.dex_slab.specs.Slab.{IsSlab, room_in}
-use Rattle.dex_eager_market.specs.declared.states.State.{State}
-use Rattle.dex_eager_market.proofs.Starts.{IsStart, start-is, start-kept}
+use Rattle.dex_eager_market.proofs.Starts.{start-is, start-kept}
 use Rattle.dex_eager_market.proofs.making.state_of.Goals as goal
 
 pub room_of-bid_room-requires : goal.room_of-bid_room-requires

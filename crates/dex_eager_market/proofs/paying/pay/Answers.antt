@@ -1,4 +1,4 @@
-use Rattle.std.proofs.Common.{◌≡◌, ◌∙◌, ◌+◌, ◌^◌, map, sym, ap, arith}
+use Rattle.std.proofs.Common.{◌∙◌, ◌+◌, ◌^◌, map, sym, ap, arith}
 use Rattle.dex_eager.specs.Eager.{with_change}
 use Rattle.dex_meet.specs.Taker.{taking}
 use Rattle.dex_eager_market.specs.declared.accounts.Change.{Change}

@@ -1,13 +1,11 @@
-use Rattle.std.proofs.Common.{ℕ, List, ◌≡◌, ◌∙◌, refl, sym, ap, subst, arith}
+use Rattle.std.proofs.Common.{◌∙◌, refl, sym, ap, subst, arith}
 use Rattle.std.specs.List.{All}
-use Rattle.dex_types.specs.declared.orders.Order.{Order}
-use Rattle.dex_types.specs.declared.terms.Lots.{Lots}
-use Rattle.dex_types.specs.Meeting.{TakerTerms, Demand, Meeting, meet}
-use Rattle.dex_types.specs.NewOrder.{demand_of, terms_of}
+use Rattle.dex_types.specs.Meeting.{Meeting, meet}
+use Rattle.dex_types.specs.NewOrder.{terms_of}
 use Rattle.dex_types.specs.Side.{opposite}
 use Rattle.dex_match.specs.OrderTerms.{meeting_with, order_of}
 use Rattle.dex_meet.specs.Taker.{demand, taking}
-use Rattle.dex_eager_market.specs.Foreseen.{CanFill, IsForeseen}
+use Rattle.dex_eager_market.specs.Foreseen.{CanFill}
 use Rattle.dex_eager_market.specs.Trading.{quote_too_large}
 use Rattle.dex_eager_market.proofs.Trades.{order-met, seen-as, goes-on, lock-small, modest-order, order-stops, order-too-large, quote-small}
 use Rattle.dex_eager_market.proofs.trading.foresee_order.Goals as goal

@@ -1,15 +1,13 @@
-use Rattle.std.proofs.Common.{ℕ, List, ◌≡◌, ◌∙◌, refl, sym, ap, subst, arith}
+use Rattle.std.proofs.Common.{◌≡◌, ◌∙◌, refl, sym, ap, subst, arith}
 use Rattle.std.specs.List.{All}
-use Rattle.dex_types.specs.declared.orders.Order.{Order}
-use Rattle.dex_types.specs.declared.terms.Lots.{Lots}
 use Rattle.dex_types.specs.Meeting.{TakerTerms, Demand, Meeting, meet}
 use Rattle.dex_types.specs.NewOrder.{demand_of}
 use Rattle.dex_types.specs.Side.{opposite}
-use Rattle.dex_types.specs.Take.{take_demand, take_terms}
+use Rattle.dex_types.specs.Take.{take_terms}
 use Rattle.dex_match.specs.OrderTerms.{order_of}
 use Rattle.dex_meet.specs.Taker.{demand, taking}
 use Rattle.dex_take.specs.TakeTerms.{meeting_with, take_of}
-use Rattle.dex_eager_market.specs.Foreseen.{CanFill, IsForeseen}
+use Rattle.dex_eager_market.specs.Foreseen.{CanFill}
 use Rattle.dex_eager_market.specs.Trading.{quote_too_large}
 use Rattle.dex_eager_market.proofs.Trades.{take-met, seen-as, lock-small, modest-order, quote-small, take-demand, take-stops, take-too-large}
 use Rattle.dex_eager_market.proofs.trading.foresee_take.Goals as goal

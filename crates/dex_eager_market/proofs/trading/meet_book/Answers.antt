@@ -1,4 +1,4 @@
-use Rattle.std.proofs.Common.{◌≡◌, ◌∙◌, refl, sym, subst}
+use Rattle.std.proofs.Common.{◌∙◌, refl, sym, subst}
 use Rattle.std.specs.List.{All}
 use Rattle.dex_types.specs.Side.{opposite}
 use Rattle.dex_eager_market.specs.Foreseen.{CanFill}

@@ -1,7 +1,6 @@
-use Rattle.std.proofs.Common.{Some, ◌≡◌, ◌∙◌, sym, subst}
+use Rattle.std.proofs.Common.{◌∙◌, sym}
 use Rattle.dex_match.specs.OrderTerms.{meeting_with, order_of}
 use Rattle.dex_eager_market.specs.States.{market_by}
-use Rattle.dex_eager_market.specs.Trading.{IsOrderForeseen}
 use Rattle.dex_eager_market.proofs.Trades.{order-known, order-moves}
 use Rattle.dex_eager_market.proofs.trading.order_in.Goals as goal
 

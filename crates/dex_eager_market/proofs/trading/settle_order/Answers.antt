@@ -1,9 +1,8 @@
-use Rattle.std.proofs.Common.{ℕ, List, ◌≡◌, ◌∙◌, ◌+◌, ◌-◌, ◌^◌, ◌<◌, map, refl, sym, ap, subst, arith}
-use Rattle.std.specs.List.{All}
+use Rattle.std.proofs.Common.{ℕ, ◌≡◌, ◌∙◌, ◌+◌, ◌-◌, ◌^◌, map, refl, ap, arith}
 use Rattle.dex_types.specs.declared.orders.Order.{Order}
 use Rattle.dex_types.specs.Fees.{taker_fee}
-use Rattle.dex_types.specs.Meeting.{Demand, Meeting, TakerTerms, meet}
-use Rattle.dex_types.specs.NewOrder.{demand_of, fee_of, rested, resting, terms_of}
+use Rattle.dex_types.specs.Meeting.{Demand, Meeting, meet}
+use Rattle.dex_types.specs.NewOrder.{fee_of, rested, resting}
 use Rattle.dex_types.specs.Posting.{post}
 use Rattle.dex_sound.specs.Exchange.{taker_gets, taker_pays}
 use Rattle.dex_eager.specs.Eager.{Worths, with_change, with_fills}
@@ -11,8 +10,7 @@ use Rattle.dex_eager.specs.Slots.{maker_fills}
 use Rattle.dex_eager.specs.Worth.{Worth, net}
 use Rattle.dex_match.specs.OrderTerms.{meeting_with, order_of}
 use Rattle.dex_meet.specs.Taker.{demand, taking}
-use Rattle.dex_eager_market.specs.Accounts.{IsWithin, entry_of, worth_of}
-use Rattle.dex_eager_market.specs.Foreseen.{IsForeseen}
+use Rattle.dex_eager_market.specs.Accounts.{entry_of, worth_of}
 use Rattle.dex_eager_market.proofs.Changes.{all-more, small-more}
 use Rattle.dex_eager_market.proofs.Trades.{seen-by, order-met, book-posted, order-left, rested-is, resting-fills, taker-worth, tier-small}
 use Rattle.dex_eager_market.proofs.trading.settle_order.Goals as goal

@@ -1,15 +1,14 @@
-use Rattle.std.proofs.Common.{ℕ, ◌≡◌, ◌∙◌, ◌+◌, ◌-◌, ◌^◌, map, refl, sym, ap, subst, arith}
+use Rattle.std.proofs.Common.{ℕ, ◌≡◌, ◌∙◌, ◌+◌, ◌-◌, ◌^◌, map, refl, ap, arith}
 use Rattle.dex_types.specs.Fees.{taker_fee}
-use Rattle.dex_types.specs.Meeting.{Demand, Meeting, TakerTerms, meet}
-use Rattle.dex_types.specs.Take.{take_fee, take_terms}
+use Rattle.dex_types.specs.Meeting.{Meeting, meet}
+use Rattle.dex_types.specs.Take.{take_fee}
 use Rattle.dex_eager.specs.Eager.{with_fills}
 use Rattle.dex_eager.specs.Slots.{maker_fills}
 use Rattle.dex_meet.specs.Taker.{demand, taking}
 use Rattle.dex_take.specs.TakeTerms.{meeting_with, take_of}
 use Rattle.dex_eager_market.specs.Accounts.{entry_of}
-use Rattle.dex_eager_market.specs.Foreseen.{IsForeseen}
 use Rattle.dex_eager_market.proofs.Changes.{all-more}
-use Rattle.dex_eager_market.proofs.Trades.{seen-by, take-met, take-demand}
+use Rattle.dex_eager_market.proofs.Trades.{seen-by, take-met}
 use Rattle.dex_eager_market.proofs.trading.settle_take.Goals as goal
 
 pub meet_book-requires-clause-modest : goal.meet_book-requires-clause-modest

@@ -1,9 +1,8 @@
-use Rattle.std.proofs.Common.{Some, ap, ◌≡◌, ◌∙◌, ◌+◌, ◌^◌, sym, subst, arith}
+use Rattle.std.proofs.Common.{ap, ◌∙◌, ◌+◌, ◌^◌, sym, arith}
 use Rattle.dex_types.specs.Meeting.{Meeting}
 use Rattle.dex_eager.specs.Eager.{Eager, take_by}
 use Rattle.dex_take.specs.TakeTerms.{meeting_with, take_of}
 use Rattle.dex_eager_market.specs.States.{market_by}
-use Rattle.dex_eager_market.specs.Trading.{IsTakeForeseen}
 use Rattle.dex_eager_market.proofs.Changes.{all-more}
 use Rattle.dex_eager_market.proofs.Trades.{take-bare, take-known, take-left, take-moves}
 use Rattle.dex_eager_market.proofs.trading.take_in.Goals as goal

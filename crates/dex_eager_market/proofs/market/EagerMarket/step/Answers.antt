@@ -1,4 +1,4 @@
-use Rattle.std.proofs.Common.{ℕ, ◌≡◌, ◌+◌, ◌*◌, ◌^◌, ◌<◌, ap, arith}
+use Rattle.std.proofs.Common.{ℕ, ◌+◌, ◌*◌, ◌^◌, ◌<◌, ap, arith}
 use Rattle.dex_eager_market.specs.declared.states.State.{State}
 use Rattle.dex_eager_market.specs.Running.{IsRunning, Running}
 use Rattle.dex_eager_market.specs.States.{IsKept}
