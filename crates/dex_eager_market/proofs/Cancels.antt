@@ -23,6 +23,7 @@ id-taken owner side id e = by (order_with id (orders_on side e)) (order_with id 
         ≡ without_all (at_most_one (if own then Some (record { side = side; order = order }) else None)) e
     yours order true = refl
     yours order false = refl
+
     by : (found other : Option Order)
         → (if is_some (first_of (not_resting found other ∷ not_yours owner found ∷ [])) then unchanged e else record { market = without_all (on_side side found) e; fills = [] }).market
         ≡ without_all (at_most_one (own_resting owner side found)) e

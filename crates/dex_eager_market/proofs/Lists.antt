@@ -170,9 +170,9 @@ posts side room order before made after place some free within made_is place_is 
     let there : after ≡ posted side order made = is ∙ ap (λ (n : ℕ). insert made n order) place_is ∙ sym (posted-insert side order made) in
     elim (cases_lt (length before) room) [
       | inl lt ↦
-      there ∙ ap (posted side order) (made_is ∙ cond-true (nat_lt (length before) room) before (take (length before - 1) before) (grind (arith, nat_tests)))
-      ∙ sym (ap (λ (p : Posting). p.side) (post-room side room order before some lt))
+          there ∙ ap (posted side order) (made_is ∙ cond-true (nat_lt (length before) room) before (take (length before - 1) before) (grind (arith, nat_tests)))
+          ∙ sym (ap (λ (p : Posting). p.side) (post-room side room order before some lt))
       | inr le ↦
-      there ∙ ap (posted side order) (made_is ∙ cond-false (nat_lt (length before) room) before (take (length before - 1) before) (grind (arith, nat_tests)))
-      ∙ sym (ap (λ (p : Posting). p.side) (post-full side room order before some le))
+          there ∙ ap (posted side order) (made_is ∙ cond-false (nat_lt (length before) room) before (take (length before - 1) before) (grind (arith, nat_tests)))
+          ∙ sym (ap (λ (p : Posting). p.side) (post-full side room order before some le))
     ]

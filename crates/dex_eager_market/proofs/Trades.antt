@@ -117,12 +117,12 @@ pub post-fills : (P : Order → Type 0) (side : Side) (room : ℕ) (order : Orde
 post-fills P side room order orders one all =
     elim (cases_lt 0 order.lots) [
       | inl some ↦
-      elim (cases_lt (length orders) room) [
-        | inl free ↦ subst (λ s. All P s) (sym (ap (λ p. p.side) (post-room side room order orders some free))) (All-posted P side order one orders all)
-        | inr full ↦
-        subst (λ s. All P s) (sym (ap (λ p. p.side) (post-full side room order orders some full)))
-        (All-posted P side order one (take (length orders - 1) orders) (All-take P (length orders - 1) orders all))
-      ]
+          elim (cases_lt (length orders) room) [
+            | inl free ↦ subst (λ s. All P s) (sym (ap (λ p. p.side) (post-room side room order orders some free))) (All-posted P side order one orders all)
+            | inr full ↦
+                subst (λ s. All P s) (sym (ap (λ p. p.side) (post-full side room order orders some full)))
+                (All-posted P side order one (take (length orders - 1) orders) (All-take P (length orders - 1) orders all))
+          ]
       | inr none ↦ subst (λ s. All P s) (sym (ap (λ p. p.side) (post-none side room order orders (omega arith)))) all
     ]
 

@@ -21,9 +21,7 @@ use crate::trading::{order_in, take_in};
 use dex_cancel::CancelWhat;
 use dex_match::Taker;
 use dex_reasons::is_mint;
-use dex_types::{
-    Address, Ix, OrderType, Row, Seen, SelfTrade, Side, Tier, is_same,
-};
+use dex_types::{Address, Ix, OrderType, Row, Seen, SelfTrade, Side, Tier, is_same};
 
 /// The address is that of an account.
 fn has_account(accounts: &[Account], owner: Address) -> bool
@@ -289,7 +287,10 @@ pub fn act(state: &mut State, ix: Ix, row: &Row, seen: &Seen)
             ..
         } => {
             let lock = max_native_pc_qty_including_fees;
-            take(state, take_taker(row, seen, side, limit_price, max_coin_qty, lock, limit))
+            take(
+                state,
+                take_taker(row, seen, side, limit_price, max_coin_qty, lock, limit),
+            )
         }
         Ix::CloseOpenOrders => {}
         Ix::InitOpenOrders => {}

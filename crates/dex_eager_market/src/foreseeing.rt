@@ -66,15 +66,19 @@ fn aborts_at(side: Side, taker: Terms, want: Want, order: Order) -> bool
     ensures { (others : List OrderOf) → result
         ≡ is_some (meeting.aborts_at side (taking taker) (demand want) (order ∷ others)) }
 {
-    reaches(side, taker, want, order)
-        && is_own(taker.owner, order)
-        && is_abort(taker.self_trade)
+    reaches(side, taker, want, order) && is_own(taker.owner, order) && is_abort(taker.self_trade)
 }
 
 /// A taker that has met nothing.
 fn unmet(want: Want) -> Foreseen
-    ensures { result ≡ record { want = want; sums = record { base = 0; pc = 0; rebates = 0 }; gone = 0; part = 0;
-      crosses = false; aborts = false } }
+    ensures { result ≡ record {
+      want = want;
+      sums = record { base = 0; pc = 0; rebates = 0 };
+      gone = 0;
+      part = 0;
+      crosses = false;
+      aborts = false;
+    } }
 {
     Foreseen {
         want,

@@ -21,9 +21,7 @@ use crate::states::{Book, State};
 use dex_audit_rules::gather;
 use dex_market::{MarketRef, RequestRef};
 use dex_slab::SlabRef;
-use dex_types::{
-    Address, Lots, MarketAccounts, NoMemory, Order, OrdersAccount, Side, SideRead,
-};
+use dex_types::{Address, Lots, MarketAccounts, NoMemory, Order, OrdersAccount, Side, SideRead};
 use dex_worth::amounts::{Amounts, NONE};
 use dex_worth::holdings::held_of;
 use std::alloc::Global;
@@ -82,7 +80,11 @@ fn owners_of(alloc: Global, accounts: &[OrdersAccount]) -> Result<Vec<Address>, 
 }
 
 /// Puts an account behind the others: what is held for it counts as what it gained.
-fn push_account(accounts: &mut Vec<Account>, address: Address, held: Amounts) -> Result<(), NoMemory>
+fn push_account(
+    accounts: &mut Vec<Account>,
+    address: Address,
+    held: Amounts,
+) -> Result<(), NoMemory>
     ensures { OnOk result (accounts.new.items ≡ accounts.old.items ++ made.account_with address held ∷ []) }
 {
     let total = Change {

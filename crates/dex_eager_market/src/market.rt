@@ -80,8 +80,10 @@ impl EagerMarket {
     pub fn new(alloc: Global, accounts: &MarketAccounts) -> Result<EagerMarket, NoMemory>
         requires accepted { IsAccepted (market_accounts_of accounts.now) }
         requires sound { AreSound (market_accounts_of accounts.now) }
-        ensures { IfOk result (λ m. m ≡ record { market = eager_start (market_in (market_accounts_of accounts.now));
-          steps = 0 }) }
+        ensures { IfOk result (λ m. m ≡ record {
+          market = eager_start (market_in (market_accounts_of accounts.now));
+          steps = 0;
+        }) }
     {
         let state = state_of(alloc, accounts)?;
         Ok(EagerMarket { state, steps: 0 })

@@ -64,13 +64,7 @@ fn pay(accounts: &mut [Account], side: Side, taker: Terms, order: Order, lots: u
 }
 
 /// Pays the makers of all orders that a taker of the side meets among these, from the best one on.
-fn pay_makers(
-    accounts: &mut [Account],
-    side: Side,
-    taker: Terms,
-    want: Want,
-    orders: &[Order],
-)
+fn pay_makers(accounts: &mut [Account], side: Side, taker: Terms, want: Want, orders: &[Order])
     requires modest { IsModest side taker.sizes (demand want) }
     requires orders { All (CanFill (book.opposite side) taker.sizes) orders.now }
     requires accounts { All (IsWithin (2 ^ 125)) accounts.old }
@@ -96,13 +90,7 @@ fn pay_makers(
 }
 
 /// The same of accounts in their buffer.
-pub fn pay_all(
-    accounts: &mut Vec<Account>,
-    side: Side,
-    taker: Terms,
-    want: Want,
-    orders: &[Order],
-)
+pub fn pay_all(accounts: &mut Vec<Account>, side: Side, taker: Terms, want: Want, orders: &[Order])
     requires modest { IsModest side taker.sizes (demand want) }
     requires orders { All (CanFill (book.opposite side) taker.sizes) orders.now }
     requires accounts { All (IsWithin (2 ^ 125)) accounts.old.items }

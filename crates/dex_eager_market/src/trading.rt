@@ -237,11 +237,22 @@ fn settle_order(
     let pc = narrow(foreseen.sums.pc);
     let fee = taker_fee(taker.program, taker.tier, pc);
     let terms = order_terms(sizes, taker);
-    meet_book(side, terms, want_of(sizes, taker), foreseen, opposing, accounts);
+    meet_book(
+        side,
+        terms,
+        want_of(sizes, taker),
+        foreseen,
+        opposing,
+        accounts,
+    );
     let rested = rested_of(sizes, taker, foreseen, pc, fee);
     let order = resting_order(taker, next, rested);
     post(side, own.room, order, &mut own.orders);
-    add(accounts, taker.account, taker_change(side, foreseen.sums.base, pc, fee));
+    add(
+        accounts,
+        taker.account,
+        taker_change(side, foreseen.sums.base, pc, fee),
+    );
     charge(takings, fee, foreseen.sums.rebates);
 }
 
@@ -288,7 +299,9 @@ pub fn order_in(
     ensures takings { takings.new ≤ takings.old + 2 ^ 64 }
 {
     if let Some(foreseen) = foresee_order(sizes, taker, *next, opposing) {
-        settle_order(sizes, taker, &foreseen, *next, takings, own, opposing, accounts);
+        settle_order(
+            sizes, taker, &foreseen, *next, takings, own, opposing, accounts,
+        );
         *next += 1;
     }
 }

@@ -90,9 +90,9 @@ returns-clause-own c =
     let order_is : c.resting_order-order.result ≡ resting side c.args.next 0 n (rested side sizes n met) =
     c.resting_order-order.ensures ∙ ap (resting side c.args.next 0 n) rested_is in (
       book-posted side sizes c.args.own.now (record c.args.own.now { orders = c.post.new.orders }) (resting side c.args.next 0 n (rested side sizes n met)) c.requires.own
-      (resting-fills side sizes n c.args.next c.args.opposing.now.orders.items (omega (arith, c.requires.next)) c.requires.lock (tier-small n.tier)) refl
-      c.post.ensures.reserved c.post.ensures.within
-      (c.post.ensures.orders ∙ ap (λ (o : Order). (post side c.args.own.now.room o c.args.own.now.orders.items).side) order_is),
+          (resting-fills side sizes n c.args.next c.args.opposing.now.orders.items (omega (arith, c.requires.next)) c.requires.lock (tier-small n.tier)) refl
+          c.post.ensures.reserved c.post.ensures.within
+          (c.post.ensures.orders ∙ ap (λ (o : Order). (post side c.args.own.now.room o c.args.own.now.orders.items).side) order_is),
       refl,
     )
 

@@ -21,6 +21,6 @@ invariant_of-self c =
     elim c.match-decode.branch [
       | in-Ok w ↦ rw w.self-inside-is (stepped steps c.self.inside.state w.act.new.state few c.self.invariant w.act.ensures.kept)
       | in_default w ↦
-        rw w.self-inside-is
-        (stepped steps c.self.inside.state c.self.inside.state few c.self.invariant (λ bound kept. kept-more bound (bound + 2 ^ 82) c.self.inside.state (omega arith) kept))
+          rw w.self-inside-is
+          (stepped steps c.self.inside.state c.self.inside.state few c.self.invariant (λ bound kept. kept-more bound (bound + 2 ^ 82) c.self.inside.state (omega arith) kept))
     ]
