@@ -1,5 +1,6 @@
 -- Accounts of a market that pays at once: what came in for each, and what it paid.
-use Rattle.std.specs.Prelude.{ℕ, pos, ◌-ℤ◌, Option, Some, None, if◌then◌else◌}
+use Rattle.std.specs.Prelude.{ℕ, pos, ◌+◌, ◌-ℤ◌, List, Option, Some, None, if◌then◌else◌}
+use Rattle.std.specs.List.{All}
 use Rattle.dex_types.specs.declared.addresses.Address.{Address}
 use Rattle.dex_types.specs.Addresses.{is_same}
 use Rattle.dex_eager.specs.Worth.{Worth}
@@ -28,6 +29,10 @@ pub record IsSmall (bound : ℕ) (change : Change) : Type 0 where
 -- so of an account
 abbrev pub IsWithin : ℕ → Account → Type 0
 IsWithin bound account = IsSmall bound account.total
+
+-- what came in for each account and was paid by it grows by this much at most
+abbrev pub Grows : ℕ → List Account → List Account → Type 0
+Grows more before after = (bound : ℕ) → All (IsWithin bound) before → All (IsWithin (bound + more)) after
 
 -- both changes together
 abbrev pub both : Change → Change → Change

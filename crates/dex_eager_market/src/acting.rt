@@ -193,7 +193,8 @@ fn for_account(taker: Taker, owner: Address) -> Taker
 /// A new order of the account that its row names first.
 fn order_row(state: &mut State, row: &Row, taker: Taker)
     requires { IsKept (2 ^ 124) state.old }
-    ensures does { (order : AddressOf → NewOrder) → ((owner : AddressOf) → acts.order_for owner taker ≡ order owner)
+    ensures does { (order : AddressOf → NewOrder)
+        → ((owner : AddressOf) → acts.order_for owner taker ≡ order owner)
         → eager_of state.new ≡ (eager.by_account (eager.eager_order taker.id_side order (eager_of state.old))
         (eager_of state.old) row.entry.now.named.items).market }
     ensures kept { (bound : ℕ) → IsKept bound state.old → IsKept (bound + 2 ^ 82) state.new }

@@ -26,12 +26,12 @@ use dex_worth::amounts::{Amounts, NONE};
 use dex_worth::holdings::held_of;
 use std::alloc::Global;
 
-/// Puts an order behind the others, where room was reserved.
-fn push_order(orders: &mut Vec<Order>, order: Order) -> Result<(), NoMemory>
-    ensures orders { OnOk result (orders.new.items ≡ orders.old.items ++ order ∷ []) }
-    ensures capacity { OnOk result (vec_capacity orders.old ≤ vec_capacity orders.new) }
+/// Puts an item behind the others.
+fn push<T: Copy>(list: &mut Vec<T>, item: T) -> Result<(), NoMemory>
+    ensures items { OnOk result (list.new.items ≡ list.old.items ++ item ∷ []) }
+    ensures capacity { OnOk result (vec_capacity list.old ≤ vec_capacity list.new) }
 {
-    match orders.push(order) {
+    match list.push(item) {
         Ok(()) => Ok(()),
         Err(_) => Err(NoMemory),
     }
@@ -52,19 +52,9 @@ fn book_of(alloc: Global, room: u32, orders: &[Order]) -> Result<Book, NoMemory>
             slot: 0,
             ..orders[place]
         };
-        push_order(&mut all, order)?;
+        push(&mut all, order)?;
     }
     Ok(Book { room, orders: all })
-}
-
-/// Puts an address behind the others.
-fn push_owner(owners: &mut Vec<Address>, owner: Address) -> Result<(), NoMemory>
-    ensures { OnOk result (owners.new.items ≡ owners.old.items ++ owner ∷ []) }
-{
-    match owners.push(owner) {
-        Ok(()) => Ok(()),
-        Err(_) => Err(NoMemory),
-    }
 }
 
 /// The addresses of a market's accounts, in declared order.
@@ -74,30 +64,12 @@ fn owners_of(alloc: Global, accounts: &[OrdersAccount]) -> Result<Vec<Address>, 
 {
     let mut owners = Vec::new(alloc);
     for place in 0..accounts.len() {
-        push_owner(&mut owners, accounts[place].address)?;
+        push(&mut owners, accounts[place].address)?;
     }
     Ok(owners)
 }
 
-/// Puts an account behind the others: what is held for it counts as what it gained.
-fn push_account(
-    accounts: &mut Vec<Account>,
-    address: Address,
-    held: Amounts,
-) -> Result<(), NoMemory>
-    ensures { OnOk result (accounts.new.items ≡ accounts.old.items ++ made.account_with address held ∷ []) }
-{
-    let total = Change {
-        gained: held,
-        paid: NONE,
-    };
-    match accounts.push(Account { address, total }) {
-        Ok(()) => Ok(()),
-        Err(_) => Err(NoMemory),
-    }
-}
-
-/// The accounts of these addresses, for which so much is held.
+/// The accounts of these addresses: what is held for each counts as what it gained.
 fn accounts_of(
     alloc: Global,
     owners: &[Address],
@@ -108,7 +80,12 @@ fn accounts_of(
 {
     let mut accounts = Vec::new(alloc);
     for place in 0..owners.len() {
-        push_account(&mut accounts, owners[place], held[place])?;
+        let total = Change {
+            gained: held[place],
+            paid: NONE,
+        };
+        let address = owners[place];
+        push(&mut accounts, Account { address, total })?;
     }
     Ok(accounts)
 }

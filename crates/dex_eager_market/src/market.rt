@@ -89,8 +89,8 @@ impl EagerMarket {
         Ok(EagerMarket { state, steps: 0 })
     }
 
-    /// One step: what a row does that saw this. Fewer than 2^32 steps were made, so no worth passes an i128. An order that
-    /// is too large, has no sequence number or would have to abort changes nothing. It takes no memory.
+    /// One step: what a row does that saw this. Fewer than 2^32 steps were made, so no worth passes an i128. An order
+    /// that is too large, has no sequence number or would have to abort changes nothing. It takes no memory.
     pub fn step(&mut self, row: &Row, seen: &Seen)
         requires { self.old.steps < 2 ^ 32 }
         ensures market { self.new.market ≡ (eager_step (request_of (row_of row.entry.now)) seen.now

@@ -7,11 +7,11 @@ ghost use Rattle.dex_eager.specs.Slots.{maker_fills};
 ghost use Rattle.dex_meet.specs.Taker.{demand, met_by, taking};
 ghost use Rattle.dex_types.specs.Meeting as meeting;
 ghost use Rattle.dex_types.specs.Side as book;
-ghost use Rattle.dex_eager_market.specs.Accounts.{IsSmall, IsWithin, entry_of};
+ghost use Rattle.dex_eager_market.specs.Accounts.{Grows, IsSmall, IsWithin, entry_of};
 ghost use Rattle.dex_eager_market.specs.Fills.{maker_change};
 ghost use Rattle.dex_eager_market.specs.Foreseen.{CanFill, IsModest};
 
-use crate::accounts::{Account, Change, change_worth};
+use crate::accounts::{Account, Change, add};
 use dex_meet::fills::{Fill, fill_met, want_after};
 use dex_meet::taking::{is_own, taken};
 use dex_meet::{Terms, Want};
@@ -47,30 +47,37 @@ fn maker_change(side: Side, fill: Fill) -> Change
 }
 
 /// Pays the maker of an order that was met and lost these lots; an order of the taker's own pays nothing.
-fn pay(accounts: &mut [Account], side: Side, taker: Terms, order: Order, lots: u64)
+fn pay(accounts: &mut Vec<Account>, side: Side, taker: Terms, order: Order, lots: u64)
     requires tier { order.tier < 7 }
     requires base { meeting.met_lots (taking taker) order lots * taker.sizes.coin < 2 ^ 64 }
     requires pc { meeting.met_pc (taking taker) order lots < 2 ^ 64 }
-    requires accounts { All (IsWithin (2 ^ 126)) accounts.old }
-    ensures worths { map entry_of accounts.new
-        ≡ with_fills (maker_fills (meeting.met_events side (taking taker) order lots)) (map entry_of accounts.old) }
-    ensures within { (bound : ℕ) → All (IsWithin bound) accounts.old → All (IsWithin (bound + 2 ^ 65)) accounts.new }
+    requires accounts { All (IsWithin (2 ^ 126)) accounts.old.items }
+    ensures worths { map entry_of accounts.new.items
+        ≡ with_fills (maker_fills (meeting.met_events side (taking taker) order lots))
+        (map entry_of accounts.old.items) }
+    ensures within { Grows (2 ^ 65) accounts.old.items accounts.new.items }
 {
     if is_own(taker.owner, order) {
         return;
     }
     let fill = fill_met(taker, order, lots);
-    change_worth(accounts, order.owner, maker_change(side, fill));
+    add(accounts, order.owner, maker_change(side, fill));
 }
 
 /// Pays the makers of all orders that a taker of the side meets among these, from the best one on.
-fn pay_makers(accounts: &mut [Account], side: Side, taker: Terms, want: Want, orders: &[Order])
+pub fn pay_makers(
+    accounts: &mut Vec<Account>,
+    side: Side,
+    taker: Terms,
+    want: Want,
+    orders: &[Order],
+)
     requires modest { IsModest side taker.sizes (demand want) }
     requires orders { All (CanFill (book.opposite side) taker.sizes) orders.now }
-    requires accounts { All (IsWithin (2 ^ 125)) accounts.old }
-    ensures worths { map entry_of accounts.new
-        ≡ with_fills (maker_fills (met_by side taker want orders.now).events) (map entry_of accounts.old) }
-    ensures within { (bound : ℕ) → All (IsWithin bound) accounts.old → All (IsWithin (bound + 2 ^ 81)) accounts.new }
+    requires accounts { All (IsWithin (2 ^ 125)) accounts.old.items }
+    ensures worths { map entry_of accounts.new.items
+        ≡ with_fills (maker_fills (met_by side taker want orders.now).events) (map entry_of accounts.old.items) }
+    ensures within { Grows (2 ^ 81) accounts.old.items accounts.new.items }
 {
     let mut left = want;
     let mut place = 0;
@@ -87,17 +94,4 @@ fn pay_makers(accounts: &mut [Account], side: Side, taker: Terms, want: Want, or
         left = want_after(side, taker, left, order, lots);
         place += 1;
     }
-}
-
-/// The same of accounts in their buffer.
-pub fn pay_all(accounts: &mut Vec<Account>, side: Side, taker: Terms, want: Want, orders: &[Order])
-    requires modest { IsModest side taker.sizes (demand want) }
-    requires orders { All (CanFill (book.opposite side) taker.sizes) orders.now }
-    requires accounts { All (IsWithin (2 ^ 125)) accounts.old.items }
-    ensures worths { map entry_of accounts.new.items
-        ≡ with_fills (maker_fills (met_by side taker want orders.now).events) (map entry_of accounts.old.items) }
-    ensures within { (bound : ℕ) → All (IsWithin bound) accounts.old.items
-        → All (IsWithin (bound + 2 ^ 81)) accounts.new.items }
-{
-    pay_makers(accounts, side, taker, want, orders);
 }

@@ -10,7 +10,7 @@ ghost use Rattle.dex_take.specs.TakeTerms.{meeting_with as take_met, take_of};
 ghost use Rattle.dex_types.specs.NewOrder as orders;
 ghost use Rattle.dex_types.specs.Side as book;
 ghost use Rattle.dex_types.specs.Take as takes;
-ghost use Rattle.dex_eager_market.specs.Accounts.{IsSmall, IsWithin, entry_of};
+ghost use Rattle.dex_eager_market.specs.Accounts.{Grows, IsSmall, IsWithin, entry_of};
 ghost use Rattle.dex_eager_market.specs.Foreseen.{CanFill, IsForeseen, IsModest};
 ghost use Rattle.dex_eager_market.specs.States.{IsBook, market_by};
 ghost use Rattle.dex_eager_market.specs.Trading as trading;
@@ -19,7 +19,7 @@ ghost use Rattle.dex_eager_market.specs.declared.states.Book.{Book as BookOf};
 use crate::accounts::{Account, Change, add};
 use crate::book_list::{post, take_front};
 use crate::foreseeing::{Foreseen, Sums, foresee};
-use crate::paying::pay_all;
+use crate::paying::pay_makers;
 use crate::states::Book;
 use dex_fees::{taker_fee, tier_number};
 use dex_match::{Taker, want_of};
@@ -111,10 +111,9 @@ fn meet_book(
     ensures room { opposing.new.room ≡ opposing.old.room }
     ensures worths { map entry_of accounts.new.items ≡ eager.with_fills
         (maker_fills (met_by side taker want opposing.old.orders.items).events) (map entry_of accounts.old.items) }
-    ensures within { (bound : ℕ) → All (IsWithin bound) accounts.old.items
-        → All (IsWithin (bound + 2 ^ 81)) accounts.new.items }
+    ensures within { Grows (2 ^ 81) accounts.old.items accounts.new.items }
 {
-    pay_all(accounts, side, taker, want, &opposing.orders);
+    pay_makers(accounts, side, taker, want, &opposing.orders);
     take_front(&mut opposing.orders, foreseen.gone, foreseen.part);
 }
 
@@ -229,8 +228,7 @@ fn settle_order(
     ensures own { IsBook taker.id_side sizes own.new × (own.new.room ≡ own.old.room) }
     ensures opposing { IsBook (book.opposite taker.id_side) sizes opposing.new
         × (opposing.new.room ≡ opposing.old.room) }
-    ensures within { (bound : ℕ) → All (IsWithin bound) accounts.old.items
-        → All (IsWithin (bound + 2 ^ 82)) accounts.new.items }
+    ensures within { Grows (2 ^ 82) accounts.old.items accounts.new.items }
     ensures takings { takings.new < takings.old + 2 ^ 64 }
 {
     let side = taker.id_side;
@@ -256,8 +254,8 @@ fn settle_order(
     charge(takings, fee, foreseen.sums.rebates);
 }
 
-/// What a new order would meet, unless it changes nothing: it is too large, there is no sequence number for it, or it would
-/// have to abort.
+/// What a new order would meet, unless it changes nothing: it is too large, has no sequence number, or would have to
+/// abort.
 fn foresee_order(sizes: Lots, taker: Taker, next: u64, opposing: &Book) -> Option<Foreseen>
     requires { IsBook (book.opposite taker.id_side) sizes opposing.now }
     ensures { trading.IsOrderForeseen sizes taker next opposing.now.orders.items result }
@@ -294,8 +292,7 @@ pub fn order_in(
     ensures own { IsBook taker.id_side sizes own.new × (own.new.room ≡ own.old.room) }
     ensures opposing { IsBook (book.opposite taker.id_side) sizes opposing.new
         × (opposing.new.room ≡ opposing.old.room) }
-    ensures within { (bound : ℕ) → All (IsWithin bound) accounts.old.items
-        → All (IsWithin (bound + 2 ^ 82)) accounts.new.items }
+    ensures within { Grows (2 ^ 82) accounts.old.items accounts.new.items }
     ensures takings { takings.new ≤ takings.old + 2 ^ 64 }
 {
     if let Some(foreseen) = foresee_order(sizes, taker, *next, opposing) {
@@ -348,8 +345,7 @@ fn settle_take(
     ensures small { takings.new ≤ takings.old + 2 ^ 64 }
     ensures opposing { IsBook (book.opposite taker.id_side) sizes opposing.new
         × (opposing.new.room ≡ opposing.old.room) }
-    ensures within { (bound : ℕ) → All (IsWithin bound) accounts.old.items
-        → All (IsWithin (bound + 2 ^ 81)) accounts.new.items }
+    ensures within { Grows (2 ^ 81) accounts.old.items accounts.new.items }
 {
     let fee = taker_fee(taker.program, taker.tier, narrow(foreseen.sums.pc));
     let terms = take_terms(sizes, taker);
@@ -376,8 +372,7 @@ pub fn take_in(
         (market_by taker.id_side sizes own opposing.old next accounts.old.items takings.old)).market }
     ensures opposing { IsBook (book.opposite taker.id_side) sizes opposing.new
         × (opposing.new.room ≡ opposing.old.room) }
-    ensures within { (bound : ℕ) → All (IsWithin bound) accounts.old.items
-        → All (IsWithin (bound + 2 ^ 82)) accounts.new.items }
+    ensures within { Grows (2 ^ 82) accounts.old.items accounts.new.items }
     ensures takings { takings.new ≤ takings.old + 2 ^ 64 }
 {
     if let Some(foreseen) = foresee_take(sizes, taker, opposing) {

@@ -14,7 +14,7 @@ loop-place-preserved c =
     let owners : List Address = c.args.owners.now in
     let held : List Amounts = c.args.held.now in
     let next : suc place ≡ place + 1 = omega arith in
-    c.in_ok-push_account.ensures
+    c.in_ok-push.ensures.items
     ∙ ap (λ (l : List Account). l ++ account_with (get_or owners place no_address) (get_or held place none) ∷ []) c.loop-place.invariant
     ∙ sym (accounts-more owners held place no_address none (omega arith) c.requires)
     ∙ ap (λ (n : ℕ). accounts_with (take n owners) (take n held)) next

@@ -10,9 +10,9 @@ loop-place-preserved c =
     let orders : List Order = c.args.orders.now in
     let order : Order = get_or orders c.loop-place.place no_order in
     record {
-      orders = c.in_ok-push_order.ensures.orders ∙ ap (λ (l : List Order). l ++ without_slot order ∷ []) c.loop-place.invariant.orders
+      orders = c.in_ok-push.ensures.items ∙ ap (λ (l : List Order). l ++ without_slot order ∷ []) c.loop-place.invariant.orders
           ∙ sym (map-more without_slot orders c.loop-place.place no_order (omega arith));
-      reserved = omega (arith, c.in_ok-push_order.ensures.capacity, c.loop-place.invariant.reserved);
+      reserved = omega (arith, c.in_ok-push.ensures.capacity, c.loop-place.invariant.reserved);
     }
 
 pub returns-clause-orders : goal.returns-clause-orders

@@ -30,7 +30,7 @@ pay-requires-clause-pc c =
 
 pub pay-requires-clause-accounts : goal.pay-requires-clause-accounts
 pay-requires-clause-accounts c =
-    all-more (2 ^ 125 + (c.args.want.matches - c.orders.left.matches) * 2 ^ 65) (2 ^ 126) c.orders.accounts (omega (arith, c.requires.modest.matches))
+    all-more (2 ^ 125 + (c.args.want.matches - c.orders.left.matches) * 2 ^ 65) (2 ^ 126) c.orders.accounts.items (omega (arith, c.requires.modest.matches))
     (c.orders.invariant.small (2 ^ 125) c.requires.accounts)
 
 pub returns-then-lots-eq0-clause-worths : goal.returns-then-lots-eq0-clause-worths
@@ -38,13 +38,13 @@ returns-then-lots-eq0-clause-worths c =
     let t = taking c.args.taker in
     let on = drop_more c.args.orders.now c.orders.place no_order (omega arith) in
     sym (pays-none c.args.side t (demand c.orders.left) ((get_or c.args.orders.now c.orders.place no_order) ∷ drop (c.orders.place + 1) c.args.orders.now)
-    (meet c.args.side t (demand c.orders.left) (drop c.orders.place c.args.orders.now)) (map entry_of c.orders.accounts)
+    (meet c.args.side t (demand c.orders.left) (drop c.orders.place c.args.orders.now)) (map entry_of c.orders.accounts.items)
     (meets-none c.args.side t (demand c.orders.left) c.args.orders.now c.orders.place (get_or c.args.orders.now c.orders.place no_order) c.taken-lots.result on c.taken-lots.ensures c.if-lots-eq0.true))
     ∙ c.orders.invariant.paid
 
 pub returns-then-lots-eq0-clause-within : goal.returns-then-lots-eq0-clause-within
 returns-then-lots-eq0-clause-within c = λ bound all.
-    all-more (bound + (c.args.want.matches - c.orders.left.matches) * 2 ^ 65) (bound + 2 ^ 81) c.orders.accounts (omega (arith, c.requires.modest.matches)) (c.orders.invariant.small bound all)
+    all-more (bound + (c.args.want.matches - c.orders.left.matches) * 2 ^ 65) (bound + 2 ^ 81) c.orders.accounts.items (omega (arith, c.requires.modest.matches)) (c.orders.invariant.small bound all)
 
 pub returns-then-lots-order-clause-worths : goal.returns-then-lots-order-clause-worths
 returns-then-lots-order-clause-worths c =
@@ -60,7 +60,7 @@ returns-then-lots-order-clause-worths c =
     let first = meets-part c.args.side t w after orders place order lots on c.taken-lots.ensures (omega arith) c.if-lots-order.true refl in
     c.pay.ensures.worths
     ∙ sym (pays-none c.args.side t after left (met_none c.args.side t after left) _ refl)
-    ∙ sym (pays-first c.args.side t order lots (meet c.args.side t w (drop place orders)) (met_none c.args.side t after left) (map entry_of c.orders.accounts) first)
+    ∙ sym (pays-first c.args.side t order lots (meet c.args.side t w (drop place orders)) (met_none c.args.side t after left) (map entry_of c.orders.accounts.items) first)
     ∙ c.orders.invariant.paid
 
 pub returns-then-lots-order-clause-within : goal.returns-then-lots-order-clause-within
@@ -88,7 +88,7 @@ orders-preserved c =
     let matches : now.matches + 1 ≡ c.orders.left.matches = omega (arith, fits.matches, ap (λ (d : Demand). d.matches) c.want_after-left.ensures) in
     record {
       paid = ap (with_fills (maker_fills rest.events)) c.pay.ensures.worths
-          ∙ sym (pays-first c.args.side t order lots (meet c.args.side t w (drop place orders)) rest (map entry_of c.orders.accounts) first)
+          ∙ sym (pays-first c.args.side t order lots (meet c.args.side t w (drop place orders)) rest (map entry_of c.orders.accounts.items) first)
           ∙ c.orders.invariant.paid;
       modest = subst (IsModest c.args.side c.args.taker.sizes) (sym c.want_after-left.ensures) fits.modest;
       matches = omega (arith, matches, c.orders.invariant.matches);
@@ -102,10 +102,10 @@ pub returns-clause-worths : goal.returns-clause-worths
 returns-clause-worths c =
     let t = taking c.args.taker in
     let none = none-left c.args.orders.now c.orders.place (omega arith) in
-    sym (pays-none c.args.side t (demand c.orders.left) [] (meet c.args.side t (demand c.orders.left) (drop c.orders.place c.args.orders.now)) (map entry_of c.orders.accounts)
+    sym (pays-none c.args.side t (demand c.orders.left) [] (meet c.args.side t (demand c.orders.left) (drop c.orders.place c.args.orders.now)) (map entry_of c.orders.accounts.items)
     (ap (meet c.args.side t (demand c.orders.left)) none))
     ∙ c.orders.invariant.paid
 
 pub returns-clause-within : goal.returns-clause-within
 returns-clause-within c = λ bound all.
-    all-more (bound + (c.args.want.matches - c.orders.left.matches) * 2 ^ 65) (bound + 2 ^ 81) c.orders.accounts (omega (arith, c.requires.modest.matches)) (c.orders.invariant.small bound all)
+    all-more (bound + (c.args.want.matches - c.orders.left.matches) * 2 ^ 65) (bound + 2 ^ 81) c.orders.accounts.items (omega (arith, c.requires.modest.matches)) (c.orders.invariant.small bound all)

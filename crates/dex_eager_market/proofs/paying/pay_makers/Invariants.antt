@@ -10,11 +10,11 @@ use Rattle.dex_eager_market.proofs.paying.pay_makers.Given as goal
 
 abbrev pub invariant-orders : goal.invariant-orders
 invariant-orders l = record {
-  paid : with_fills (maker_fills (meet l.side (taking l.taker) (demand l.left) (drop l.place l.orders)).events) (map entry_of l.accounts)
-      ≡ with_fills (maker_fills (meet l.side (taking l.taker) (demand l.fn.want) l.orders).events) (map entry_of l.initial.accounts);
+  paid : with_fills (maker_fills (meet l.side (taking l.taker) (demand l.left) (drop l.place l.orders)).events) (map entry_of l.accounts.items)
+      ≡ with_fills (maker_fills (meet l.side (taking l.taker) (demand l.fn.want) l.orders).events) (map entry_of l.initial.accounts.items);
   modest : IsModest l.side l.taker.sizes (demand l.left);
   matches : l.left.matches ≤ l.fn.want.matches;
-  small : (bound : ℕ) → All (IsWithin bound) l.initial.accounts → All (IsWithin (bound + (l.fn.want.matches - l.left.matches) * 2 ^ 65)) l.accounts;
+  small : (bound : ℕ) → All (IsWithin bound) l.initial.accounts.items → All (IsWithin (bound + (l.fn.want.matches - l.left.matches) * 2 ^ 65)) l.accounts.items;
   within : l.place ≤ length l.orders;
 }
 

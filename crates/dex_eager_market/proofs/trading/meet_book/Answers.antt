@@ -5,8 +5,8 @@ use Rattle.dex_eager_market.specs.Foreseen.{CanFill}
 use Rattle.dex_eager_market.proofs.Trades.{book-left}
 use Rattle.dex_eager_market.proofs.trading.meet_book.Goals as goal
 
-pub pay_all-requires-clause-orders : goal.pay_all-requires-clause-orders
-pay_all-requires-clause-orders c = subst (All (CanFill (opposite c.args.side) c.args.taker.sizes)) (sym c.deref.ensures.value) c.requires.book.can_fill
+pub pay_makers-requires-clause-orders : goal.pay_makers-requires-clause-orders
+pay_makers-requires-clause-orders c = subst (All (CanFill (opposite c.args.side) c.args.taker.sizes)) (sym c.deref.ensures.value) c.requires.book.can_fill
 
 pub returns-clause-left : goal.returns-clause-left
 returns-clause-left c = c.take_front.ensures.left ∙ c.requires.foreseen.left
@@ -17,4 +17,4 @@ returns-clause-book c =
     c.args.foreseen.now.gone c.args.foreseen.now.part c.requires.book refl c.take_front.ensures.capacity c.take_front.ensures.left
 
 pub returns-clause-worths : goal.returns-clause-worths
-returns-clause-worths c = rw c.deref.ensures.value at c.pay_all.ensures.worths
+returns-clause-worths c = rw c.deref.ensures.value at c.pay_makers.ensures.worths
