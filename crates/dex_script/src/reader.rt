@@ -142,7 +142,10 @@ impl Reader {
     {
         let first = words.first.into_instruction(alloc, words.lane, words.signer);
         let second = words.second.into_instruction(alloc, words.lane, words.signer);
-        if self.is_unknown(alloc, &first.parties)? || self.is_unknown(alloc, &second.parties)? {
+        if self.is_unknown(alloc, &first.parties)? {
+            return Err(RowError::Fault(FaultKind::UnknownLabel));
+        }
+        if self.is_unknown(alloc, &second.parties)? {
             return Err(RowError::Fault(FaultKind::UnknownLabel));
         }
         self.draft.add_legs(number, first, second)
