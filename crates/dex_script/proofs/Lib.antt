@@ -9,6 +9,7 @@ pub mod RowOrder
 pub mod ItemRows
 pub mod LegLaws
 pub mod OrderLaws
+pub mod BatchLaws
 pub mod RowParts
 pub mod StatedLaws
 pub mod MadeMarkets
