@@ -1,20 +1,23 @@
 -- A script that is read for batches is the same script for any other command.
-use Rattle.std.proofs.Common.{◌≡◌, ◌∙◌, ℕ, ℤ, Bool, true, false, List, [], ◌∷◌, Result, Ok, Err, ap, refl, subst, sym}
+use Rattle.std.proofs.Common.{◌≡◌, ◌∙◌, ◌+◌, ◌^◌, ◌||◌, ℕ, Bool, true, false, not, nat_le, List, [], ◌∷◌, Result, Ok, Err, ap, length, refl, sym}
 use Rattle.dex_types.specs.declared.addresses.Address.{Address}
 use Rattle.dex_types.specs.declared.terms.Program.{Program}
 use Rattle.dex_rows.specs.Records.{rows_of}
-use Rattle.dex_dump.specs.Answers.{PlainAnswer, PlainDump, next_number}
+use Rattle.dex_dump.specs.Answers.{PlainAnswer, next_number}
+use Rattle.dex_dump.specs.Reading.{is_among}
 use Rattle.dex_audit.specs.Findings.{findings}
 use Rattle.dex_audit_rules.specs.declared.finding.Finding.{Finding}
 use Rattle.dex_statement.specs.declared.faults.FaultKind.{FaultKind}
+use Rattle.dex_statement.specs.declared.faults.FaultKind.TheVariants.{UnknownLabel}
 use Rattle.dex_statement.specs.declared.statement.Statement.{Statement}
 use Rattle.dex_statement.specs.declared.statement.Statement.TheVariants as row
-use Rattle.dex_statement.specs.Faults.{◌>>=◌, unless}
+use Rattle.dex_statement.specs.Faults.{◌>>=◌, found_or, unless}
 use Rattle.dex_statement.specs.Stated.{PlainInstruction, PlainMarketWords}
 use Rattle.dex_statement.specs.Statements.{statement_of}
 use Rattle.dex_statement.specs.Words.{Fields}
 use Rattle.dex_script.specs.Drafts.{PlainDraft, PlainScript, behind_dump, no_rows}
-use Rattle.dex_script.specs.Rows.{checked_name, with_instruction, with_known, with_market, with_mint, with_msrm, with_orders_row, with_program, with_row, with_srm, with_statement, with_swap, with_wallet}
+use Rattle.dex_script.specs.Known.{has_account, is_any_among, made_addresses, mint_at, orders_at}
+use Rattle.dex_script.specs.Rows.{checked_name, exceeds_market, exceeds_row, is_full, is_unknown, set_of, with_instruction, with_known, with_market, with_mint, with_msrm, with_orders_row, with_program, with_row, with_srm, with_statement, with_wallet}
 use Rattle.dex_script.specs.Scripts.{AnswersBy, Reads, Refusal, begins_with_dump, behind, draft_after, fault_in, script_from, unless_found}
 use Rattle.dex_script.proofs.FaultLaws.{bind-ok, no-error, ok-same}
 use Rattle.dex_script.proofs.ItemRows.{instruction-row, swap-row}
@@ -45,11 +48,13 @@ bind-listed (Err kind) next other each = refl
 module _ (draft : PlainDraft) where
   program-listed : (program : Program) → with_program (listed draft) program ≡ left_listed (with_program draft program)
   unfolding with_program
-  program-listed program = unless-listed _ _ _ _ refl
+  program-listed program = unless-listed (not draft.is_first) _ _ _ refl
 
   mint-listed : (address : Address) (decimals : ℕ) → with_mint (listed draft) address decimals ≡ left_listed (with_mint draft address decimals)
   unfolding with_mint
-  mint-listed address decimals = unless-listed _ _ _ _ (unless-listed _ _ _ _ (unless-listed _ _ _ _ refl))
+  mint-listed address decimals =
+      unless-listed (is_among address draft.taken) _ _ _
+      (unless-listed (nat_le 16 (length draft.script.start.mints)) _ _ _ (unless-listed draft.is_late _ _ _ refl))
 
   srm-listed : (mint : Address) → with_srm (listed draft) mint ≡ left_listed (with_srm draft mint)
   unfolding with_srm checked_name
@@ -63,21 +68,31 @@ module _ (draft : PlainDraft) where
       → with_wallet (listed draft) address mint owner amount ≡ left_listed (with_wallet draft address mint owner amount)
   unfolding with_wallet
   wallet-listed address mint owner amount =
-      bind-listed _ _ _ (λ words. unless-listed _ _ _ _ (unless-listed _ _ _ _ (unless-listed _ _ _ _ (unless-listed _ _ _ _ refl))))
+      bind-listed (found_or (mint_at mint draft.script.start.mints) UnknownLabel) _ _ (λ words.
+      unless-listed (is_among address draft.taken) _ _ _
+      (unless-listed (nat_le 256 (length draft.script.start.wallets)) _ _ _
+      (unless-listed draft.is_late _ _ _ (unless-listed (nat_le (2 ^ 64) (words.supply + amount)) _ _ _ refl))))
 
   market-listed : (words : PlainMarketWords) → with_market (listed draft) words ≡ left_listed (with_market draft words)
   unfolding with_market
   market-listed words =
-      unless-listed _ _ _ _ (unless-listed _ _ _ _ (unless-listed _ _ _ _ (unless-listed _ _ _ _ (bind-listed _ _ _ (λ set. refl)))))
+      unless-listed (not (has_account words.coin draft.script.start.mints) || not (has_account words.pc draft.script.start.mints)) _ _ _
+      (unless-listed (is_any_among (made_addresses words.address) draft.taken) _ _ _
+      (unless-listed (nat_le 16 (length draft.script.start.markets) || exceeds_market words) _ _ _
+      (unless-listed draft.is_late _ _ _ (bind-listed (set_of words) _ _ (λ set. refl)))))
 
   orders-listed : (market address : Address) → with_orders_row (listed draft) market address ≡ left_listed (with_orders_row draft market address)
   unfolding with_orders_row
-  orders-listed market address = bind-listed _ _ _ (λ count. unless-listed _ _ _ _ (unless-listed _ _ _ _ (unless-listed _ _ _ _ refl)))
+  orders-listed market address =
+      bind-listed (found_or (orders_at market draft.script.start.markets) UnknownLabel) _ _ (λ count.
+      unless-listed (is_among address draft.taken) _ _ _
+      (unless-listed (nat_le 64 count) _ _ _ (unless-listed draft.is_late _ _ _ refl)))
 
   instruction-listed : (number : ℕ) (words : PlainInstruction)
       → with_instruction (listed draft) number words ≡ left_listed (with_instruction draft number words)
   unfolding with_instruction with_known
-  instruction-listed number words = unless-listed _ _ _ _ (unless-listed _ _ _ _ refl)
+  instruction-listed number words =
+      unless-listed (is_unknown draft.script.start words.parties) _ _ _ (unless-listed (is_full draft number || exceeds_row words) _ _ _ refl)
 
 -- ---- rows
 

@@ -1,5 +1,5 @@
 -- Two legs of which no cause is found that they are no swap.
-use Rattle.std.proofs.Common.{◌≡◌, ◌∙◌, ◌∷◌, [], ◌||◌, ℕ, ℤ, Bool, true, false, not, Option, Some, None, subst, sym, refl}
+use Rattle.std.proofs.Common.{◌≡◌, ◌∙◌, ◌∷◌, [], ◌||◌, ℕ, ℤ, true, false, Option, Some, None, subst, sym, refl}
 use Rattle.std.proofs.lemmas.Bool.{false_from_ne_true, not-false, or_from, or_parts}
 use Rattle.dex_types.specs.declared.addresses.Address.{Address}
 use Rattle.dex_types.specs.Addresses.{is_same}

@@ -96,13 +96,13 @@ push-second number draft one other good is other_is of_start other_of_start legs
     let Low : PlainRow → Type 0 = λ (row : PlainRow). row.number ≤ other.number in
     let Fits : PlainRow → Type 0 = λ (row : PlainRow). row.number ≡ other.number → AreLegs row other in
     let both = push-row draft.script.start (rows ++ one ∷ []) other (push-new number draft one good is of_start) other_of_start
-        (All-push Low rows one (λ k d within. let less = good.below k d within in omega (arith, less, other_is)) (omega (arith, is, other_is)))
-        (All-push Fits rows one (λ k d within same. let less = good.below k d within in absurd (omega (arith, less, other_is, same))) (λ same. legs))
-        (λ place row within.
-        let early : place < length rows = omega (arith, length-append rows (one ∷ []), within) in
-        let low : get_or (rows ++ one ∷ []) place row ≡ get_or rows place row = grind (arith, common_steps) in
-        let less = good.below place row early in
-        rw low (omega (arith, less, other_is))) in
+    (All-push Low rows one (λ k d within. let less = good.below k d within in omega (arith, less, other_is)) (omega (arith, is, other_is)))
+    (All-push Fits rows one (λ k d within same. let less = good.below k d within in absurd (omega (arith, less, other_is, same))) (λ same. legs))
+    (λ place row within.
+    let early : place < length rows = omega (arith, length-append rows (one ∷ []), within) in
+    let low : get_or (rows ++ one ∷ []) place row ≡ get_or rows place row = grind (arith, common_steps) in
+    let less = good.below place row early in
+    rw low (omega (arith, less, other_is))) in
     subst (AreInOrder draft.script.start) (append_assoc rows (one ∷ []) (other ∷ [])) both
 
 -- the rows of one item behind the others: `few` tells that there is room
@@ -154,8 +154,8 @@ two-good number draft after words good row =
     let other = instruction_row number draft.clock (second_leg words) in
     let legs = are-legs number draft.clock words.lane words.signer words.first words.second row.good in
     let order = push-second number draft one other good refl refl
-        (known-row start number draft (first_leg words) row.first_known row.first_within)
-        (known-row start number draft (second_leg words) row.second_known row.second_within) legs in
+    (known-row start number draft (first_leg words) row.first_known row.first_within)
+    (known-row start number draft (second_leg words) row.second_known row.second_within) legs in
     let Same : PlainRow → Type 0 = λ (r : PlainRow). r.number ≡ number in
     subst (IsGood (next_number number)) row.is
     (item-good number draft one (other ∷ []) words.lane good row.room

@@ -3,11 +3,10 @@ use Rattle.std.proofs.Common.{◌≡◌, ◌∙◌, ℕ, ◌+◌, ◌<◌, ◌�
 use Rattle.std.specs.List.{AllPairs}
 use Rattle.std.proofs.lemmas.Bool.{cases_lt, ne_eqb}
 use Rattle.std.proofs.lemmas.Grind.{common_steps}
-use Rattle.std.proofs.lemmas.List.Elements.{All-cons, All-head, All-nil, All-push, All-tail, All-weaker}
+use Rattle.std.proofs.lemmas.List.Elements.{All-head, All-nil, All-push, All-tail, All-weaker}
 use Rattle.std.proofs.lemmas.List.Quantifiers.{all_pairs_push}
 use Rattle.dex_types.specs.Accounts.{PlainAccounts}
 use Rattle.dex_types.specs.Rows.{PlainRow}
-use Rattle.dex_fold.specs.Groups.{Group, grouped}
 use Rattle.dex_fold.specs.Items.{Item, items_of}
 use Rattle.dex_fold.proofs.GroupLaws.{grouped-behind, grouped-one}
 use Rattle.dex_script.specs.Facts.{AreLegs, HasNoThree, IsRowOf, lanes_of}
