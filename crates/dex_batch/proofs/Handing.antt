@@ -24,7 +24,7 @@ use Rattle.dex_script.specs.Known.{has_account}
 use Rattle.dex_replay.proofs.Apart.{markets-distinct, wallets-distinct}
 use Rattle.dex_stage.proofs.Frames.{market-stays, wallet-stays}
 use Rattle.dex_stage.specs.Stages.{AreReady, IsMarketAt, IsRowAt, IsWalletAt, world_at}
-use Rattle.dex_batch.specs.Packets.{AreRowsOf}
+use Rattle.dex_batch.specs.Packets.{AreRowsOf, IsPacket}
 use Rattle.dex_batch.specs.Slots.{AreHomes, AreInHand, AreLent, AreWalletsAt, HomesState, IsHeld, IsLent, IsMarketGone, IsOut, IsWalletGone, IsWalletLent, KeepsOut, MarketFits, WalletFits, listed, market_addresses, wallet_addresses}
 use Rattle.dex_batch.specs.declared.slots.Slot.{Slot}
 use Rattle.dex_batch.proofs.PlacesOf.{elsewhere, market-here, markets-long, of-any, one-place, wallet-here, wallets-long}
@@ -99,16 +99,13 @@ front-listed (Some address ∷ places) stand = ap (λ (list : List Address). add
 
 -- ---- one of the listed
 
-pub all-listed : (P : Address → Type 0) (places : List (Option Address)) → All P (listed places) → (place : ℕ) (d : Option Address) → place < length places → (address : Address)
-    → get_or places place d ≡ Some address → P address
-all-listed P [] all place d within address is = absurd (omega (arith, within))
-all-listed P (None ∷ places) all zero d within address is = absurd (cc)
-all-listed P (None ∷ places) all (suc place) d within address is = all-listed P places all place d (omega (arith, within)) address is
-all-listed P (Some first ∷ places) all zero d within address is =
-    let same : first ≡ address = cc in
-    subst P same (All-head P first (listed places) all)
-all-listed P (Some first ∷ places) all (suc place) d within address is =
-    all-listed P places (All-tail P first (listed places) all) place d (omega (arith, within)) address is
+pub one-listed : (P : Address → Type 0) (places : List (Option Address)) → All P (listed places) → (place : ℕ) (d : Option Address) → place < length places
+    → All P (listed (get_or places place d ∷ []))
+one-listed P [] all place d within = absurd (omega (arith, within))
+one-listed P (None ∷ places) all zero d within = All-nil P
+one-listed P (None ∷ places) all (suc place) d within = one-listed P places all place d (omega (arith, within))
+one-listed P (Some first ∷ places) all zero d within = All-cons P first [] (All-head P first (listed places) all) (All-nil P)
+one-listed P (Some first ∷ places) all (suc place) d within = one-listed P places (All-tail P first (listed places) all) place d (omega (arith, within))
 
 -- ---- the row's market and wallets are known
 
@@ -261,3 +258,11 @@ module _ (script : PlainScript) (h : HomesState) (are : AreHomes script h) (mark
     markets = record { long = are.markets.long; each = market-sent };
     wallets = record { long = are.wallets.long; each = wallet-sent };
   }
+
+-- its cells are a packet before it acts
+pub sent-packet : (script : PlainScript) (h : HomesState) → IsScript script → (number : ℕ) (market : MarketCellState) (wallets : List CellState) → number ≡ h.next
+    → AreInHand script h market wallets → IsPacket script (record { number = number; done = false; market = market; wallets = wallets })
+sent-packet script h is number market wallets same hand = record {
+  facts = is;
+  at = (hand.row, subst (λ (n : ℕ). AreReady script n hand.row market wallets) (sym same) hand.ready);
+}

@@ -2,7 +2,7 @@
 use Rattle.std.proofs.Common.{◌≡◌, ◌≢◌, ℕ, ◌<◌, ◌≤◌, ◌⊎◌, Bool, true, false, ◌||◌, List, [], ◌∷◌, length, get_or, map, refl, sym, ap, ◌∙◌, subst, arith, ⊎_elim}
 use Rattle.std.specs.List.{All, list_any}
 use Rattle.std.proofs.lemmas.Bool.{cases_Bool, cases_eq, cases_lt, false≢true}
-use Rattle.std.proofs.lemmas.List.{get_or-map, length-map}
+use Rattle.std.proofs.lemmas.List.{get_or_default, get_or-map, length-map}
 use Rattle.std.proofs.lemmas.List.Elements.{All-head, All-tail}
 use Rattle.dex_types.specs.declared.addresses.Address.{Address}
 use Rattle.dex_types.specs.Accounts.{PlainAccount, PlainMarketAccounts}
@@ -41,10 +41,13 @@ one-place addresses distinct address place other at within here =
     absurd (false≢true (sym (elsewhere addresses distinct address place other at within differs address) ∙ ap (is_same address) (here address) ∙ is_same-refl address)))
     (cases_eq other place)
 
--- what is the same as the address at a place stands there
-pub stands-at : (addresses : List Address) (address : Address) (place : ℕ) (there : Address) → place < length addresses → ((d : Address) → get_or addresses place d ≡ there)
-    → is_same there address ≡ true → IsPlace address addresses place
-stands-at addresses address place there within at same = record { within = within; here = λ d. at d ∙ is_same-true there address same }
+-- an address that is the same as the one at a place stands there
+pub stands-at : (addresses : List Address) (address : Address) (place : ℕ) → place < length addresses → (d : Address) → is_same (get_or addresses place d) address ≡ true
+    → IsPlace address addresses place
+stands-at addresses address place within d same = record {
+  within = within;
+  here = λ e. get_or_default addresses place e d within ∙ is_same-true (get_or addresses place d) address same;
+}
 
 -- what holds of all of them holds of one of them
 pub of-any : (P : Address → Type 0) (address : Address) (addresses : List Address) → list_any (is_same address) addresses ≡ true → All P addresses → P address

@@ -207,7 +207,7 @@ impl<J: Naming> Homes<J> {
 
     /// The market at a place goes out for the next row, if it is there.
     fn try_market(&mut self, place: usize) -> Option<Hand>
-        requires place { place < length self.old.markets }
+        requires place { place < length J.script.start.markets }
         requires next { self.old.next + 1 < 2 ^ 64 }
         ensures some { IfSome result (λ cell. IsLent J.script self.old self.new place cell) }
         ensures none { IfNone result (self.new ≡ self.old) }
@@ -218,7 +218,7 @@ impl<J: Naming> Homes<J> {
 
     /// The wallet at a place goes out for the next row, if it is there.
     fn try_wallet(&mut self, place: usize) -> Option<WalletCell>
-        requires place { place < length self.old.wallets }
+        requires place { place < length J.script.start.wallets }
         requires next { self.old.next + 1 < 2 ^ 64 }
         ensures some { IfSome result (λ cell. IsWalletLent J.script self.old self.new place cell) }
         ensures none { IfNone result (self.new ≡ self.old) }
@@ -235,7 +235,7 @@ impl<J: Naming> Homes<J> {
         place: usize,
         ahead: &mut Ahead<J>,
     ) -> Hand
-        requires place { place < length self.old.markets }
+        requires place { place < length J.script.start.markets }
         requires next { self.old.next + 1 < 2 ^ 64 }
         requires lists { AreLists J.script desk.now.lists }
         ensures { IsLent J.script self.old self.new place result }
@@ -257,7 +257,7 @@ impl<J: Naming> Homes<J> {
         place: usize,
         ahead: &mut Ahead<J>,
     ) -> WalletCell
-        requires place { place < length self.old.wallets }
+        requires place { place < length J.script.start.wallets }
         requires next { self.old.next + 1 < 2 ^ 64 }
         requires lists { AreLists J.script desk.now.lists }
         ensures { IsWalletLent J.script self.old self.new place result }
@@ -291,6 +291,28 @@ impl<J: Naming> Homes<J> {
         Ok(place)
     }
 
+    /// The wallet of this place, where an address stands in it, goes out for the next row, behind those in hand. It answers the
+    /// wallet's place.
+    fn lend_place<R: Wait, P: Pace>(
+        &mut self,
+        desk: &Desk<'_, J, R, P>,
+        wallet: Option<Address>,
+        cells: &mut Vec<WalletCell>,
+        ahead: &mut Ahead<J>,
+    ) -> Result<usize, NoMemory>
+        requires known { All (λ (address : AddressOf). list_any (is_same address) desk.now.lists.wallets.now ≡ true)
+            (listed (wallet ∷ [])) }
+        requires next { self.old.next + 1 < 2 ^ 64 }
+        requires lists { AreLists J.script desk.now.lists }
+        ensures { IfOk result (λ _. AreLent J.script self.old self.new (listed (wallet ∷ []))
+            cells.old.items cells.new.items) }
+    {
+        match wallet {
+            Some(address) => self.lend_to_hand(desk, address, cells, ahead),
+            None => Ok(0),
+        }
+    }
+
     /// The wallets of these places go out for the next row, behind those in hand. It answers their places.
     fn lend_wallets<R: Wait, P: Pace>(
         &mut self,
@@ -308,10 +330,7 @@ impl<J: Naming> Homes<J> {
     {
         let mut places = [0; 4];
         for place in 0..4 {
-            match wallets[place] {
-                Some(address) => places[place] = self.lend_to_hand(desk, address, cells, ahead)?,
-                None => {}
-            }
+            places[place] = self.lend_place(desk, wallets[place], cells, ahead)?;
         }
         Ok(places)
     }
