@@ -17,6 +17,9 @@ use Rattle.dex_stage.specs.declared.parts.Terms.{Terms}
 use Rattle.dex_stage.proofs.Actions.{ready-steps, same-sight, stepped-done}
 use Rattle.dex_batch.specs.Packets.{AreAt, AreRowsOf, AreTermsOf, IsPacket, PacketState}
 
+pub rows-long : (script : PlainScript) (rows : List Row) → AreRowsOf script rows → length rows ≡ length script.rows
+rows-long script rows are = sym (length-map rows row_of) ∙ ap (λ (list : List PlainRow). length list) are
+
 -- the buffer at a place is the script's row there
 pub row-at : (script : PlainScript) (rows : List Row) → AreRowsOf script rows → (count : ℕ) (row : PlainRow) (one : Row) → IsRowAt script count row
     → one ≡ get_or rows count one → row ≡ row_of one

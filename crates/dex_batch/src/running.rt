@@ -5,7 +5,9 @@ ghost use Rattle.dex_types.specs.Accounts.{PlainAccount, PlainMarketAccounts, ma
 ghost use Rattle.dex_report.specs.Outcomes.{outcome_of};
 ghost use Rattle.dex_replay.specs.Replays.{IsReplayOf};
 ghost use Rattle.dex_replay.specs.Runs.{IsRunOf};
-ghost use Rattle.dex_script.specs.Facts.{HasNoSwap};
+ghost use Rattle.dex_script.specs.Facts.{HasNoSwap, IsScript};
+ghost use Rattle.dex_batch.specs.Lists.{AreLists};
+ghost use Rattle.dex_batch.specs.Packets.{AreRowsOf, AreTermsOf};
 ghost use Rattle.dex_batch.specs.Slots.{market_addresses, wallet_addresses};
 
 use crate::board::Board;
@@ -22,7 +24,7 @@ use dex_replay::laws::{a_replay_is_in_one_order, what_one_order_leaves_is_a_run}
 use dex_report::Outcome;
 use dex_script::Script;
 use dex_stage::Terms;
-use dex_types::{Address, MarketAccounts, Named, NoMemory};
+use dex_types::{Address, MarketAccounts, Named, NoMemory, Row};
 use std::alloc::Global;
 use std::marker::{Brand, Send, Sync};
 use std::sync::Wait;
@@ -66,6 +68,35 @@ fn wallet_places(alloc: Global, script: &Script) -> Result<Places, NoMemory>
     Places::of(alloc, addresses_of_wallets(alloc, &script.start.wallets)?)
 }
 
+/// What a script says and nobody changes.
+fn lists_of<'a, J: Naming>(
+    rows: &'a [Row],
+    terms: Terms,
+    markets: &'a Places,
+    wallets: &'a Places,
+    market_list: &'a [Address],
+    wallet_list: &'a [Address],
+) -> Lists<'a>
+    requires facts { IsScript J.script }
+    requires single { HasNoSwap J.script.rows }
+    requires rows { AreRowsOf J.script rows.now }
+    requires terms { AreTermsOf J.script terms }
+    requires markets { markets.now ≡ market_addresses J.script }
+    requires wallets { wallets.now ≡ wallet_addresses J.script }
+    requires market_list { market_list.now ≡ market_addresses J.script }
+    requires wallet_list { wallet_list.now ≡ wallet_addresses J.script }
+    ensures { AreLists J.script result }
+{
+    Lists {
+        rows,
+        terms,
+        markets,
+        wallets,
+        market_addresses: market_list,
+        wallet_addresses: wallet_list,
+    }
+}
+
 /// How many helpers there are beside the leader: no more than there are markets to work on beside.
 fn helpers_for(workers: u32, markets: usize) -> usize {
     (workers as usize).min(markets).saturating_sub(1)
@@ -88,8 +119,8 @@ fn batched<J: Naming + Send + Sync, R: Threads + Wait + Sync, P: Pace + Sync>(
         msrm: script.start.msrm,
         program: script.program,
     };
-    let market_addresses = addresses_of_markets(alloc, &script.start.markets)?;
-    let wallet_addresses = addresses_of_wallets(alloc, &script.start.wallets)?;
+    let market_list = addresses_of_markets(alloc, &script.start.markets)?;
+    let wallet_list = addresses_of_wallets(alloc, &script.start.wallets)?;
     let market_places = market_places(alloc, &script)?;
     let wallet_places = wallet_places(alloc, &script)?;
     let (cells, rows) = Cells::of_script(alloc, script)?;
@@ -97,14 +128,14 @@ fn batched<J: Naming + Send + Sync, R: Threads + Wait + Sync, P: Pace + Sync>(
     let helpers = helpers_for(workers, markets.len());
     let homes = Homes::<J>::new(alloc, markets, wallets)?;
     let board = Board::<Packet<J>>::new(alloc, 16)?;
-    let lists = Lists {
-        rows: &rows,
+    let lists = lists_of::<J>(
+        &rows,
         terms,
-        markets: &market_places,
-        wallets: &wallet_places,
-        market_addresses: &market_addresses,
-        wallet_addresses: &wallet_addresses,
-    };
+        &market_places,
+        &wallet_places,
+        &market_list,
+        &wallet_list,
+    );
     let desk = Desk {
         rt,
         board: &board,
@@ -130,6 +161,7 @@ pub fn run_batch<R: Threads + Wait + Sync, P: Pace + Sync>(
     ensures outcome { IfOk result (λ outcome. IsReplayOf script (outcome_of outcome)) }
     ensures run { IfOk result (λ outcome. IsRunOf script (outcome_of outcome)) }
 {
+    let _ = &script.rows;
     a_replay_is_in_one_order();
     what_one_order_leaves_is_a_run();
     batched::<Brand, R, P>(rt, alloc, script, workers, pace)

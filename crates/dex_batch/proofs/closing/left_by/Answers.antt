@@ -6,9 +6,10 @@ use Rattle.dex_batch.proofs.Endings.{cells-with, replay-with}
 use Rattle.dex_batch.proofs.closing.left_by.Goals as goal
 
 pub of-cells-requires : goal.of-cells-requires
-of-cells-requires g c =
-    cells-with g.J.Naming.script c.requires.facts c.requires.single c.args.markets.items c.args.wallets.items c.requires.acted (map named_of c.args.mints.items) c.args.terms.srm c.args.terms.msrm
-    c.args.terms.program
+of-cells-requires g c = record {
+  cells = cells-with g.J.Naming.script c.requires.facts c.requires.single c.args.markets.items c.args.wallets.items c.requires.acted (map named_of c.args.mints.items)
+      c.args.terms.srm c.args.terms.msrm c.args.terms.program;
+}
 
 pub returns-in-Ok : goal.returns-in-Ok
 returns-in-Ok g c =

@@ -2,7 +2,7 @@ use Rattle.std.proofs.Common.{List, map, ap, sym, subst, ◌∙◌}
 use Rattle.dex_types.specs.Accounts.{PlainMarketAccounts, accounts_of, market_accounts_of}
 use Rattle.dex_types.specs.declared.account_bytes.MarketAccounts.{MarketAccounts}
 use Rattle.dex_places.specs.Places.{AreDistinct}
-use Rattle.dex_stage.proofs.Apart.{markets-distinct}
+use Rattle.dex_replay.proofs.Apart.{markets-distinct}
 use Rattle.dex_batch.proofs.running.market_places.Goals as goal
 
 pub of-requires : goal.of-requires

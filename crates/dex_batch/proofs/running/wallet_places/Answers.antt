@@ -2,7 +2,7 @@ use Rattle.std.proofs.Common.{List, map, ap, sym, subst, ◌∙◌}
 use Rattle.dex_types.specs.Accounts.{PlainAccount, accounts_of, named_of}
 use Rattle.dex_types.specs.declared.account_bytes.Named.{Named}
 use Rattle.dex_places.specs.Places.{AreDistinct}
-use Rattle.dex_stage.proofs.Apart.{wallets-distinct}
+use Rattle.dex_replay.proofs.Apart.{wallets-distinct}
 use Rattle.dex_batch.proofs.running.wallet_places.Goals as goal
 
 pub of-requires : goal.of-requires
