@@ -14,10 +14,10 @@ use Rattle.dex_types.specs.Posting.{Posting, post, posted}
 use Rattle.dex_types.specs.Side.{precedes}
 use Rattle.dex_laws.proofs.PostLaws.{post-full, post-room, posted-insert}
 use Rattle.dex_laws.specs.Posted.{place_of}
-use Rattle.dex_eager.specs.Eager.{has_account, worth_at}
+use Rattle.dex_eager.specs.Eager.{has_account}
 use Rattle.dex_eager_market.specs.declared.accounts.Account.{Account}
 use Rattle.dex_eager_market.specs.declared.listing.Resting.{Resting}
-use Rattle.dex_eager_market.specs.Accounts.{entry_of, worth_of}
+use Rattle.dex_eager_market.specs.Accounts.{entry_of}
 use Rattle.dex_eager_market.specs.Listing.{resting_of}
 use Rattle.dex_eager_market.proofs.Meetings.{no_order}
 
@@ -149,18 +149,6 @@ pub account-more : (owner : Address) (accounts : List Account) (place : ℕ) (d 
 account-more owner accounts place d same lt is =
     ap (λ l. has_account owner (map entry_of l)) (drop_more accounts place d lt)
     ∙ ap (λ (b : Bool). b || has_account owner (map entry_of (drop (place + 1) accounts))) is
-
-pub worth-here : (owner : Address) (accounts : List Account) (place : ℕ) (d : Account) → place < length accounts → is_same owner (get_or accounts place d).address ≡ true
-    → worth_at owner (map entry_of (drop place accounts)) ≡ Some (worth_of (get_or accounts place d).total)
-worth-here owner accounts place d lt same =
-    ap (λ l. worth_at owner (map entry_of l)) (drop_more accounts place d lt)
-    ∙ cond-true (is_same owner (get_or accounts place d).address) (Some (worth_of (get_or accounts place d).total)) (worth_at owner (map entry_of (drop (place + 1) accounts))) same
-
-pub worth-more : (owner : Address) (accounts : List Account) (place : ℕ) (d : Account) → place < length accounts → is_same owner (get_or accounts place d).address ≡ false
-    → worth_at owner (map entry_of (drop place accounts)) ≡ worth_at owner (map entry_of (drop (place + 1) accounts))
-worth-more owner accounts place d lt other =
-    ap (λ l. worth_at owner (map entry_of l)) (drop_more accounts place d lt)
-    ∙ cond-false (is_same owner (get_or accounts place d).address) (Some (worth_of (get_or accounts place d).total)) (worth_at owner (map entry_of (drop (place + 1) accounts))) other
 
 -- a posted order stands at its place; a full side has made room for it
 pub posts : (side : Side) (room : ℕ) (order : Order) (before made after : List Order) (place : ℕ) → 0 < order.lots → 1 ≤ room → length before ≤ room

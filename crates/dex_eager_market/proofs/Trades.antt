@@ -3,7 +3,7 @@ use Rattle.std.proofs.Common.{ℕ, ◌+◌, ◌-◌, ◌*◌, ◌/◌, ◌^◌, 
 use Rattle.std.specs.List.{All}
 use Rattle.std.specs.Vec.{vec_capacity}
 use Rattle.std.proofs.Math.Nat.{mul-div-le, mul_comm}
-use Rattle.std.proofs.lemmas.Bool.{cond-true, cond-false, cases_lt, eqb-false}
+use Rattle.std.proofs.lemmas.Bool.{cond-false, cases_lt, eqb-false}
 use Rattle.std.proofs.lemmas.Bool.Decides.{nat_tests}
 use Rattle.std.proofs.lemmas.List.Elements.{All-take}
 use Rattle.dex_types.specs.declared.orders.Order.{Order}
@@ -219,17 +219,10 @@ goes-on side pc next aborts small not =
     or_parts true b not = absurd cc
     or_parts false b not = (refl, not)
 
--- an order that changes nothing, and one that does
-pub order-still : (side : Side) (n : NewOrder) (met : Meeting) (e : Eager) → (is_too_large side e.sizes n.lots met || eqb e.next_sequence (2 ^ 64 - 1) || is_some met.aborts) ≡ true
-    → (order_by side n met e).market ≡ e
-order-still side n met e stopped = ap (λ (s : EagerStep). s.market) (cond-true _ _ _ stopped)
-
+-- an order that changes something
 pub order-moves : (side : Side) (n : NewOrder) (met : Meeting) (e : Eager) → (is_too_large side e.sizes n.lots met || eqb e.next_sequence (2 ^ 64 - 1) || is_some met.aborts) ≡ false
     → (order_by side n met e).market ≡ after_new_order side n met e
 order-moves side n met e free = ap (λ (s : EagerStep). s.market) (cond-false _ _ _ free)
-
-pub take-still : (side : Side) (t : Take) (met : Meeting) (e : Eager) → is_too_large side e.sizes t.lots met ≡ true → (take_by side t met e).market ≡ e
-take-still side t met e stopped = ap (λ (s : EagerStep). s.market) (cond-true _ _ _ stopped)
 
 pub take-moves : (side : Side) (t : Take) (met : Meeting) (e : Eager) → is_too_large side e.sizes t.lots met ≡ false
     → (take_by side t met e).market ≡ after_meeting side met (take_fee t met) e
