@@ -114,8 +114,8 @@ export function wordsOfData(text) {
   return [instruction.name, ...fields.map((field) => (instruction[field] === undefined ? '?' : instruction[field])), ...instruction.clients].join(' ');
 }
 
-// The two legs of a swap row, each as a row of its own.
-function legsOf(fields) {
+/** The two legs of a swap row's fields, each as a row of its own. */
+export function legsOf(fields) {
   return [3, 7].map((at) => {
     const [market, coin, pc, data = ''] = fields.slice(at, at + 4);
     return { market, named: [], roles: { coin, pc, discount: '-', referrer: '-' }, instruction: instructionOfData(data) };

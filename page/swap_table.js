@@ -8,8 +8,8 @@ import { replyTitle, sentenceNode } from './sentences.js';
 import { isSwapDone } from './swaps.js';
 import { Table } from './table.js';
 
-// The legs of a swap: in the order of its row where the script is there, else as the report has the markets.
-function legsInOrder(shown, row) {
+/** The legs of a swap, each its market and entry: in the order of its row where the script is there, else as the report has the markets. */
+export function legsInOrder(shown, row) {
   const legs = shown.report.swaps.get(row);
   const isTurned = shown.joined !== null && shown.joined.addresses[shown.joined.markets[row]] !== legs[0].address;
   return (isTurned ? [...legs].reverse() : legs).map(({ address, at }) => ({
