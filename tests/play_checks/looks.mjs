@@ -78,17 +78,6 @@ async function checkContrast(suite, player) {
   }
 }
 
-// Whether anything of a text became an element, ran, or was asked for.
-async function checkHarmless(suite, page, name) {
-  const found = await page.run(() => ({
-    hurt: window.hurt === undefined, images: document.querySelectorAll('img, iframe, object, embed, svg:not([role="img"])').length,
-    handlers: document.querySelectorAll('[onload], [onerror], [onclick]').length,
-    hrefs: [...document.querySelectorAll('a[href]')].filter((link) => !link.getAttribute('href').startsWith('#')).length,
-  }));
-  suite.same(`${name}: it stays text`, found, { hurt: true, images: 0, handlers: 0, hrefs: 0 });
-  suite.same(`${name}: nothing is asked for`, page.requests(), []);
-}
-
 // Markup in scripts, dumps, names of files and the page's address.
 async function checkMarkup(suite, player) {
   const quoted = `"${MARKUP.replace(/"/g, '""')}"`;
@@ -100,12 +89,12 @@ async function checkMarkup(suite, player) {
     await player.caretBehind(MARKUP.slice(0, 8));
     for (const command of ['replay', 'audit', 'replay']) {
       await player.command(command);
-      await checkHarmless(suite, player.page, `markup ${at}, ${command}`);
+      await suite.harmless(`markup ${at}, ${command}`, player.page);
     }
   }
   for (const fragment of [`book/${encodeURIComponent(MARKUP)}`, `journal/m?row=${encodeURIComponent(MARKUP)}`, encodeURIComponent(MARKUP)]) {
     await player.open(fragment);
-    await checkHarmless(suite, player.page, `#${fragment.slice(0, 40)}`);
+    await suite.harmless(`#${fragment.slice(0, 40)}`, player.page);
   }
   const policy = await player.page.run(() => document.querySelector('meta[http-equiv]').content);
   const wanted = /^default-src 'none'; script-src 'sha256-[A-Za-z0-9+/=]{44}' 'wasm-unsafe-eval'; style-src 'unsafe-inline'; worker-src blob:; /;
