@@ -51,14 +51,14 @@ function entryRow(shown, market, journal, at, words) {
 // The columns, with the script or without.
 function journalColumns(shown, journal, numbers) {
   const hasScript = shown.joined !== null;
-  const lines = hasScript ? 3 : 2;
-  const replyLines = !hasScript && shown.report.swaps.size > 0 ? 2 : 1;
+  const hasSwaps = shown.report.swaps.size > 0;
+  const lines = (hasScript ? 3 : 2) + Number(hasScript && hasSwaps);
   const reply = (at) => 100 * journal.kinds[numbers[at]] + journal.refusals[numbers[at]];
   return [
     { title: 'Row', isNumber: true, size: '4.2rem', key: (at) => journal.rows[numbers[at]] },
     { title: 'Lane', isNumber: true, size: '3rem', key: (at) => journal.lanes[numbers[at]] },
-    ...(hasScript ? [{ title: 'Who did what', size: '1.7fr', isWide: true, lines, narrowLines: 4 }] : []),
-    { title: 'Reply', size: hasScript ? '9.2rem' : '11.5rem', isWide: true, lines, narrowLines: replyLines, key: reply },
+    ...(hasScript ? [{ title: 'Who did what', size: '1.7fr', isWide: true, lines, narrowLines: 4 + Number(hasSwaps) }] : []),
+    { title: 'Reply', size: hasScript ? '9.2rem' : '11.5rem', isWide: true, lines, narrowLines: hasSwaps && !hasScript ? 2 : 1, key: reply },
     { title: 'What happened', size: '1.7fr', isWide: true, lines, narrowLines: 4 },
     { title: 'Wallets', size: '1.1fr', isWide: true, lines, narrowLines: 3 },
   ];

@@ -51,7 +51,7 @@ export function swapSection(shown, rows) {
     columns: [
       { title: 'Row', isNumber: true, size: '4.2rem' },
       { title: 'Lane', isNumber: true, size: '3rem' },
-      ...(hasScript ? [{ title: 'Signer', size: '6.2rem' }] : []),
+      ...(hasScript ? [{ title: 'Signer', isWide: true, size: 'minmax(6.2rem, 0.6fr)' }] : []),
       { title: 'Came out', size: '5rem' },
       leg(first),
       leg(second),
