@@ -30,7 +30,7 @@ function legFields(number) {
     field(`Market ${number}`, number === 1 ? 'the market of the first leg' : 'the market of the second leg, another one', 'market'),
     field(`Coin wallet ${number}`, 'pays or gets the leg’s coin; a swap names each wallet once', 'coin'),
     field(`Pc wallet ${number}`, 'pays or gets the leg’s pc; a swap names each wallet once', 'pc'),
-    field(`Data ${number}`, 'the leg’s take in base64: “Add a row” makes it, or type its words, such as take bid 50 1 600 0 0 10, and take what is offered', 'take'),
+    field(`Data ${number}`, 'the leg’s take in base64: “Add a row” makes it; or type its words, such as take bid 50 1 600 0 0 10, and take what is offered', 'take'),
   ];
 }
 

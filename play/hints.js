@@ -47,11 +47,13 @@ function priceOffers(known, named) {
   return bestOffers(known, named, ({ isBid, price }) => ({ word: String(price), title: `best ${isBid ? 'bid' : 'ask'}` }));
 }
 
-// The data of a leg: what its words mean where words are typed, and a take of a lot at each best price.
+// The data of a leg: what its words mean where words are typed, a take of a lot at each best price, and the words of what stands there.
 function takeOffers(known, named, text) {
+  const words = wordsOfData(text);
   const takes = bestOffers(known, named, ({ isBid, price }, market) => (isBid ? `take ask ${price} 1 1 1 0 10`
     : `take bid ${price} 1 ${budgetOf(price, 1n, market)} 1 0 10`));
-  return [...(takeData(text) === null ? [] : [text]), ...takes].map((words) => ({ word: takeData(words), title: words, text: words }));
+  const made = [...(takeData(text) === null ? [] : [text]), ...takes].map((one) => ({ word: takeData(one), title: 'this take in base64', text: one }));
+  return words !== null && takeData(words) !== null ? [...made, { word: words, title: 'the take in words, to change it', text: 'as words' }] : made;
 }
 
 // The orders of a row's account by a word of each.

@@ -15,6 +15,15 @@ const STATES = {
   'with a made script': (player) => player.command('make', '18446744073709551615', '20'),
 };
 
+// Where a script with swaps is looked at besides.
+const SWAP_STATES = {
+  'with a refused swap at the caret': (player) => player.caretBehind('swap,1,bob,n,bob_coin2,'),
+  'with the form of a swap': async (player) => {
+    await player.click('Add a row');
+    await player.form('a swap');
+  },
+};
+
 // One look at the page as it stands.
 async function checkLook(suite, page, name) {
   const { covers, hidden, wide, texts } = await page.run(faultsOfLayout);
@@ -25,8 +34,8 @@ async function checkLook(suite, page, name) {
 }
 
 // Each state at each width.
-async function checkStates(suite, player, name, script) {
-  for (const [state, reach] of Object.entries(STATES)) {
+async function checkStates(suite, player, name, script, states = STATES) {
+  for (const [state, reach] of Object.entries(states)) {
     await player.page.size(1280, 1200);
     await player.open('book');
     await player.drop('script.csv', script);
@@ -114,6 +123,9 @@ export async function lookCases(suite) {
   const script = stored('examples/deep_book.csv');
   await checkStates(suite, player, 'deep_book', script);
   await checkStates(suite, player, 'deep_book in hexadecimal', withHexAddresses(script, labelsOf(script)).text);
+  const swaps = stored('tests/data/swaps.csv');
+  await checkStates(suite, player, 'swaps', swaps, SWAP_STATES);
+  await checkStates(suite, player, 'swaps in hexadecimal', withHexAddresses(swaps, labelsOf(swaps)).text, { 'as it opens': STATES['as it opens'] });
   await checkContrast(suite, player);
   await checkMarkup(suite, player);
   await player.page.close();

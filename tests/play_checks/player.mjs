@@ -102,6 +102,15 @@ export class Player {
   /** The commands that are offered. */
   commands() { return this.page.run(() => [...document.querySelectorAll('[data-key="choice Command"] option')].map(({ value }) => value)); }
 
+  /** Chooses what the small form writes; the form is open. */
+  async form(kind) {
+    await this.page.run((value) => {
+      const [select] = document.querySelectorAll('.row-form select');
+      select.value = value;
+      select.dispatchEvent(new Event('change'));
+    }, kind);
+  }
+
   /** Clicks the first button of a text. */
   async click(text, within = 'body') {
     const isThere = await this.page.run((words, place) => {
