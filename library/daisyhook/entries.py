@@ -129,7 +129,7 @@ def refusal_of(words: list[str]) -> tuple[Reply, int]:
     """The refusal that stands from the fifth word on, and how many words come before what follows."""
     number, name = int(words[4]), words[5]
     names = VALUES.get(name, ())
-    values = {key: word if key in ADDRESSES else int(word) for key, word in zip(names, words[6:])}
+    values: dict[str, int | str] = {key: word if key in ADDRESSES else int(word) for key, word in zip(names, words[6:])}
     return Refused(number, name, values), 6 + len(names)
 
 
