@@ -43,10 +43,11 @@ const SETUP_CODES = [
 
 // Why the legs of a swap row do not go together, by its fields; null where they do not tell.
 function badSwapWords(fields) {
+  if (fields.length !== 11) return null;
   const legs = legsOf(fields);
-  const [first, second] = legs.map(({ market = '' }) => hexOfAddress(market));
+  const [first, second] = legs.map(({ market }) => hexOfAddress(market));
   if (first === second) return `both legs are on ${legs[0].market}`;
-  const wallets = legs.flatMap(({ roles }) => [roles.coin, roles.pc]).filter((wallet) => wallet !== '-' && wallet !== undefined);
+  const wallets = legs.flatMap(({ roles }) => [roles.coin, roles.pc]).filter((wallet) => wallet !== '-');
   const keys = wallets.map(hexOfAddress);
   const again = keys.findIndex((key, at) => keys.indexOf(key) < at);
   if (again >= 0) return `the wallet ${wallets[again]} is named twice`;

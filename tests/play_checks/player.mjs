@@ -84,11 +84,7 @@ export class Player {
 
   /** Chooses a command, with words behind it. */
   async command(name, ...words) {
-    await this.page.run((value) => {
-      const select = document.querySelector('[data-key="choice Command"]');
-      select.value = value;
-      select.dispatchEvent(new Event('change'));
-    }, name);
+    await this.page.choose('Command', name);
     await this.page.run((values) => {
       const fields = [...document.querySelectorAll('.numbers input')];
       for (const [at, value] of values.entries()) {

@@ -123,7 +123,7 @@ async function checkWords(suite, page) {
   const all = texts.join('\n');
   for (const word of ['coin_deposits_total', 'pc_deposits_total', 'Sequence number', 'unchanged', 'short by']) suite.holds(`the word ${word} stands`, all.includes(word));
   for (const word of [/\bage\b/i, /\bSeq\b/, /looked at/, /are wanting/, /below a/, /word of .* deposits/]) suite.holds(`no ${word}`, !word.test(all), (word.exec(all) || [''])[0]);
-  await page.run(() => { const select = document.querySelector('[data-key="choice Amounts"]'); select.value = 'native'; select.dispatchEvent(new Event('change')); });
+  await page.choose('Amounts', 'native');
   await page.go('#vaults/m');
   suite.holds('native: < 1 pc lot', (await page.text('main')).includes('< 1 pc lot'));
   await page.go('#wallets/ann_usd');

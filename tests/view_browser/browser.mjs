@@ -155,6 +155,16 @@ class Page {
     return this.run((words) => [...document.querySelectorAll(words)].map((node) => node.textContent), selector);
   }
 
+  /** Chooses a value of the choice of a name. */
+  async choose(name, value) {
+    await this.run((words, chosen) => {
+      const select = document.querySelector(`[data-key="choice ${words}"]`);
+      select.value = chosen;
+      select.dispatchEvent(new Event('change'));
+    }, name, value);
+    await this.settle();
+  }
+
   /** What the CSV of a table holds, which is kept in a folder meanwhile; nothing where none comes. */
   async csv(label, folder) {
     await this.browser.ask('Browser.setDownloadBehavior', { behavior: 'allow', downloadPath: folder });

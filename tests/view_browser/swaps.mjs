@@ -29,12 +29,7 @@ async function chosen(page) {
 // Each leg in its market's journal.
 async function checkJournals(suite, page) {
   await page.open(makePage(suite.folder, REPORT, { 'script.csv': SCRIPT }), 'journal/m');
-  await page.run(() => {
-    const select = document.querySelector('[data-key="choice Amounts"]');
-    select.value = 'native';
-    select.dispatchEvent(new Event('change'));
-  });
-  await page.settle();
+  await page.choose('Amounts', 'native');
   for (const [market, row, asked, reply, answer, other] of LEGS) {
     await page.go(`#journal/${market}?row=${row}`);
     const found = await chosen(page);
