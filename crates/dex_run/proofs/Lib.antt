@@ -17,3 +17,7 @@ mod Taking
 mod Entering
 mod SeatAfter
 mod RowMore
+mod LegHands
+mod LegNames
+mod LegSeat
+mod TwoPlaces
