@@ -151,7 +151,7 @@ module _ (row : PlainRow) (seen : Seen) (reply : Reply) (t : Transfers) (stamp :
       ∙ ap (map (entry_made call_by)) (moves-kept row seen t sees address ∙ cond-true (names row address) (movement_of seen t address ∷ []) [] named)
 
   -- a cell that acted has it
-  has-entry : (before after : CellState) → names row before.address ≡ true → wallet_state_of after ≡ wallet_acted row seen t (wallet_state_of before) → IsWalletCell after
+  pub has-entry : (before after : CellState) → names row before.address ≡ true → wallet_state_of after ≡ wallet_acted row seen t (wallet_state_of before) → IsWalletCell after
       → made_of after ≡ made_of before → HasEntry (written_by call_by) before after
   has-entry before after named acted kept made = record {
     entry = wallet_entry_by row (movement_of seen t before.address);

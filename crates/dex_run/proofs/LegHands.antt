@@ -31,14 +31,22 @@ module _ (first second : PlainRow) (share : ShareNothing first second) (waits : 
   abbrev world_with : PlainScript → List CellState → World
   world_with script cells = record (world_in script cells) { markets = record { market = m; entries = [] } ∷ [] }
 
+  abbrev with_wallets : PlainScript → List CellState → List WalletState → World
+  with_wallets script cells wallets = record (world_with script cells) { wallets = wallets }
+
+  -- acting leaves all else of a world as it is
+  acted-else : (world : World) → seen_by second (record world { wallets = (acted done (Some m) world).wallets }) ≡ seen_by second (acted done (Some m) world)
+  acted-else world = refl
+
   pub seen-behind : (script : PlainScript) (cells after : List CellState) → seen ≡ seen_by first (world_in script cells) → is_same first.market m.listing.address ≡ true
       → map wallet_state_of after ≡ map (wallet_acted done seen moved) (map wallet_state_of cells)
       → seen_by second (world_in script after) ≡ seen_by second (world_in script cells)
   seen-behind script cells after seen_so on states =
-      ap (λ (wallets : List WalletState). seen_by second (record (world_in script cells) { wallets = wallets }))
+      ap (λ (wallets : List WalletState). seen_by second (with_wallets script cells wallets))
       (states
-      ∙ ap (λ (s : Seen). map (wallet_acted done s (row_step done s m).transfers) (map wallet_state_of cells)) seen_so
-      ∙ sym (ap (λ (world : World). world.wallets) acts))
+      ∙ ap (λ (s : Seen). map (wallet_acted done s (row_step done s m).transfers) (map wallet_state_of cells)) seen_so)
+      ∙ acted-else (world_with script cells)
+      ∙ sym (ap (seen_by second) acts)
       ∙ seen-far done second done-share (world_with script cells)
     where
       found : market_at first.market (world_with script cells).markets ≡ Some m

@@ -219,7 +219,7 @@ module _ (first second : PlainRow) (legs : AreLegs first second) (one two : Stam
           ∙ ap (λ (l : List (Stamped WalletEntry)). (entries_on start.address calls ++ l) ++ entries_in start.address two) (none-in first one asked.0 start.address one_moves off)
           ∙ ap (λ (l : List (Stamped WalletEntry)). l ++ entries_in start.address two) (append-nil (entries_on start.address calls))
 
-  gate-stays : {E O S : Type 0} {b c : Bool} (new other : List E) (Legal : List E → Type 0) (p q : PassView E O) → WhereEither b c (HasMade new Legal p q) (HasMade other Legal p q) (q ≡ p)
+  gate-stays : {E O : Type 0} {b c : Bool} (new other : List E) (Legal : List E → Type 0) (p q : PassView E O) → WhereEither b c (HasMade new Legal p q) (HasMade other Legal p q) (q ≡ p)
       → q.gate ≡ p.gate
   gate-stays {E} {O} new other Legal p q grows =
       either-of grows (λ on has. ap (λ (x : PassView E O). x.gate) has.pass) (λ off on has. ap (λ (x : PassView E O). x.gate) has.pass)
@@ -270,12 +270,12 @@ module _ (bank : BankState) (first second : PlainRow) (before : SeatState) (next
     markets =
         three-gates (LegMarketGrows first second one two)
         (λ start p q grows.
-        gate-stays {S = PlainMarketAccounts} first second next.legs one two asked (one ∷ []) (two ∷ []) (λ (seen : List (Stamped Call)). IsLegal (market_in start) (items_of seen)) p q grows)
+        gate-stays first second next.legs one two asked (one ∷ []) (two ∷ []) (λ (seen : List (Stamped Call)). IsLegal (market_in start) (items_of seen)) p q grows)
         bank.script.start.markets bank.markets before.markets markets markets_grown of.markets;
     wallets =
         three-gates (LegWalletGrows first second one two)
         (λ start p q grows.
-        gate-stays {S = PlainAccount} first second next.legs one two asked (entries_in start.address one) (entries_in start.address two)
+        gate-stays first second next.legs one two asked (entries_in start.address one) (entries_in start.address two)
         (λ (seen : List (Stamped WalletEntry)). IsWalletLegal (balance_of start.bytes) (items_of seen)) p q grows)
         bank.script.start.wallets bank.wallets before.wallets wallets wallets-grown of.wallets;
   }

@@ -19,5 +19,7 @@ mod SeatAfter
 mod RowMore
 mod LegHands
 mod LegNames
+mod LegReady
 mod LegSeat
+mod LegTurns
 mod TwoPlaces

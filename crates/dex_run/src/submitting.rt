@@ -96,10 +96,12 @@ impl Bank {
         ensures kept { IsSeat seat.new }
     {
         let wallets = plan_wallets(&first.coin, &first.pc, &second.coin, &second.pc);
+        let place = self.market_places.place(first.market);
+        let next = self.market_places.place(second.market);
         let made = self.in_markets(
             rt,
-            self.market_places.place(first.market),
-            self.market_places.place(second.market),
+            place,
+            next,
             &mut seat.markets,
             &wallets,
             &mut seat.wallets,

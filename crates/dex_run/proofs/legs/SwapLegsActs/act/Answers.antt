@@ -4,6 +4,7 @@ use Rattle.dex_replay.proofs.Common.{CellState}
 use Rattle.dex_order.proofs.Common.{Stamped, listing-in}
 use Rattle.dex_run.proofs.Common.{HasEntry, call_made}
 use Rattle.dex_cell.specs.CellState.{market_at}
+use Rattle.dex_types.specs.Market.{Listing}
 use Rattle.dex_history.specs.Journal.{is_held, is_refused}
 use Rattle.dex_run.specs.Submitted.{written_by_two}
 use Rattle.dex_run.specs.Turns.{IsTold, leg_wallets, made_by}
@@ -101,7 +102,7 @@ act_or_wait-two-requires-clause-wallets g c =
     (seen-is script second cells c.deref-2.result.now c.seen_by-second_seen.result other c.deref-2.ensures.value c.seen_by-second_seen.ensures.seen
     ∙ sym (seen-behind first second legs.apart c.waits.result c.seen_by-first_seen.result m script cells mid
     (seen-is script first cells c.deref.result.now c.seen_by-first_seen.result own c.deref.ensures.value c.seen_by-first_seen.ensures.seen)
-    (ap (is_same first.market) (listing-in c.args.markets.now.first.cell.accounts ∙ sym c.requires.ready.first_may.on) ∙ is_same-refl first.market)
+    (ap (is_same first.market) (ap (λ (l : Listing). l.address) (listing-in c.args.markets.now.first.cell.accounts) ∙ sym c.requires.ready.first_may.on) ∙ is_same-refl first.market)
     c.act_or_wait-one.ensures.hands.states))
     c.seen_by-second_seen.ensures.fits
 
