@@ -4,7 +4,6 @@ pub mod ClosingPasses
 pub mod ClosingLaws
 pub mod Openings
 pub mod Seating
-pub mod Apart
 pub mod LaneRows
 pub mod Jobs
 mod Counts
