@@ -71,7 +71,7 @@ refused-is true row seen m may = ap (λ (s : Step). is_refusal s.reply) (idle-st
 refused-is false row seen m may = step-refused (request_of row) seen m
 
 -- a leg waits where it is a take that would not be refused
-take-of : (it : Result Ix BadData) (request : Request) (seen : Seen) (m : Market) → is_take_or_bad it ≡ true → is_some (why_decoded it request seen m) ≡ false → is_take it ≡ true
+pub take-of : (it : Result Ix BadData) (request : Request) (seen : Seen) (m : Market) → is_take_or_bad it ≡ true → is_some (why_decoded it request seen m) ≡ false → is_take it ≡ true
 take-of (Err bad) request seen m good spared = absurd (false≢true (sym spared))
 take-of (Ok ix) request seen m good spared = good
 

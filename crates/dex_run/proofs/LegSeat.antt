@@ -250,6 +250,7 @@ module _ (bank : BankState) (first second : PlainRow) (before : SeatState) (next
     two = two;
     asked = asked;
     answered = (refl, refl);
+    replies_are = told.replies;
     together = told.together;
     all_or_none = told.all_or_none;
     sees = (

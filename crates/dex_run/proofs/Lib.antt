@@ -19,6 +19,7 @@ mod RowMore
 mod LegHands
 mod LegNames
 mod LegReady
+mod LegReplies
 mod LegSeat
 mod LegTurns
 mod TwoPlaces

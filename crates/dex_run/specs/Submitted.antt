@@ -1,8 +1,9 @@
 -- What a row leaves of a seat.
-use Rattle.std.specs.Prelude.{ℕ, ◌≡◌, ◌<◌, ◌++◌, ◌∷◌, [], All, Bool, true, false, List, length, take}
+use Rattle.std.specs.Prelude.{ℕ, ◌≡◌, ◌<◌, ◌||◌, ◌++◌, ◌∷◌, [], All, Bool, true, false, List, length, take}
 use Rattle.dex_types.specs.declared.addresses.Address.{Address}
 use Rattle.dex_types.specs.declared.movements.WalletEntry.{WalletEntry}
 use Rattle.dex_types.specs.declared.replies.Reply.{Reply}
+use Rattle.dex_types.specs.declared.replies.Reply.TheVariants.{Took}
 use Rattle.dex_types.specs.Accounts.{PlainAccount, PlainMarketAccounts}
 use Rattle.dex_types.specs.Addresses.{is_same}
 use Rattle.dex_types.specs.Rows.{PlainRow}
@@ -11,7 +12,7 @@ use Rattle.dex_accounts.specs.Decoded.{market_in}
 use Rattle.dex_fold.specs.Fold.{names}
 use Rattle.dex_gate.specs.History.{Extends}
 use Rattle.dex_gate.specs.PassView.{PassView}
-use Rattle.dex_history.specs.Journal.{Call, IsLegal, asked_of, is_held}
+use Rattle.dex_history.specs.Journal.{Call, IsLegal, asked_of, is_done, is_held, is_refusal}
 use Rattle.dex_wallet.specs.CellState.{balance_of}
 use Rattle.dex_replay.specs.Lawful.{AllThree, IsSight}
 use Rattle.dex_stamps.specs.Stamped.{Stamped, items_of}
@@ -141,6 +142,21 @@ pub record AreNext (first second : PlainRow) (seat : SeatState) : Type 0 where
   pub together : second.number ≡ first.number
   pub legs : AreLegs first second
 
+-- the reply tells what was taken
+abbrev pub is_took : Reply → Bool
+is_took (Took lots pc fee) = true
+is_took reply = false
+
+-- the replies to two legs: both took; or one at least is a refusal, neither took, and each that is no refusal tells that nothing was
+-- done, which it does only where the other is a refusal
+pub record AreLegReplies (one other : Reply) : Type 0 where
+  pub both : is_took one ≡ is_took other
+  pub refused : is_took one ≡ false → (is_refusal one || is_refusal other) ≡ true
+  pub done : is_done one ≡ true → is_refusal other ≡ true
+  pub other_done : is_done other ≡ true → is_refusal one ≡ true
+  pub told : (is_took one || is_refusal one || is_done one) ≡ true
+  pub other_told : (is_took other || is_refusal other || is_done other) ≡ true
+
 -- two legs were submitted at a seat: its lane has two calls more, which are theirs, under one stamp; both acted, or one at least was
 -- refused and each other held back; each saw the script's wallets and moves each wallet that its leg names once; and the passes of
 -- their markets and wallets have grown by them, each by that of the leg that acts there, and no others
@@ -149,6 +165,7 @@ pub record HaveSubmitted (first second : PlainRow) (replies : Reply × Reply) (b
   pub two : Stamped Call
   pub asked : (one.item.asked ≡ asked_of first) × (two.item.asked ≡ asked_of second)
   pub answered : (one.item.entry.reply ≡ replies.0) × (two.item.entry.reply ≡ replies.1)
+  pub replies_are : AreLegReplies replies.0 replies.1
   pub together : two.stamp ≡ one.stamp
   pub all_or_none : AreAllOrNone (record { first = one; others = two ∷ [] })
   pub sees : IsSight before.script one.item.seen × IsSight before.script two.item.seen

@@ -32,7 +32,7 @@ use Rattle.dex_journals.specs.Journals.{calls_by, entries_by, left_by, market_ca
 use Rattle.dex_order.specs.Lanes.{AreAllOrNone, MovesEach}
 use Rattle.dex_run.specs.declared.legs.TwoMarkets.{TwoMarkets}
 use Rattle.dex_run.specs.Bank.{BankState}
-use Rattle.dex_run.specs.Submitted.{HasWritten, Where, Written}
+use Rattle.dex_run.specs.Submitted.{AreLegReplies, HasWritten, Where, Written}
 
 -- ---- its market
 
@@ -269,6 +269,7 @@ pub record HasRowActed (script : PlainScript) (call : Stamped Call) (before afte
 pub record HaveLegsActed (script : PlainScript) (one two : Stamped Call) (before after : TwoMarkets) : Type 0 where
   pub together : two.stamp ≡ one.stamp
   pub all_or_none : AreAllOrNone (record { first = one; others = two ∷ [] })
+  pub replies : AreLegReplies one.item.entry.reply two.item.entry.reply
   pub told : IsTold script one × IsTold script two
   pub first : HasCall one before.first after.first
   pub second : HasCall two before.second after.second
@@ -277,6 +278,7 @@ pub record HaveLegsActed (script : PlainScript) (one two : Stamped Call) (before
 pub record HaveLegsTold (script : PlainScript) (stamp : ℕ) (one two : Stamped Call) : Type 0 where
   pub together : two.stamp ≡ one.stamp
   pub all_or_none : AreAllOrNone (record { first = one; others = two ∷ [] })
+  pub replies : AreLegReplies one.item.entry.reply two.item.entry.reply
   pub told : IsTold script one × IsTold script two
   pub later : stamp < one.stamp
 

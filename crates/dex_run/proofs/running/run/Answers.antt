@@ -6,7 +6,7 @@ use Rattle.dex_run.proofs.running.run.Goals as goal
 
 -- each seat may run all rows of the script
 pub run_all-requires-after_bounds : goal.run_all-requires-after_bounds
-run_all-requires-after_bounds g c = λ k d within.
+run_all-requires-after_bounds g c κs bounds = λ k d within.
     let here = c.in_ok-bank.ensures.seats k d within in
     let script_is = here.script ∙ c.in_ok-bank.ensures.bank ∙ c.in_ok-outline.ensures in
     record {

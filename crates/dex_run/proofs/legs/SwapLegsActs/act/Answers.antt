@@ -1,16 +1,17 @@
-use Rattle.std.proofs.Common.{ℕ, List, refl, sym, ap, ◌∙◌, subst}
+use Rattle.std.proofs.Common.{ℕ, Bool, ◌&&◌, not, List, refl, sym, ap, ◌∙◌, subst}
 use Rattle.dex_fold.proofs.Common.{AllZip, Call, Market, Seen, is_same, is_same-refl, row_of}
 use Rattle.dex_replay.proofs.Common.{CellState}
 use Rattle.dex_order.proofs.Common.{Stamped, listing-in}
 use Rattle.dex_run.proofs.Common.{HasEntry, call_made}
 use Rattle.dex_cell.specs.CellState.{market_at}
 use Rattle.dex_types.specs.Market.{Listing}
-use Rattle.dex_history.specs.Journal.{is_held, is_refused}
-use Rattle.dex_run.specs.Submitted.{written_by_two}
+use Rattle.dex_history.specs.Journal.{is_done, is_held, is_refused}
+use Rattle.dex_run.specs.Submitted.{is_took, written_by_two}
 use Rattle.dex_run.specs.Turns.{IsTold, leg_wallets, made_by}
 use Rattle.dex_run.proofs.Acted.{all-or-none, can-hold, held-is, is-told, leg-waits, refused-is, seen-is, sees-own, sees-row}
 use Rattle.dex_run.proofs.InHand.{has-hands}
 use Rattle.dex_run.proofs.LegHands.{hands-behind, legs-entries, seen-behind}
+use Rattle.dex_run.proofs.LegReplies.{done-is, leg-replies, took-is}
 use Rattle.dex_run.proofs.LegNames.{each-named, first-named, leg-once, second-named}
 use Rattle.dex_run.proofs.legs.SwapLegsActs.act.Goals as goal
 
@@ -132,6 +133,18 @@ returns-clause-did g c =
           (ap (λ (call : Stamped Call). is_held call.item) c.act_or_wait-two.ensures.call ∙ held-is c.waits-2.result second two_seen n two_may)
           (ap (λ (call : Stamped Call). is_refused call.item) c.act_or_wait-one.ensures.call ∙ refused-is c.waits.result first one_seen m one_may ∙ sym c.is_refused-first_refused.ensures)
           (ap (λ (call : Stamped Call). is_refused call.item) c.act_or_wait-two.ensures.call ∙ refused-is c.waits-2.result second two_seen n two_may ∙ sym c.is_refused-second_refused.ensures)
+          c.waits.ensures c.waits-2.ensures;
+      replies =
+          leg-replies c.act_or_wait-one.result.entry.reply c.act_or_wait-two.result.entry.reply c.waits.result c.waits-2.result c.is_refused-first_refused.result
+          c.is_refused-second_refused.result
+          (ap (λ (call : Stamped Call). is_took call.item.entry.reply) c.act_or_wait-one.ensures.call ∙ took-is first legs.first one_seen m c.waits.result one_may
+          ∙ ap (λ (b : Bool). not b && not c.waits.result) (sym c.is_refused-first_refused.ensures))
+          (ap (λ (call : Stamped Call). is_took call.item.entry.reply) c.act_or_wait-two.ensures.call ∙ took-is second legs.second two_seen n c.waits-2.result two_may
+          ∙ ap (λ (b : Bool). not b && not c.waits-2.result) (sym c.is_refused-second_refused.ensures))
+          (ap (λ (call : Stamped Call). is_refused call.item) c.act_or_wait-one.ensures.call ∙ refused-is c.waits.result first one_seen m one_may ∙ sym c.is_refused-first_refused.ensures)
+          (ap (λ (call : Stamped Call). is_refused call.item) c.act_or_wait-two.ensures.call ∙ refused-is c.waits-2.result second two_seen n two_may ∙ sym c.is_refused-second_refused.ensures)
+          (ap (λ (call : Stamped Call). is_done call.item.entry.reply) c.act_or_wait-one.ensures.call ∙ done-is first legs.first one_seen m c.waits.result one_may)
+          (ap (λ (call : Stamped Call). is_done call.item.entry.reply) c.act_or_wait-two.ensures.call ∙ done-is second legs.second two_seen n c.waits-2.result two_may)
           c.waits.ensures c.waits-2.ensures;
       told = (
         subst (IsTold script) (sym c.act_or_wait-one.ensures.call)
