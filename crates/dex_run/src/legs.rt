@@ -67,13 +67,15 @@ impl<'a, P: Pace> Acts for SwapLegs<'a, P> {
         let second_seen = bank.seen_by(hands, self.second);
         let first_refused = is_refused(&markets.first, self.first, &first_seen);
         let second_refused = is_refused(&markets.second, self.second, &second_seen);
+        let one_stamp = stamp.next();
+        let two_stamp = stamp.next();
         let one = act_or_wait(
             &mut markets.first,
             hands,
             self.first,
             first_seen,
             waits(second_refused, first_refused),
-            stamp.next(),
+            one_stamp,
         );
         let two = act_or_wait(
             &mut markets.second,
@@ -81,7 +83,7 @@ impl<'a, P: Pace> Acts for SwapLegs<'a, P> {
             self.second,
             second_seen,
             waits(first_refused, second_refused),
-            stamp.next(),
+            two_stamp,
         );
         TwoRecords {
             first: one,

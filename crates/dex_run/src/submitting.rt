@@ -119,9 +119,9 @@ impl Bank {
         let StampedRecord {
             seen: _,
             entry,
-            stamp,
+            stamp: last,
         } = one;
-        seat.last = stamp;
+        seat.last = last;
         (entry.reply, two.entry.reply)
     }
 
@@ -199,7 +199,16 @@ impl Bank {
         let one = self.market_gate(place);
         let two = self.market_gate(next);
         let [lower, _] = by_address(first.market, second.market);
-        let turns = take_two(rt, one, two, markets, place, next, is_same(lower, first.market), last);
+        let turns = take_two(
+            rt,
+            one,
+            two,
+            markets,
+            place,
+            next,
+            is_same(lower, first.market),
+            last,
+        );
         let TwoTurns {
             markets: mut taken,
             first: away,

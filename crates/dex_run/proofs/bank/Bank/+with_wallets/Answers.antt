@@ -156,8 +156,7 @@ leave_wallet-requires-clause-entry g t c =
     } in
     let entry = AllZip-last (HasEntry (g.A.Acts.written c.args.item.now c.with_wallets-made.result)) c.args.hands.now.items c.take_from_hand-cell.new.hands.items c.take_wallet-cell.result.0 c.take_from_hand-cell.result
     (subst (λ (l : List CellState). AllZip (HasEntry (g.A.Acts.written c.args.item.now c.with_wallets-made.result)) l (c.take_from_hand-cell.new.hands.items ++ c.take_from_hand-cell.result ∷ [])) c.put_in_hand.ensures.items
-    (subst (AllZip (HasEntry (g.A.Acts.written c.args.item.now c.with_wallets-made.result)) c.put_in_hand.new.hands.items) c.take_from_hand-cell.ensures.items c.with_wallets-made.ensures.hands)) in
-    (
+    (subst (AllZip (HasEntry (g.A.Acts.written c.args.item.now c.with_wallets-made.result)) c.put_in_hand.new.hands.items) c.take_from_hand-cell.ensures.items c.with_wallets-made.ensures.hands)) in (
       g.A.Acts.written c.args.item.now c.with_wallets-made.result,
       sym c.stamp-own.ensures,
       facts-leave c.args.self.now (g.A.Acts.named c.args.item.now) (g.A.Acts.lane c.args.item.now) c.in-Some.address (front (rest_of c.args.others.now)) c.args.hands.now.items c.args.passes.now.items c.wallet_place-place.result c.wallet_gate-gate.result.now
@@ -209,10 +208,10 @@ returns-in-Some-clause-passes g t c =
     (g.A.Acts.written c.args.item.now c.with_wallets-made.result) c.with_wallets-made.new.passes.items c.with_wallets-made.ensures.written.of_lane c.with_wallets-made.ensures.passes c.index_mut-in-Some.result.now c.index_mut-in-Some.ensures.value c.leave_wallet.new.pass
     (c.leave_wallet.ensures (g.A.Acts.written c.args.item.now c.with_wallets-made.result) (sym c.stamp-own.ensures)
     (facts-leave c.args.self.now (g.A.Acts.named c.args.item.now) (g.A.Acts.lane c.args.item.now) c.in-Some.address (front (rest_of c.args.others.now)) c.args.hands.now.items c.args.passes.now.items c.wallet_place-place.result c.wallet_gate-gate.result.now
-          c.index_mut.result.now c.take_wallet-cell.new.pass c.take_wallet-cell.result.1 facts
-          (g.A.Acts.written c.args.item.now c.with_wallets-made.result) c.with_wallets-made.new.passes.items c.with_wallets-made.ensures.written.of_lane c.with_wallets-made.ensures.passes c.index_mut-in-Some.result.now c.index_mut-in-Some.ensures.value c.take_from_hand-cell.result
-          (subst (λ (x : CellState). HasEntry (g.A.Acts.written c.args.item.now c.with_wallets-made.result) x c.take_from_hand-cell.result) c.take_wallet-cell.ensures.cell entry.1)
-          (omega (arith, c.with_wallets-made.ensures.written.later, c.later-later.ensures, le-max_left c.take_wallet-cell.result.1.last c.args.stamp.now.number)))))
+    c.index_mut.result.now c.take_wallet-cell.new.pass c.take_wallet-cell.result.1 facts
+    (g.A.Acts.written c.args.item.now c.with_wallets-made.result) c.with_wallets-made.new.passes.items c.with_wallets-made.ensures.written.of_lane c.with_wallets-made.ensures.passes c.index_mut-in-Some.result.now c.index_mut-in-Some.ensures.value c.take_from_hand-cell.result
+    (subst (λ (x : CellState). HasEntry (g.A.Acts.written c.args.item.now c.with_wallets-made.result) x c.take_from_hand-cell.result) c.take_wallet-cell.ensures.cell entry.1)
+    (omega (arith, c.with_wallets-made.ensures.written.later, c.later-later.ensures, le-max_left c.take_wallet-cell.result.1.last c.args.stamp.now.number)))))
 
 pub returns-in-Some-clause-hands : goal.returns-in-Some-clause-hands
 returns-in-Some-clause-hands g t c =

@@ -65,8 +65,8 @@ invariant_of-seat g c =
     let calls = (ap (map call_made) (c.and-seat-inside.ensures ∙ ap (λ (l : List _). l ++ (c.args.second.now, c.in_markets-made.result.second) ∷ []) c.and.ensures ∙ append_assoc c.seat.inside.calls.items _ _) ∙ map-append call_made c.seat.inside.calls.items ((c.args.first.now, c.in_markets-made.result.first) ∷ (c.args.second.now, c.in_markets-made.result.second) ∷ [])) in
     record {
       seat = subst IsSeat (sym (ap seat_with calls)) (legs.seat-kept c.args.self.now (row_of c.args.first.now) (row_of c.args.second.now) (seat_inside c.seat.inside) (subst (AreNext (row_of c.args.first.now) (row_of c.args.second.now)) (sym c.seat.view_is) c.requires.legs) (subst (IsSeatOf c.args.self.now) (sym c.seat.view_is) c.requires.seat) c.seat.invariant.seat
-    (one_made c.args.first.now c.in_markets-made.result) (two_made c.args.second.now c.in_markets-made.result) (refl, refl) c.in_markets-made.ensures.told c.in_markets-made.new.markets.items
-    c.in_markets-made.ensures.markets c.in_markets-made.new.passes.items c.in_markets-made.ensures.passes);
+          (one_made c.args.first.now c.in_markets-made.result) (two_made c.args.second.now c.in_markets-made.result) (refl, refl) c.in_markets-made.ensures.told c.in_markets-made.new.markets.items
+          c.in_markets-made.ensures.markets c.in_markets-made.new.passes.items c.in_markets-made.ensures.passes);
       hands = c.in_markets-made.ensures.hands;
       room = omega (arith, c.seat.invariant.room, c.in_markets-made.ensures.room);
     }

@@ -126,7 +126,7 @@ returns-clause-did g c =
     let two_may = leg-waits second legs.second two_seen n c.waits-2.result c.is_refused-first_refused.result c.is_refused-second_refused.result c.waits-2.ensures c.is_refused-second_refused.ensures in
     record {
       together =
-          ap (λ (call : Stamped Call). call.stamp) c.act_or_wait-two.ensures.call ∙ c.next-2.ensures ∙ sym (ap (λ (call : Stamped Call). call.stamp) c.act_or_wait-one.ensures.call ∙ c.next.ensures);
+          ap (λ (call : Stamped Call). call.stamp) c.act_or_wait-two.ensures.call ∙ c.next-two_stamp.ensures ∙ sym (ap (λ (call : Stamped Call). call.stamp) c.act_or_wait-one.ensures.call ∙ c.next-one_stamp.ensures);
       all_or_none =
           all-or-none _ _ c.waits.result c.waits-2.result c.is_refused-first_refused.result c.is_refused-second_refused.result
           (ap (λ (call : Stamped Call). is_held call.item) c.act_or_wait-one.ensures.call ∙ held-is c.waits.result first one_seen m one_may)
@@ -148,9 +148,9 @@ returns-clause-did g c =
           c.waits.ensures c.waits-2.ensures;
       told = (
         subst (IsTold script) (sym c.act_or_wait-one.ensures.call)
-            (is-told script first cells c.deref.result.now one_seen own c.deref.ensures.value c.seen_by-first_seen.ensures.seen c.waits.result m c.next.result.number),
+            (is-told script first cells c.deref.result.now one_seen own c.deref.ensures.value c.seen_by-first_seen.ensures.seen c.waits.result m c.next-one_stamp.result.number),
         subst (IsTold script) (sym c.act_or_wait-two.ensures.call)
-            (is-told script second cells c.deref-2.result.now two_seen other c.deref-2.ensures.value c.seen_by-second_seen.ensures.seen c.waits-2.result n c.next-2.result.number),
+            (is-told script second cells c.deref-2.result.now two_seen other c.deref-2.ensures.value c.seen_by-second_seen.ensures.seen c.waits-2.result n c.next-two_stamp.result.number),
       );
       first = c.act_or_wait-one.ensures.market;
       second = c.act_or_wait-two.ensures.market;
@@ -172,11 +172,11 @@ returns-clause-hands g c =
     let one_is = c.act_or_wait-one.ensures.call in
     let two_is =
     c.act_or_wait-two.ensures.call
-    ∙ ap (λ (stamp : ℕ). record { item = made_by c.waits-2.result second two_seen n; stamp = stamp }) (c.next-2.ensures ∙ sym c.next.ensures) in
+    ∙ ap (λ (stamp : ℕ). record { item = made_by c.waits-2.result second two_seen n; stamp = stamp }) (c.next-two_stamp.ensures ∙ sym c.next-one_stamp.ensures) in
     subst (λ (one : Stamped Call). AllZip (HasEntry (written_by_two one (call_made (c.args.self.now.second.now, c.act_or_wait-two.result)))) cells c.act_or_wait-two.new.hands.items) (sym one_is)
-    (subst (λ (two : Stamped Call). AllZip (HasEntry (written_by_two (record { item = made_by c.waits.result first one_seen m; stamp = c.next.result.number }) two)) cells c.act_or_wait-two.new.hands.items)
+    (subst (λ (two : Stamped Call). AllZip (HasEntry (written_by_two (record { item = made_by c.waits.result first one_seen m; stamp = c.next-one_stamp.result.number }) two)) cells c.act_or_wait-two.new.hands.items)
     (sym two_is)
-    (legs-entries first second legs.apart c.waits.result c.waits-2.result one_seen two_seen m n c.next.result.number
+    (legs-entries first second legs.apart c.waits.result c.waits-2.result one_seen two_seen m n c.next-one_stamp.result.number
     (sees-row script first cells c.deref.result.now one_seen own c.deref.ensures.value c.seen_by-first_seen.ensures.seen)
     (sees-row script second cells c.deref-2.result.now two_seen other c.deref-2.ensures.value c.seen_by-second_seen.ensures.seen) legs.lane cells
     c.act_or_wait-one.new.hands.items c.act_or_wait-two.new.hands.items (each-named first second legs script cells c.requires.hands) c.act_or_wait-one.ensures.hands
