@@ -70,7 +70,7 @@ const SEEN: Seen = Seen {
 
 // The script as it is read.
 fn script(alloc: Global) -> Result<Script, Fail> {
-    match read_script(alloc, SCRIPT) {
+    match read_script(alloc, SCRIPT, false) {
         Ok(script) => Ok(script),
         Err(_) => Err(Fail::new("no script")),
     }
