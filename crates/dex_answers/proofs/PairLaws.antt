@@ -14,6 +14,10 @@ use Rattle.dex_replay.specs.Lawful.{entries_at}
 use Rattle.dex_replay.proofs.Groups.{grouped-each, unfilter}
 use Rattle.dex_replay.proofs.MappedLists.{All-unmap, head-same, tail-same}
 use Rattle.dex_replay.proofs.Orders.{IsItemIn, each-item, items-in, own-order}
+use Rattle.dex_script.specs.Facts.{HasNoSwap}
+use Rattle.dex_replay.specs.Replays.{IsLeftByRows, IsReplayOf}
+use Rattle.dex_replay.specs.Runs.{IsRunOf}
+use Rattle.dex_answers.specs.Answers.{IsPlayed}
 use Rattle.dex_answers.specs.Paired.{ArePaired, BothOrNeither, HasTaken, WasHeldBack, WasRefused, is_took}
 
 -- ---- what a leg answers
@@ -201,3 +205,13 @@ are-paired script is outcome lawful =
     (All-filter (λ (row : PlainRow). eqb row.lane lane) (Told journals) script.rows each) k d within)
     (each-leg item.others item.first (items-in script is.rows lane k d within).legs some)
     (lawful.items lane k d within)))
+
+-- what is left when all items of a script have acted
+pub played : (script : PlainScript) (outcome : PlainOutcome) → IsScript script → IsReplayOf script outcome → IsRunOf script outcome
+    → (HasNoSwap script.rows → IsReplayOf script outcome → IsLeftByRows script script.rows outcome) → IsPlayed script outcome
+played script outcome is replay run by_rows = record {
+  replay = replay;
+  run = run;
+  paired = are-paired script is outcome run.lawful;
+  rows = λ single. by_rows single replay;
+}

@@ -1,7 +1,7 @@
 -- What is known of the answers of all commands.
-use Rattle.std.proofs.Common.{◌≡◌, ℕ, List, refl}
+use Rattle.std.proofs.Common.{◌≡◌, ℕ, true, false, List, refl}
 use Rattle.dex_words.specs.declared.command.Command.{Command}
-use Rattle.dex_words.specs.declared.command.Command.TheVariants.{Replay, Run, Dump, Audit, Worth, Make, Bulk, Migrate}
+use Rattle.dex_words.specs.declared.command.Command.TheVariants.{Replay, Run, Dump, Audit, Worth, Make, Bulk, Migrate, Batch}
 use Rattle.dex_words.specs.Spelling.{IsPlain}
 use Rattle.dex_answers.specs.Answers.{Answers}
 use Rattle.dex_answers.specs.Suits.{Suits}
@@ -14,13 +14,16 @@ use Rattle.dex_plain.specs.LaneAnswers.{AnswersAll}
 pub plain_answers : (command : Command) (bytes : List ℕ) (stood : Status) (text : List ℕ) → IsPlain command → Answers command bytes stood text
     → AnswersAll command bytes stood text
 plain_answers Run bytes stood text plain told = absurd plain
+plain_answers (Batch workers) bytes stood text plain told = absurd plain
 plain_answers _ bytes stood text plain told = told
 
 -- what suits is answered
 pub all-answered : (command : Command) (bytes : List ℕ) (stood : Status) (text : List ℕ) → Suits command bytes → AnswersAll command bytes stood text
     → stood ≡ status.Ok
 all-answered Run bytes status.Ok text suits told = refl
-all-answered Run bytes stood text suits told = absurd (read-told bytes suits.0 stood text suits.1 told)
+all-answered Run bytes stood text suits told = absurd (read-told false bytes suits.0 stood text suits.1 told)
+all-answered (Batch workers) bytes status.Ok text suits told = refl
+all-answered (Batch workers) bytes stood text suits told = absurd (read-told true bytes suits.0 stood text suits.1 told)
 all-answered Replay bytes stood text suits told = answered Replay bytes stood text suits told
 all-answered Dump bytes stood text suits told = answered Dump bytes stood text suits told
 all-answered Worth bytes stood text suits told = answered Worth bytes stood text suits told
