@@ -50,6 +50,11 @@ read-told batch text script status.DumpRefused told is why = read-once batch tex
 read-told batch text script status.AuditFailed told is why = read-once batch text script (InAudit why.0) is why.1
 read-told batch text script _ told is why = why
 
+-- bytes that are no script have no worth told
+pub no-worth : (bytes : List ℕ) (stood : Status) (text : List ℕ) → IsNoScript false bytes stood text → Answers Worth bytes stood text
+no-worth bytes status.Ok text why = absurd why
+no-worth bytes _ text why = why
+
 -- ---- dumps
 
 err-ok : {A E : Type 0} (x : A) (e : E) → ◌≡◌ {A = Result A E} (Err e) (Ok x) → ⊥

@@ -68,24 +68,24 @@ TellLeg entries asked = is_take_or_bad asked.request.instruction ≡ true
     → (tells asked.number is_refusal entries ≡ true)
     ⊎ ((is_take asked.request.instruction ≡ true) × ((tells asked.number is_took entries ≡ true) ⊎ (tells asked.number is_done entries ≡ true)))
 
-entries-of : List Call → List Entry
-entries-of calls = map (λ (call : Call). call.entry) calls
+abbrev entries_of_calls : List Call → List Entry
+entries_of_calls calls = map (λ (call : Call). call.entry) calls
 
-StandsHere : Call → Type 0
+abbrev StandsHere : Call → Type 0
 StandsHere call = (m : Market) × Stands call m
 
 each-stands : (calls : List Call) (m : Market) → IsLegal m calls → All StandsHere calls
 each-stands [] m legal = All-nil StandsHere
 each-stands (call ∷ calls) m legal = All-cons StandsHere call calls (m, legal.0) (each-stands calls (step_of call m).market legal.1)
 
-calls-tell : (calls : List Call) (m : Market) → IsLegal m calls → All (λ (call : Call). TellLeg (entries-of calls) call.asked) calls
+calls-tell : (calls : List Call) (m : Market) → IsLegal m calls → All (λ (call : Call). TellLeg (entries_of_calls calls) call.asked) calls
 calls-tell calls m legal k d within leg =
     let call : Call = get_or calls k d in
     let stands : StandsHere call = each-stands calls m legal k d within in
     let number : ℕ = call.asked.number in
     let same : eqb call.entry.row number ≡ true = ap (λ (entry : Entry). eqb entry.row number) stands.1.entry ∙ eq-eqb number number refl in
-    let at : (test : Reply → Bool) → test call.entry.reply ≡ true → tells number test (entries-of calls) ≡ true = λ test is.
-        list_any_at (λ (entry : Entry). eqb entry.row number && test entry.reply) (entries-of calls) k call.entry
+    let at : (test : Reply → Bool) → test call.entry.reply ≡ true → tells number test (entries_of_calls calls) ≡ true = λ test is.
+        list_any_at (λ (entry : Entry). eqb entry.row number && test entry.reply) (entries_of_calls calls) k call.entry
         (omega (arith, within, length-map calls (λ (one : Call). one.entry)))
         (ap (λ (entry : Entry). eqb entry.row number && test entry.reply) (get_or-map (λ (one : Call). one.entry) calls k d call.entry within)
         ∙ ap (λ (b : Bool). b && test call.entry.reply) same ∙ is) in
@@ -100,7 +100,7 @@ market-tells : (script : PlainScript) (first last : PlainMarketAccounts) (journa
     → All (λ (row : PlainRow). is_same row.market first.address ≡ true → TellLeg journal.entries (asked_of row)) script.rows
 market-tells script first last journal is k d within same =
     let lane : ℕ = (get_or script.rows k d).lane in
-    let Told : Asked → Type 0 = TellLeg (entries-of is.calls) in
+    let Told : Asked → Type 0 = TellLeg (entries_of_calls is.calls) in
     let in_lane : PlainRow → Bool = λ (row : PlainRow). eqb row.lane lane in
     let on_it : PlainRow → Bool = λ (row : PlainRow). is_same row.market first.address in
     let own : List Call = filter (λ (call : Call). eqb call.asked.lane lane) is.calls in

@@ -1,4 +1,4 @@
-use Rattle.std.proofs.Common.{ℕ, ◌≡◌, List, length, map, refl, subst, sym, ap, ◌∙◌}
+use Rattle.std.proofs.Common.{ℕ, ◌≡◌, List, false, length, map, refl, subst, sym, ap, ◌∙◌}
 use Rattle.std.proofs.lemmas.List.{length-map}
 use Rattle.std.proofs.lemmas.Result.{IfOk-weaker}
 use Rattle.dex_types.specs.Accounts.{market_accounts_of}
@@ -13,6 +13,7 @@ use Rattle.dex_worth.specs.WorthText.{worth_text}
 use Rattle.dex_answers.specs.Answers.{Answers, IsPlayed}
 use Rattle.dex_answers.specs.Telling.{IsText}
 use Rattle.dex_answers.specs.declared.status.Status.TheVariants as status
+use Rattle.dex_answers.proofs.AnswerLaws.{no-worth}
 use Rattle.dex_answers.proofs.PairLaws.{played}
 use Rattle.dex_answers.proofs.TextLaws.{says}
 use Rattle.dex_answers.proofs.worth.worth_answer.Goals as goal
@@ -39,3 +40,8 @@ returns-in_ok-outcome-in-Ok c =
       left,
       refl,
     )
+
+pub returns-in-Err : goal.returns-in-Err
+returns-in-Err c =
+    let bytes : List ℕ = c.args.bytes.now in
+    IfOk-weaker c.no_script.result _ _ (λ told why. no-worth bytes told.status told.text.items why) (c.no_script.ensures false bytes c.in-Err.ensures.told)
