@@ -1,4 +1,5 @@
-use Rattle.std.proofs.Common.{◌≡◌, ℕ, ap, refl, subst}
+use Rattle.std.proofs.Common.{◌≡◌, ℕ, true, ap, refl, subst}
+use Rattle.std.proofs.lemmas.Result.{IfOk-weaker}
 use Rattle.dex_report.specs.Outcomes.{PlainOutcome, outcome_of}
 use Rattle.dex_report.specs.Report.{report_text}
 use Rattle.dex_report.specs.Telling.{FitOutcome}
@@ -9,6 +10,7 @@ use Rattle.dex_answers.specs.Answers.{rows_told}
 use Rattle.dex_answers.specs.declared.status.Status.TheVariants as status
 use Rattle.dex_answers.proofs.PairLaws.{played}
 use Rattle.dex_answers.proofs.TextLaws.{says-more}
+use Rattle.dex_plain.proofs.LaneAnswerLaws.{no-batch}
 use Rattle.dex_plain.specs.LaneAnswers.{AnswersBatch}
 use Rattle.dex_program.proofs.batch.batch_answer.Goals as goal
 
@@ -32,3 +34,7 @@ returns-in_ok-outcome-in-Ok g c =
       run-told script outcome left.run fits,
       ap (λ (n : ℕ). report_text outcome n) told,
     ))
+
+pub returns-in-Err : goal.returns-in-Err
+returns-in-Err g c =
+    IfOk-weaker c.no_script.result _ _ (λ told why. no-batch c.args.bytes.now told.status told.text.items why) (c.no_script.ensures true c.args.bytes.now c.in-Err.ensures.told)

@@ -1,4 +1,5 @@
-use Rattle.std.proofs.Common.{◌≡◌, ℕ, ap, subst}
+use Rattle.std.proofs.Common.{◌≡◌, ℕ, false, ap, subst}
+use Rattle.std.proofs.lemmas.Result.{IfOk-weaker}
 use Rattle.dex_report.specs.Outcomes.{PlainOutcome, outcome_of}
 use Rattle.dex_report.specs.Report.{report_text}
 use Rattle.dex_report.specs.Telling.{FitOutcome}
@@ -9,6 +10,7 @@ use Rattle.dex_answers.specs.Answers.{rows_told}
 use Rattle.dex_answers.specs.declared.status.Status.TheVariants as status
 use Rattle.dex_answers.proofs.PairLaws.{are-paired}
 use Rattle.dex_answers.proofs.TextLaws.{says-more}
+use Rattle.dex_plain.proofs.LaneAnswerLaws.{no-run}
 use Rattle.dex_plain.specs.LaneAnswers.{AnswersRun}
 use Rattle.dex_program.proofs.run.run_answer.Goals as goal
 
@@ -34,3 +36,7 @@ returns-in_ok-outcome-in-Ok g c =
       },
       ap (λ (n : ℕ). report_text outcome n) told,
     ))
+
+pub returns-in-Err : goal.returns-in-Err
+returns-in-Err g c =
+    IfOk-weaker c.no_script.result _ _ (λ told why. no-run c.args.bytes.now told.status told.text.items why) (c.no_script.ensures false c.args.bytes.now c.in-Err.ensures.told)
