@@ -231,7 +231,8 @@ with_swap draft number words =
     let first = leg_words words.lane words.signer words.first in
     let second = leg_words words.lane words.signer words.second in
     let start = draft.script.start in
-    unless (is_unknown start first.parties || is_unknown start second.parties) UnknownLabel (with_legs draft number first second)
+    unless (is_unknown start first.parties) UnknownLabel
+    (unless (is_unknown start second.parties) UnknownLabel (with_legs draft number first second))
 
 -- the script with what a row of this number states
 abbrev pub with_statement : PlainDraft → ℕ → Statement → Result PlainDraft FaultKind

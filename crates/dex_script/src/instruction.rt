@@ -28,8 +28,7 @@ impl Draft {
             return Err(RowError::Fault(FaultKind::OverLimit));
         }
         self.lanes = self.lanes.max(words.lane + 1);
-        self.rows
-            .push(instruction_row(number, self.clock, words))?;
+        self.rows.push(instruction_row(number, self.clock, words))?;
         self.is_first = false;
         self.is_late = true;
         self.items += 1;
@@ -57,10 +56,8 @@ impl Draft {
             return Err(RowError::Fault(FaultKind::NoBatch));
         }
         self.lanes = self.lanes.max(first.lane + 1);
-        self.rows
-            .push(instruction_row(number, self.clock, first))?;
-        self.rows
-            .push(instruction_row(number, self.clock, second))?;
+        self.rows.push(instruction_row(number, self.clock, first))?;
+        self.rows.push(instruction_row(number, self.clock, second))?;
         self.is_first = false;
         self.is_late = true;
         self.items += 1;

@@ -1,7 +1,7 @@
 //! Laws of scripts. A law is a function that does nothing, and its clause is the law. One that rests on a law of a crate
 //! below calls that.
 
-ghost use Rattle.std.specs.Prelude.{◌≡◌, ℕ, Bool, List, [], true};
+ghost use Rattle.std.specs.Prelude.{◌≡◌, ℕ, Bool, List, [], false, true};
 ghost use Rattle.dex_rows.specs.Records.{rows_of};
 ghost use Rattle.dex_audit.specs.Findings.{findings};
 ghost use Rattle.dex_dump.specs.Accepted.{AreAccepted};
@@ -22,6 +22,11 @@ pub fn rows_of_a_script_are_in_order()
 /// The numbers of the rows of a script that is to act in batches rise, so it has no swap.
 pub fn a_script_for_batches_has_no_swap()
     ensures { (text : List ℕ) (script : PlainScript) → Reads true text script → HasNoSwap script.rows }
+{}
+
+/// A script that is to act in batches is the same script for every other command.
+pub fn a_script_for_batches_is_one_for_every_command()
+    ensures { (text : List ℕ) (script : PlainScript) → Reads true text script → Reads false text script }
 {}
 
 /// A script that begins with a dump starts with accounts that are accepted and have no findings.

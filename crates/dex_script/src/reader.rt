@@ -140,9 +140,16 @@ impl Reader {
     fn add_swap(&mut self, alloc: Global, number: u32, words: SwapWords) -> Result<(), RowError>
         ensures { TellsIn result self.new (spec.with_swap self.old number words) }
     {
-        let first = words.first.into_instruction(alloc, words.lane, words.signer);
-        let second = words.second.into_instruction(alloc, words.lane, words.signer);
-        if self.is_unknown(alloc, &first.parties)? || self.is_unknown(alloc, &second.parties)? {
+        let first = words
+            .first
+            .into_instruction(alloc, words.lane, words.signer);
+        let second = words
+            .second
+            .into_instruction(alloc, words.lane, words.signer);
+        if self.is_unknown(alloc, &first.parties)? {
+            return Err(RowError::Fault(FaultKind::UnknownLabel));
+        }
+        if self.is_unknown(alloc, &second.parties)? {
             return Err(RowError::Fault(FaultKind::UnknownLabel));
         }
         self.draft.add_legs(number, first, second)
