@@ -1,5 +1,5 @@
 -- A text that is read as a script, or as a dump, is read as nothing else.
-use Rattle.std.proofs.Common.{◌≡◌, ◌∙◌, ◌∷◌, [], ℕ, Bool, true, false, List, Option, Some, None, Result, Ok, Err, ap, refl, subst, sym}
+use Rattle.std.proofs.Common.{◌≡◌, ◌∙◌, ◌∷◌, [], ℕ, Bool, true, false, List, Result, Ok, Err, ap, refl, subst, sym}
 use Rattle.std.proofs.lemmas.Option.{none-some}
 use Rattle.dex_types.specs.Accounts.{PlainAccounts}
 use Rattle.dex_words.specs.declared.command.Command.{Command}
@@ -16,7 +16,7 @@ use Rattle.dex_audit.specs.Findings.{findings}
 use Rattle.dex_audit_rules.specs.declared.finding.Finding.{Finding}
 use Rattle.dex_script.specs.Drafts.{PlainDraft, PlainScript, behind_dump, no_rows}
 use Rattle.dex_script.specs.Rows.{with_row}
-use Rattle.dex_script.specs.Scripts.{Answers as AnswersScript, AnswersBy, IsRefused, Reads, Refusal, begins_with_dump, behind, draft_after, fault_in, script_from, unless_found}
+use Rattle.dex_script.specs.Scripts.{AnswersBy, IsRefused, Reads, Refusal, begins_with_dump, behind, draft_after, fault_in, script_from, unless_found}
 use Rattle.dex_script.specs.Scripts.Refusal.{AtRow, InAudit, InDump}
 use Rattle.dex_answers.specs.declared.status.Status.{Status}
 use Rattle.dex_answers.specs.declared.status.Status.TheVariants as status

@@ -1,7 +1,7 @@
 -- In a lawful outcome both legs of a swap took, or neither.
-use Rattle.std.proofs.Common.{◌≡◌, ◌⊎◌, ℕ, zero, suc, ◌&&◌, ◌||◌, not, inl, inr, Bool, true, false, eqb, List, [], ◌∷◌, get_or, length, map, Option, Some, None, Result, Ok, Err, refl, sym, ap, ◌∙◌, subst, arith, ⊎_elim}
-use Rattle.dex_fold.proofs.Common.{Address, All-cons, All-filter, All-head, All-map, All-nil, All-tail, All-weaker, Asked, BadData, Call, EachTwo, Entry, IsLegal, Ix, Market, PlainMarketAccounts, PlainRow, Refusal, Reply, Seen, Stands, asked_of, cases_Bool, cond-false, cond-true, decoded, eq-eqb, false≢true, filter, get_or-map, is_done, is_held, is_refusal, is_same, is_take, length-map, list_any, list_any_at, members, rows_of_lane, step_of}
-use Rattle.dex_replay.proofs.Common.{AllThree, AreLegs, IsAllOrNone, IsLawful, IsLawfulMarket, IsRowOf, IsScript, PlainMarketJournal, PlainOutcome, PlainScript, has_market, is_answered, rows_of_market, was_held}
+use Rattle.std.proofs.Common.{◌≡◌, ◌⊎◌, ℕ, ◌&&◌, ◌||◌, not, inl, inr, Bool, true, false, eqb, List, [], ◌∷◌, get_or, map, Option, Some, None, Result, Ok, Err, refl, sym, ap, ◌∙◌, subst, arith, ⊎_elim}
+use Rattle.dex_fold.proofs.Common.{All-cons, All-filter, All-head, All-map, All-nil, Asked, BadData, Call, EachTwo, Entry, IsLegal, Ix, Market, PlainMarketAccounts, PlainRow, Refusal, Reply, Seen, Stands, asked_of, cases_Bool, cond-false, cond-true, decoded, eq-eqb, false≢true, filter, get_or-map, is_done, is_held, is_refusal, is_same, is_take, length-map, list_any, list_any_at, members, rows_of_lane, step_of}
+use Rattle.dex_replay.proofs.Common.{AllThree, AreLegs, IsLawful, IsLawfulMarket, IsScript, PlainMarketJournal, PlainOutcome, PlainScript, has_market, is_answered, rows_of_market, was_held}
 use Rattle.std.specs.List.{All, Any}
 use Rattle.std.proofs.lemmas.List.Folds.{Any-from_list_any}
 use Rattle.dex_types.specs.declared.instructions.Ix.TheVariants.{SendTake}
@@ -13,7 +13,7 @@ use Rattle.dex_fold.specs.Items.{Item, items_of}
 use Rattle.dex_replay.specs.Lawful.{entries_at}
 use Rattle.dex_replay.proofs.Groups.{grouped-each, unfilter}
 use Rattle.dex_replay.proofs.MappedLists.{All-unmap, head-same, tail-same}
-use Rattle.dex_replay.proofs.Orders.{IsItemIn, each-item, items-in, own-order}
+use Rattle.dex_replay.proofs.Orders.{each-item, items-in, own-order}
 use Rattle.dex_script.specs.Facts.{HasNoSwap}
 use Rattle.dex_replay.specs.Replays.{IsLeftByRows, IsReplayOf}
 use Rattle.dex_replay.specs.Runs.{IsRunOf}
@@ -85,10 +85,10 @@ calls-tell calls m legal k d within leg =
     let number : ℕ = call.asked.number in
     let same : eqb call.entry.row number ≡ true = ap (λ (entry : Entry). eqb entry.row number) stands.1.entry ∙ eq-eqb number number refl in
     let at : (test : Reply → Bool) → test call.entry.reply ≡ true → tells number test (entries_of_calls calls) ≡ true = λ test is.
-        list_any_at (λ (entry : Entry). eqb entry.row number && test entry.reply) (entries_of_calls calls) k call.entry
-        (omega (arith, within, length-map calls (λ (one : Call). one.entry)))
-        (ap (λ (entry : Entry). eqb entry.row number && test entry.reply) (get_or-map (λ (one : Call). one.entry) calls k d call.entry within)
-        ∙ ap (λ (b : Bool). b && test call.entry.reply) same ∙ is) in
+    list_any_at (λ (entry : Entry). eqb entry.row number && test entry.reply) (entries_of_calls calls) k call.entry
+    (omega (arith, within, length-map calls (λ (one : Call). one.entry)))
+    (ap (λ (entry : Entry). eqb entry.row number && test entry.reply) (get_or-map (λ (one : Call). one.entry) calls k d call.entry within)
+    ∙ ap (λ (b : Bool). b && test call.entry.reply) same ∙ is) in
     ⊎_elim (λ (refused : is_refusal call.entry.reply ≡ true). inl (at is_refusal refused))
     (λ (other : (is_take call.asked.request.instruction ≡ true) × ((is_took call.entry.reply ≡ true) ⊎ (is_done call.entry.reply ≡ true))).
     inr (other.0, ⊎_elim (λ (took : is_took call.entry.reply ≡ true). inl (at is_took took)) (λ (held : is_done call.entry.reply ≡ true). inr (at is_done held)) other.1))
@@ -193,7 +193,7 @@ pub are-paired : (script : PlainScript) → IsScript script → (outcome : Plain
 are-paired script is outcome lawful =
     let journals : List PlainMarketJournal = outcome.markets in
     let each : All (Told journals) script.rows = λ k d within.
-        journals-tell script script.start.markets outcome.accounts.markets journals lawful.markets lawful.start.market_journals k d within (is.rows.each k d within).market in
+    journals-tell script script.start.markets outcome.accounts.markets journals lawful.markets lawful.start.market_journals k d within (is.rows.each k d within).market in
     each-item (items_of script.rows) (λ lane item. BothOrNeither journals item)
     (λ lane.
     subst (All (BothOrNeither journals)) (sym (own-order script is.rows lane))
