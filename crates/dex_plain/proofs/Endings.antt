@@ -1,6 +1,6 @@
 -- How a run ends, from what its parts did.
-use Rattle.std.proofs.Common.{◌≡◌, ◌≤◌, ◌<◌, ◌↔◌, ◌⊎◌, ◌∙◌, [], ℕ, List, length, Option, Some, None, IfSome, Result, Err, IsErrOf, inl, inr, refl, ap, subst, sym, arith}
-use Rattle.std.specs.Io.KnownBytes.{IsAtEnd, append_known}
+use Rattle.std.proofs.Common.{◌≡◌, ◌↔◌, [], ℕ, List, Option, Some, None, IfSome, Result, Err, IsErrOf, inl, inr, refl, subst, sym, arith}
+use Rattle.std.specs.Io.KnownBytes.{append_known}
 use Rattle.dex_io.specs.declared.failure.ReadAll.{ReadAll}
 use Rattle.dex_io.specs.declared.failure.ReadAll.TheVariants as reading
 use Rattle.dex_io.specs.Faults.{Rose}
