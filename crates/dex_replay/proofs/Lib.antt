@@ -1,3 +1,4 @@
+pub mod Apart
 pub mod Common
 mod AllOrNone
 pub mod Counting
@@ -19,7 +20,7 @@ mod RunOf
 mod RunSteps
 mod Runs
 mod Sights
-mod Singles
+pub mod Singles
 pub mod Starts
 mod OneReplay
 pub mod InFront

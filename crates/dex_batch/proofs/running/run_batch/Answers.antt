@@ -1,0 +1,19 @@
+use Rattle.std.proofs.Common.{Result, Ok, Err, IfOk, subst}
+use Rattle.dex_report.specs.declared.outcome.Outcome.{Outcome}
+use Rattle.dex_report.specs.Outcomes.{outcome_of}
+use Rattle.dex_replay.specs.Replays.{IsReplayOf}
+use Rattle.dex_replay.specs.Runs.{IsRunOf}
+use Rattle.dex_script.specs.Facts.{IsScript}
+use Rattle.dex_batch.proofs.running.run_batch.Goals as goal
+
+then-ok : {A E : Type 0} (P Q : A → Type 0) (result : Result A E) → ((x : A) → P x → Q x) → IfOk result P → IfOk result Q
+then-ok P Q (Ok x) then is = then x is
+then-ok P Q (Err e) then is = tt
+
+pub returns-clause-run : goal.returns-clause-run
+returns-clause-run g c =
+    let script = c.args.script in
+    let is : IsScript script = subst IsScript c.script.view_is c.script.invariant in
+    then-ok (λ (outcome : Outcome). IsReplayOf script (outcome_of outcome)) (λ (outcome : Outcome). IsRunOf script (outcome_of outcome)) c.batched.result
+    (λ outcome replay. c.what_one_order_leaves_is_a_run.ensures script (outcome_of outcome) is
+    (c.a_replay_is_in_one_order.ensures script (outcome_of outcome) is replay)) c.batched.ensures

@@ -1,0 +1,5 @@
+use Rattle.dex_batch.proofs.running.run_batch.Given as goal
+
+-- the brand is the script
+abbrev pub ghosts-batched : goal.ghosts-batched
+ghosts-batched g a = record { script = a.script }

@@ -1,0 +1,5 @@
+pub mod Packets
+pub mod Slots
+pub mod Lists
+pub mod Closing
+pub mod Waves

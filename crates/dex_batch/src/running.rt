@@ -1,0 +1,168 @@
+//! All rows of a script, in their order, on several threads.
+
+ghost use Rattle.std.specs.Prelude.{◌≡◌, ◌≤◌, IfOk, map};
+ghost use Rattle.dex_types.specs.Accounts.{PlainAccount, PlainMarketAccounts, market_accounts_of, named_of};
+ghost use Rattle.dex_report.specs.Outcomes.{outcome_of};
+ghost use Rattle.dex_replay.specs.Replays.{IsReplayOf};
+ghost use Rattle.dex_replay.specs.Runs.{IsRunOf};
+ghost use Rattle.dex_script.specs.Facts.{HasNoSwap, IsScript};
+ghost use Rattle.dex_batch.specs.Lists.{AreLists};
+ghost use Rattle.dex_batch.specs.Packets.{AreRowsOf, AreTermsOf};
+ghost use Rattle.dex_batch.specs.Slots.{market_addresses, wallet_addresses};
+
+use crate::board::Board;
+use crate::closing::left_by;
+use crate::desk::{Desk, Lists};
+use crate::homes::Homes;
+use crate::packet::{Naming, Packet};
+use crate::slots::add;
+use crate::team::together;
+use dex_bank::Cells;
+use dex_io::Pace;
+use dex_places::Places;
+use dex_replay::laws::{a_replay_is_in_one_order, what_one_order_leaves_is_a_run};
+use dex_report::Outcome;
+use dex_script::Script;
+use dex_stage::Terms;
+use dex_types::{Address, MarketAccounts, Named, NoMemory, Row};
+use std::alloc::Global;
+use std::marker::{Brand, Send, Sync};
+use std::sync::Wait;
+use std::thread::Threads;
+
+/// The addresses of markets.
+fn addresses_of_markets(alloc: Global, markets: &[MarketAccounts]) -> Result<Vec<Address>, NoMemory>
+    ensures { IfOk result (λ addresses. addresses.items
+        ≡ map (λ (accounts : PlainMarketAccounts). accounts.address) (map market_accounts_of markets.now)) }
+{
+    let mut addresses = Vec::new(alloc);
+    for accounts in markets {
+        add(&mut addresses, accounts.address)?;
+    }
+    Ok(addresses)
+}
+
+/// The addresses of wallets.
+fn addresses_of_wallets(alloc: Global, wallets: &[Named]) -> Result<Vec<Address>, NoMemory>
+    ensures { IfOk result (λ addresses. addresses.items
+        ≡ map (λ (account : PlainAccount). account.address) (map named_of wallets.now)) }
+{
+    let mut addresses = Vec::new(alloc);
+    for account in wallets {
+        add(&mut addresses, account.address)?;
+    }
+    Ok(addresses)
+}
+
+/// The places of a script's markets.
+fn market_places(alloc: Global, script: &Script) -> Result<Places, NoMemory>
+    ensures { IfOk result (λ places. places ≡ market_addresses script.now) }
+{
+    Places::of(alloc, addresses_of_markets(alloc, &script.start.markets)?)
+}
+
+/// The places of a script's wallets.
+fn wallet_places(alloc: Global, script: &Script) -> Result<Places, NoMemory>
+    ensures { IfOk result (λ places. places ≡ wallet_addresses script.now) }
+{
+    Places::of(alloc, addresses_of_wallets(alloc, &script.start.wallets)?)
+}
+
+/// What a script says and nobody changes.
+fn lists_of<'a, J: Naming>(
+    rows: &'a [Row],
+    terms: Terms,
+    markets: &'a Places,
+    wallets: &'a Places,
+    market_list: &'a [Address],
+    wallet_list: &'a [Address],
+) -> Lists<'a>
+    requires facts { IsScript J.script }
+    requires single { HasNoSwap J.script.rows }
+    requires rows { AreRowsOf J.script rows.now }
+    requires terms { AreTermsOf J.script terms }
+    requires markets { markets.now ≡ market_addresses J.script }
+    requires wallets { wallets.now ≡ wallet_addresses J.script }
+    requires market_list { market_list.now ≡ market_addresses J.script }
+    requires wallet_list { wallet_list.now ≡ wallet_addresses J.script }
+    ensures { AreLists J.script result }
+{
+    Lists {
+        rows,
+        terms,
+        markets,
+        wallets,
+        market_addresses: market_list,
+        wallet_addresses: wallet_list,
+    }
+}
+
+/// How many helpers there are beside the leader: no more than there are markets to work on beside.
+fn helpers_for(workers: u32, markets: usize) -> usize {
+    (workers as usize).min(markets).saturating_sub(1)
+}
+
+/// The same as `run_batch`, of the script that the brand names.
+fn batched<J: Naming + Send + Sync, R: Threads + Wait + Sync, P: Pace + Sync>(
+    rt: &R,
+    alloc: Global,
+    script: Script,
+    workers: u32,
+    pace: &P,
+) -> Result<Outcome, NoMemory>
+    requires is { script ≡ J.script }
+    requires single { HasNoSwap J.script.rows }
+    ensures { IfOk result (λ outcome. IsReplayOf J.script (outcome_of outcome)) }
+{
+    let terms = Terms {
+        srm: script.start.srm,
+        msrm: script.start.msrm,
+        program: script.program,
+    };
+    let market_list = addresses_of_markets(alloc, &script.start.markets)?;
+    let wallet_list = addresses_of_wallets(alloc, &script.start.wallets)?;
+    let market_places = market_places(alloc, &script)?;
+    let wallet_places = wallet_places(alloc, &script)?;
+    let (cells, rows) = Cells::of_script(alloc, script)?;
+    let (mints, markets, wallets) = cells.into_parts();
+    let helpers = helpers_for(workers, markets.len());
+    let homes = Homes::<J>::new(alloc, markets, wallets)?;
+    let board = Board::<Packet<J>>::new(alloc, 16)?;
+    let lists = lists_of::<J>(
+        &rows,
+        terms,
+        &market_places,
+        &wallet_places,
+        &market_list,
+        &wallet_list,
+    );
+    let desk = Desk {
+        rt,
+        board: &board,
+        lists,
+        pace,
+        helpers,
+    };
+    let (markets, wallets) = together(alloc, &desk, homes)?;
+    left_by::<J>(alloc, mints, terms, markets, wallets)
+}
+
+/// What is left when all rows of a script have acted in their order, on so many threads: a row acts as soon as all rows before it that
+/// name its market or one of its wallets have acted. The script's accounts themselves go into the outcome: none is copied.
+pub fn run_batch<R: Threads + Wait + Sync, P: Pace + Sync>(
+    rt: &R,
+    alloc: Global,
+    script: Script,
+    workers: u32,
+    pace: &P,
+) -> Result<Outcome, NoMemory>
+    requires workers { (1 ≤ workers) × (workers ≤ 16) }
+    requires rows { HasNoSwap script.rows }
+    ensures outcome { IfOk result (λ outcome. IsReplayOf script (outcome_of outcome)) }
+    ensures run { IfOk result (λ outcome. IsRunOf script (outcome_of outcome)) }
+{
+    let _ = &script.rows;
+    a_replay_is_in_one_order();
+    what_one_order_leaves_is_a_run();
+    batched::<Brand, R, P>(rt, alloc, script, workers, pace)
+}

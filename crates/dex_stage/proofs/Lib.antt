@@ -1,0 +1,4 @@
+pub mod Frames
+pub mod Counted
+pub mod Actions
+pub mod Steps

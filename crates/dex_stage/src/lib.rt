@@ -1,0 +1,7 @@
+//! How far a script's rows have come, cell by cell.
+#![tactic(auto)]
+
+pub mod laws;
+mod parts;
+
+pub use parts::{Parts, Terms, step_parts};
