@@ -38,7 +38,8 @@ pub fn a_dump_at_the_start_is_accepted()
 /// A script starts with accounts that are accepted, market by market those of a sound market, and of which each mint is
 /// conserved: its supply is what wallets and vaults hold of it.
 pub fn a_script_starts_sound()
-    ensures { (batch : Bool) (text : List ℕ) (script : PlainScript) → Reads batch text script → IsStart script.start }
+    ensures { (batch : Bool) (text : List ℕ) (script : PlainScript) → Reads batch text script
+        → IsStart script.start }
 {
     accounts_without_findings_are_of_sound_markets();
     mints_without_findings_are_conserved();
