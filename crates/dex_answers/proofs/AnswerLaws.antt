@@ -1,9 +1,9 @@
 -- A text that is read as a script, or as a dump, is read as nothing else.
-use Rattle.std.proofs.Common.{◌≡◌, ◌∙◌, ◌∷◌, [], ℕ, Bool, true, false, List, Option, Some, None, Result, Ok, Err, ap, refl, subst, sym}
+use Rattle.std.proofs.Common.{◌≡◌, ◌∙◌, ◌∷◌, [], ℕ, Bool, true, false, List, Result, Ok, Err, ap, refl, subst, sym}
 use Rattle.std.proofs.lemmas.Option.{none-some}
 use Rattle.dex_types.specs.Accounts.{PlainAccounts}
 use Rattle.dex_words.specs.declared.command.Command.{Command}
-use Rattle.dex_words.specs.declared.command.Command.TheVariants.{Replay, Run, Dump, Audit, Worth, Make, Bulk, Migrate}
+use Rattle.dex_words.specs.declared.command.Command.TheVariants.{Replay, Run, Dump, Audit, Worth, Make, Bulk, Migrate, Batch}
 use Rattle.dex_rows.specs.Records.{rows_of}
 use Rattle.dex_statement.specs.Words.{Fields}
 use Rattle.dex_statement.specs.Faults.{◌>>=◌}
@@ -16,7 +16,7 @@ use Rattle.dex_audit.specs.Findings.{findings}
 use Rattle.dex_audit_rules.specs.declared.finding.Finding.{Finding}
 use Rattle.dex_script.specs.Drafts.{PlainDraft, PlainScript, behind_dump, no_rows}
 use Rattle.dex_script.specs.Rows.{with_row}
-use Rattle.dex_script.specs.Scripts.{Answers as AnswersScript, AnswersBy, IsRefused, Reads, Refusal, begins_with_dump, behind, draft_after, fault_in, script_from, unless_found}
+use Rattle.dex_script.specs.Scripts.{AnswersBy, IsRefused, Reads, Refusal, begins_with_dump, behind, draft_after, fault_in, script_from, unless_found}
 use Rattle.dex_script.specs.Scripts.Refusal.{AtRow, InAudit, InDump}
 use Rattle.dex_answers.specs.declared.status.Status.{Status}
 use Rattle.dex_answers.specs.declared.status.Status.TheVariants as status
@@ -29,25 +29,31 @@ ok-err : {A E : Type 0} (x : A) (e : E) → ◌≡◌ {A = Result A E} (Ok x) (E
 ok-err x e is = cc
 
 -- one answer of a text that begins with a dump is its script, another one is not a refusal
-once : (b : Bool) (rows : List Fields) (script : PlainScript) (refusal : Refusal) → AnswersBy b rows (Ok script) → AnswersBy b rows (Err refusal) → ⊥
-once false rows script refusal is other = ok-err script refusal (is ∙ sym other)
-once true rows script refusal is other = from is.0 is.1 is.2
+once : (batch b : Bool) (rows : List Fields) (script : PlainScript) (refusal : Refusal) → AnswersBy batch b rows (Ok script) → AnswersBy batch b rows (Err refusal) → ⊥
+once batch false rows script refusal is other = ok-err script refusal (is ∙ sym other)
+once batch true rows script refusal is other = from is.0 is.1 is.2
   where
-    from : (dump : PlainAnswer) → AnswersDump rows dump → Ok script ≡ behind dump → ⊥
+    from : (dump : PlainAnswer) → AnswersDump rows dump → Ok script ≡ behind batch dump → ⊥
     from (Err fault) of told = ok-err script (InDump fault) told
     from (Ok dump) of told =
         let same : other.0 ≡ Ok dump = dump-once rows dump other.0 of other.1 in
-        ok-err script refusal (told ∙ sym (other.2 ∙ ap behind same))
+        ok-err script refusal (told ∙ sym (other.2 ∙ ap (behind batch) same))
 
-pub read-once : (text : List ℕ) (script : PlainScript) (refusal : Refusal) → Reads text script → IsRefused text refusal → ⊥
-read-once text script refusal is other = once (begins_with_dump (rows_of text)) (rows_of text) script refusal is other
+pub read-once : (batch : Bool) (text : List ℕ) (script : PlainScript) (refusal : Refusal) → Reads batch text script → IsRefused batch text refusal → ⊥
+read-once batch text script refusal is other = once batch (begins_with_dump (rows_of text)) (rows_of text) script refusal is other
 
 -- a script is none of which the text says that it is none
-pub read-told : (text : List ℕ) (script : PlainScript) (stood : Status) (told : List ℕ) → Reads text script → IsNoScript text stood told → ⊥
-read-told text script status.ScriptRefused told is why = read-once text script (AtRow why.0 why.1) is why.2
-read-told text script status.DumpRefused told is why = read-once text script (InDump why.0) is why.1
-read-told text script status.AuditFailed told is why = read-once text script (InAudit why.0) is why.1
-read-told text script _ told is why = why
+pub read-told : (batch : Bool) (text : List ℕ) (script : PlainScript) (stood : Status) (told : List ℕ) → Reads batch text script
+    → IsNoScript batch text stood told → ⊥
+read-told batch text script status.ScriptRefused told is why = read-once batch text script (AtRow why.0 why.1) is why.2
+read-told batch text script status.DumpRefused told is why = read-once batch text script (InDump why.0) is why.1
+read-told batch text script status.AuditFailed told is why = read-once batch text script (InAudit why.0) is why.1
+read-told batch text script _ told is why = why
+
+-- bytes that are no script have no worth told
+pub no-worth : (bytes : List ℕ) (stood : Status) (text : List ℕ) → IsNoScript false bytes stood text → Answers Worth bytes stood text
+no-worth bytes status.Ok text why = absurd why
+no-worth bytes _ text why = why
 
 -- ---- dumps
 
@@ -91,31 +97,32 @@ unless-audit [] next found none is empty = none is
 unless-audit (f ∷ fs) next found none is empty = cc
 
 -- a script is refused for findings where there are some
-pub found-some : (text : List ℕ) (found : List Finding) → IsRefused text (InAudit found) → found ≡ [] → ⊥
-found-some text found is empty = by (begins_with_dump (rows_of text)) is
+pub found-some : (batch : Bool) (text : List ℕ) (found : List Finding) → IsRefused batch text (InAudit found) → found ≡ [] → ⊥
+found-some batch text found is empty = by (begins_with_dump (rows_of text)) is
   where
-    from : (dump : PlainAnswer) → Err (InAudit found) ≡ behind dump → ⊥
+    from : (dump : PlainAnswer) → Err (InAudit found) ≡ behind batch dump → ⊥
     from (Err fault) told = cc
     from (Ok dump) told =
-        let draft = behind_dump dump.accounts in
+        let draft = behind_dump batch dump.accounts in
         let number = next_number dump.count in
         unless-audit (findings dump.accounts) (script_from draft number dump.behind) found
         (λ none. no-audit draft number dump.behind found (last-audit (draft_after draft number dump.behind) found none)) (sym told) empty
 
-    by : (b : Bool) → AnswersBy b (rows_of text) (Err (InAudit found)) → ⊥
-    by false told = no-audit no_rows 1 (rows_of text) found (last-audit (draft_after no_rows 1 (rows_of text)) found (sym told))
+    by : (b : Bool) → AnswersBy batch b (rows_of text) (Err (InAudit found)) → ⊥
+    by false told = no-audit (no_rows batch) 1 (rows_of text) found (last-audit (draft_after (no_rows batch) 1 (rows_of text)) found (sym told))
     by true told = from told.0 told.2
 
 -- ---- what suits a command
 
 pub answered : (command : Command) (bytes : List ℕ) (stood : Status) (text : List ℕ) → Suits command bytes → Answers command bytes stood text → stood ≡ status.Ok
 answered Replay bytes status.Ok text suits told = refl
-answered Replay bytes stood text suits told = absurd (read-told bytes suits.0 stood text suits.1 told)
+answered Replay bytes stood text suits told = absurd (read-told false bytes suits.0 stood text suits.1 told)
 answered Run bytes stood text suits told = absurd told
+answered (Batch workers) bytes stood text suits told = absurd told
 answered Dump bytes status.Ok text suits told = refl
-answered Dump bytes stood text suits told = absurd (read-told bytes suits.0 stood text suits.1 told)
+answered Dump bytes stood text suits told = absurd (read-told false bytes suits.0 stood text suits.1 told)
 answered Worth bytes status.Ok text suits told = refl
-answered Worth bytes stood text suits told = absurd (read-told bytes suits.0 stood text suits.1 told)
+answered Worth bytes stood text suits told = absurd (read-told false bytes suits.0 stood text suits.1 told)
 answered Audit bytes status.Ok text suits told = refl
 answered Audit bytes stood text suits told = absurd (clean-told bytes suits.0 stood text suits.1 told)
 answered (Make number rows) bytes status.Ok text suits told = refl

@@ -1,3 +1,4 @@
 pub mod AnswerLaws
 pub mod GroupCounts
+pub mod PairLaws
 pub mod TextLaws

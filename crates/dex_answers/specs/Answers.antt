@@ -1,8 +1,8 @@
 -- What a command on one thread answers, by its status: the text, and what it says of the bytes that were read.
-use Rattle.std.specs.Prelude.{ℕ, ◌≡◌, List, [], length, Option, Some, Result, Ok, Err}
+use Rattle.std.specs.Prelude.{ℕ, ◌≡◌, Bool, false, List, [], length, Some, Ok, Err}
 use Rattle.dex_types.specs.Accounts.{PlainAccounts}
 use Rattle.dex_words.specs.declared.command.Command.{Command}
-use Rattle.dex_words.specs.declared.command.Command.TheVariants.{Replay, Run, Dump, Audit, Worth, Make, Bulk, Migrate}
+use Rattle.dex_words.specs.declared.command.Command.TheVariants.{Replay, Run, Dump, Audit, Worth, Make, Bulk, Migrate, Batch}
 use Rattle.dex_statement.specs.declared.faults.FaultKind.{FaultKind}
 use Rattle.dex_statement.specs.Faults.{code_of, kind_number}
 use Rattle.dex_dump.specs.declared.faults.DumpFault.{DumpFault}
@@ -14,6 +14,7 @@ use Rattle.dex_migrate.specs.declared.faults.MigrateFault.{MigrateFault}
 use Rattle.dex_migrate.specs.Migrated.{AreMigrated}
 use Rattle.dex_migrate.specs.TooSmall.{first_fault}
 use Rattle.dex_script.specs.Drafts.{PlainScript}
+use Rattle.dex_script.specs.Facts.{HasNoSwap}
 use Rattle.dex_script.specs.Scripts.{IsRefused, Reads}
 use Rattle.dex_script.specs.Scripts.Refusal.{AtRow, InAudit, InDump}
 use Rattle.dex_report.specs.Bulk.{bulk_text}
@@ -27,6 +28,7 @@ use Rattle.dex_replay.specs.Runs.{IsRunOf}
 use Rattle.dex_worth.specs.Tables.{table_told}
 use Rattle.dex_worth.specs.WorthText.{worth_text}
 use Rattle.dex_lines.specs.Lines as lines
+use Rattle.dex_answers.specs.Paired.{ArePaired}
 use Rattle.dex_answers.specs.declared.status.Status.{Status}
 use Rattle.dex_answers.specs.declared.status.Status.TheVariants as status
 
@@ -35,23 +37,25 @@ abbrev pub rows_told : PlainScript → ℕ
 rows_told script = length (items_of script.rows)
 
 -- this is what is left when all items of a script have acted in their order. It is lawful, its markets are sound and its mints
--- conserved; and it is what is left when the rows have acted, each by itself
+-- conserved; of each swap both legs took, or neither; and where there is no swap it is what is left when the rows have acted, each
+-- by itself
 pub record IsPlayed (script : PlainScript) (outcome : PlainOutcome) : Type 0 where
   pub replay : IsReplayOf script outcome
   pub run : IsRunOf script outcome
-  pub rows : IsLeftByRows script script.rows outcome
+  pub paired : ArePaired script outcome
+  pub rows : HasNoSwap script.rows → IsLeftByRows script script.rows outcome
 
 -- the bytes are a script, this is what is left when all its items have acted, and the text tells it
 abbrev pub Replayed : List ℕ → (PlainScript → PlainOutcome → List ℕ) → List ℕ → Type 0
 Replayed bytes told text =
-    (script : PlainScript) × (outcome : PlainOutcome) × Reads bytes script × IsPlayed script outcome
+    (script : PlainScript) × (outcome : PlainOutcome) × Reads false bytes script × IsPlayed script outcome
     × (text ≡ told script outcome)
 
--- the bytes are a script, this is what is left when all its items have acted, and the text is its report. The values of the outcome
--- fit and its movements stand from the front, so no other such outcome has this report
-abbrev pub Reported : List ℕ → List ℕ → Type 0
-Reported bytes text =
-    (script : PlainScript) × (outcome : PlainOutcome) × Reads bytes script × IsPlayed script outcome × IsToldOutcome outcome
+-- the bytes are a script (one for a batch, where so told), this is what is left when all its items have acted, and the text is its
+-- report. The values of the outcome fit and its movements stand from the front, so no other such outcome has this report
+abbrev pub Reported : Bool → List ℕ → List ℕ → Type 0
+Reported batch bytes text =
+    (script : PlainScript) × (outcome : PlainOutcome) × Reads batch bytes script × IsPlayed script outcome × IsToldOutcome outcome
     × (text ≡ report_text outcome (rows_told script))
 
 -- the bytes are the dump of accounts without findings
@@ -62,16 +66,16 @@ IsClean bytes accounts = AnswersText bytes (Ok accounts) × (findings accounts �
 abbrev pub row_line : ℕ → FaultKind → List ℕ
 row_line row kind = lines.script_refused (record { row = row; kind = kind_number kind; code = code_of kind })
 
--- the bytes are no script: the text names the first faulty row, or it tells the fault or the findings of the dump at
--- its start
-abbrev pub IsNoScript : List ℕ → Status → List ℕ → Type 0
-IsNoScript bytes status.ScriptRefused text =
-    (row : ℕ) × (kind : FaultKind) × IsRefused bytes (AtRow row kind) × (text ≡ row_line row kind)
-IsNoScript bytes status.DumpRefused text =
-    (fault : DumpFault) × IsRefused bytes (InDump fault) × (text ≡ lines.dump_refused fault)
-IsNoScript bytes status.AuditFailed text =
-    (found : List Finding) × IsRefused bytes (InAudit found) × ¬ (found ≡ []) × (text ≡ lines.audit_failed found)
-IsNoScript bytes _ text = ⊥
+-- the bytes are no script (none for a batch, where so told): the text names the first faulty row, or it tells the fault or the
+-- findings of the dump at its start
+abbrev pub IsNoScript : Bool → List ℕ → Status → List ℕ → Type 0
+IsNoScript batch bytes status.ScriptRefused text =
+    (row : ℕ) × (kind : FaultKind) × IsRefused batch bytes (AtRow row kind) × (text ≡ row_line row kind)
+IsNoScript batch bytes status.DumpRefused text =
+    (fault : DumpFault) × IsRefused batch bytes (InDump fault) × (text ≡ lines.dump_refused fault)
+IsNoScript batch bytes status.AuditFailed text =
+    (found : List Finding) × IsRefused batch bytes (InAudit found) × ¬ (found ≡ []) × (text ≡ lines.audit_failed found)
+IsNoScript batch bytes _ text = ⊥
 
 -- the bytes are no dump of accounts without findings: the text names the first faulty row, or it tells the findings
 abbrev pub IsNotClean : List ℕ → Status → List ℕ → Type 0
@@ -82,20 +86,22 @@ IsNotClean bytes status.AuditFailed text =
     × (text ≡ lines.audit_failed (findings accounts))
 IsNotClean bytes _ text = ⊥
 
--- what a command on one thread answers to bytes: the status and the text. `make` and `bulk` look at no bytes, and `run` has lanes
+-- what a command on one thread answers to bytes: the status and the text. `make` and `bulk` look at no bytes, and `run` and `batch`
+-- act on several threads
 abbrev pub Answers : Command → List ℕ → Status → List ℕ → Type 0
-Answers Replay bytes status.Ok text = Reported bytes text
-Answers Replay bytes stood text = IsNoScript bytes stood text
+Answers Replay bytes status.Ok text = Reported false bytes text
+Answers Replay bytes stood text = IsNoScript false bytes stood text
 Answers Run bytes stood text = ⊥
+Answers (Batch workers) bytes stood text = ⊥
 Answers Dump bytes status.Ok text = Replayed bytes (λ script outcome. dump_text outcome.accounts) text
-Answers Dump bytes stood text = IsNoScript bytes stood text
+Answers Dump bytes stood text = IsNoScript false bytes stood text
 Answers Audit bytes status.Ok text =
     (accounts : PlainAccounts) × IsClean bytes accounts
     × (text ≡ lines.audit_ok (length accounts.markets) (length accounts.wallets))
 Answers Audit bytes stood text = IsNotClean bytes stood text
 Answers Worth bytes status.Ok text =
     Replayed bytes (λ script outcome. worth_text (length script.start.markets) (table_told script outcome)) text
-Answers Worth bytes stood text = IsNoScript bytes stood text
+Answers Worth bytes stood text = IsNoScript false bytes stood text
 Answers (Make number rows) bytes status.Ok text = text ≡ made_text number rows
 Answers (Make number rows) bytes stood text = ⊥
 Answers (Bulk number rows) bytes status.Ok text =

@@ -1,4 +1,5 @@
 pub mod Answers
 pub mod ExitCodes
+pub mod Paired
 pub mod Suits
 pub mod Telling

@@ -1,8 +1,8 @@
 -- Bytes to which a command has an answer that is no refusal.
-use Rattle.std.specs.Prelude.{ℕ, ◌≡◌, List, None}
+use Rattle.std.specs.Prelude.{ℕ, ◌≡◌, true, false, List, None}
 use Rattle.dex_types.specs.Accounts.{PlainAccounts}
 use Rattle.dex_words.specs.declared.command.Command.{Command}
-use Rattle.dex_words.specs.declared.command.Command.TheVariants.{Replay, Run, Dump, Audit, Worth, Make, Bulk, Migrate}
+use Rattle.dex_words.specs.declared.command.Command.TheVariants.{Replay, Run, Dump, Audit, Worth, Make, Bulk, Migrate, Batch}
 use Rattle.dex_migrate.specs.TooSmall.{first_fault}
 use Rattle.dex_script.specs.Drafts.{PlainScript}
 use Rattle.dex_script.specs.Scripts.{Reads}
@@ -11,10 +11,11 @@ use Rattle.dex_answers.specs.Answers.{IsClean}
 -- the bytes are a script, or the dump of accounts without findings, all of which fits where they are migrated. `make`
 -- and `bulk` look at no bytes
 abbrev pub Suits : Command → List ℕ → Type 0
-Suits Replay bytes = (script : PlainScript) × Reads bytes script
-Suits Run bytes = (script : PlainScript) × Reads bytes script
-Suits Dump bytes = (script : PlainScript) × Reads bytes script
-Suits Worth bytes = (script : PlainScript) × Reads bytes script
+Suits Replay bytes = (script : PlainScript) × Reads false bytes script
+Suits Run bytes = (script : PlainScript) × Reads false bytes script
+Suits (Batch workers) bytes = (script : PlainScript) × Reads true bytes script
+Suits Dump bytes = (script : PlainScript) × Reads false bytes script
+Suits Worth bytes = (script : PlainScript) × Reads false bytes script
 Suits Audit bytes = (accounts : PlainAccounts) × IsClean bytes accounts
 Suits (Make number rows) bytes = Unit {0}
 Suits (Bulk number rows) bytes = Unit {0}

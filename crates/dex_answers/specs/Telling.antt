@@ -1,5 +1,5 @@
 -- What the answers of calls tell, without their buffers.
-use Rattle.std.specs.Prelude.{ℕ, ◌≡◌, List}
+use Rattle.std.specs.Prelude.{ℕ, ◌≡◌, false, List}
 use Rattle.dex_types.specs.Accounts.{accounts_of}
 use Rattle.dex_dump.specs.Accepted.{AreAccepted}
 use Rattle.dex_script.specs.Drafts.{PlainScript}
@@ -26,5 +26,5 @@ TellsChecked (checked.Refused told) bytes = IsNotClean bytes told.status told.te
 -- the bytes are a script with this outcome, whose report tells of so many rows; or the text says why they are none
 abbrev pub TellsPlayed : Played → List ℕ → Type 0
 TellsPlayed (played.AllRows rows outcome) bytes =
-    (script : PlainScript) × Reads bytes script × IsPlayed script (outcome_of outcome) × (rows ≡ rows_told script)
-TellsPlayed (played.Refused told) bytes = IsNoScript bytes told.status told.text.items
+    (script : PlainScript) × Reads false bytes script × IsPlayed script (outcome_of outcome) × (rows ≡ rows_told script)
+TellsPlayed (played.Refused told) bytes = IsNoScript false bytes told.status told.text.items

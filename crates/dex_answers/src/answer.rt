@@ -25,7 +25,7 @@ pub fn answer_to(alloc: Global, command: Command, bytes: &[u8]) -> Result<Status
 {
     match command {
         Command::Replay => replay_answer(alloc, bytes),
-        Command::Run => unreachable!(),
+        Command::Run | Command::Batch { workers: _ } => unreachable!(),
         Command::Dump => dump_answer(alloc, bytes),
         Command::Audit => audit_answer(alloc, bytes),
         Command::Worth => worth_answer(alloc, bytes),

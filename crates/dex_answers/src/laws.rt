@@ -1,8 +1,13 @@
-//! What holds of the answers of all commands on one thread. A law is a function without a body, and its clause is the law.
+//! What holds of the answers of all commands on one thread, and of swaps. A law is a function without a body, and its clause is the law.
 
 ghost use Rattle.std.specs.Prelude.{◌≡◌, ℕ, List};
 ghost use Rattle.dex_words.specs.declared.command.Command.{Command};
+ghost use Rattle.dex_report.specs.Outcomes.{PlainOutcome};
+ghost use Rattle.dex_script.specs.Drafts.{PlainScript};
+ghost use Rattle.dex_script.specs.Facts.{IsScript};
+ghost use Rattle.dex_replay.specs.Lawful.{IsLawful};
 ghost use Rattle.dex_answers.specs.Answers.{Answers};
+ghost use Rattle.dex_answers.specs.Paired.{ArePaired};
 ghost use Rattle.dex_answers.specs.Suits.{Suits};
 ghost use Rattle.dex_answers.specs.declared.status.Status.{Status};
 ghost use Rattle.dex_answers.specs.declared.status.Status.TheVariants.{Ok as Done};
@@ -12,4 +17,10 @@ ghost use Rattle.dex_answers.specs.declared.status.Status.TheVariants.{Ok as Don
 pub fn what_suits_a_command_is_answered()
     ensures { (command : Command) (bytes : List ℕ) (stood : Status) (text : List ℕ)
         → Suits command bytes → Answers command bytes stood text → stood ≡ Done }
+{}
+
+/// In each lawful outcome of a script both legs of a swap took, or neither: then one is refused, and each that is not was held back.
+pub fn both_legs_of_a_swap_take_or_neither()
+    ensures { (script : PlainScript) (outcome : PlainOutcome) → IsScript script → IsLawful script outcome
+        → ArePaired script outcome }
 {}

@@ -19,7 +19,7 @@ mod worth;
 
 pub use answer::answer_to;
 pub use counting::items_in;
-pub use laws::what_suits_a_command_is_answered;
+pub use laws::{both_legs_of_a_swap_take_or_neither, what_suits_a_command_is_answered};
 pub use played::no_script;
 pub use replay::report_of;
 pub use status::Status;

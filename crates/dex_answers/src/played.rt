@@ -1,6 +1,6 @@
 //! What the rows of a script leave.
 
-ghost use Rattle.std.specs.Prelude.{ℕ, List, IfOk};
+ghost use Rattle.std.specs.Prelude.{ℕ, Bool, List, IfOk};
 ghost use Rattle.dex_script.specs.Telling.{TellsError};
 ghost use Rattle.dex_answers.specs.Answers.{IsNoScript};
 ghost use Rattle.dex_answers.specs.Telling.{TellsPlayed};
@@ -25,11 +25,11 @@ pub(crate) enum Played {
     Refused(StatusText),
 }
 
-/// Reads a script, and lets its rows act one after the other.
+/// Reads a script, and lets its items act one after the other.
 pub(crate) fn play_script(alloc: Global, bytes: &[u8]) -> Result<Played, NoMemory>
     ensures { IfOk result (λ played. TellsPlayed played bytes.now) }
 {
-    match read_script(alloc, bytes) {
+    match read_script(alloc, bytes, false) {
         Ok(script) => {
             let rows = items_in(&script.rows);
             let outcome = replay(alloc, script)?;
@@ -42,8 +42,8 @@ pub(crate) fn play_script(alloc: Global, bytes: &[u8]) -> Result<Played, NoMemor
 
 /// The text that tells why bytes are no script.
 pub fn no_script(alloc: Global, error: ScriptError) -> Result<StatusText, NoMemory>
-    ensures { (bytes : List ℕ) → TellsError error bytes
-        → IfOk result (λ told. IsNoScript bytes told.status told.text.items) }
+    ensures { (batch : Bool) (bytes : List ℕ) → TellsError error batch bytes
+        → IfOk result (λ told. IsNoScript batch bytes told.status told.text.items) }
 {
     match error {
         ScriptError::Row { row, kind, code } => {

@@ -31,7 +31,7 @@ use std::alloc::Global;
 pub(crate) fn worth_answer(alloc: Global, bytes: &[u8]) -> Result<StatusText, NoMemory>
     ensures { IfOk result (λ told. Answers Worth bytes.now told.status told.text.items) }
 {
-    match read_script(alloc, bytes) {
+    match read_script(alloc, bytes, false) {
         Ok(script) => {
             let markets = script.start.markets.len();
             let (outcome, rows) = replay_with_rows(alloc, script)?;

@@ -15,6 +15,8 @@ const MOST_ROWS: u32 = 20_000;
 const MOST_NODES: u32 = 65_536;
 /// The most events of an event queue.
 const MOST_EVENTS: u32 = 65_535;
+/// The most threads of a batch.
+const MOST_WORKERS: u32 = 16;
 
 /// Answers a command to bytes: writes the text into the room where it fits, tells its length, and gives the number of its status.
 pub(crate) fn call(
@@ -50,6 +52,7 @@ fn is_within(command: Command) -> bool
         Command::Migrate { nodes, events } => {
             nodes >= 1 && nodes <= MOST_NODES && events >= 1 && events <= MOST_EVENTS
         }
+        Command::Batch { workers } => workers >= 1 && workers <= MOST_WORKERS,
         _ => true,
     }
 }

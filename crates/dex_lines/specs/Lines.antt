@@ -20,7 +20,8 @@ abbrev pub script_fault_name : ℕ → List ℕ
 script_fault_name kind =
     if kind == 1 then codes "BadCsv" else (if kind == 2 then codes "UnknownRow" else (if kind == 3 then codes "FieldCount"
     else (if kind == 4 then codes "BadNumber" else (if kind == 5 then codes "BadLabel" else (if kind == 6 then codes "UnknownLabel"
-    else (if kind == 7 then codes "Duplicate" else (if kind == 8 then codes "OverLimit" else codes "SetupRefused")))))))
+    else (if kind == 7 then codes "Duplicate" else (if kind == 8 then codes "OverLimit" else (if kind == 9 then codes "SetupRefused"
+    else (if kind == 10 then codes "BadSwap" else codes "NoBatch")))))))))
 
 -- a setup code behind a space, and nothing for 0
 abbrev pub code_text : ℕ → List ℕ

@@ -9,7 +9,7 @@ use dex_dump::DumpFault;
 use dex_migrate::MigrateFault;
 use std::fmt;
 
-/// The first faulty row of a script, counted from 1, with the number of the lowest of its faults, from 1 to 9, and that of the
+/// The first faulty row of a script, counted from 1, with the number of the lowest of its faults, from 1 to 11, and that of the
 /// setup code, 0 where it has none. It prints as the line that a run writes.
 #[derive(Clone, Copy, Debug, PartialEq, Eq)]
 pub struct ScriptRefused {

@@ -24,7 +24,9 @@ impl fmt::Display for ScriptFaultName {
             6 => write!(f, "UnknownLabel"),
             7 => write!(f, "Duplicate"),
             8 => write!(f, "OverLimit"),
-            _ => write!(f, "SetupRefused"),
+            9 => write!(f, "SetupRefused"),
+            10 => write!(f, "BadSwap"),
+            _ => write!(f, "NoBatch"),
         }
     }
 }

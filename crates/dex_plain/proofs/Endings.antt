@@ -1,12 +1,12 @@
 -- How a run ends, from what its parts did.
-use Rattle.std.proofs.Common.{◌≡◌, ◌≤◌, ◌<◌, ◌↔◌, ◌⊎◌, ◌∙◌, [], ℕ, List, length, Option, Some, None, IfSome, Result, Err, IsErrOf, inl, inr, refl, ap, subst, sym, arith}
-use Rattle.std.specs.Io.KnownBytes.{IsAtEnd, append_known}
+use Rattle.std.proofs.Common.{◌≡◌, ◌↔◌, [], ℕ, List, Option, Some, None, IfSome, Result, Err, IsErrOf, inl, inr, refl, subst, sym, arith}
+use Rattle.std.specs.Io.KnownBytes.{append_known}
 use Rattle.dex_io.specs.declared.failure.ReadAll.{ReadAll}
 use Rattle.dex_io.specs.declared.failure.ReadAll.TheVariants as reading
 use Rattle.dex_io.specs.Faults.{Rose}
 use Rattle.dex_io.specs.Reading.{TookMore}
 use Rattle.dex_words.specs.declared.command.Command.{Command}
-use Rattle.dex_words.specs.declared.command.Command.TheVariants.{Replay, Run, Dump, Audit, Worth, Make, Bulk, Migrate}
+use Rattle.dex_words.specs.declared.command.Command.TheVariants.{Replay, Run, Dump, Audit, Worth, Make, Bulk, Migrate, Batch}
 use Rattle.dex_answers.specs.declared.status.Status.{Status}
 use Rattle.dex_answers.specs.declared.status.Status.TheVariants as status
 use Rattle.dex_answers.specs.Suits.{Suits}
@@ -69,6 +69,7 @@ suited : (command : Command) (i : Input) (bytes all : List ℕ) → i.left ≡ S
 suited (Make number rows) i bytes all told took suits = tt
 suited (Bulk number rows) i bytes all told took suits = tt
 suited Replay i bytes all told took suits = subst (Suits Replay) (sym (rw told at took.told)) suits
+suited (Batch workers) i bytes all told took suits = subst (Suits (Batch workers)) (sym (rw told at took.told)) suits
 suited Run i bytes all told took suits = subst (Suits Run) (sym (rw told at took.told)) suits
 suited Dump i bytes all told took suits = subst (Suits Dump) (sym (rw told at took.told)) suits
 suited Worth i bytes all told took suits = subst (Suits Worth) (sym (rw told at took.told)) suits

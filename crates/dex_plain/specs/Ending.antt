@@ -4,7 +4,7 @@ use Rattle.std.specs.Io.KnownBytes.{IsAtEnd, append_known}
 use Rattle.dex_io.specs.Faults.{Rose}
 use Rattle.dex_io.specs.Reading.{TookMore}
 use Rattle.dex_words.specs.declared.command.Command.{Command}
-use Rattle.dex_words.specs.declared.command.Command.TheVariants.{Replay, Run, Dump, Audit, Worth, Make, Bulk, Migrate}
+use Rattle.dex_words.specs.declared.command.Command.TheVariants.{Make, Bulk}
 use Rattle.dex_lines.specs.Lines.{line}
 use Rattle.dex_answers.specs.declared.status.Status.{Status}
 use Rattle.dex_answers.specs.declared.status.Status.TheVariants as status
@@ -17,7 +17,8 @@ input_limit = 67108864
 
 -- the line that tells how the program is used
 unfoldable pub usage_line : List ℕ
-usage_line = line (codes "usage: dex replay, run, audit, dump, worth, make NUMBER ROWS, bulk NUMBER ROWS or migrate NODES EVENTS")
+usage_line =
+    line (codes "usage: dex replay, run, audit, dump, worth, make NUMBER ROWS, bulk NUMBER ROWS, migrate NODES EVENTS or batch WORKERS")
 
 -- what a run sees of its source: the bytes that are left before and after it, where the source tells them, and its
 -- count of faults before and after

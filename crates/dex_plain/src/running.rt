@@ -2,7 +2,6 @@
 
 ghost use Rattle.std.specs.Prelude.{◌≡◌, IfErr, IfOk, IsTrue, Some, false};
 ghost use Rattle.dex_words.specs.Spelling.{IsPlain, IsWithin};
-ghost use Rattle.dex_words.specs.declared.command.Command.TheVariants.{Run};
 ghost use Rattle.dex_plain.specs.Ending.{Completes, Ends, Stands, input, output};
 ghost use Rattle.dex_plain.specs.Stops.{line_of, status_of};
 
@@ -72,7 +71,7 @@ fn answer<S: Source>(alloc: Global, command: Command, source: &mut S) -> Result<
 /// Whether the command acts on one thread.
 pub fn is_plain(command: Command) -> bool
     ensures plain { IsTrue result → IsPlain command }
-    ensures other { result ≡ false → command ≡ Run }
+    ensures other { result ≡ false → ¬ (IsPlain command) }
 {
-    !matches!(command, Command::Run)
+    !matches!(command, Command::Run | Command::Batch { .. })
 }

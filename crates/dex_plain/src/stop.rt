@@ -30,7 +30,7 @@ impl Stop {
     {
         match self {
             Stop::Usage =>
-                b"usage: dex replay, run, audit, dump, worth, make NUMBER ROWS, bulk NUMBER ROWS or migrate NODES EVENTS\n",
+                b"usage: dex replay, run, audit, dump, worth, make NUMBER ROWS, bulk NUMBER ROWS, migrate NODES EVENTS or batch WORKERS\n",
             Stop::ReadFault => b"read failed\n",
             Stop::InputTooLong => b"input too long\n",
             Stop::NoMemory => b"no memory\n",

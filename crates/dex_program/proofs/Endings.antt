@@ -1,24 +1,24 @@
--- What a run of lanes leaves, from how it ended.
-use Rattle.std.proofs.Common.{◌≡◌, ◌∙◌, ℕ, List, Option, Some, ap, subst}
+-- What a script leaves that was run, from how the run ended.
+use Rattle.std.proofs.Common.{◌≡◌, ◌∙◌, ℕ, Bool, true, false, List, Option, Some, None, ap, subst}
 use Rattle.std.specs.Io.KnownBytes.{append_known}
 use Rattle.dex_words.specs.declared.command.Command.{Command}
-use Rattle.dex_words.specs.declared.command.Command.TheVariants.{Run}
+use Rattle.dex_words.specs.declared.command.Command.TheVariants.{Batch, Replay, Run}
 use Rattle.dex_answers.specs.declared.status.Status.{Status}
 use Rattle.dex_answers.specs.declared.status.Status.TheVariants as status
-use Rattle.dex_answers.specs.Answers.{rows_told}
-use Rattle.dex_plain.specs.Ending.{Ends, Input, Output}
+use Rattle.dex_answers.specs.Answers.{Reported, rows_told}
+use Rattle.dex_plain.specs.Ending.{Ends, HasRead, Input, Output}
 use Rattle.dex_plain.specs.LaneAnswers.{HaveRun}
 use Rattle.dex_report.specs.Outcomes.{PlainOutcome}
 use Rattle.dex_report.specs.Report.{report_text}
 use Rattle.dex_script.specs.Drafts.{PlainScript}
 use Rattle.dex_script.specs.Scripts.{Reads}
-use Rattle.dex_program.specs.Ending.{OneLegalHistory, OneOrder, WhereRun}
+use Rattle.dex_program.specs.Ending.{IsListed, ListedOrder, OneLegalHistory, OneOrder, WhereListed, WhereRun}
 
 -- what a run of lanes answered, where its source told these bytes
 record RunAnswer (bytes : List ℕ) (o : Output) : Type 0 where
   script : PlainScript
   outcome : PlainOutcome
-  reads : Reads bytes script
+  reads : Reads false bytes script
   left : HaveRun script outcome
   taken : o.taken_after ≡ append_known o.taken (report_text outcome (rows_told script))
 
@@ -29,7 +29,7 @@ told-end i o end bytes told =
     record {
       script = a.2.0;
       outcome = a.2.1;
-      reads = subst (λ (b : List ℕ). Reads b a.2.0) same a.2.2;
+      reads = subst (λ (b : List ℕ). Reads false b a.2.0) same a.2.2;
       left = a.2.3;
       taken = end.taken ∙ ap (append_known o.taken) a.2.4;
     }
@@ -42,9 +42,37 @@ told-run asked i o ended end run done =
 pub legal : (asked : Option Command) (i : Input) (o : Output) (ended : Status) → Ends asked i o ended → WhereRun OneLegalHistory asked i o ended
 legal asked i o ended end run done bytes told =
     let t = told-run asked i o ended end run done bytes told in
-    record { script = t.script; outcome = t.outcome; reads = t.reads; run = t.left.run; told = t.left.told; taken = t.taken }
+    record { script = t.script; outcome = t.outcome; reads = t.reads; run = t.left.run; paired = t.left.paired; told = t.left.told; taken = t.taken }
 
 pub ordered : (asked : Option Command) (i : Input) (o : Output) (ended : Status) → Ends asked i o ended → WhereRun OneOrder asked i o ended
 ordered asked i o ended end run done bytes told =
     let t = told-run asked i o ended end run done bytes told in
     record { script = t.script; outcome = t.outcome; reads = t.reads; run = t.left.run; order = t.left.order; rows = t.left.rows; told = t.left.told; taken = t.taken }
+
+-- ---- a script in its listed order
+
+-- what was written of what was read, where the source told these bytes
+listed-end : (batch : Bool) (i : Input) (o : Output) (bytes all text : List ℕ) → HasRead i bytes → Reported batch bytes text
+    → o.taken_after ≡ append_known o.taken text → i.left ≡ Some all → ListedOrder batch all o
+listed-end batch i o bytes all text read a taken told =
+    let same : bytes ≡ all = rw told at read.told in
+    record {
+      script = a.0;
+      outcome = a.1;
+      reads = subst (λ (b : List ℕ). Reads batch b a.0) same a.2;
+      replay = a.3.replay;
+      run = a.3.run;
+      paired = a.3.paired;
+      told = a.4;
+      taken = taken ∙ ap (append_known o.taken) a.5;
+    }
+
+listed-ok : (batch : Bool) (asked : Option Command) (i : Input) (o : Output) → Ends asked i o status.Ok → IsListed batch asked → (bytes : List ℕ)
+    → i.left ≡ Some bytes → ListedOrder batch bytes o
+listed-ok false (Some Replay) i o end is bytes told = listed-end false i o end.stands.0 bytes end.text end.stands.1 end.stands.2 end.taken told
+listed-ok true (Some (Batch workers)) i o end is bytes told = listed-end true i o end.stands.0 bytes end.text end.stands.1 end.stands.2 end.taken told
+listed-ok batch asked i o end is bytes told = absurd is
+
+pub listed : (asked : Option Command) (i : Input) (o : Output) (ended : Status) → Ends asked i o ended → WhereListed ListedOrder asked i o ended
+listed asked i o ended end batch is done bytes told =
+    listed-ok batch asked i o (subst (λ (s : Status). Ends asked i o s) done end) is bytes told

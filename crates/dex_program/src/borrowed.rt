@@ -21,7 +21,7 @@ do,0,m,ann,amy,ann_coin,-,-,-,new ask 50 4 1 decrement limit 7 10
 
 // The script as it is read.
 fn script(alloc: Global) -> Result<Script, Fail> {
-    match read_script(alloc, SCRIPT) {
+    match read_script(alloc, SCRIPT, false) {
         Ok(script) => Ok(script),
         Err(_) => Err(Fail::new("no script")),
     }

@@ -1,12 +1,15 @@
-//! The program `dex`: it replays scripts or lets their lanes run side by side, and writes reports, dumps, audits, made scripts and summaries.
+//! The program `dex`: it replays scripts, on one thread or in batches on several, or lets their lanes run side by side, and writes
+//! reports, dumps, audits, made scripts and summaries.
 #![tactic(auto)]
 
+mod batch;
 #[cfg(test)]
 mod borrowed;
 mod program;
 mod run;
 #[cfg(test)]
 mod tests;
+mod threads;
 
 use crate::program::dex_main;
 use dex_answers::Status;

@@ -3,12 +3,12 @@
 ghost use Rattle.std.specs.Prelude.{IfErr, IfOk, Some, map};
 ghost use Rattle.std.specs.String.{string_bytes};
 ghost use Rattle.dex_words.specs.Commands.{command_of};
-ghost use Rattle.dex_words.specs.declared.command.Command.TheVariants.{Run};
+ghost use Rattle.dex_words.specs.Spelling.{IsPlain, IsWithin};
 ghost use Rattle.dex_plain.specs.Ending.{Completes, Ends, Stands, input, output};
 ghost use Rattle.dex_plain.specs.Stops.{line_of, status_of};
-ghost use Rattle.dex_program.specs.Ending.{OneLegalHistory, OneOrder, WhereRun};
+ghost use Rattle.dex_program.specs.Ending.{ListedOrder, OneLegalHistory, OneOrder, WhereListed, WhereRun};
 
-use crate::run::run_answer;
+use crate::threads::answer_on_threads;
 use dex_answers::{Status, StatusText};
 use dex_io::{Pace, Sink, Source};
 use dex_plain::{Stop, is_plain, plain, read_input, written};
@@ -19,8 +19,9 @@ use std::sync::Wait;
 use std::thread::Threads;
 
 /// Runs the program on these words, those after its name: the command that they are, or the line that tells how the
-/// program is used. The whole text is built before the first byte is written. Only `run` has lanes, which wait for each
-/// other: what is promised of it holds where it returns. The pace is for tests, and no clause says when it is called.
+/// program is used. The whole text is built before the first byte is written. `run` and `batch` act on several threads,
+/// which wait for each other: what is promised of them holds where they return. The pace is for tests, and no clause says
+/// when it is called.
 pub fn dex_main<R: Threads + Wait + Sync, S: Source, K: Sink, P: Pace + Sync>(
     rt: &R,
     alloc: Global,
@@ -33,7 +34,11 @@ pub fn dex_main<R: Threads + Wait + Sync, S: Source, K: Sink, P: Pace + Sync>(
     ensures ends { Ends (command_of (map (λ word. string_bytes word) words.now))
         (input (S.left source.old) (S.left source.new) (S.faults source.old) (S.faults source.new))
         (output (K.taken sink.old) (K.taken sink.new) (K.faults sink.old) (K.faults sink.new)) result }
-    // However the lanes' instructions interleave, each market's journal is one legal history.
+    // `replay` and `batch` report what all items leave in listed order; of each swap both legs took, or neither.
+    ensures listed_order { WhereListed ListedOrder (command_of (map (λ word. string_bytes word) words.now))
+        (input (S.left source.old) (S.left source.new) (S.faults source.old) (S.faults source.new))
+        (output (K.taken sink.old) (K.taken sink.new) (K.faults sink.old) (K.faults sink.new)) result }
+    // However the lanes' instructions interleave, each market's journal is one legal history; and swaps likewise.
     ensures one_legal_history { WhereRun OneLegalHistory (command_of (map (λ word. string_bytes word) words.now))
         (input (S.left source.old) (S.left source.new) (S.faults source.old) (S.faults source.new))
         (output (K.taken sink.old) (K.taken sink.new) (K.faults sink.old) (K.faults sink.new)) result }
@@ -67,7 +72,7 @@ fn by_words<R: Threads + Wait + Sync, S: Source, K: Sink, P: Pace + Sync>(
             if is_plain(command) {
                 plain(alloc, &command, source, sink)
             } else {
-                run_lanes(rt, alloc, source, sink, pace)
+                on_threads(rt, alloc, command, source, sink, pace)
             }
         }
         Err(WordsError::Usage) => written(sink, Stop::Usage.line(), Status::Usage),
@@ -75,37 +80,43 @@ fn by_words<R: Threads + Wait + Sync, S: Source, K: Sink, P: Pace + Sync>(
     }
 }
 
-// Lets the lanes of a script run.
-fn run_lanes<R: Threads + Wait + Sync, S: Source, K: Sink, P: Pace + Sync>(
+// Runs one command on several threads.
+fn on_threads<R: Threads + Wait + Sync, S: Source, K: Sink, P: Pace + Sync>(
     rt: &R,
     alloc: Global,
+    command: Command,
     source: &mut S,
     sink: &mut K,
     pace: &P,
 ) -> Status
-    ensures { Ends (Some Run)
+    requires within { IsWithin command }
+    requires threads { ¬ (IsPlain command) }
+    ensures { Ends (Some command)
         (input (S.left source.old) (S.left source.new) (S.faults source.old) (S.faults source.new))
         (output (K.taken sink.old) (K.taken sink.new) (K.faults sink.old) (K.faults sink.new)) result }
 {
-    match lanes_answer(rt, alloc, source, pace) {
+    match threads_answer(rt, alloc, command, source, pace) {
         Ok(report) => written(sink, &report.text, report.status),
         Err(stop) => written(sink, stop.line(), stop.status()),
     }
 }
 
-// Reads a script, and reports what its lanes leave.
-fn lanes_answer<R: Threads + Wait + Sync, S: Source, P: Pace + Sync>(
+// Reads what the command reads, and answers the text that it asks for.
+fn threads_answer<R: Threads + Wait + Sync, S: Source, P: Pace + Sync>(
     rt: &R,
     alloc: Global,
+    command: Command,
     source: &mut S,
     pace: &P,
 ) -> Result<StatusText, Stop>
-    ensures built { IfOk result (λ built. Stands built.status (Some Run)
+    requires within { IsWithin command }
+    requires threads { ¬ (IsPlain command) }
+    ensures built { IfOk result (λ built. Stands built.status (Some command)
         (input (S.left source.old) (S.left source.new) (S.faults source.old) (S.faults source.new)) built.text.items) }
-    ensures stopped { IfErr result (λ stop. Stands (status_of stop) (Some Run)
+    ensures stopped { IfErr result (λ stop. Stands (status_of stop) (Some command)
         (input (S.left source.old) (S.left source.new) (S.faults source.old) (S.faults source.new)) (line_of stop)) }
 {
-    let bytes = read_input(alloc, Command::Run, source)?;
-    let built = run_answer(rt, alloc, &bytes, pace)?;
+    let bytes = read_input(alloc, command, source)?;
+    let built = answer_on_threads(rt, alloc, command, &bytes, pace)?;
     Ok(built)
 }

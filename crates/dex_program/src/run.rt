@@ -24,7 +24,7 @@ pub fn run_answer<R: Threads + Wait + Sync, P: Pace + Sync>(
 ) -> Result<StatusText, NoMemory>
     ensures { IfOk result (λ told. AnswersRun bytes.now told.status told.text.items) }
 {
-    match read_script(alloc, bytes) {
+    match read_script(alloc, bytes, false) {
         Ok(script) => {
             let rows = items_in(&script.rows);
             let outcome = run(rt, alloc, script, pace)?;

@@ -40,16 +40,18 @@ mint,coin,";
 /// How long it is.
 const SIZE: usize = 14_989;
 
-// Runs the word on an input that is told.
+// Runs the words of a line on an input that is told.
 fn run<R: Threads + Wait + Sync, P: Pace + Sync>(
     rt: &R,
     alloc: Global,
-    word: &str,
+    line: &str,
     script: &[u8],
     pace: &P,
 ) -> Result<(Status, SureSink), Fail> {
     let mut words = Vec::new(alloc);
-    words.push(String::from_str(alloc, word)?)?;
+    for word in line.split(' ') {
+        words.push(String::from_str(alloc, word)?)?;
+    }
     let mut source = SureSource::new(script.to_vec(alloc)?);
     let mut sink = SureSink::with_room(alloc, ROOM)?;
     let status = dex_main(rt, alloc, &words, &mut source, &mut sink, pace);
@@ -58,8 +60,8 @@ fn run<R: Threads + Wait + Sync, P: Pace + Sync>(
 
 #[test]
 fn a_report_is_written_whole(rt: HostRuntime) -> Result<(), Fail> {
-    for word in ["replay", "run"] {
-        let (status, sink) = run(&rt, rt.alloc(), word, ONE_LANE, &NoPace)?;
+    for line in ["replay", "run", "batch 3"] {
+        let (status, sink) = run(&rt, rt.alloc(), line, ONE_LANE, &NoPace)?;
         assert_eq!(rt; status, Status::Ok);
         let text = sink.bytes();
         assert_eq!(rt; text.len(), SIZE);
@@ -104,18 +106,20 @@ impl Pace for Meets {
 }
 
 #[test]
-fn lanes_that_share_nothing_meet(rt: HostRuntime) -> Result<(), Fail> {
-    let pace = Meets {
-        inside: AtomicU64::new(0),
-        met: AtomicU64::new(0),
-    };
-    let (status, sink) = run(&rt, rt.alloc(), "run", APART, &pace)?;
-    assert_eq!(rt; status, Status::Ok);
-    assert_eq!(rt; pace.met.into_inner(), 2);
-
-    // They share nothing, so they leave what a replay leaves.
+fn rows_that_share_nothing_meet(rt: HostRuntime) -> Result<(), Fail> {
     let (_, replayed) = run(&rt, rt.alloc(), "replay", APART, &NoPace)?;
-    assert_eq!(rt; sink.bytes(), replayed.bytes());
+    for line in ["run", "batch 2"] {
+        let pace = Meets {
+            inside: AtomicU64::new(0),
+            met: AtomicU64::new(0),
+        };
+        let (status, sink) = run(&rt, rt.alloc(), line, APART, &pace)?;
+        assert_eq!(rt; status, Status::Ok);
+        assert_eq!(rt; pace.met.into_inner(), 2, "{line}");
+
+        // They share nothing, so they leave what a replay leaves.
+        assert_eq!(rt; sink.bytes(), replayed.bytes(), "{line}");
+    }
     Ok(())
 }
 
@@ -167,15 +171,17 @@ impl Pace for Counts {
 #[test]
 fn rows_that_share_are_inside_one_at_a_time(rt: HostRuntime) -> Result<(), Fail> {
     for script in TOGETHER {
-        let pace = Counts {
-            entered: AtomicU64::new(0),
-            left: AtomicU64::new(0),
-            met: AtomicU64::new(0),
-        };
-        let (status, _) = run(&rt, rt.alloc(), "run", script, &pace)?;
-        assert_eq!(rt; status, Status::Ok);
-        assert_eq!(rt; pace.met.into_inner(), 0);
-        assert_eq!(rt; pace.left.into_inner(), 4);
+        for line in ["run", "batch 4"] {
+            let pace = Counts {
+                entered: AtomicU64::new(0),
+                left: AtomicU64::new(0),
+                met: AtomicU64::new(0),
+            };
+            let (status, _) = run(&rt, rt.alloc(), line, script, &pace)?;
+            assert_eq!(rt; status, Status::Ok);
+            assert_eq!(rt; pace.met.into_inner(), 0, "{line}");
+            assert_eq!(rt; pace.left.into_inner(), 4, "{line}");
+        }
     }
     Ok(())
 }

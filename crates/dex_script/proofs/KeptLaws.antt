@@ -16,6 +16,8 @@ use Rattle.dex_script.proofs.RowParts.{Declares, market-row, mint-row, msrm-row,
 pub record Kept (before after : PlainDraft) : Type 0 where
   pub rows : after.script.rows ≡ before.script.rows
   pub lanes : after.script.lanes ≡ before.script.lanes
+  pub items : after.items ≡ before.items
+  pub batch : after.batch ≡ before.batch
   pub late : after.is_late ≡ before.is_late
   pub start : before.is_late ≡ true → after.script.start ≡ before.script.start
 
@@ -25,7 +27,7 @@ differ e = cc
 declared : (draft : PlainDraft) (new : List Address) (start : PlainAccounts) (after : PlainDraft) → Declares draft new start after → Kept draft after
 declared draft new start after row =
     subst (Kept draft) row.leaves
-    (record { rows = refl; lanes = refl; late = refl; start = λ late. absurd (differ (sym late ∙ row.early)) })
+    (record { rows = refl; lanes = refl; items = refl; batch = refl; late = refl; start = λ late. absurd (differ (sym late ∙ row.early)) })
 
 module _ (draft : PlainDraft) (after : PlainDraft) where
   -- a row that chooses the program or sets the clock leaves the accounts, and what is taken
@@ -40,10 +42,10 @@ module _ (draft : PlainDraft) (after : PlainDraft) where
   clock-row now is = ok-same (with_clock draft now) after is
 
   pub kept-program : (program : Program) → with_program draft program ≡ Ok after → Kept draft after
-  kept-program program is = subst (Kept draft) (program-row program is) (record { rows = refl; lanes = refl; late = refl; start = λ late. refl })
+  kept-program program is = subst (Kept draft) (program-row program is) (record { rows = refl; lanes = refl; items = refl; batch = refl; late = refl; start = λ late. refl })
 
   pub kept-clock : (now : ℤ) → ◌≡◌ {A = Result PlainDraft FaultKind} (Ok (with_clock draft now)) (Ok after) → Kept draft after
-  kept-clock now is = subst (Kept draft) (clock-row now is) (record { rows = refl; lanes = refl; late = refl; start = λ late. refl })
+  kept-clock now is = subst (Kept draft) (clock-row now is) (record { rows = refl; lanes = refl; items = refl; batch = refl; late = refl; start = λ late. refl })
 
   pub kept-mint : (address : Address) (decimals : ℕ) → with_mint draft address decimals ≡ Ok after → Kept draft after
   kept-mint address decimals is = declared draft _ _ after (mint-row draft after address decimals is).declares

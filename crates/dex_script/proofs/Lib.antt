@@ -5,7 +5,11 @@ pub mod NameLaws
 pub mod ScriptLaws
 pub mod FaultLaws
 pub mod KeptLaws
+pub mod RowOrder
+pub mod ItemRows
+pub mod LegLaws
 pub mod OrderLaws
+pub mod BatchLaws
 pub mod RowParts
 pub mod StatedLaws
 pub mod MadeMarkets

@@ -1,7 +1,8 @@
--- The instruction rows of a script: their numbers rise, and each is of the start.
-use Rattle.std.proofs.Common.{◌≡◌, ◌∙◌, ℕ, ◌+◌, ◌-◌, ◌^◌, ◌<◌, ◌≤◌, ◌∷◌, [], ◌++◌, ◌||◌, ◌==◌, Bool, true, false, not, nat_le, nat_lt, List, Result, Ok, Err, All, ap, arith, length, length-append, max, refl, subst, sym}
+-- The instruction rows of a script: they are in order, and each is of the start.
+use Rattle.std.proofs.Common.{◌≡◌, ◌∙◌, ℕ, ◌+◌, ◌-◌, ◌^◌, ◌<◌, ◌≤◌, ◌∷◌, [], ◌++◌, ◌||◌, ◌==◌, Bool, true, false, not, nat_le, nat_lt, List, Result, Ok, Err, All, ap, append_assoc, arith, get_or, length, length-append, max, refl, subst, sym}
 use Rattle.std.proofs.lemmas.Bool.{eqb-false, leb-false, ltb-false, not-false}
-use Rattle.std.proofs.lemmas.List.Elements.{All-append, All-cons, All-nil}
+use Rattle.std.proofs.lemmas.Grind.{common_steps}
+use Rattle.std.proofs.lemmas.List.Elements.{All-append, All-cons, All-nil, All-push, All-weaker}
 use Rattle.std.proofs.lemmas.List.Quantifiers.{all_pairs_push}
 use Rattle.dex_types.specs.Accounts.{PlainAccounts}
 use Rattle.dex_types.specs.Rows.{PlainRow}
@@ -11,60 +12,38 @@ use Rattle.dex_dump.specs.Answers.{AnswersDump, PlainAnswer, next_number}
 use Rattle.dex_dump.proofs.SoFarLaws.{dump-read}
 use Rattle.dex_audit.specs.Findings.{findings}
 use Rattle.dex_audit_rules.specs.declared.finding.Finding.{Finding}
-use Rattle.dex_fold.proofs.GroupLaws.{grouped-few}
+use Rattle.dex_fold.specs.Items.{items_of}
 use Rattle.dex_statement.specs.declared.faults.FaultKind.{FaultKind}
-use Rattle.dex_statement.specs.declared.faults.FaultKind.TheVariants.{UnknownLabel, OverLimit}
 use Rattle.dex_statement.specs.declared.statement.Statement.{Statement}
 use Rattle.dex_statement.specs.declared.statement.Statement.TheVariants as row
-use Rattle.dex_statement.specs.Faults.{unless}
-use Rattle.dex_statement.specs.Stated.{PlainInstruction}
+use Rattle.dex_statement.specs.Stated.{PlainInstruction, PlainSwap}
 use Rattle.dex_statement.specs.Statements.{statement_of}
 use Rattle.dex_statement.specs.Words.{Fields}
 use Rattle.dex_script.specs.Drafts.{PlainDraft, PlainScript, behind_dump, no_rows}
-use Rattle.dex_script.specs.Facts.{AreRows, HasNoSwap, IsRowOf, lanes_of}
+use Rattle.dex_script.specs.Facts.{AreLegs, AreRows, HasNoSwap, IsRowOf, lanes_of}
 use Rattle.dex_script.specs.Known.{has_market, is_known_role}
-use Rattle.dex_script.specs.Rows.{exceeds_row, instruction_row, is_unknown, with_instruction, with_known, with_row, with_statement}
+use Rattle.dex_script.specs.Rows.{exceeds_row, instruction_row, is_full, is_unknown, with_instruction, with_item, with_row, with_statement, with_swap}
 use Rattle.dex_script.specs.Scripts.{AnswersBy, Reads, Refusal, begins_with_dump, behind, draft_after, fault_in, script_from, unless_found}
-use Rattle.dex_script.proofs.FaultLaws.{bind-ok, no-error, ok-same, or-none, unless-ok}
+use Rattle.dex_script.proofs.FaultLaws.{bind-ok, no-error, ok-same, or-none}
+use Rattle.dex_script.proofs.ItemRows.{IsOneRow, IsSwapRow, first_leg, instruction-row, second_leg, swap-row}
 use Rattle.dex_script.proofs.KeptLaws.{Kept, kept-clock, kept-market, kept-mint, kept-msrm, kept-orders, kept-program, kept-srm, kept-wallet}
+use Rattle.dex_script.proofs.LegLaws.{are-legs}
+use Rattle.dex_script.proofs.RowOrder.{AreInOrder, items-more, lanes-more, no-rows-in-order, push-row}
 
--- the rows of a script: their numbers rise, so no two have one number
-pub record AreRising (script : PlainScript) : Type 0 where
-  pub few : length script.rows ≤ 100000
-  pub each : All (IsRowOf script.start) script.rows
-  pub single : HasNoSwap script.rows
-  pub lanes : script.lanes ≡ lanes_of script.rows
-
--- so they are the rows of a script of which some may have one number
-are-rows : (script : PlainScript) → AreRising script → AreRows script
-are-rows script are = record {
-  few = omega (arith, grouped-few (λ (row : PlainRow). row.number) script.rows, are.few);
-  each = are.each;
-  rising = λ i j d before within. let less = are.single i j d before within in omega (arith, less);
-  legs = λ i j d before within same. let less = are.single i j d before within in absurd (omega (arith, less, same));
-  two = λ place row within. are.single place (place + 2) row (omega arith) within;
-  lanes = are.lanes;
-}
-
--- what holds of a script so far, whose next row has this number
+-- what holds of a script so far, whose next row has this number: its rows are in order, and with lower numbers
 pub record IsGood (number : ℕ) (draft : PlainDraft) : Type 0 where
-  pub rows : AreRising draft.script
+  pub rows : AreRows draft.script
   pub below : All (λ (one : PlainRow). one.number < number) draft.script.rows
   pub quiet : draft.is_late ≡ false → draft.script.rows ≡ []
+  pub items : draft.items ≡ length (items_of draft.script.rows)
+  pub single : draft.batch ≡ true → HasNoSwap draft.script.rows
   pub small : number ≤ 2 ^ 32 - 1
 
 -- ---- one more row
 
-lanes_of-push : (rows : List PlainRow) (one : PlainRow) → lanes_of (rows ++ one ∷ []) ≡ max (lanes_of rows) (one.lane + 1)
-lanes_of-push [] one = omega arith
-lanes_of-push (first ∷ rows) one = ap (λ (n : ℕ). max (first.lane + 1) n) (lanes_of-push rows one) ∙ omega arith
-
 below-more : (number next : ℕ) (rows : List PlainRow) → number ≤ next → All (λ (one : PlainRow). one.number < number) rows
     → All (λ (one : PlainRow). one.number < next) rows
 below-more number next rows later below = λ k d within. let one = below k d within in omega arith
-
-one-row : (P : PlainRow → Type 0) (one : PlainRow) → P one → All P (one ∷ [])
-one-row P one holds = All-cons P one [] holds (All-nil P)
 
 -- what known names and limits that are not passed say of a row
 known-row : (start : PlainAccounts) (number : ℕ) (draft : PlainDraft) (words : PlainInstruction) → is_unknown start words.parties ≡ false
@@ -93,80 +72,127 @@ known-row start number draft words known within =
       bytes = ltb-false 256 (length words.bytes) f.1;
     }
 
--- the draft with one more instruction row
-abbrev pub with_one : PlainDraft → ℕ → PlainInstruction → PlainDraft
-with_one draft number words = record draft {
-  script = record draft.script {
-    rows = draft.script.rows ++ instruction_row number draft.clock words ∷ [];
-    lanes = max draft.script.lanes (words.lane + 1);
-  };
-  is_first = false;
-  is_late = true;
-}
-
 differ : true ≡ false → ⊥
 differ e = cc
 
-pushed : (number : ℕ) (draft : PlainDraft) (words : PlainInstruction) → IsGood number draft → is_unknown draft.script.start words.parties ≡ false
-    → nat_le 100000 (length draft.script.rows) ≡ false → exceeds_row words ≡ false → (number ≡ 2 ^ 32 - 1 → ⊥)
-    → IsGood (next_number number) (with_one draft number words)
-pushed number draft words good known few within other =
+in-order : (script : PlainScript) → AreRows script → AreInOrder script.start script.rows
+in-order script are = record { each = are.each; rising = are.rising; legs = are.legs; two = are.two }
+
+-- a row of this number behind the others
+push-new : (number : ℕ) (draft : PlainDraft) (one : PlainRow) → IsGood number draft → one.number ≡ number → IsRowOf draft.script.start one
+    → AreInOrder draft.script.start (draft.script.rows ++ one ∷ [])
+push-new number draft one good is of_start =
+    push-row draft.script.start draft.script.rows one (in-order draft.script good.rows) of_start
+    (λ k d within. let less = good.below k d within in omega (arith, less, is))
+    (λ k d within same. let less = good.below k d within in absurd (omega (arith, less, is, same)))
+    (λ place row within. let less = good.below place row (omega (arith, within)) in omega (arith, less, is))
+
+-- and one more of it, the second leg
+push-second : (number : ℕ) (draft : PlainDraft) (one other : PlainRow) → IsGood number draft → one.number ≡ number → other.number ≡ number
+    → IsRowOf draft.script.start one → IsRowOf draft.script.start other → AreLegs one other
+    → AreInOrder draft.script.start (draft.script.rows ++ one ∷ other ∷ [])
+push-second number draft one other good is other_is of_start other_of_start legs =
     let rows = draft.script.rows in
-    let one = instruction_row number draft.clock words in
-    let room : length rows < 100000 = leb-false 100000 (length rows) few in
+    let Low : PlainRow → Type 0 = λ (row : PlainRow). row.number ≤ other.number in
+    let Fits : PlainRow → Type 0 = λ (row : PlainRow). row.number ≡ other.number → AreLegs row other in
+    let both = push-row draft.script.start (rows ++ one ∷ []) other (push-new number draft one good is of_start) other_of_start
+    (All-push Low rows one (λ k d within. let less = good.below k d within in omega (arith, less, other_is)) (omega (arith, is, other_is)))
+    (All-push Fits rows one (λ k d within same. let less = good.below k d within in absurd (omega (arith, less, other_is, same))) (λ same. legs))
+    (λ place row within.
+    let early : place < length rows = omega (arith, length-append rows (one ∷ []), within) in
+    let low : get_or (rows ++ one ∷ []) place row ≡ get_or rows place row = grind (arith, common_steps) in
+    let less = good.below place row early in
+    rw low (omega (arith, less, other_is))) in
+    subst (AreInOrder draft.script.start) (append_assoc rows (one ∷ []) (other ∷ [])) both
+
+-- the rows of one item behind the others: `few` tells that there is room
+item-good : (number : ℕ) (draft : PlainDraft) (first : PlainRow) (others : List PlainRow) (lane : ℕ) → IsGood number draft
+    → is_full draft number ≡ false → All (λ (row : PlainRow). row.number ≡ number) (first ∷ others)
+    → AreInOrder draft.script.start (draft.script.rows ++ first ∷ others) → lanes_of (first ∷ others) ≡ max 1 (lane + 1)
+    → (draft.batch ≡ true → HasNoSwap (draft.script.rows ++ first ∷ others)) → IsGood (next_number number) (with_item draft (first ∷ others) lane)
+item-good number draft first others lane good free same order lanes single =
+    let rows = draft.script.rows in
+    let more = first ∷ others in
+    let room = or-none (nat_le 100000 draft.items) (number == 2 ^ 32 - 1) free in
+    let space : draft.items < 100000 = leb-false 100000 draft.items room.0 in
+    let other : number ≡ 2 ^ 32 - 1 → ⊥ = eqb-false number (2 ^ 32 - 1) room.1 in
     let next : next_number number ≡ number + 1 = omega (arith, other, good.small) in
+    let items : length (items_of (rows ++ more)) ≡ length (items_of rows) + 1 = items-more rows number first others good.below same in
     record {
       rows = record {
-        few = omega (arith, length-append rows (one ∷ []), room);
-        each = All-append (IsRowOf draft.script.start) rows (one ∷ []) good.rows.each
-            (one-row (IsRowOf draft.script.start) one (known-row draft.script.start number draft words known within));
-        single = all_pairs_push (λ (a b : PlainRow). a.number < b.number) rows one good.rows.single (λ k d inside. good.below k d inside);
-        lanes = ap (λ (n : ℕ). max n (words.lane + 1)) good.rows.lanes ∙ sym (lanes_of-push rows one);
+        few = omega (arith, items, good.items, space);
+        each = order.each;
+        rising = order.rising;
+        legs = order.legs;
+        two = order.two;
+        lanes = ap (λ (n : ℕ). max n (lane + 1)) good.rows.lanes ∙ sym (lanes-more rows more lane lanes);
       };
-      below = All-append (λ (r : PlainRow). r.number < next_number number) rows (one ∷ [])
+      below = All-append (λ (r : PlainRow). r.number < next_number number) rows more
           (below-more number (next_number number) rows (omega (arith, next)) good.below)
-          (one-row (λ (r : PlainRow). r.number < next_number number) one (omega (arith, next)));
+          (All-weaker (λ (r : PlainRow). r.number ≡ number) (λ (r : PlainRow). r.number < next_number number) (λ r is. omega (arith, next, is)) more same);
       quiet = λ early. absurd (differ early);
+      items = omega (arith, items, good.items);
+      single = single;
       small = omega arith;
     }
 
-known-good : (number : ℕ) (draft after : PlainDraft) (words : PlainInstruction) → IsGood number draft
-    → with_instruction draft number words ≡ Ok after → IsGood (next_number number) after
-unfolding with_instruction with_known
-known-good number draft after words good is =
-    let full = nat_le 100000 (length draft.script.rows) in
-    let test = full || exceeds_row words || (number == 2 ^ 32 - 1) in
-    let next : Result PlainDraft FaultKind = unless test OverLimit (Ok (with_one draft number words)) in
-    let a = unless-ok (is_unknown draft.script.start words.parties) UnknownLabel next after is in
-    let b = unless-ok test OverLimit (Ok (with_one draft number words)) after a.1 in
-    let c = or-none (full || exceeds_row words) (number == 2 ^ 32 - 1) b.0 in
-    let d = or-none full (exceeds_row words) c.0 in
-    subst (IsGood (next_number number)) (ok-same {E = FaultKind} (with_one draft number words) after b.1)
-    (pushed number draft words good a.0 d.0 d.1 (eqb-false number (2 ^ 32 - 1) c.1))
+one-good : (number : ℕ) (draft after : PlainDraft) (words : PlainInstruction) → IsGood number draft → IsOneRow number draft after words
+    → IsGood (next_number number) after
+one-good number draft after words good row =
+    let one = instruction_row number draft.clock words in
+    let order = push-new number draft one good refl (known-row draft.script.start number draft words row.known row.within) in
+    let Same : PlainRow → Type 0 = λ (r : PlainRow). r.number ≡ number in
+    subst (IsGood (next_number number)) row.is
+    (item-good number draft one [] words.lane good row.room (All-cons Same one [] refl (All-nil Same)) order (omega arith)
+    (λ batch. all_pairs_push (λ (a b : PlainRow). a.number < b.number) draft.script.rows one (good.single batch) (λ k d inside. good.below k d inside)))
+
+two-good : (number : ℕ) (draft after : PlainDraft) (words : PlainSwap) → IsGood number draft → IsSwapRow number draft after words
+    → IsGood (next_number number) after
+two-good number draft after words good row =
+    let start = draft.script.start in
+    let one = instruction_row number draft.clock (first_leg words) in
+    let other = instruction_row number draft.clock (second_leg words) in
+    let legs = are-legs number draft.clock words.lane words.signer words.first words.second row.good in
+    let order = push-second number draft one other good refl refl
+    (known-row start number draft (first_leg words) row.first_known row.first_within)
+    (known-row start number draft (second_leg words) row.second_known row.second_within) legs in
+    let Same : PlainRow → Type 0 = λ (r : PlainRow). r.number ≡ number in
+    subst (IsGood (next_number number)) row.is
+    (item-good number draft one (other ∷ []) words.lane good row.room
+    (All-cons Same one (other ∷ []) refl (All-cons Same other [] refl (All-nil Same))) order (omega arith)
+    (λ batch. absurd (differ (sym batch ∙ row.apart))))
 
 -- ---- other rows
 
 -- no rows are good of any start
-empty-rows : (script : PlainScript) → script.rows ≡ [] → script.lanes ≡ 1 → AreRising script
-empty-rows script none one = record {
-  few = subst (λ (rows : List PlainRow). length rows ≤ 100000) (sym none) (omega arith);
-  each = subst (All (IsRowOf script.start)) (sym none) (All-nil (IsRowOf script.start));
-  single = subst HasNoSwap (sym none) (λ i j d before within. absurd (omega arith));
-  lanes = one ∙ sym (ap lanes_of none);
-}
+empty-rows : (script : PlainScript) → script.rows ≡ [] → script.lanes ≡ 1 → AreRows script
+empty-rows script none one =
+    let order = subst (AreInOrder script.start) (sym none) (no-rows-in-order script.start) in
+    record {
+      few = subst (λ (rows : List PlainRow). length (items_of rows) ≤ 100000) (sym none) (omega arith);
+      each = order.each;
+      rising = order.rising;
+      legs = order.legs;
+      two = order.two;
+      lanes = one ∙ sym (ap lanes_of none);
+    }
 
-same-rows : (before after : PlainScript) → after.rows ≡ before.rows → after.lanes ≡ before.lanes → after.start ≡ before.start → AreRising before → AreRising after
-same-rows before after rows lanes start are = record {
-  few = subst (λ (rs : List PlainRow). length rs ≤ 100000) (sym rows) are.few;
-  each = subst (λ (s : PlainAccounts). All (IsRowOf s) after.rows) (sym start) (subst (All (IsRowOf before.start)) (sym rows) are.each);
-  single = subst HasNoSwap (sym rows) are.single;
-  lanes = lanes ∙ are.lanes ∙ sym (ap lanes_of rows);
-}
+same-rows : (before after : PlainScript) → after.rows ≡ before.rows → after.lanes ≡ before.lanes → after.start ≡ before.start → AreRows before → AreRows after
+same-rows before after rows lanes start are =
+    let order = subst (λ (s : PlainAccounts). AreInOrder s after.rows) (sym start) (subst (AreInOrder before.start) (sym rows) (in-order before are)) in
+    record {
+      few = subst (λ (rs : List PlainRow). length (items_of rs) ≤ 100000) (sym rows) are.few;
+      each = order.each;
+      rising = order.rising;
+      legs = order.legs;
+      two = order.two;
+      lanes = lanes ∙ are.lanes ∙ sym (ap lanes_of rows);
+    }
 
 kept-good : (number : ℕ) (before after : PlainDraft) → IsGood number before → Kept before after → IsGood (next_number number) after
 kept-good number before after good kept = by before.is_late refl
   where
-    rows_now : (late : Bool) → before.is_late ≡ late → AreRising after.script
+    rows_now : (late : Bool) → before.is_late ≡ late → AreRows after.script
     rows_now true is = same-rows before.script after.script kept.rows kept.lanes (kept.start is) good.rows
     rows_now false is =
         let none = good.quiet is in
@@ -178,6 +204,8 @@ kept-good number before after good kept = by before.is_late refl
       below = subst (All (λ (r : PlainRow). r.number < next_number number)) (sym kept.rows)
           (below-more number (next_number number) before.script.rows (omega (arith, good.small)) good.below);
       quiet = λ early. kept.rows ∙ good.quiet (sym kept.late ∙ early);
+      items = kept.items ∙ good.items ∙ sym (ap (λ (rows : List PlainRow). length (items_of rows)) kept.rows);
+      single = λ batch. subst HasNoSwap (sym kept.rows) (good.single (sym kept.batch ∙ batch));
       small = omega arith;
     }
 
@@ -188,33 +216,39 @@ pub record Goes (number : ℕ) (before after : PlainDraft) : Type 0 where
   pub good : IsGood (next_number number) after
   pub start : before.is_late ≡ true → after.script.start ≡ before.script.start
   pub late : before.is_late ≡ true → after.is_late ≡ true
+  pub batch : after.batch ≡ before.batch
 
 by-kept : (number : ℕ) (before after : PlainDraft) → IsGood number before → Kept before after → Goes number before after
 by-kept number before after good kept = record {
   good = kept-good number before after good kept;
   start = kept.start;
   late = λ is. kept.late ∙ is;
+  batch = kept.batch;
 }
 
--- an instruction row leaves the start and what is taken, and setup rows come too late behind it
-pub instruction-row : (number : ℕ) (before after : PlainDraft) (words : PlainInstruction) → with_instruction before number words ≡ Ok after
-    → with_one before number words ≡ after
-unfolding with_instruction with_known
-instruction-row number before after words is =
-    let test = nat_le 100000 (length before.script.rows) || exceeds_row words || (number == 2 ^ 32 - 1) in
-    let next : Result PlainDraft FaultKind = unless test OverLimit (Ok (with_one before number words)) in
-    let a = unless-ok (is_unknown before.script.start words.parties) UnknownLabel next after is in
-    ok-same {E = FaultKind} (with_one before number words) after (unless-ok test OverLimit (Ok (with_one before number words)) after a.1).1
+-- an instruction row or a swap leaves the start and what is taken, and setup rows come too late behind it
+by-item : (number : ℕ) (before after : PlainDraft) (rows : List PlainRow) (lane : ℕ) → with_item before rows lane ≡ after
+    → IsGood (next_number number) after → Goes number before after
+by-item number before after rows lane is good = record {
+  good = good;
+  start = λ _. sym (ap (λ (d : PlainDraft). d.script.start) is);
+  late = λ _. sym (ap (λ (d : PlainDraft). d.is_late) is);
+  batch = sym (ap (λ (d : PlainDraft). d.batch) is);
+}
 
 by-instruction : (number : ℕ) (before after : PlainDraft) (words : PlainInstruction) → IsGood number before
     → with_instruction before number words ≡ Ok after → Goes number before after
 by-instruction number before after words good is =
-    let e = instruction-row number before after words is in
-    record {
-      good = known-good number before after words good is;
-      start = λ _. sym (ap (λ (d : PlainDraft). d.script.start) e);
-      late = λ _. sym (ap (λ (d : PlainDraft). d.is_late) e);
-    }
+    let row = instruction-row number before after words is in
+    by-item number before after (instruction_row number before.clock words ∷ []) words.lane row.is (one-good number before after words good row)
+
+by-swap : (number : ℕ) (before after : PlainDraft) (words : PlainSwap) → IsGood number before → with_swap before number words ≡ Ok after
+    → Goes number before after
+by-swap number before after words good is =
+    let row = swap-row number before after words is in
+    by-item number before after
+    (instruction_row number before.clock (first_leg words) ∷ instruction_row number before.clock (second_leg words) ∷ []) words.lane row.is
+    (two-good number before after words good row)
 
 by-statement : (number : ℕ) (before after : PlainDraft) (statement : Statement) → IsGood number before
     → with_statement before number statement ≡ Ok after → Goes number before after
@@ -228,6 +262,7 @@ by-statement number before after (row.Wallet address mint owner amount) good is 
 by-statement number before after (row.Market words) good is = by-kept number before after good (kept-market before after words is)
 by-statement number before after (row.Orders market address) good is = by-kept number before after good (kept-orders before after market address is)
 by-statement number before after (row.Instruction words) good is = by-instruction number before after words good is
+by-statement number before after (row.Swap words) good is = by-swap number before after words good is
 
 by-row : (number : ℕ) (before after : PlainDraft) (fields : Fields) → IsGood number before → with_row before number fields ≡ Ok after
     → Goes number before after
@@ -242,14 +277,15 @@ fault-ok number (Err kind) x is = absurd (no-error _ x is)
 
 -- behind all rows
 pub record Ends (before last : PlainDraft) : Type 0 where
-  pub rows : AreRising last.script
+  pub rows : AreRows last.script
   pub start : before.is_late ≡ true → last.script.start ≡ before.script.start
+  pub single : before.batch ≡ true → HasNoSwap last.script.rows
 
 by-rows : (number : ℕ) (before last : PlainDraft) (rows : List Fields) → IsGood number before → draft_after before number rows ≡ Ok last
     → Ends before last
 by-rows number before last [] good is =
     let e = ok-same {E = Refusal} before last is in
-    subst (Ends before) e (record { rows = good.rows; start = λ _. refl })
+    subst (Ends before) e (record { rows = good.rows; start = λ _. refl; single = good.single })
 by-rows number before last (fields ∷ rows) good is =
     let next : PlainDraft → Result PlainDraft Refusal = λ d. draft_after d (next_number number) rows in
     let a = bind-ok (fault_in number (with_row before number fields)) next last is in
@@ -258,32 +294,43 @@ by-rows number before last (fields ∷ rows) good is =
     record {
       rows = ends.rows;
       start = λ late. ends.start (goes.late late) ∙ goes.start late;
+      single = λ batch. ends.single (goes.batch ∙ batch);
     }
 
 -- ---- a script
 
-first-good : (number : ℕ) (draft : PlainDraft) → draft.script.rows ≡ [] → draft.script.lanes ≡ 1 → number ≤ 2 ^ 32 - 1 → IsGood number draft
-first-good number draft none one small = record {
+first-good : (number : ℕ) (draft : PlainDraft) → draft.script.rows ≡ [] → draft.script.lanes ≡ 1 → draft.items ≡ 0 → number ≤ 2 ^ 32 - 1
+    → IsGood number draft
+first-good number draft none one items small = record {
   rows = empty-rows draft.script none one;
   below = subst (All (λ (r : PlainRow). r.number < number)) (sym none) (All-nil (λ (r : PlainRow). r.number < number));
   quiet = λ _. none;
+  items = items ∙ sym (ap (λ (rows : List PlainRow). length (items_of rows)) none);
+  single = λ _. subst HasNoSwap (sym none) (λ i j d before within. absurd (omega arith));
   small = small;
 }
 
 abbrev pub last_script : PlainDraft → Result PlainScript Refusal
 last_script last = Ok last.script
 
+-- what holds of the script that rows give
+pub record Gives (draft : PlainDraft) (script : PlainScript) : Type 0 where
+  pub rows : AreRows script
+  pub start : draft.is_late ≡ true → script.start ≡ draft.script.start
+  pub single : draft.batch ≡ true → HasNoSwap script.rows
+
 from-rows : (number : ℕ) (draft : PlainDraft) (rows : List Fields) (script : PlainScript) → IsGood number draft
-    → Ok script ≡ script_from draft number rows → AreRising script × (draft.is_late ≡ true → script.start ≡ draft.script.start)
+    → Ok script ≡ script_from draft number rows → Gives draft script
 from-rows number draft rows script good is =
     let a = bind-ok (draft_after draft number rows) last_script script (sym is) in
     let ends = by-rows number draft a.0 rows good a.1 in
     let e = ok-same {E = Refusal} a.0.script script a.2 in
-    (subst AreRising e ends.rows, λ late. sym (ap (λ (s : PlainScript). s.start) e) ∙ ends.start late)
+    subst (Gives draft) e (record { rows = ends.rows; start = ends.start; single = ends.single })
 
 -- what a dump and the rows behind it give
-pub record StartsWith (script : PlainScript) : Type 0 where
-  pub rows : AreRising script
+pub record StartsWith (batch : Bool) (script : PlainScript) : Type 0 where
+  pub rows : AreRows script
+  pub single : batch ≡ true → HasNoSwap script.rows
   pub accepted : AreAccepted script.start
   pub held : HoldBytes script.start
   pub none : findings script.start ≡ []
@@ -292,30 +339,38 @@ none-found : {A : Type 0} (found : List Finding) (next : Result A Refusal) (x : 
 none-found [] next x is = (refl, is)
 none-found (finding ∷ found) next x is = absurd (no-error _ x (sym is))
 
-pub from-dump : (rows : List Fields) (dump : PlainAnswer) (script : PlainScript) → AnswersDump rows dump → Ok script ≡ behind dump → StartsWith script
-from-dump rows (Err fault) script told is = absurd (no-error _ script (sym is))
-from-dump rows (Ok dump) script told is =
-    let next = script_from (behind_dump dump.accounts) (next_number dump.count) dump.behind in
+pub from-dump : (batch : Bool) (rows : List Fields) (dump : PlainAnswer) (script : PlainScript) → AnswersDump rows dump → Ok script ≡ behind batch dump
+    → StartsWith batch script
+from-dump batch rows (Err fault) script told is = absurd (no-error _ script (sym is))
+from-dump batch rows (Ok dump) script told is =
+    let draft = behind_dump batch dump.accounts in
+    let next = script_from draft (next_number dump.count) dump.behind in
     let a = none-found (findings dump.accounts) next script is in
-    let draft = behind_dump dump.accounts in
-    let b = from-rows (next_number dump.count) draft dump.behind script (first-good (next_number dump.count) draft refl refl (omega arith)) a.1 in
-    let same : script.start ≡ dump.accounts = b.1 refl in
+    let b = from-rows (next_number dump.count) draft dump.behind script (first-good (next_number dump.count) draft refl refl refl (omega arith)) a.1 in
+    let same : script.start ≡ dump.accounts = b.start refl in
     let read = dump-read rows dump told in
     record {
-      rows = b.0;
+      rows = b.rows;
+      single = b.single;
       accepted = subst AreAccepted (sym same) read.accepted;
       held = subst HoldBytes (sym same) read.held;
       none = subst (λ (accounts : PlainAccounts). findings accounts ≡ []) (sym same) a.0;
     }
 
-by-answer : (begins : Bool) (rows : List Fields) (script : PlainScript) → AnswersBy begins rows (Ok script) → AreRising script
-by-answer true rows script told = (from-dump rows told.0 script told.1 told.2).rows
-by-answer false rows script is = (from-rows 1 no_rows rows script (first-good 1 no_rows refl refl (omega arith)) is).0
+by-answer : (batch begins : Bool) (rows : List Fields) (script : PlainScript) → AnswersBy batch begins rows (Ok script)
+    → AreRows script × (batch ≡ true → HasNoSwap script.rows)
+by-answer batch true rows script told = let starts = from-dump batch rows told.0 script told.1 told.2 in (starts.rows, starts.single)
+by-answer batch false rows script is =
+    let gives = from-rows 1 (no_rows batch) rows script (first-good 1 (no_rows batch) refl refl refl (omega arith)) is in (gives.rows, gives.single)
 
-pub read-rows : (text : List ℕ) (script : PlainScript) → Reads text script → AreRows script
-read-rows text script reads = are-rows script (by-answer (begins_with_dump (rows_of text)) (rows_of text) script reads)
+pub read-rows : (batch : Bool) (text : List ℕ) (script : PlainScript) → Reads batch text script → AreRows script
+read-rows batch text script reads = (by-answer batch (begins_with_dump (rows_of text)) (rows_of text) script reads).0
 
-pub read-dump : (text : List ℕ) (script : PlainScript) → begins_with_dump (rows_of text) ≡ true → Reads text script → StartsWith script
-read-dump text script begins reads =
-    let told = subst (λ (b : Bool). AnswersBy b (rows_of text) (Ok script)) begins reads in
-    from-dump (rows_of text) told.0 script told.1 told.2
+pub read-apart : (text : List ℕ) (script : PlainScript) → Reads true text script → HasNoSwap script.rows
+read-apart text script reads = (by-answer true (begins_with_dump (rows_of text)) (rows_of text) script reads).1 refl
+
+pub read-dump : (batch : Bool) (text : List ℕ) (script : PlainScript) → begins_with_dump (rows_of text) ≡ true → Reads batch text script
+    → StartsWith batch script
+read-dump batch text script begins reads =
+    let told = subst (λ (b : Bool). AnswersBy batch b (rows_of text) (Ok script)) begins reads in
+    from-dump batch (rows_of text) told.0 script told.1 told.2

@@ -18,34 +18,34 @@ abbrev last_script : Result PlainDraft Refusal → Result PlainScript Refusal
 last_script given = given >>= λ last. Ok last.script
 
 -- what the text answers is the script of these drafts
-module _ (text : List ℕ) (given : Result PlainDraft Refusal)
-    (answers : (answer : Result PlainScript Refusal) → answer ≡ last_script given → Answers text answer) where
-  refused : (refusal : Refusal) → given ≡ Err refusal → IsRefused text refusal
+module _ (batch : Bool) (text : List ℕ) (given : Result PlainDraft Refusal)
+    (answers : (answer : Result PlainScript Refusal) → answer ≡ last_script given → Answers batch text answer) where
+  refused : (refusal : Refusal) → given ≡ Err refusal → IsRefused batch text refusal
   refused refusal is = answers (Err refusal) (sym (ap last_script is))
 
-  tells-error : (error : ScriptError) → TellsRefusal error given → TellsError error text
+  tells-error : (error : ScriptError) → TellsRefusal error given → TellsError error batch text
   tells-error (script.Row row kind code) told = (told.0, refused _ told.1, told.2, told.3)
   tells-error (script.Dump fault) told = refused _ told
   tells-error (script.Audit found) told = refused _ told
   tells-error script.NoMemory told = tt
 
-  pub tells : (result : Result PlainDraft ScriptError) → TellsDraft result given → TellsText result text
+  pub tells : (result : Result PlainDraft ScriptError) → TellsDraft result given → TellsText result batch text
   tells (Ok draft) is = answers (Ok draft.script) (sym (ap last_script is))
   tells (Err error) told = tells-error error told
 
 -- ---- a text without a dump
 
-pub answers-plain : (text : List ℕ) → begins_with_dump (rows_of text) ≡ false
-    → (answer : Result PlainScript Refusal) → answer ≡ last_script (draft_after no_rows 1 (rows_of text)) → Answers text answer
-answers-plain text plain answer is = subst (λ (b : Bool). AnswersBy b (rows_of text) answer) (sym plain) is
+pub answers-plain : (batch : Bool) (text : List ℕ) → begins_with_dump (rows_of text) ≡ false
+    → (answer : Result PlainScript Refusal) → answer ≡ last_script (draft_after (no_rows batch) 1 (rows_of text)) → Answers batch text answer
+answers-plain batch text plain answer is = subst (λ (b : Bool). AnswersBy batch b (rows_of text) answer) (sym plain) is
 
 -- ---- a text that begins with a dump
 
-module _ (text : List ℕ) (begins : begins_with_dump (rows_of text) ≡ true) where
-  by-dump : (answer : Result PlainScript Refusal) → AnswersBy true (rows_of text) answer → Answers text answer
-  by-dump answer is = subst (λ (b : Bool). AnswersBy b (rows_of text) answer) (sym begins) is
+module _ (batch : Bool) (text : List ℕ) (begins : begins_with_dump (rows_of text) ≡ true) where
+  by-dump : (answer : Result PlainScript Refusal) → AnswersBy batch true (rows_of text) answer → Answers batch text answer
+  by-dump answer is = subst (λ (b : Bool). AnswersBy batch b (rows_of text) answer) (sym begins) is
 
-  pub dump-refused : (fault : DumpFault) → AnswersDump (rows_of text) (Err fault) → IsRefused text (InDump fault)
+  pub dump-refused : (fault : DumpFault) → AnswersDump (rows_of text) (Err fault) → IsRefused batch text (InDump fault)
   dump-refused fault told = by-dump (Err (InDump fault)) (Err fault, told, refl)
 
   audited : (found : List Finding) (next : Result PlainScript Refusal) → (found ≡ [] → ⊥) → Err (InAudit found) ≡ unless_found found next
@@ -53,14 +53,14 @@ module _ (text : List ℕ) (begins : begins_with_dump (rows_of text) ≡ true) w
   audited (finding ∷ found) next some = refl
 
   pub dump-audited : (dump : PlainDump) (found : List Finding) → AnswersDump (rows_of text) (Ok dump) → findings dump.accounts ≡ found
-      → (found ≡ [] → ⊥) → IsRefused text (InAudit found)
+      → (found ≡ [] → ⊥) → IsRefused batch text (InAudit found)
   dump-audited dump found told is some =
-      let next = last_script (draft_after (behind_dump dump.accounts) (next_number dump.count) dump.behind) in
+      let next = last_script (draft_after (behind_dump batch dump.accounts) (next_number dump.count) dump.behind) in
       by-dump (Err (InAudit found)) (Ok dump, told, audited found next some ∙ ap (λ (fs : List Finding). unless_found fs next) (sym is))
 
   pub answers-behind : (dump : PlainDump) → AnswersDump (rows_of text) (Ok dump) → findings dump.accounts ≡ []
       → (answer : Result PlainScript Refusal)
-      → answer ≡ last_script (draft_after (behind_dump dump.accounts) (next_number dump.count) dump.behind) → Answers text answer
+      → answer ≡ last_script (draft_after (behind_dump batch dump.accounts) (next_number dump.count) dump.behind) → Answers batch text answer
   answers-behind dump told none answer is =
-      let next = last_script (draft_after (behind_dump dump.accounts) (next_number dump.count) dump.behind) in
+      let next = last_script (draft_after (behind_dump batch dump.accounts) (next_number dump.count) dump.behind) in
       by-dump answer (Ok dump, told, is ∙ ap (λ (fs : List Finding). unless_found fs next) (sym none))

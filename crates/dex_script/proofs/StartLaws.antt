@@ -20,7 +20,8 @@ use Rattle.dex_script.specs.Rows.{with_row, with_statement}
 use Rattle.dex_script.specs.Scripts.{AnswersBy, Reads, Refusal, begins_with_dump, draft_after, fault_in, script_from}
 use Rattle.dex_script.proofs.FaultLaws.{bind-ok, ok-same}
 use Rattle.dex_script.proofs.KeptLaws.{clock-row, program-row}
-use Rattle.dex_script.proofs.OrderLaws.{fault-ok, from-dump, instruction-row, last_script}
+use Rattle.dex_script.proofs.ItemRows.{instruction-row, swap-row}
+use Rattle.dex_script.proofs.OrderLaws.{fault-ok, from-dump, last_script}
 use Rattle.dex_script.proofs.RowParts.{market-row, mint-row, msrm-row, orders-row, srm-row, wallet-row}
 use Rattle.dex_script.proofs.StartRows.{IsDeclared, market-declared, mint-declared, msrm-declared, orders-declared, srm-declared, wallet-declared}
 use Rattle.dex_script.proofs.StartSupplies.{IsBacked, conserved}
@@ -28,8 +29,8 @@ use Rattle.dex_script.proofs.StartAddresses.{AreTaken}
 use Rattle.dex_script.proofs.Started.{AreDeclared, HasFew, IsMade, IsWalletOf, declared-start}
 use Rattle.dex_script.proofs.StatedLaws.{IsStated, row-stated}
 
-nothing-declared : IsDeclared no_rows
-nothing-declared = record {
+nothing-declared : (batch : Bool) → IsDeclared (no_rows batch)
+nothing-declared batch = record {
   declared = record {
     mints = All-nil (λ (mint : PlainAccount). IsMint mint.bytes);
     wallets = All-nil (IsWalletOf []);
@@ -68,8 +69,11 @@ by-statement number before after (row.Wallet address mint owner amount) so state
 by-statement number before after (row.Market words) so stated is = market-declared before after so words stated (market-row before after words is)
 by-statement number before after (row.Orders market address) so stated is = orders-declared before after so market address (orders-row before after market address is)
 by-statement number before after (row.Instruction words) so stated is =
-    let same = instruction-row number before after words is in
-    same-declared before after so (ap (λ (d : PlainDraft). d.script.start) same) (ap (λ (d : PlainDraft). d.taken) same)
+    let item = instruction-row number before after words is in
+    same-declared before after so (ap (λ (d : PlainDraft). d.script.start) item.is) (ap (λ (d : PlainDraft). d.taken) item.is)
+by-statement number before after (row.Swap words) so stated is =
+    let item = swap-row number before after words is in
+    same-declared before after so (ap (λ (d : PlainDraft). d.script.start) item.is) (ap (λ (d : PlainDraft). d.taken) item.is)
 
 by-row : (number : ℕ) (before after : PlainDraft) (fields : Fields) → IsDeclared before → with_row before number fields ≡ Ok after → IsDeclared after
 unfolding with_row
@@ -85,10 +89,10 @@ by-rows number before last (fields ∷ rows) so is =
     by-rows (next_number number) a.0 last rows (by-row number before a.0 fields so (fault-ok number (with_row before number fields) a.0 a.1)) a.2
 
 -- what rows without a dump give
-from-rows : (rows : List Fields) (script : PlainScript) → Ok script ≡ script_from no_rows 1 rows → IsStart script.start
-from-rows rows script is =
-    let a = bind-ok (draft_after no_rows 1 rows) last_script script (sym is) in
-    let last = by-rows 1 no_rows a.0 rows nothing-declared a.1 in
+from-rows : (batch : Bool) (rows : List Fields) (script : PlainScript) → Ok script ≡ script_from (no_rows batch) 1 rows → IsStart script.start
+from-rows batch rows script is =
+    let a = bind-ok (draft_after (no_rows batch) 1 rows) last_script script (sym is) in
+    let last = by-rows 1 (no_rows batch) a.0 rows (nothing-declared batch) a.1 in
     let start = a.0.script.start in
     let here = declared-start start a.0.taken last.declared last.taken (conserved start last.declared.markets last.backed) in
     subst (λ (s : PlainScript). IsStart s.start) (ok-same {E = Refusal} a.0.script script a.2) here
@@ -102,15 +106,16 @@ abbrev pub AuditedAreConserved : Type 0
 AuditedAreConserved =
     (accounts : PlainAccounts) → AreAccepted accounts → HoldBytes accounts → findings accounts ≡ [] → All (IsConserved accounts) accounts.mints
 
-by-answer : AuditedAreSound → AuditedAreConserved → (begins : Bool) (rows : List Fields) (script : PlainScript) → AnswersBy begins rows (Ok script) → IsStart script.start
-by-answer are-sound are-conserved true rows script told =
-    let starts = from-dump rows told.0 script told.1 told.2 in
+by-answer : AuditedAreSound → AuditedAreConserved → (batch begins : Bool) (rows : List Fields) (script : PlainScript) → AnswersBy batch begins rows (Ok script)
+    → IsStart script.start
+by-answer are-sound are-conserved batch true rows script told =
+    let starts = from-dump batch rows told.0 script told.1 told.2 in
     record {
       accepted = starts.accepted;
       sound = are-sound script.start starts.accepted starts.held starts.none;
       conserved = are-conserved script.start starts.accepted starts.held starts.none;
     }
-by-answer are-sound are-conserved false rows script is = from-rows rows script is
+by-answer are-sound are-conserved batch false rows script is = from-rows batch rows script is
 
-pub starts-sound : AuditedAreSound → AuditedAreConserved → (text : List ℕ) (script : PlainScript) → Reads text script → IsStart script.start
-starts-sound are-sound are-conserved text script reads = by-answer are-sound are-conserved (begins_with_dump (rows_of text)) (rows_of text) script reads
+pub starts-sound : AuditedAreSound → AuditedAreConserved → (batch : Bool) (text : List ℕ) (script : PlainScript) → Reads batch text script → IsStart script.start
+starts-sound are-sound are-conserved batch text script reads = by-answer are-sound are-conserved batch (begins_with_dump (rows_of text)) (rows_of text) script reads

@@ -26,6 +26,7 @@ use Rattle.dex_statement.specs.Forms.{form_of}
 use Rattle.dex_statement.specs.Setup.{clock_of, discount_of, market_of, market_word, mint_of, orders_of, program_of, wallet_of, with_last_zero}
 use Rattle.dex_statement.specs.Stated.{PlainMarketWords}
 use Rattle.dex_statement.specs.Statements.{bytes_row, stated, statement_of, words_row}
+use Rattle.dex_statement.specs.Swaps.{swap_row}
 use Rattle.dex_statement.specs.Words.{Fields, field_at}
 use Rattle.dex_script.proofs.FaultLaws.{bind-ok, found-ok, ok-same, unless-ok}
 
@@ -196,6 +197,7 @@ module _ (fields : Fields) (are : ArePrintable fields) where
       gives-bind IsStated (market_of fields) _ (λ words h. gives-ok IsStated (row.Market words) (market-stated words h))
   form-stated form.Bytes = gives-bind IsStated (bytes_row fields) _ (λ words h. gives-ok IsStated (row.Instruction words) tt)
   form-stated form.Words = gives-bind IsStated (words_row fields) _ (λ words h. gives-ok IsStated (row.Instruction words) tt)
+  form-stated form.Swap = gives-bind IsStated (swap_row fields) _ (λ words h. gives-ok IsStated (row.Swap words) tt)
 
 pub row-stated : (fields : Fields) (statement : Statement) → statement_of fields ≡ Ok statement → IsStated statement
 unfolding statement_of

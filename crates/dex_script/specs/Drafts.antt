@@ -15,13 +15,16 @@ pub record PlainScript : Type 0 where
   pub program : Program
 
 -- the script so far, with every address that is taken, the clock of the next instruction row, whether no row stands there but
--- those of a dump, and whether setup rows come too late: behind a dump or an instruction row
+-- those of a dump, whether setup rows come too late: behind a dump or an instruction row; how many instruction rows there are,
+-- where a swap is one; and whether the script is to act in batches
 pub record PlainDraft : Type 0 where
   pub script : PlainScript
   pub taken : List Address
   pub clock : ℤ
   pub is_first : Bool
   pub is_late : Bool
+  pub items : ℕ
+  pub batch : Bool
 
 -- a script of these accounts without rows
 abbrev pub without_rows : PlainAccounts → PlainScript
@@ -32,10 +35,25 @@ abbrev pub no_accounts : PlainAccounts
 no_accounts = record { mints = []; srm = None; msrm = None; wallets = []; markets = [] }
 
 -- before the first row of a script without a dump
-abbrev pub no_rows : PlainDraft
-no_rows = record { script = without_rows no_accounts; taken = []; clock = pos 0; is_first = true; is_late = false }
+abbrev pub no_rows : Bool → PlainDraft
+no_rows batch = record {
+  script = without_rows no_accounts;
+  taken = [];
+  clock = pos 0;
+  is_first = true;
+  is_late = false;
+  items = 0;
+  batch = batch;
+}
 
 -- behind a dump: its accounts are there, and setup rows come too late
-abbrev pub behind_dump : PlainAccounts → PlainDraft
-behind_dump accounts =
-    record { script = without_rows accounts; taken = addresses_of accounts; clock = pos 0; is_first = true; is_late = true }
+abbrev pub behind_dump : Bool → PlainAccounts → PlainDraft
+behind_dump batch accounts = record {
+  script = without_rows accounts;
+  taken = addresses_of accounts;
+  clock = pos 0;
+  is_first = true;
+  is_late = true;
+  items = 0;
+  batch = batch;
+}

@@ -1,5 +1,6 @@
 -- The script with what one more row states, or the lowest fault that the row has behind the rows before it.
 use Rattle.std.specs.Prelude.{ℕ, ℤ, ◌+◌, ◌-◌, ◌^◌, Bool, true, false, not, ◌||◌, ◌==◌, nat_le, nat_lt, if◌then◌else◌, List, [], ◌∷◌, ◌++◌, length, max, Option, Some, None, Result, Ok, is_some}
+use Rattle.std.specs.List.{list_any}
 use Rattle.dex_types.specs.declared.addresses.Address.{Address}
 use Rattle.dex_types.specs.declared.instructions.BadData.{BadData}
 use Rattle.dex_types.specs.declared.instructions.Ix.{Ix}
@@ -9,18 +10,20 @@ use Rattle.dex_types.specs.Accounts.{PlainAccounts}
 use Rattle.dex_types.specs.Addresses.{is_same}
 use Rattle.dex_types.specs.Rows.{PlainRow}
 use Rattle.dex_instruction.specs.Reading.{decoded}
+use Rattle.dex_history.specs.Journal.{is_take_or_bad}
+use Rattle.dex_fold.specs.Fold.{is_role}
 use Rattle.dex_make.specs.declared.market.MarketSet.{MarketSet}
 use Rattle.dex_make.specs.Blanks.{blank_account}
 use Rattle.dex_make.specs.MarketBytes.{made_accounts}
 use Rattle.dex_make.specs.TokenBytes.{mint_bytes, wallet_bytes}
 use Rattle.dex_dump.specs.Reading.{is_among, with_orders}
 use Rattle.dex_statement.specs.declared.faults.FaultKind.{FaultKind}
-use Rattle.dex_statement.specs.declared.faults.FaultKind.TheVariants.{UnknownLabel, Duplicate, OverLimit, SetupRefused}
+use Rattle.dex_statement.specs.declared.faults.FaultKind.TheVariants.{UnknownLabel, Duplicate, OverLimit, SetupRefused, BadSwap, NoBatch}
 use Rattle.dex_statement.specs.declared.faults.SetupCode.TheVariants as code
 use Rattle.dex_statement.specs.declared.statement.Statement.{Statement}
 use Rattle.dex_statement.specs.declared.statement.Statement.TheVariants as row
 use Rattle.dex_statement.specs.Faults.{◌>>=◌, found_or, unless}
-use Rattle.dex_statement.specs.Stated.{PlainInstruction, PlainMarketWords, PlainParties}
+use Rattle.dex_statement.specs.Stated.{PlainInstruction, PlainMarketWords, PlainParties, PlainSwap, leg_words}
 use Rattle.dex_statement.specs.Statements.{statement_of}
 use Rattle.dex_statement.specs.Words.{Fields}
 use Rattle.dex_script.specs.Drafts.{PlainDraft}
@@ -166,23 +169,70 @@ instruction_row number now words = record {
   now = now;
 }
 
--- an instruction row of known names, with the clock of the last `clock` row before it; 100,000 such rows, and numbers of rows below
--- the largest u32
+-- no instruction row of this number finds room: 100,000 of them, where a swap is one, and numbers of rows below the largest u32
+abbrev pub is_full : PlainDraft → ℕ → Bool
+is_full draft number = nat_le 100000 draft.items || (number == 2 ^ 32 - 1)
+
+-- the draft with the rows of one more instruction row, of this lane
+abbrev pub with_item : PlainDraft → List PlainRow → ℕ → PlainDraft
+with_item draft rows lane = record draft {
+  script = record draft.script { rows = draft.script.rows ++ rows; lanes = max draft.script.lanes (lane + 1) };
+  is_first = false;
+  is_late = true;
+  items = draft.items + 1;
+}
+
+-- an instruction row of known names, with the clock of the last `clock` row before it
 unfoldable pub with_known : PlainDraft → ℕ → PlainInstruction → Result PlainDraft FaultKind
 with_known draft number words =
-    unless (nat_le 100000 (length draft.script.rows) || exceeds_row words || (number == 2 ^ 32 - 1)) OverLimit
-    (Ok (record draft {
-      script = record draft.script {
-        rows = draft.script.rows ++ instruction_row number draft.clock words ∷ [];
-        lanes = max draft.script.lanes (words.lane + 1);
-      };
-      is_first = false;
-      is_late = true;
-    }))
+    unless (is_full draft number || exceeds_row words) OverLimit
+    (Ok (with_item draft (instruction_row number draft.clock words ∷ []) words.lane))
 
 -- an instruction row
 unfoldable pub with_instruction : PlainDraft → ℕ → PlainInstruction → Result PlainDraft FaultKind
 with_instruction draft number words = unless (is_unknown draft.script.start words.parties) UnknownLabel (with_known draft number words)
+
+-- two roles are those of one wallet
+abbrev pub is_one_wallet : Option Address → Option Address → Bool
+is_one_wallet None other = false
+is_one_wallet (Some wallet) other = is_role other wallet
+
+-- a role is that of a wallet of one of these roles
+abbrev pub is_named_among : Option Address → List (Option Address) → Bool
+is_named_among role roles = list_any (is_one_wallet role) roles
+
+-- a wallet stands twice among the roles of two legs
+abbrev pub is_named_twice : PlainParties → PlainParties → Bool
+is_named_twice first second =
+    is_named_among first.coin (first.pc ∷ second.coin ∷ second.pc ∷ [])
+    || is_named_among first.pc (second.coin ∷ second.pc ∷ []) || is_named_among second.coin (second.pc ∷ [])
+
+-- a leg's data decodes to another instruction than SendTake
+abbrev pub is_no_leg : PlainInstruction → Bool
+is_no_leg words = not (is_take_or_bad (decoded words.bytes))
+
+-- no swap of two markets: the legs' markets are one, a wallet stands twice, or a leg is another instruction than a take
+abbrev pub is_bad_swap : PlainInstruction → PlainInstruction → Bool
+is_bad_swap first second =
+    is_same first.parties.market second.parties.market || is_named_twice first.parties second.parties
+    || is_no_leg first || is_no_leg second
+
+-- a swap of known names: the rows of its legs, of one number
+unfoldable pub with_legs : PlainDraft → ℕ → PlainInstruction → PlainInstruction → Result PlainDraft FaultKind
+with_legs draft number first second =
+    unless (is_full draft number || exceeds_row first || exceeds_row second) OverLimit
+    (unless (is_bad_swap first second) BadSwap
+    (unless draft.batch NoBatch
+    (Ok (with_item draft (instruction_row number draft.clock first ∷ instruction_row number draft.clock second ∷ []) first.lane))))
+
+-- a swap, which counts as one instruction row; where the script is to act in batches there is none
+unfoldable pub with_swap : PlainDraft → ℕ → PlainSwap → Result PlainDraft FaultKind
+with_swap draft number words =
+    let first = leg_words words.lane words.signer words.first in
+    let second = leg_words words.lane words.signer words.second in
+    let start = draft.script.start in
+    unless (is_unknown start first.parties) UnknownLabel
+    (unless (is_unknown start second.parties) UnknownLabel (with_legs draft number first second))
 
 -- the script with what a row of this number states
 abbrev pub with_statement : PlainDraft → ℕ → Statement → Result PlainDraft FaultKind
@@ -195,6 +245,7 @@ with_statement draft number (row.Wallet address mint owner amount) = with_wallet
 with_statement draft number (row.Market words) = with_market draft words
 with_statement draft number (row.Orders market address) = with_orders_row draft market address
 with_statement draft number (row.Instruction words) = with_instruction draft number words
+with_statement draft number (row.Swap words) = with_swap draft number words
 
 -- the faults that a row has by itself come first, then those behind the rows before it
 unfoldable pub with_row : PlainDraft → ℕ → Fields → Result PlainDraft FaultKind

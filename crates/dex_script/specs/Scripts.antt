@@ -45,24 +45,25 @@ unless_found [] next = next
 unless_found (finding ∷ found) next = Err (InAudit (finding ∷ found))
 
 -- the script that begins with what a dump answers
-abbrev pub behind : PlainAnswer → Result PlainScript Refusal
-behind (Err fault) = Err (InDump fault)
-behind (Ok dump) =
-    unless_found (findings dump.accounts) (script_from (behind_dump dump.accounts) (next_number dump.count) dump.behind)
+abbrev pub behind : Bool → PlainAnswer → Result PlainScript Refusal
+behind batch (Err fault) = Err (InDump fault)
+behind batch (Ok dump) =
+    unless_found (findings dump.accounts) (script_from (behind_dump batch dump.accounts) (next_number dump.count) dump.behind)
 
 -- what rows answer, by whether they begin with a dump
-abbrev pub AnswersBy : Bool → List Fields → Result PlainScript Refusal → Type 0
-AnswersBy true rows answer = (dump : PlainAnswer) × AnswersDump rows dump × (answer ≡ behind dump)
-AnswersBy false rows answer = answer ≡ script_from no_rows 1 rows
+abbrev pub AnswersBy : Bool → Bool → List Fields → Result PlainScript Refusal → Type 0
+AnswersBy batch true rows answer = (dump : PlainAnswer) × AnswersDump rows dump × (answer ≡ behind batch dump)
+AnswersBy batch false rows answer = answer ≡ script_from (no_rows batch) 1 rows
 
--- what a text answers: its script, or why it is none
-abbrev pub Answers : List ℕ → Result PlainScript Refusal → Type 0
-Answers text answer = AnswersBy (begins_with_dump (rows_of text)) (rows_of text) answer
+-- what a text answers: its script, or why it is none. Whether the script is to act in batches stands first: such a script has no
+-- swap
+abbrev pub Answers : Bool → List ℕ → Result PlainScript Refusal → Type 0
+Answers batch text answer = AnswersBy batch (begins_with_dump (rows_of text)) (rows_of text) answer
 
 -- the text is in the grammar of scripts, and is this script
-abbrev pub Reads : List ℕ → PlainScript → Type 0
-Reads text script = Answers text (Ok script)
+abbrev pub Reads : Bool → List ℕ → PlainScript → Type 0
+Reads batch text script = Answers batch text (Ok script)
 
 -- the text is no script for this reason, and none comes before it
-abbrev pub IsRefused : List ℕ → Refusal → Type 0
-IsRefused text refusal = Answers text (Err refusal)
+abbrev pub IsRefused : Bool → List ℕ → Refusal → Type 0
+IsRefused batch text refusal = Answers batch text (Err refusal)

@@ -1,5 +1,5 @@
 -- What the answers of calls tell, without their buffers.
-use Rattle.std.specs.Prelude.{◌≡◌, ℕ, List, [], map, Result, Ok, Err}
+use Rattle.std.specs.Prelude.{◌≡◌, ℕ, Bool, List, [], map, Result, Ok, Err}
 use Rattle.dex_audit.specs.Findings.{findings}
 use Rattle.dex_dump.specs.declared.reader.DumpRead.{DumpRead}
 use Rattle.dex_dump.specs.Answers.{AnswersDump, PlainDump}
@@ -38,6 +38,8 @@ draft_of draft = record {
   clock = draft.clock;
   is_first = draft.is_first;
   is_late = draft.is_late;
+  items = draft.items;
+  batch = draft.batch;
 }
 
 -- the draft that is left behind a row is what is meant, or the fault of the row is, and then what is left does not matter. Want of
@@ -71,19 +73,19 @@ TellsStart (Err (script.Row row kind code)) rows left = ⊥
 TellsStart (Err script.NoMemory) rows left = Unit {0}
 
 -- an error says why the text is no script. Want of memory tells nothing
-abbrev pub TellsError : ScriptError → List ℕ → Type 0
-TellsError (script.Row row kind code) text =
-    (fault : FaultKind) × IsRefused text (AtRow row fault) × (kind ≡ kind_number fault) × (code ≡ code_of fault)
-TellsError (script.Dump fault) text = IsRefused text (InDump fault)
-TellsError (script.Audit found) text = IsRefused text (InAudit found.items)
-TellsError script.NoMemory text = Unit {0}
+abbrev pub TellsError : ScriptError → Bool → List ℕ → Type 0
+TellsError (script.Row row kind code) batch text =
+    (fault : FaultKind) × IsRefused batch text (AtRow row fault) × (kind ≡ kind_number fault) × (code ≡ code_of fault)
+TellsError (script.Dump fault) batch text = IsRefused batch text (InDump fault)
+TellsError (script.Audit found) batch text = IsRefused batch text (InAudit found.items)
+TellsError script.NoMemory batch text = Unit {0}
 
 -- the text is what the draft says
-abbrev pub TellsText : Result PlainDraft ScriptError → List ℕ → Type 0
-TellsText (Ok draft) text = Reads text draft.script
-TellsText (Err error) text = TellsError error text
+abbrev pub TellsText : Result PlainDraft ScriptError → Bool → List ℕ → Type 0
+TellsText (Ok draft) batch text = Reads batch text draft.script
+TellsText (Err error) batch text = TellsError error batch text
 
 -- the text is this script, or it is none for this reason
-abbrev pub TellsScript : Result Script ScriptError → List ℕ → Type 0
-TellsScript (Ok script) text = Reads text script
-TellsScript (Err error) text = TellsError error text
+abbrev pub TellsScript : Result Script ScriptError → Bool → List ℕ → Type 0
+TellsScript (Ok script) batch text = Reads batch text script
+TellsScript (Err error) batch text = TellsError error batch text

@@ -38,12 +38,16 @@ pub(crate) struct Draft {
     pub(crate) is_first: bool,
     /// Setup rows come too late.
     pub(crate) is_late: bool,
+    /// How many instruction rows there are, where a swap is one.
+    pub(crate) items: u32,
+    /// The script is to act in batches.
+    pub(crate) batch: bool,
 }
 
 impl Draft {
     /// The draft without rows.
-    pub(crate) fn new(alloc: Global) -> Draft
-        ensures { draft_of result ≡ spec.no_rows }
+    pub(crate) fn new(alloc: Global, batch: bool) -> Draft
+        ensures { draft_of result ≡ spec.no_rows batch }
     {
         Draft {
             start: Start {
@@ -60,13 +64,19 @@ impl Draft {
             clock: 0,
             is_first: true,
             is_late: false,
+            items: 0,
+            batch,
         }
     }
 
     /// Behind the dump of these accounts.
-    pub(crate) fn behind_dump(alloc: Global, accounts: Accounts) -> Result<Draft, NoMemory>
+    pub(crate) fn behind_dump(
+        alloc: Global,
+        accounts: Accounts,
+        batch: bool,
+    ) -> Result<Draft, NoMemory>
         requires { AreAccepted (accounts_of accounts) }
-        ensures { IfOk result (λ draft. draft_of draft ≡ spec.behind_dump (accounts_of accounts)) }
+        ensures { IfOk result (λ draft. draft_of draft ≡ spec.behind_dump batch (accounts_of accounts)) }
     {
         let taken = taken_addresses(alloc, &accounts)?;
         Ok(Draft {
@@ -84,6 +94,8 @@ impl Draft {
             clock: 0,
             is_first: true,
             is_late: true,
+            items: 0,
+            batch,
         })
     }
 

@@ -6,23 +6,61 @@ ghost use Rattle.dex_script.specs.Rows as spec;
 ghost use Rattle.dex_script.specs.Telling.{TellsIn, draft_of, start_of};
 
 use crate::draft::Draft;
+use crate::swap::is_bad_swap;
 use dex_statement::{FaultKind, InstructionWords, RowError};
 use dex_types::Row;
 
 impl Draft {
+    /// Whether no instruction row of this number finds room.
+    fn is_full(&self, number: u32) -> bool
+        ensures { result ≡ spec.is_full (draft_of self.now) number }
+    {
+        100_000 <= self.items || number == u32::MAX
+    }
+
     /// Adds an instruction row of this number, whose market and wallets are declared.
     #[tactic(auto, unfolding(crate::specs::Rows::with_known))]
     pub(crate) fn add_known(&mut self, number: u32, words: InstructionWords) -> Result<(), RowError>
         ensures row { TellsIn result (draft_of self.new) (spec.with_known (draft_of self.old) number words) }
         ensures start { start_of self.new.start ≡ start_of self.old.start }
     {
-        if 100_000 <= self.rows.len() || exceeds_row(&words) || number == u32::MAX {
+        if self.is_full(number) || exceeds_row(&words) {
             return Err(RowError::Fault(FaultKind::OverLimit));
         }
         self.lanes = self.lanes.max(words.lane + 1);
         self.rows.push(instruction_row(number, self.clock, words))?;
         self.is_first = false;
         self.is_late = true;
+        self.items += 1;
+        Ok(())
+    }
+
+    /// Adds the two legs of a swap row of this number, whose markets and wallets are declared.
+    #[tactic(auto, unfolding(crate::specs::Rows::with_legs))]
+    pub(crate) fn add_legs(
+        &mut self,
+        number: u32,
+        first: InstructionWords,
+        second: InstructionWords,
+    ) -> Result<(), RowError>
+        ensures row { TellsIn result (draft_of self.new) (spec.with_legs (draft_of self.old) number first second) }
+        ensures start { start_of self.new.start ≡ start_of self.old.start }
+    {
+        if self.is_full(number) || exceeds_row(&first) || exceeds_row(&second) {
+            return Err(RowError::Fault(FaultKind::OverLimit));
+        }
+        if is_bad_swap(&first, &second) {
+            return Err(RowError::Fault(FaultKind::BadSwap));
+        }
+        if self.batch {
+            return Err(RowError::Fault(FaultKind::NoBatch));
+        }
+        self.lanes = self.lanes.max(first.lane + 1);
+        self.rows.push(instruction_row(number, self.clock, first))?;
+        self.rows.push(instruction_row(number, self.clock, second))?;
+        self.is_first = false;
+        self.is_late = true;
+        self.items += 1;
         Ok(())
     }
 }

@@ -13,7 +13,9 @@ use crate::draft::Draft;
 use crate::names::Names;
 use crate::script::Script;
 use csv::ByteRecord;
-use dex_statement::{FaultKind, InstructionWords, Parties, RowError, Statement, statement_of};
+use dex_statement::{
+    FaultKind, InstructionWords, Parties, RowError, Statement, SwapWords, statement_of,
+};
 use dex_types::NoMemory;
 use std::alloc::Global;
 use std::marker::Model;
@@ -41,10 +43,10 @@ impl Model for Reader {
 
 impl Reader {
     /// Before the first row.
-    pub(crate) fn new(alloc: Global) -> Reader
-        ensures { result ≡ no_rows }
+    pub(crate) fn new(alloc: Global, batch: bool) -> Reader
+        ensures { result ≡ no_rows batch }
     {
-        Reader::of(Draft::new(alloc))
+        Reader::of(Draft::new(alloc, batch))
     }
 
     /// What was read so far, without names.
@@ -90,6 +92,7 @@ impl Reader {
     {
         match statement {
             Statement::Instruction(words) => self.add_instruction(alloc, number, words),
+            Statement::Swap(words) => self.add_swap(alloc, number, words),
             Statement::Clock(now) => {
                 self.set_clock(now);
                 Ok(())
@@ -132,6 +135,26 @@ impl Reader {
         self.draft.add_known(number, words)
     }
 
+    /// Adds a swap row of this number.
+    #[tactic(auto, unfolding(crate::specs::Rows::with_swap))]
+    fn add_swap(&mut self, alloc: Global, number: u32, words: SwapWords) -> Result<(), RowError>
+        ensures { TellsIn result self.new (spec.with_swap self.old number words) }
+    {
+        let first = words
+            .first
+            .into_instruction(alloc, words.lane, words.signer);
+        let second = words
+            .second
+            .into_instruction(alloc, words.lane, words.signer);
+        if self.is_unknown(alloc, &first.parties)? {
+            return Err(RowError::Fault(FaultKind::UnknownLabel));
+        }
+        if self.is_unknown(alloc, &second.parties)? {
+            return Err(RowError::Fault(FaultKind::UnknownLabel));
+        }
+        self.draft.add_legs(number, first, second)
+    }
+
     /// Whether an instruction row names a market or a wallet that is not declared. Makes the names where they are not
     /// there yet.
     fn is_unknown(&mut self, alloc: Global, parties: &Parties) -> Result<bool, NoMemory>
@@ -160,7 +183,7 @@ impl Reader {
 fn take(reader: &mut Reader, alloc: Global) -> Draft
     ensures { draft_of result ≡ reader.old }
 {
-    let before = std::mem::replace(reader, Reader::new(alloc));
+    let before = std::mem::replace(reader, Reader::new(alloc, false));
     before.draft
 }
 

@@ -6,12 +6,15 @@ ghost use Rattle.dex_dump.specs.Accepted.{AreAccepted};
 ghost use Rattle.dex_dump.specs.Answers.{next_number};
 ghost use Rattle.dex_statement.specs.Faults.{code_of, kind_number};
 ghost use Rattle.dex_rows.specs.Records.{rows_of};
+ghost use Rattle.dex_script.specs.Facts.{HasNoSwap};
 ghost use Rattle.dex_script.specs.Scripts.{begins_with_dump, draft_after};
 ghost use Rattle.dex_script.specs.Telling.{TellsDraft, TellsScript, TellsStart, TellsText};
 
 use crate::draft::Draft;
 use crate::fault::ScriptError;
-use crate::laws::{a_script_starts_sound, rows_of_a_script_are_in_order};
+use crate::laws::{
+    a_script_for_batches_has_no_swap, a_script_starts_sound, rows_of_a_script_are_in_order,
+};
 use crate::reader::Reader;
 use crate::script::Script;
 use csv::ByteRecord;
@@ -23,48 +26,51 @@ use dex_types::NoMemory;
 use std::alloc::Global;
 
 /// The script that a text is: the accounts that its first rows make, or that the dump at its start holds, and its
-/// instruction rows. Else the first faulty row with the lowest of its faults, or the fault or the findings of the dump.
-pub fn read_script(alloc: Global, bytes: &[u8]) -> Result<Script, ScriptError>
-    ensures { TellsScript result bytes.now }
+/// instruction rows. Else the first faulty row with the lowest of its faults, or the fault or the findings of the dump. In a
+/// script that is to act in batches a swap is a fault, so each of its rows acts by itself.
+pub fn read_script(alloc: Global, bytes: &[u8], batch: bool) -> Result<Script, ScriptError>
+    ensures told { TellsScript result batch bytes.now }
+    ensures apart { IfOk result (λ script. batch ≡ true → HasNoSwap script.rows) }
 {
-    match read_text(alloc, bytes) {
+    match read_text(alloc, bytes, batch) {
         Ok(reader) => {
             a_script_starts_sound();
             rows_of_a_script_are_in_order();
+            a_script_for_batches_has_no_swap();
             Ok(reader.into_script())
         }
         Err(error) => Err(error),
     }
 }
 
-fn read_text(alloc: Global, bytes: &[u8]) -> Result<Reader, ScriptError>
-    ensures { TellsText result bytes.now }
+fn read_text(alloc: Global, bytes: &[u8], batch: bool) -> Result<Reader, ScriptError>
+    ensures { TellsText result batch bytes.now }
 {
     if begins_with_dump(alloc, bytes)? {
-        read_behind_dump(alloc, bytes)
+        read_behind_dump(alloc, bytes, batch)
     } else {
-        read_from_nothing(alloc, bytes)
+        read_from_nothing(alloc, bytes, batch)
     }
 }
 
 /// What a text that begins with no dump says.
-fn read_from_nothing(alloc: Global, bytes: &[u8]) -> Result<Reader, ScriptError>
+fn read_from_nothing(alloc: Global, bytes: &[u8], batch: bool) -> Result<Reader, ScriptError>
     requires { begins_with_dump (rows_of bytes.now) ≡ false }
-    ensures { TellsText result bytes.now }
+    ensures { TellsText result batch bytes.now }
 {
     let mut rows = Rows::new(alloc, bytes);
-    read_rows(alloc, Reader::new(alloc), 1, &mut rows)
+    read_rows(alloc, Reader::new(alloc, batch), 1, &mut rows)
 }
 
 /// What a text that begins with a dump says.
-fn read_behind_dump(alloc: Global, bytes: &[u8]) -> Result<Reader, ScriptError>
+fn read_behind_dump(alloc: Global, bytes: &[u8], batch: bool) -> Result<Reader, ScriptError>
     requires { begins_with_dump (rows_of bytes.now) ≡ true }
-    ensures { TellsText result bytes.now }
+    ensures { TellsText result batch bytes.now }
 {
     let mut rows = Rows::new(alloc, bytes);
     let dump = read_dump(alloc, &mut rows)?;
     let number = next_number(dump.count);
-    let before = Draft::behind_dump(alloc, dump.accounts)?;
+    let before = Draft::behind_dump(alloc, dump.accounts, batch)?;
     read_rows(alloc, Reader::of(before), number, &mut rows)
 }
 

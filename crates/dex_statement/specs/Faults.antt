@@ -1,7 +1,7 @@
 -- The faults of rows, by number.
 use Rattle.std.specs.Prelude.{ℕ, Bool, if◌then◌else◌, Option, Some, None, Result, Ok, Err}
 use Rattle.dex_statement.specs.declared.faults.FaultKind.{FaultKind}
-use Rattle.dex_statement.specs.declared.faults.FaultKind.TheVariants.{BadCsv, UnknownRow, FieldCount, BadNumber, BadLabel, UnknownLabel, Duplicate, OverLimit, SetupRefused}
+use Rattle.dex_statement.specs.declared.faults.FaultKind.TheVariants.{BadCsv, UnknownRow, FieldCount, BadNumber, BadLabel, UnknownLabel, Duplicate, OverLimit, SetupRefused, BadSwap, NoBatch}
 use Rattle.dex_statement.specs.declared.faults.SetupCode.{SetupCode}
 use Rattle.dex_statement.specs.declared.faults.SetupCode.TheVariants.{Late, Decimals, Supply, OneMint, Data, Capacity, Program}
 
@@ -26,6 +26,8 @@ kind_number UnknownLabel = 6
 kind_number Duplicate = 7
 kind_number OverLimit = 8
 kind_number (SetupRefused code) = 9
+kind_number BadSwap = 10
+kind_number NoBatch = 11
 
 -- the setup code behind a kind, 0 where it has none
 abbrev pub code_of : FaultKind → ℕ

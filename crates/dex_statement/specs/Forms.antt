@@ -1,7 +1,7 @@
 -- The forms of rows, by their first field.
 use Rattle.std.specs.Prelude.{ℕ, if◌then◌else◌, List, bytes_eq, codes, Option, Some, None}
 use Rattle.dex_statement.specs.declared.forms.Form.{Form}
-use Rattle.dex_statement.specs.declared.forms.Form.TheVariants.{Program, Clock, Mint, Srm, Msrm, Wallet, Market, Orders, Bytes, Words}
+use Rattle.dex_statement.specs.declared.forms.Form.TheVariants.{Program, Clock, Mint, Srm, Msrm, Wallet, Market, Orders, Bytes, Words, Swap}
 
 -- setup rows
 abbrev pub setup_form_of : List ℕ → Option Form
@@ -14,11 +14,12 @@ setup_form_of word =
     else (if bytes_eq word (codes "orders") then Some Orders
     else None)))))
 
--- all rows: `ix` has an instruction's bytes, and `do` its words
+-- all rows: `ix` has an instruction's bytes, `do` its words, and `swap` has two legs
 abbrev pub form_of : List ℕ → Option Form
 form_of word =
     if bytes_eq word (codes "program") then Some Program
     else (if bytes_eq word (codes "clock") then Some Clock
     else (if bytes_eq word (codes "ix") then Some Bytes
     else (if bytes_eq word (codes "do") then Some Words
-    else setup_form_of word)))
+    else (if bytes_eq word (codes "swap") then Some Swap
+    else setup_form_of word))))

@@ -6,4 +6,5 @@ pub mod Stated
 pub mod OrderWords
 pub mod Parties
 pub mod Setup
+pub mod Swaps
 pub mod Statements

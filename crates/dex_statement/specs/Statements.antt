@@ -8,13 +8,14 @@ use Rattle.dex_statement.specs.declared.faults.FaultKind.TheVariants.{BadCsv, Un
 use Rattle.dex_statement.specs.declared.forms.Form.{Form}
 use Rattle.dex_statement.specs.declared.forms.Form.TheVariants as form
 use Rattle.dex_statement.specs.declared.statement.Statement.{Statement}
-use Rattle.dex_statement.specs.declared.statement.Statement.TheVariants.{Srm, Msrm, Market, Instruction}
+use Rattle.dex_statement.specs.declared.statement.Statement.TheVariants.{Srm, Msrm, Market, Instruction, Swap}
 use Rattle.dex_statement.specs.Faults.{◌>>=◌, found_or, unless}
 use Rattle.dex_statement.specs.Forms.{form_of}
 use Rattle.dex_statement.specs.OrderWords.{data_of}
 use Rattle.dex_statement.specs.Parties.{parties_of}
 use Rattle.dex_statement.specs.Setup.{program_of, clock_of, mint_of, discount_of, wallet_of, market_of, orders_of}
 use Rattle.dex_statement.specs.Stated.{PlainInstruction}
+use Rattle.dex_statement.specs.Swaps.{swap_row}
 use Rattle.dex_statement.specs.Words.{Fields, field_at, words_of}
 
 -- `ix,LANE,MARKET,SIGNER,NAMED,COIN,PC,DISCOUNT,REFERRER,DATA`, with the instruction's bytes in base64
@@ -45,6 +46,7 @@ stated form.Orders row = orders_of row
 stated form.Market row = market_of row >>= λ words. Ok (Market words)
 stated form.Bytes row = bytes_row row >>= λ words. Ok (Instruction words)
 stated form.Words row = words_row row >>= λ words. Ok (Instruction words)
+stated form.Swap row = swap_row row >>= λ words. Ok (Swap words)
 
 -- what a row states, or the lowest fault that it has by itself
 unfoldable pub statement_of : Fields → Result Statement FaultKind

@@ -64,6 +64,12 @@ pub enum FaultKind {
     /// The row can not be taken where it stands, or makes no account.
     #[error("{0}")]
     SetupRefused(SetupCode),
+    /// The two markets of a swap are one, a wallet stands twice in it, or a leg's data is another instruction than a take.
+    #[error("a swap has one market, a wallet twice, or a leg that is no take")]
+    BadSwap,
+    /// A swap in a script that is to act in batches.
+    #[error("a swap does not act in a batch")]
+    NoBatch,
 }
 
 impl SetupCode {
@@ -84,7 +90,7 @@ impl SetupCode {
 }
 
 impl FaultKind {
-    /// The kind's number, from 1 to 9.
+    /// The kind's number, from 1 to 11.
     pub fn number(self) -> u8
         ensures { result ≡ faults.kind_number self }
     {
@@ -98,6 +104,8 @@ impl FaultKind {
             FaultKind::Duplicate => 7,
             FaultKind::OverLimit => 8,
             FaultKind::SetupRefused(_) => 9,
+            FaultKind::BadSwap => 10,
+            FaultKind::NoBatch => 11,
         }
     }
 
@@ -114,7 +122,9 @@ impl FaultKind {
             | FaultKind::BadLabel
             | FaultKind::UnknownLabel
             | FaultKind::Duplicate
-            | FaultKind::OverLimit => 0,
+            | FaultKind::OverLimit
+            | FaultKind::BadSwap
+            | FaultKind::NoBatch => 0,
         }
     }
 }

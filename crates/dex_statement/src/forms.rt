@@ -16,6 +16,7 @@ pub enum Form {
     Orders,
     Bytes,
     Words,
+    Swap,
 }
 
 /// The form of row that begins with this field, if there is one.
@@ -30,6 +31,8 @@ pub(crate) fn form_of(word: &[u8]) -> Option<Form>
         Some(Form::Bytes)
     } else if word == b"do".as_slice() {
         Some(Form::Words)
+    } else if word == b"swap".as_slice() {
+        Some(Form::Swap)
     } else {
         setup_form_of(word)
     }

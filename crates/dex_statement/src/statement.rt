@@ -10,6 +10,7 @@ use crate::instruction::{InstructionWords, bytes_row, words_row};
 use crate::setup::{
     MarketWords, clock_of, discount_of, market_of, mint_of, orders_of, program_of, wallet_of,
 };
+use crate::swap::{SwapWords, swap_row};
 use crate::words::field_at;
 use csv::ByteRecord;
 use dex_rows::printable::row_is_printable;
@@ -48,6 +49,8 @@ pub enum Statement {
     },
     /// An instruction.
     Instruction(InstructionWords),
+    /// A swap.
+    Swap(SwapWords),
 }
 
 /// What a row states by itself, or the lowest fault that it has by itself: an unprintable byte, an unknown word, another
@@ -92,5 +95,6 @@ fn stated_by_form(alloc: Global, form: Form, row: &ByteRecord) -> Result<Stateme
         Form::Market => Ok(Statement::Market(market_of(alloc, row)?)),
         Form::Bytes => bytes_row(alloc, row),
         Form::Words => words_row(alloc, row),
+        Form::Swap => swap_row(alloc, row),
     }
 }

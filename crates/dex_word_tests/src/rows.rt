@@ -31,6 +31,10 @@ const ROWS: &str = "1:mint,coin,6\x7f;1:mint,co\x1fin,6;1:\u{feff}mint,co\u{e9}n
 ;5:mint,abcdefghijklmnopqrstuvwxy,6;5:do,0,m,ann,amy,--,-,-,-,settle
 ;0:mint,abcdefghijklmnopqrstuvwx,255;0:wallet,a,coin,ann,18446744073709551615;0:clock,9223372036854775807\r
 ;0:ix,0,m,ann,amy,-,-,-,-,AQAAAAA=;0:ix,0,m,ann,amy,-,-,-,-,
+;1:swap,0,ann,m,-,-,A\x1f,n,-,-;2:swop,0,ann,m,-,-,,n,-,-,;3:swap,x,ann,m,-,-,,n,-,-;3:swap,0,ann,m,-,-,,n,-,-,,
+;4:swap,x,Ann,m,-,-,,n,-,-,;4:swap,0,Ann,m,-,-,AA,n,-,-,;4:swap,0,ann,M,-,-,,n,-,-,AB==;4:swap,4294967296,ann,m,-,-,,n,-,-,
+;5:swap,0,-,m,-,-,,n,-,-,;5:swap,0,ann,-,-,-,,n,-,-,;5:swap,0,ann,m,,-,,n,-,-,;5:swap,0,ann,m,-,a b,,n,-,-,;5:swap,0,ann,m,-,-,,,-,-,
+;5:swap,0,ann,m,-,-,,n,-,Bob,;0:swap,4294967295,ann,m,-,-,,m,-,-,;0:swap,0,ann,m,a,a,AQAAAAA=,n,a,a,AAEAAAA=
 ;0:\u{feff}\"do\",0,m,ann,amy ben,c,-,-,-,cancels 1 2 3 4 5 6 7 8;0:\n\nprogram,openbook";
 
 #[test]

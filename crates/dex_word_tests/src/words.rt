@@ -23,7 +23,9 @@ make 0 1
 make 18446744073709551615 20000
 bulk 7 300
 migrate 1 1
-migrate 65536 65535";
+migrate 65536 65535
+batch 1
+batch 16";
 
 #[test]
 fn each_command_is_read(rt: HostRuntime) -> Result<(), Fail> {
@@ -39,7 +41,8 @@ const NEAR_MISSES: &str =
 -\n--\n-h\n--help\n-- replay\nreplay --\nreplay -x\nreplay --help\nrun -x
 make\nmake 1\nmake -1 5\nmake 1 -5\nmake +1 5\nmake 01 5\nmake 1 05\nmake 1 0\nmake 1 20001\nmake 1 4294967297
 make 18446744073709551616 5\nmake 1 5 6\nmake 1 5 6 7\nmake one 5\nmake 1  5
-bulk 1 20001\nbulk 0x1 5\nmigrate 0 1\nmigrate 65537 1\nmigrate 1 65536";
+bulk 1 20001\nbulk 0x1 5\nmigrate 0 1\nmigrate 65537 1\nmigrate 1 65536
+batch\nbatch 0\nbatch 17\nbatch 04\nbatch -1\nbatch 2 2\nbatch four";
 
 #[test]
 fn other_words_are_no_command(rt: HostRuntime) -> Result<(), Fail> {

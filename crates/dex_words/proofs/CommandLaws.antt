@@ -1,15 +1,15 @@
 -- A command has one spelling.
-use Rattle.std.proofs.Common.{◌≡◌, ◌<◌, ◌≤◌, ◌^◌, ◌∙◌, ◌∷◌, ◌↔◌, [], ◌&&◌, ℕ, Bool, true, false, List, codes, bytes_eq, nat_le, nat_lt, if◌then◌else◌, Option, Some, None, option_and_then, refl, sym, ap, ap₂, subst, arith}
+use Rattle.std.proofs.Common.{◌≡◌, ◌<◌, ◌≤◌, ◌^◌, ◌∙◌, ◌∷◌, ◌↔◌, [], ◌&&◌, ℕ, Bool, true, false, List, codes, bytes_eq, nat_le, nat_lt, if◌then◌else◌, Option, Some, None, option_and_then, option_map, refl, sym, ap, ap₂, subst, arith}
 use Rattle.std.specs.Fmt.{decimal}
 use Rattle.std.specs.Str.Parse.{digits_value}
 use Rattle.std.proofs.lemmas.Slice.Eq.{bytes_eq-Decides}
 use Rattle.std.proofs.lemmas.Bool.Decides.{nat_tests}
 use Rattle.dex_rows.specs.Numbers.{is_numeral, number_of}
 use Rattle.dex_rows.proofs.NumberLaws.{number_of-decimal, number_of-only}
-use Rattle.dex_words.specs.Commands.{command_of, count_of, counted_command, plain_command, with_numbers, within}
+use Rattle.dex_words.specs.Commands.{command_of, count_of, counted_command, plain_command, single_command, with_numbers, within}
 use Rattle.dex_words.specs.Spelling.{IsWithin, spelling}
 use Rattle.dex_words.specs.declared.command.Command.{Command}
-use Rattle.dex_words.specs.declared.command.Command.TheVariants.{Replay, Run, Dump, Audit, Worth, Make, Bulk, Migrate}
+use Rattle.dex_words.specs.declared.command.Command.TheVariants.{Replay, Run, Dump, Audit, Worth, Make, Bulk, Migrate, Batch}
 
 -- a word is a name where the test says so
 named : (word name : List ℕ) → bytes_eq word name ≡ true → word ≡ name
@@ -130,11 +130,25 @@ counted-only name first second c e =
         (nodes.least, nodes.few, events.least, events.few)
     go false false false is-p is-q is-r e = cc e
 
+two : (a b a' b' : List ℕ) → a ≡ a' → b ≡ b' → (a ∷ b ∷ []) ≡ (a' ∷ b' ∷ [])
+two a b a' b' x y = rw (x, y) refl
+
+single-only : (name first : List ℕ) (c : Command) → single_command name first ≡ Some c → IsSpelled (name ∷ first ∷ []) c
+single-only name first c e = go (bytes_eq name (codes "batch")) (count_of 16 first) refl refl e
+  where
+    go : (p : Bool) (o : Option ℕ) → bytes_eq name (codes "batch") ≡ p → count_of 16 first ≡ o → (if p then option_map Batch o else None) ≡ Some c
+        → IsSpelled (name ∷ first ∷ []) c
+    go true None is-p is-o e = cc e
+    go true (Some n) is-p is-o e =
+        let workers = count-only 16 first n (omega arith) is-o in
+        spelled-as _ c (Batch n) (cc (sym e)) (two _ _ _ _ (named name (codes "batch") is-p) workers.written) (workers.least, workers.few)
+    go false o is-p is-o e = cc e
+
 read-spelled : (words : List (List ℕ)) (c : Command) → command_of words ≡ Some c → IsSpelled words c
 unfolding command_of
 read-spelled [] c e = cc e
 read-spelled (a ∷ []) c e = plain-only a c e
-read-spelled (a ∷ b ∷ []) c e = cc e
+read-spelled (a ∷ b ∷ []) c e = single-only a b c e
 read-spelled (a ∷ b ∷ d ∷ []) c e = counted-only a b d c e
 read-spelled (a ∷ b ∷ d ∷ x ∷ rest) c e = cc e
 
@@ -152,6 +166,7 @@ spelled-read (Bulk number rows) (fits, least, few) =
     ap₂ (with_numbers Bulk) (number_of-decimal (2 ^ 64) number fits (omega arith)) (count-decimal 20000 rows (omega arith) least few)
 spelled-read (Migrate nodes events) (least, few, some, short) =
     ap₂ (with_numbers Migrate) (count-decimal 65536 nodes (omega arith) least few) (count-decimal 65535 events (omega arith) some short)
+spelled-read (Batch workers) (least, few) = ap (option_map Batch) (count-decimal 16 workers (omega arith) least few)
 
 pub one-spelling : (words : List (List ℕ)) (c : Command) → (command_of words ≡ Some c) ↔ ((words ≡ spelling c) × IsWithin c)
 one-spelling words c = (

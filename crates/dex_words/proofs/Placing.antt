@@ -1,15 +1,15 @@
 -- Which words are no command, and the command of words at their places.
-use Rattle.std.proofs.Common.{◌≡◌, ◌⊎◌, ◌<◌, ◌^◌, ◌||◌, ℕ, Bool, true, false, if◌then◌else◌, List, [], ◌∷◌, length, map, bytes_eq, slice_get, codes, Option, Some, None, option_and_then, refl, sym, ap, inl, inr, subst, arith, ◌∙◌}
+use Rattle.std.proofs.Common.{◌≡◌, ◌⊎◌, ◌<◌, ◌^◌, ◌||◌, ℕ, Bool, true, false, if◌then◌else◌, List, [], ◌∷◌, length, map, bytes_eq, slice_get, codes, Option, Some, None, option_and_then, option_map, refl, sym, ap, inl, inr, subst, arith, ◌∙◌}
 use Rattle.std.specs.List.{list_any}
 use Rattle.std.proofs.lemmas.Bool.Decides.{nat_tests}
 use Rattle.clap.specs.Words.{first_value}
 use Rattle.clap.specs.declared.parser.matches.Found.{Found}
 use Rattle.dex_rows.specs.Numbers.{is_numeral, number_of}
 use Rattle.dex_rows.proofs.NumberLemmas.{number_of-none}
-use Rattle.dex_words.specs.Commands.{begins_with_hyphen, command_of, count_of, counted_command, plain_command, with_numbers, within}
+use Rattle.dex_words.specs.Commands.{begins_with_hyphen, command_of, count_of, counted_command, plain_command, single_command, with_numbers, within}
 use Rattle.dex_words.specs.Positionals.{ArePlaced, IsOutOfPlaces, given_command}
 use Rattle.dex_words.specs.declared.command.Command.{Command}
-use Rattle.dex_words.specs.declared.command.Command.TheVariants.{Make, Bulk, Migrate}
+use Rattle.dex_words.specs.declared.command.Command.TheVariants.{Make, Bulk, Migrate, Batch}
 use Rattle.dex_words.proofs.Line.{list_any-map}
 
 -- the command of words at their places
@@ -35,7 +35,8 @@ unfolding command_of
 out_is_none [] out = refl
 out_is_none (a ∷ []) (inl e) = cc e
 out_is_none (a ∷ []) (inr more) = absurd (omega (arith, more))
-out_is_none (a ∷ b ∷ []) out = refl
+out_is_none (a ∷ b ∷ []) (inl e) = cc e
+out_is_none (a ∷ b ∷ []) (inr more) = absurd (omega (arith, more))
 out_is_none (a ∷ b ∷ c ∷ []) (inl e) = cc e
 out_is_none (a ∷ b ∷ c ∷ []) (inr more) = absurd (omega (arith, more))
 out_is_none (a ∷ b ∷ c ∷ d ∷ rest) out = refl
@@ -100,11 +101,26 @@ no-counted a b c e =
       ]
     ]
 
+single-none : (p : Bool) (o : Option ℕ) → o ≡ None → (if p then option_map Batch o else None) ≡ None
+single-none true o none = ap (option_map Batch) none
+single-none false o none = refl
+
+no-single : (a b : List ℕ) → list_any begins_with_hyphen (a ∷ b ∷ []) ≡ true → single_command a b ≡ None
+no-single a b e =
+    elim (or-cases _ _ e) [
+      | inl first ↦ subst (λ (w : List ℕ). single_command w b ≡ None) (sym (front a first).1) refl
+      | inr rest ↦ elim (or-cases _ _ rest) [
+        | inl second ↦ subst (λ (w : List ℕ). single_command a w ≡ None) (sym (front b second).1)
+            (single-none (bytes_eq a (codes "batch")) (count_of 16 (45 ∷ (front b second).0)) (not-count 16 (front b second).0))
+        | inr none ↦ cc none
+      ]
+    ]
+
 no-hyphens : (words : List (List ℕ)) → list_any begins_with_hyphen words ≡ true → command_of words ≡ None
 unfolding command_of
 no-hyphens [] e = refl
 no-hyphens (a ∷ []) e = elim (or-cases _ _ e) [ inl first ↦ no-plain a first | inr none ↦ cc none ]
-no-hyphens (a ∷ b ∷ []) e = refl
+no-hyphens (a ∷ b ∷ []) e = no-single a b e
 no-hyphens (a ∷ b ∷ c ∷ []) e = no-counted a b c e
 no-hyphens (a ∷ b ∷ c ∷ d ∷ rest) e = refl
 

@@ -1,8 +1,8 @@
 -- The lists of words that are commands.
-use Rattle.std.specs.Prelude.{ℕ, ◌^◌, ◌==◌, Bool, false, ◌&&◌, nat_le, if◌then◌else◌, List, [], ◌∷◌, bytes_eq, codes, Option, Some, None, option_and_then}
+use Rattle.std.specs.Prelude.{ℕ, ◌^◌, ◌==◌, Bool, false, ◌&&◌, nat_le, if◌then◌else◌, List, [], ◌∷◌, bytes_eq, codes, Option, Some, None, option_and_then, option_map}
 use Rattle.dex_rows.specs.Numbers.{number_of}
 use Rattle.dex_words.specs.declared.command.Command.{Command}
-use Rattle.dex_words.specs.declared.command.Command.TheVariants.{Replay, Run, Dump, Audit, Worth, Make, Bulk, Migrate}
+use Rattle.dex_words.specs.declared.command.Command.TheVariants.{Replay, Run, Dump, Audit, Worth, Make, Bulk, Migrate, Batch}
 
 -- a number that is 1 at least and at most the greatest
 abbrev pub within : ℕ → ℕ → Option ℕ
@@ -26,6 +26,10 @@ plain_command name =
     else (if bytes_eq name (codes "audit") then Some Audit
     else (if bytes_eq name (codes "worth") then Some Worth else None))))
 
+-- the command that is a name and one number
+abbrev pub single_command : List ℕ → List ℕ → Option Command
+single_command name first = if bytes_eq name (codes "batch") then option_map Batch (count_of 16 first) else None
+
 -- the command that is a name and two numbers
 abbrev pub counted_command : List ℕ → List ℕ → List ℕ → Option Command
 counted_command name first second =
@@ -37,6 +41,7 @@ counted_command name first second =
 -- the command that the words after the program's name are
 unfoldable pub command_of : List (List ℕ) → Option Command
 command_of (name ∷ []) = plain_command name
+command_of (name ∷ first ∷ []) = single_command name first
 command_of (name ∷ first ∷ second ∷ []) = counted_command name first second
 command_of _ = None
 

@@ -6,7 +6,7 @@ use Rattle.clap.specs.Words.{first_value}
 use Rattle.clap.specs.declared.error.kind.ErrorKind.{ErrorKind}
 use Rattle.clap.specs.declared.error.kind.ErrorKind.TheVariants as kind
 use Rattle.clap.specs.declared.parser.matches.Found.{Found}
-use Rattle.dex_words.specs.Commands.{counted_command, plain_command}
+use Rattle.dex_words.specs.Commands.{counted_command, plain_command, single_command}
 use Rattle.dex_words.specs.declared.command.Command.{Command}
 use Rattle.dex_words.specs.declared.command.WordsError.{WordsError}
 use Rattle.dex_words.specs.declared.command.WordsError.TheVariants.{Usage, NoMemory}
@@ -45,5 +45,6 @@ error_of _ = Usage
 -- the command of a name and the two words behind it, where they are there
 abbrev pub given_command : Option (List ℕ) → Option (List ℕ) → Option (List ℕ) → Option Command
 given_command (Some name) None None = plain_command name
+given_command (Some name) (Some first) None = single_command name first
 given_command (Some name) (Some first) (Some second) = counted_command name first second
 given_command _ _ _ = None

@@ -29,6 +29,8 @@ pub enum Command {
     /// Reads a dump, and writes one whose sides have this many nodes, from 1 to 65,536, and whose event queues hold
     /// this many events, from 1 to 65,535.
     Migrate { nodes: u32, events: u32 },
+    /// Reads a script, lets its rows act in their order on this many threads, from 1 to 16, and writes the report.
+    Batch { workers: u32 },
 }
 
 /// Why words gave no command.

@@ -4,6 +4,7 @@ ghost use Rattle.std.specs.Prelude.{◌≡◌, ◌^◌, IfOk, IsErrOf, None, Som
 ghost use Rattle.std.specs.List.{list_any};
 ghost use Rattle.std.specs.String.{string_bytes};
 ghost use Rattle.dex_words.specs.Commands.{begins_with_hyphen, command_of, count_of, counted_command, plain_command};
+ghost use Rattle.dex_words.specs.Commands.{single_command};
 ghost use Rattle.dex_words.specs.Positionals.{given_command};
 
 use crate::positionals::{FIRST, NAME, SECOND, placed};
@@ -17,6 +18,8 @@ const MOST_ROWS: u32 = 20_000;
 const MOST_NODES: u32 = 65_536;
 /// The most events of an event queue.
 const MOST_EVENTS: u32 = 65_535;
+/// The most threads of a batch.
+const MOST_WORKERS: u32 = 16;
 
 /// The command that the words after the program's name are. `Usage` exactly where they are none.
 #[tactic(auto, using(crate::proofs::Placing::hyphen_is_none, crate::proofs::Placing::out_is_none, crate::proofs::Placing::placed_command))]
@@ -59,6 +62,7 @@ fn given_command(name: Option<&str>, first: Option<&str>, second: Option<&str>) 
 {
     match (name, first, second) {
         (Some(name), None, None) => plain_command(name),
+        (Some(name), Some(first), None) => single_command(name, first),
         (Some(name), Some(first), Some(second)) => counted_command(name, first, second),
         _ => None,
     }
@@ -74,6 +78,18 @@ fn plain_command(name: &str) -> Option<Command>
         "dump" => Some(Command::Dump),
         "audit" => Some(Command::Audit),
         "worth" => Some(Command::Worth),
+        _ => None,
+    }
+}
+
+// The command that is a name and one number.
+fn single_command(name: &str, first: &str) -> Option<Command>
+    ensures { result ≡ single_command name.now first.now }
+{
+    match name {
+        "batch" => Some(Command::Batch {
+            workers: count_word(first, MOST_WORKERS)?,
+        }),
         _ => None,
     }
 }

@@ -1,14 +1,17 @@
 use Rattle.std.proofs.Common.{◌≡◌, subst}
+use Rattle.dex_report.specs.Outcomes.{PlainOutcome, outcome_of}
 use Rattle.dex_script.specs.Drafts.{PlainScript}
-use Rattle.dex_script.specs.Facts.{HasNoSwap}
+use Rattle.dex_script.specs.Facts.{IsScript}
 use Rattle.dex_answers.specs.Answers.{rows_told}
+use Rattle.dex_answers.proofs.PairLaws.{played}
 use Rattle.dex_answers.proofs.played.play_script.Goals as goal
 
 pub returns-in_ok-outcome-in-Ok : goal.returns-in_ok-outcome-in-Ok
 returns-in_ok-outcome-in-Ok c =
+    let script : PlainScript = c.in-Ok.script in
+    let outcome : PlainOutcome = outcome_of c.in_ok-outcome-in-Ok.outcome in
     let left = c.in_ok-outcome-in-Ok.ensures in
-    let single = subst (λ (script : PlainScript). HasNoSwap script.rows) c.script.view_is c.script.invariant.rows.single in
-    let rows = c.without_swaps_rows_act_one_by_one.ensures.replay c.in-Ok.script _ single left.outcome in
+    let is : IsScript script = subst IsScript c.script.view_is c.script.invariant in
     let counted = rw c.deref.ensures.value at c.items_in-rows.ensures in
-    let told = subst (λ (script : PlainScript). c.items_in-rows.result ≡ rows_told script) c.script.view_is counted in
-    (c.in-Ok.script, c.in-Ok.ensures, record { replay = left.outcome; run = left.run; rows = rows }, told)
+    let told = subst (λ (one : PlainScript). c.items_in-rows.result ≡ rows_told one) c.script.view_is counted in
+    (script, c.in-Ok.ensures.told, played script outcome is left.outcome left.run (c.without_swaps_rows_act_one_by_one.ensures.replay script outcome), told)

@@ -1,4 +1,4 @@
-use Rattle.std.proofs.Common.{◌≡◌, ℕ, ap, subst}
+use Rattle.std.proofs.Common.{ℕ, ap, subst}
 use Rattle.dex_words.specs.declared.command.Command.TheVariants.{Replay}
 use Rattle.dex_report.specs.Outcomes.{outcome_of}
 use Rattle.dex_report.specs.Report.{report_text}

@@ -19,7 +19,10 @@ returns-in-Err-NoMemory g c =
     ends status.NoMemory _ _ _ _ _ refl (rw c.line-in-Err-NoMemory.ensures at c.written-in-Err-NoMemory.ensures)
 
 pub returns-else-is_plain : goal.returns-else-is_plain
-returns-else-is_plain g c =
-    let is = c.in-Ok.ensures.command in
-    let run = c.if-is_plain.ensures.other refl in
-    rw (is, run) c.run_lanes.ensures
+returns-else-is_plain g c = rw c.in-Ok.ensures.command c.on_threads.ensures
+
+pub on_threads-requires-clause-within : goal.on_threads-requires-clause-within
+on_threads-requires-clause-within g c = ((one-spelling _ _).0 c.in-Ok.ensures.command).1
+
+pub on_threads-requires-clause-threads : goal.on_threads-requires-clause-threads
+on_threads-requires-clause-threads g c = c.if-is_plain.ensures.other refl

@@ -1,6 +1,9 @@
 use Rattle.dex_plain.proofs.Endings.{all-complete}
-use Rattle.dex_program.proofs.Endings.{legal, ordered}
+use Rattle.dex_program.proofs.Endings.{legal, listed, ordered}
 use Rattle.dex_program.proofs.program.dex_main.Goals as goal
+
+pub returns-clause-listed_order : goal.returns-clause-listed_order
+returns-clause-listed_order g c = listed _ _ _ _ c.by_words.ensures
 
 pub returns-clause-one_legal_history : goal.returns-clause-one_legal_history
 returns-clause-one_legal_history g c = legal _ _ _ _ c.by_words.ensures

@@ -1,29 +1,42 @@
-use Rattle.std.proofs.Common.{◌≡◌, ℕ, ap, subst}
-use Rattle.dex_report.specs.Outcomes.{outcome_of}
+use Rattle.std.proofs.Common.{◌≡◌, ℕ, false, ap, subst}
+use Rattle.std.proofs.lemmas.Result.{IfOk-weaker}
+use Rattle.dex_report.specs.Outcomes.{PlainOutcome, outcome_of}
 use Rattle.dex_report.specs.Report.{report_text}
 use Rattle.dex_report.specs.Telling.{FitOutcome}
 use Rattle.dex_replay.proofs.InFront.{run-told}
 use Rattle.dex_script.specs.Drafts.{PlainScript}
-use Rattle.dex_script.specs.Facts.{HasNoSwap}
+use Rattle.dex_script.specs.Facts.{IsScript}
 use Rattle.dex_answers.specs.Answers.{rows_told}
 use Rattle.dex_answers.specs.declared.status.Status.TheVariants as status
+use Rattle.dex_answers.proofs.PairLaws.{are-paired}
 use Rattle.dex_answers.proofs.TextLaws.{says-more}
+use Rattle.dex_plain.proofs.LaneAnswerLaws.{no-run}
 use Rattle.dex_plain.specs.LaneAnswers.{AnswersRun}
 use Rattle.dex_program.proofs.run.run_answer.Goals as goal
 
 pub returns-in_ok-outcome-in-Ok : goal.returns-in_ok-outcome-in-Ok
 returns-in_ok-outcome-in-Ok g c =
-    let outcome = outcome_of c.in_ok-outcome-in-Ok.outcome in
+    let script : PlainScript = c.in-Ok.script in
+    let outcome : PlainOutcome = outcome_of c.in_ok-outcome-in-Ok.outcome in
     let left = c.in_ok-outcome-in-Ok.ensures in
-    let single = subst (λ (script : PlainScript). HasNoSwap script.rows) c.script.view_is c.script.invariant.rows.single in
-    let rows = c.without_swaps_rows_act_one_by_one.ensures.order c.in-Ok.script outcome single left.one_order in
+    let is : IsScript script = subst IsScript c.script.view_is c.script.invariant in
     let counted = rw c.deref.ensures.value at c.items_in-rows.ensures in
-    let told = subst (λ (script : PlainScript). c.items_in-rows.result ≡ rows_told script) c.script.view_is counted in
+    let told = subst (λ (one : PlainScript). c.items_in-rows.result ≡ rows_told one) c.script.view_is counted in
     says-more _ (AnswersRun c.args.bytes.now) status.Ok _ (FitOutcome outcome) c.report_of.ensures.text c.report_of.ensures.fits
     (λ fits. (
-      c.in-Ok.script,
+      script,
       outcome,
-      c.in-Ok.ensures,
-      record { run = left.run; order = left.one_order; rows = rows; told = run-told c.in-Ok.script outcome left.run fits },
+      c.in-Ok.ensures.told,
+      record {
+        run = left.run;
+        paired = are-paired script is outcome left.run.lawful;
+        order = left.one_order;
+        rows = λ single. c.without_swaps_rows_act_one_by_one.ensures.order script outcome single left.one_order;
+        told = run-told script outcome left.run fits;
+      },
       ap (λ (n : ℕ). report_text outcome n) told,
     ))
+
+pub returns-in-Err : goal.returns-in-Err
+returns-in-Err g c =
+    IfOk-weaker c.no_script.result _ _ (λ told why. no-run c.args.bytes.now told.status told.text.items why) (c.no_script.ensures false c.args.bytes.now c.in-Err.ensures.told)

@@ -1,9 +1,0 @@
-use Rattle.std.proofs.Common.{Some}
-use Rattle.dex_words.specs.declared.command.Command.TheVariants.{Run}
-use Rattle.dex_plain.proofs.Endings.{ends}
-use Rattle.dex_program.proofs.program.run_lanes.Goals as goal
-
-pub returns-in-Ok : goal.returns-in-Ok
-returns-in-Ok g c =
-    let report = c.in-Ok.report in
-    ends report.status (Some Run) _ _ report.text.items c.written.result c.in-Ok.ensures.built (rw c.deref.ensures.value at c.written.ensures)

@@ -1,0 +1,38 @@
+//! What `batch` answers to the bytes that it read: the report of what a script's rows leave in their order.
+
+ghost use Rattle.std.specs.Prelude.{◌≤◌, IfOk};
+ghost use Rattle.dex_plain.specs.LaneAnswers.{AnswersBatch};
+
+use dex_answers::{StatusText, items_in, no_script, report_of};
+use dex_batch::run_batch;
+use dex_io::Pace;
+use dex_replay::laws::without_swaps_rows_act_one_by_one;
+use dex_script::read_script;
+use dex_types::NoMemory;
+use std::alloc::Global;
+use std::marker::Sync;
+use std::sync::Wait;
+use std::thread::Threads;
+
+/// The report of what is left when the rows of a script have acted in their order on so many threads, or why the bytes are
+/// no script for batches: what `replay` answers, but that a swap is refused. Each row is let in by the pace.
+pub fn batch_answer<R: Threads + Wait + Sync, P: Pace + Sync>(
+    rt: &R,
+    alloc: Global,
+    bytes: &[u8],
+    workers: u32,
+    pace: &P,
+) -> Result<StatusText, NoMemory>
+    requires { (1 ≤ workers) × (workers ≤ 16) }
+    ensures { IfOk result (λ told. AnswersBatch bytes.now told.status told.text.items) }
+{
+    match read_script(alloc, bytes, true) {
+        Ok(script) => {
+            let rows = items_in(&script.rows);
+            let outcome = run_batch(rt, alloc, script, workers, pace)?;
+            without_swaps_rows_act_one_by_one();
+            report_of(alloc, &outcome, rows)
+        }
+        Err(error) => no_script(alloc, error),
+    }
+}
