@@ -1,5 +1,5 @@
 -- Cells at the beginning, and when all rows have acted.
-use Rattle.std.proofs.Common.{◌≡◌, ℕ, zero, suc, ◌+◌, ◌<◌, ◌≤◌, ◌||◌, Bool, false, List, [], ◌∷◌, ◌++◌, length, map, take, get_or, Option, Some, None, refl, sym, ap, ◌∙◌, subst, arith, ⊎_elim}
+use Rattle.std.proofs.Common.{◌≡◌, ℕ, suc, ◌<◌, ◌≤◌, ◌||◌, Bool, false, List, [], ◌∷◌, ◌++◌, length, map, take, get_or, Option, refl, sym, ap, ◌∙◌, subst, arith, ⊎_elim}
 use Rattle.std.specs.List.{All}
 use Rattle.std.proofs.lemmas.Bool.{cases_lt}
 use Rattle.std.proofs.lemmas.List.{get_or-map, get_or_append_left, get_or_default, get_or_push, length-append, length-map, take_all}
@@ -32,8 +32,8 @@ use Rattle.dex_replay.proofs.Apart.{wallets-distinct}
 use Rattle.dex_stage.proofs.Frames as frame
 use Rattle.dex_stage.proofs.Frames.{fold-msrm, fold-program, fold-srm}
 use Rattle.dex_stage.specs.Stages.{IsMarketAt, IsWalletAt, world_at}
-use Rattle.dex_batch.specs.Closing.{AreFirstMarkets, AreFirstWallets, AreOpened, HaveAllActed}
-use Rattle.dex_batch.specs.Slots.{AreHomes, HomesState, MarketFits, MarketsFit, WalletFits, WalletsFit, home_slot, wallet_addresses}
+use Rattle.dex_batch.specs.Closing.{AreOpened, HaveAllActed}
+use Rattle.dex_batch.specs.Slots.{AreHomes, MarketFits, MarketsFit, WalletFits, WalletsFit, home_slot, wallet_addresses}
 use Rattle.dex_batch.specs.declared.slots.Slot.{Slot}
 
 -- ---- lists, place by place

@@ -1,5 +1,5 @@
 -- A row is handed out with its cells.
-use Rattle.std.proofs.Common.{◌≡◌, ◌≢◌, ℕ, zero, suc, ◌+◌, ◌<◌, ◌≤◌, ◌⊎◌, Bool, true, false, List, [], ◌∷◌, ◌++◌, length, map, take, get_or, Option, Some, None, refl, sym, ap, ◌∙◌, subst, arith, ⊎_elim}
+use Rattle.std.proofs.Common.{◌≡◌, ◌≢◌, ℕ, zero, suc, ◌+◌, ◌<◌, ◌≤◌, true, false, List, [], ◌∷◌, ◌++◌, length, map, take, get_or, Option, Some, None, refl, sym, ap, ◌∙◌, subst, arith, ⊎_elim}
 use Rattle.std.specs.List.{All, list_any}
 use Rattle.std.proofs.lemmas.Bool.{cases_Bool, cases_eq, cases_lt}
 use Rattle.std.proofs.lemmas.List.{append-nil, append_assoc, get_or_default, get_or-map, length-map, map-append, take_more}
@@ -20,12 +20,11 @@ use Rattle.dex_replay.proofs.MappedLists.{list_any-map}
 use Rattle.dex_replay.proofs.Roles.{roles-all}
 use Rattle.dex_script.specs.Drafts.{PlainScript}
 use Rattle.dex_script.specs.Facts.{IsRowOf, IsScript}
-use Rattle.dex_script.specs.Known.{has_account}
 use Rattle.dex_replay.proofs.Apart.{markets-distinct, wallets-distinct}
 use Rattle.dex_stage.proofs.Frames.{market-stays, wallet-stays}
 use Rattle.dex_stage.specs.Stages.{AreReady, IsMarketAt, IsRowAt, IsWalletAt, world_at}
 use Rattle.dex_batch.specs.Packets.{AreRowsOf, IsPacket}
-use Rattle.dex_batch.specs.Slots.{AreHomes, AreInHand, AreLent, AreWalletsAt, HomesState, IsHeld, IsLent, IsMarketGone, IsOut, IsWalletGone, IsWalletLent, KeepsOut, MarketFits, WalletFits, listed, market_addresses, wallet_addresses}
+use Rattle.dex_batch.specs.Slots.{AreHomes, AreInHand, AreLent, AreWalletsAt, HomesState, IsHeld, IsLent, IsOut, IsWalletGone, IsWalletLent, KeepsOut, MarketFits, WalletFits, listed, market_addresses, wallet_addresses}
 use Rattle.dex_batch.specs.declared.slots.Slot.{Slot}
 use Rattle.dex_batch.proofs.PlacesOf.{elsewhere, market-here, markets-long, of-any, one-place, wallet-here, wallets-long}
 use Rattle.dex_batch.proofs.Returning.{keeps-same, keeps_trans}

@@ -1,5 +1,5 @@
 -- Cells go out, and come back.
-use Rattle.std.proofs.Common.{◌≡◌, ℕ, ◌+◌, ◌<◌, ◌≤◌, List, [], ◌∷◌, ◌++◌, length, map, get_or, set, Option, Some, None, refl, sym, ap, ◌∙◌, subst, arith}
+use Rattle.std.proofs.Common.{◌≡◌, ℕ, ◌+◌, ◌<◌, List, [], ◌∷◌, ◌++◌, length, get_or, set, Option, Some, None, refl, sym, ap, ◌∙◌, subst, arith}
 use Rattle.std.specs.Option.{IfNone, IfSome}
 use Rattle.std.specs.List.{All}
 use Rattle.std.proofs.lemmas.List.{get_or_append_left, get_or_default, get_or_push, length-append}
@@ -20,8 +20,7 @@ use Rattle.dex_batch.proofs.Shelves.{is-out, put-fits, set-fits, stays-lent, sta
 pub last-of : {A : Type 0} (P : A → Type 0) (all xs : List A) (x : A) → all ≡ xs ++ x ∷ [] → All P all → All P xs × P x
 last-of {A} P all xs x is each =
     let these : All P (xs ++ x ∷ []) = subst (All P) is each in
-    let long : length (xs ++ x ∷ []) ≡ length xs + 1 = length-append xs (x ∷ []) in
-    (
+    let long : length (xs ++ x ∷ []) ≡ length xs + 1 = length-append xs (x ∷ []) in (
       λ k d within. subst P (get_or_append_left xs (x ∷ []) d k within) (these k d (omega (arith, within, long))),
       subst P (get_or_push xs x x (length xs) refl) (these (length xs) x (omega (arith, long))),
     )

@@ -1,8 +1,6 @@
 -- Rows of one wave may all be out at once.
-use Rattle.std.proofs.Common.{◌≡◌, ℕ, zero, suc, ◌+◌, ◌<◌, ◌≤◌, Bool, true, false, List, [], ◌∷◌, length, map, take, drop, get_or, refl, sym, ap, ◌∙◌, subst, arith}
-use Rattle.std.specs.List.{All}
+use Rattle.std.proofs.Common.{◌≡◌, ℕ, zero, suc, ◌+◌, ◌<◌, ◌≤◌, true, List, [], ◌∷◌, length, take, drop, get_or, sym, ap, ◌∙◌, subst, arith}
 use Rattle.std.proofs.lemmas.List.{get_or_default, get_or-drop, get_or-map, get_or-take, length-drop, length-take-le}
-use Rattle.dex_types.specs.declared.addresses.Address.{Address}
 use Rattle.dex_types.specs.Accounts.{PlainAccount, PlainMarketAccounts}
 use Rattle.dex_types.specs.Addresses.{is_same}
 use Rattle.dex_types.specs.Rows.{PlainRow}
@@ -13,7 +11,6 @@ use Rattle.dex_fold.specs.Items.{EachApart, ShareNothing}
 use Rattle.dex_script.specs.Drafts.{PlainScript}
 use Rattle.dex_stage.proofs.Frames.{market-stays, wallet-stays}
 use Rattle.dex_stage.specs.Stages.{IsMarketAt, IsRowAt, IsWalletAt}
-use Rattle.dex_batch.specs.Slots.{market_addresses, wallet_addresses}
 use Rattle.dex_batch.proofs.PlacesOf.{market-here, wallet-here}
 
 apart-at : (rows : List PlainRow) → EachApart rows → (i j : ℕ) (d : PlainRow) → i < j → j < length rows → ShareNothing (get_or rows i d) (get_or rows j d)

@@ -1,5 +1,5 @@
 -- The row of a packet acts on its cells.
-use Rattle.std.proofs.Common.{◌≡◌, ℕ, ◌<◌, Bool, true, false, List, length, map, get_or, Option, sym, ap, ◌∙◌, subst, arith}
+use Rattle.std.proofs.Common.{◌≡◌, ℕ, ◌<◌, true, false, List, length, get_or, Option, sym, ap, ◌∙◌, subst, arith}
 use Rattle.std.proofs.lemmas.List.{get_or-map, length-map}
 use Rattle.dex_types.specs.declared.addresses.Address.{Address}
 use Rattle.dex_types.specs.declared.rows.Row.{Row}
@@ -12,10 +12,10 @@ use Rattle.dex_fold.specs.World.{World, seen_by}
 use Rattle.dex_script.specs.Drafts.{PlainScript}
 use Rattle.dex_script.specs.Facts.{IsScript}
 use Rattle.dex_stage.specs.Parts.{CanStep, HasStepped, world_in_hand}
-use Rattle.dex_stage.specs.Stages.{AreDone, AreReady, AreWalletsOf, IsRowAt, world_at, world_with}
+use Rattle.dex_stage.specs.Stages.{AreReady, IsRowAt, world_at, world_with}
 use Rattle.dex_stage.specs.declared.parts.Terms.{Terms}
 use Rattle.dex_stage.proofs.Actions.{ready-steps, same-sight, stepped-done}
-use Rattle.dex_batch.specs.Packets.{AreAt, AreRowsOf, AreTermsOf, IsPacket, PacketState}
+use Rattle.dex_batch.specs.Packets.{AreAt, AreRowsOf, AreTermsOf}
 
 pub rows-long : (script : PlainScript) (rows : List Row) → AreRowsOf script rows → length rows ≡ length script.rows
 rows-long script rows are = sym (length-map rows row_of) ∙ ap (λ (list : List PlainRow). length list) are

@@ -1,6 +1,5 @@
 -- A row with its cells, on the way from the leader to a helper and back.
-use Rattle.std.specs.Prelude.{◌≡◌, ℕ, Bool, true, false, List, Option, map}
-use Rattle.dex_types.specs.declared.addresses.Address.{Address}
+use Rattle.std.specs.Prelude.{◌≡◌, ℕ, Bool, true, false, List, map}
 use Rattle.dex_types.specs.Rows.{PlainRow, row_of}
 use Rattle.dex_types.specs.declared.rows.Row.{Row}
 use Rattle.dex_cell.specs.CellState.{MarketCellState}

@@ -1,6 +1,5 @@
 -- Rows that share no account.
-use Rattle.std.specs.Prelude.{◌≡◌, ℕ, ◌+◌, ◌<◌, ◌≤◌, List, [], ◌∷◌, length, take, drop}
-use Rattle.std.specs.List.{AllPairs}
+use Rattle.std.specs.Prelude.{ℕ, ◌+◌, ◌<◌, ◌≤◌, List, length, take}
 use Rattle.dex_types.specs.Rows.{PlainRow}
 use Rattle.dex_fold.specs.Items.{EachApart}
 

@@ -96,7 +96,8 @@ fn pending(accounts: &MarketAccounts) -> u32
 /// Whether a row is worth the way to another thread: a crank that may pay many events.
 pub(crate) fn is_heavy(market: &MarketCell, row: &Row) -> bool {
     match decode(&row.bytes) {
-        Ok(Ix::ConsumeEvents { limit }) => u32::from(limit) >= MANY && pending(market.accounts()) >= MANY,
+        Ok(Ix::ConsumeEvents { limit }) => u32::from(limit) >= MANY
+            && pending(market.accounts()) >= MANY,
         _ => false,
     }
 }

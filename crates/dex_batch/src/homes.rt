@@ -151,7 +151,12 @@ impl<J: Naming> Homes<J> {
         let mut parts = parts;
         self.home_wallets(desk.lists.wallet_addresses, label, &mut parts.wallets);
         let hand = Hand::of(parts);
-        self.home_market(desk.lists.market_addresses, label.market, label.number, hand);
+        self.home_market(
+            desk.lists.market_addresses,
+            label.market,
+            label.number,
+            hand,
+        );
     }
 
     /// The cells of one row come back: what a helper gave back, or else what is in hand, or what is waited for.

@@ -15,28 +15,26 @@ use Rattle.dex_types.specs.Accounts.{PlainAccount, PlainMarketAccounts}
 use Rattle.dex_types.specs.Addresses.{is_same}
 use Rattle.dex_types.specs.Market.{Market}
 use Rattle.dex_types.specs.Rows.{PlainRow, row_of}
-use Rattle.dex_types.specs.Transfers.{Transfers}
 use Rattle.dex_types.specs.Wallets.{is_lower, row_wallets, with_address, with_role}
 use Rattle.dex_laws.proofs.TraderLaws.{is_same-refl, is_same-sym, is_same-true}
 use Rattle.dex_accounts.specs.Decoded.{market_in}
-use Rattle.dex_history.specs.Journal.{Call, Sees, asked_of, row_step}
+use Rattle.dex_history.specs.Journal.{Call}
 use Rattle.dex_cell.specs.CellState as market
 use Rattle.dex_cell.specs.CellState.{HasActed, IsFor, IsMarketCell, MarketCellState, call_on, entries_of, new_cell, step_on}
 use Rattle.dex_wallet.specs.CellState as wallet
 use Rattle.dex_wallet.specs.CellState.{CellState, IsWalletCell, seen_of}
-use Rattle.dex_fold.specs.Fold.{act, acted, market_acted, markets_acted, names, wallet_acted}
+use Rattle.dex_fold.specs.Fold.{acted, market_acted, markets_acted, names, wallet_acted}
 use Rattle.dex_fold.specs.World.{MarketState, WalletState, World, market_at, role_at, seen_by, wallet_at}
-use Rattle.dex_act.specs.Wallets.{AreApart, Fits, SeesCells, is_among, made_of, roles_of, wallet_state_of}
-use Rattle.dex_act.proofs.Sights.{row-sees, sees-cells}
+use Rattle.dex_act.specs.Wallets.{AreApart, is_among, made_of, wallet_state_of}
 use Rattle.dex_bank.specs.Cells.{market_state_of}
-use Rattle.dex_bank.specs.Opened.{market_opened, rows_naming, rows_on, wallet_opened}
+use Rattle.dex_bank.specs.Opened.{rows_naming, rows_on}
 use Rattle.dex_script.specs.Drafts.{PlainScript}
 use Rattle.dex_script.specs.Facts.{IsScript}
 use Rattle.dex_replay.specs.Replays.{start_world}
 use Rattle.dex_replay.proofs.Counting.{HasFew, HasFewMoves}
 use Rattle.dex_replay.proofs.MappedLists.{map-map}
 use Rattle.dex_replay.proofs.Apart.{markets-distinct, wallets-distinct}
-use Rattle.dex_fold.proofs.OnceLaws.{AreOnce, asked-once, once-head, once-tail}
+use Rattle.dex_fold.proofs.OnceLaws.{AreOnce, once-head, once-tail}
 use Rattle.dex_stage.specs.Parts.{CanStep, HasStepped}
 use Rattle.dex_stage.specs.Stages.{AreDone, AreReady, AreWalletsOf, IsMarketAt, IsRowAt, IsWalletAt, world_at, world_with}
 use Rattle.dex_stage.proofs.Counted.{few-at, few-moves-at}

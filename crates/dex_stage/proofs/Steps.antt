@@ -6,14 +6,14 @@ use Rattle.dex_types.specs.declared.addresses.Address.{Address}
 use Rattle.dex_types.specs.declared.rows.Row.{Row}
 use Rattle.dex_types.specs.declared.rows.Seen.{Seen}
 use Rattle.dex_types.specs.Addresses.{is_same}
-use Rattle.dex_types.specs.Rows.{PlainRow, row_of}
+use Rattle.dex_types.specs.Rows.{row_of}
 use Rattle.dex_types.specs.Wallets.{row_wallets}
 use Rattle.dex_history.specs.Journal.{Sees, asked_of}
 use Rattle.dex_cell.specs.CellState.{IsFor, MarketCellState}
 use Rattle.dex_wallet.specs.CellState.{CellState, HasSpare}
 use Rattle.dex_fold.specs.Fold.{names}
-use Rattle.dex_fold.specs.World.{World, seen_by}
-use Rattle.dex_act.specs.Wallets.{Fits, SeesCells, is_among, roles_of, wallet_state_of}
+use Rattle.dex_fold.specs.World.{seen_by}
+use Rattle.dex_act.specs.Wallets.{Fits, SeesCells, roles_of}
 use Rattle.dex_act.proofs.Sights.{row-sees, sees-cells}
 use Rattle.dex_stage.specs.Parts.{CanStep, world_in_hand}
 use Rattle.dex_stage.specs.declared.parts.Terms.{Terms}

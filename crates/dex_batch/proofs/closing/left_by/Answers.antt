@@ -1,4 +1,4 @@
-use Rattle.std.proofs.Common.{◌≡◌, map, sym, ap, ◌∙◌, subst}
+use Rattle.std.proofs.Common.{map, sym, ap, ◌∙◌, subst}
 use Rattle.dex_types.specs.Accounts.{named_of}
 use Rattle.dex_bank.specs.Closed.{closed}
 use Rattle.dex_replay.specs.Replays.{IsReplayOf}

@@ -1,4 +1,4 @@
-use Rattle.std.proofs.Common.{◌≤◌, ◌+◌, length, arith}
+use Rattle.std.proofs.Common.{arith}
 use Rattle.std.proofs.lemmas.List.{length-drop}
 use Rattle.dex_batch.proofs.WaveLaws.{market-then, wallet-then}
 use Rattle.dex_batch.proofs.laws.rows_of_a_wave_may_all_be_out.Goals as goal

@@ -1,4 +1,4 @@
-use Rattle.std.proofs.Common.{◌≡◌, List, map, ap, subst, ◌∙◌}
+use Rattle.std.proofs.Common.{List, map, ap, subst, ◌∙◌}
 use Rattle.dex_types.specs.declared.account_bytes.MarketAccounts.{MarketAccounts}
 use Rattle.dex_types.specs.declared.account_bytes.Named.{Named}
 use Rattle.dex_types.specs.declared.rows.Row.{Row}

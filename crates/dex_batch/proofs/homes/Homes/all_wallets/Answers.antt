@@ -1,6 +1,5 @@
-use Rattle.std.proofs.Common.{ℕ, [], ◌∷◌, length, ap, sym, subst, ◌∙◌, arith}
+use Rattle.std.proofs.Common.{ℕ, [], ◌∷◌, length, ap, subst, ◌∙◌, arith}
 use Rattle.std.proofs.lemmas.List.{length-append}
-use Rattle.dex_wallet.specs.CellState.{CellState}
 use Rattle.dex_stage.specs.Stages.{IsWalletAt}
 use Rattle.dex_batch.proofs.Endings.{first-more}
 use Rattle.dex_batch.proofs.homes.Homes.all_wallets.Goals as goal

@@ -1,4 +1,3 @@
-use Rattle.std.proofs.Common.{◌<◌, length}
 use Rattle.dex_batch.specs.Slots.{KeepsOut}
 use Rattle.dex_batch.proofs.homes.Homes.lend_market.Given as goal
 

@@ -1,4 +1,4 @@
-use Rattle.std.proofs.Common.{◌≡◌, Bool, true, false, sym, subst}
+use Rattle.std.proofs.Common.{Bool, false, sym, subst}
 use Rattle.dex_types.specs.Rows.{row_of}
 use Rattle.dex_types.specs.declared.rows.Row.{Row}
 use Rattle.dex_fold.specs.World.{seen_by}
