@@ -13,7 +13,7 @@ from bridge.refusals import Refusal
 from bridge.snapshot import Snapshot
 from bridge.tables import RENT, TOKEN_PROGRAM, rent_exempt
 
-_TOKEN_KINDS = ("mint", "wallet", "coin_vault", "pc_vault")
+TOKEN_KINDS = ("mint", "wallet", "coin_vault", "pc_vault")
 
 
 @dataclass(frozen=True)
@@ -218,7 +218,7 @@ def account_files(snapshot: Snapshot, program: bytes) -> Iterator[tuple[str, str
     entries = list(snapshot.entries())
     width = max(4, len(str(len(entries))))
     for number, entry in enumerate(entries, 1):
-        owner = TOKEN_PROGRAM if entry.kind in _TOKEN_KINDS else program
+        owner = TOKEN_PROGRAM if entry.kind in TOKEN_KINDS else program
         name = f"{number:0{width}}_{entry.kind}_{base58_of(entry.address)}.json"
         yield name, account_json(entry.address, owner, entry.data)
 

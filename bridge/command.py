@@ -128,7 +128,7 @@ def _script(words: argparse.Namespace) -> int:
     if is_json_text(data):
         raise Refusal(name_of(words.dump), "it is JSON, and a dump is wanted first", "name the dump, and the transactions behind it")
     snapshot = read_dump(data, name_of(words.dump))
-    wish = Wish(markets, rules, words.leave_out_unknown, words.open_accounts)
+    wish = Wish(markets, rules, words.leave_out_unknown, words.open_accounts, not words.no_swaps)
     rows, table = make_script(snapshot, read_transactions(words.file), wish)
     _write_table(table, words.table)
     _write(rows)
@@ -220,6 +220,7 @@ def _add_script(parser: argparse.ArgumentParser) -> None:
     parser.add_argument("--table", metavar="FILE", help="write the table of rows to this file, not to standard error")
     parser.add_argument("--leave-out-unknown", action="store_true", help="go on without instructions that a script has no form for")
     parser.add_argument("--open-accounts", action="store_true", help="open accounts by a row before the first order that finds them blank")
+    parser.add_argument("--no-swaps", action="store_true", help="make a row of each take, also of two that one transaction did together")
     parser.add_argument("dump", metavar="DUMP", help="a dump or a report; - is standard input")
     parser.add_argument("file", nargs="*", metavar="FILE", help="transaction JSON, oldest first, or a folder of such files")
 

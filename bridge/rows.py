@@ -1,4 +1,4 @@
-"""Making a script from a snapshot and transactions: one row for each instruction of the wanted markets."""
+"""Making a script from a snapshot and transactions: a row for each instruction of the wanted markets, and one for two takes of a swap."""
 
 from __future__ import annotations
 
@@ -14,7 +14,7 @@ from bridge.tables import INSTRUCTIONS, MOST_DATA, MOST_NAMED, SIZES, Instructio
 from bridge.transactions import Call, Transaction
 
 LANE = 0
-_INIT_OPEN_ORDERS, _NEW_ORDER = 15, 10
+_INIT_OPEN_ORDERS, _NEW_ORDER, _SEND_TAKE = 15, 10, 13
 _SIDE_PLACE, _WITH_LATEST_TIME = 5, 5 + 54
 _TABLE = "the table of places (bridge/tables.json) does not fit this input"
 _ROLES = ("coin", "pc", "discount", "referrer")
@@ -29,6 +29,7 @@ class Wish:
     rules_of: dict[bytes, str]
     leave_out_unknown: bool = False
     open_accounts: bool = False
+    make_swaps: bool = True
 
 
 @dataclass(frozen=True)
@@ -48,11 +49,25 @@ class Seen:
 
 
 @dataclass(frozen=True)
+class Leg:
+    """A take that may be a leg of a swap: its instruction, its signer, and the words of its wallets of coin and pc."""
+
+    seen: Seen
+    signer: bytes
+    wallets: tuple[str, str]
+
+    def fields(self) -> list[str]:
+        """The fields of a swap row that are this leg's."""
+        return [dump_word(self.seen.market.address), *self.wallets, base64_text(self.seen.call.data)]
+
+
+@dataclass(frozen=True)
 class Line:
-    """A row of the script (or none) with what the table says of it (or nothing)."""
+    """A row of the script (or none) with what the table says of it (or nothing), and the take that it is, where a swap may have it."""
 
     row: Optional[str]
     told: str
+    leg: Optional[Leg] = None
 
 
 @dataclass
@@ -223,9 +238,38 @@ def _row(seen: Seen, signer: bytes, wallets: list[str], data: bytes) -> str:
     return ",".join(["ix", str(LANE), dump_word(seen.market.address), dump_word(signer), named, *wallets, base64_text(data)])
 
 
-def _told(seen: Seen, name: str) -> str:
+def _told(seen: Seen, name: str, number: Optional[str] = None) -> str:
     """What the table says of a row."""
-    return f"{seen.transaction.slot} {seen.transaction.signature} {seen.call.number} {name}"
+    return f"{seen.transaction.slot} {seen.transaction.signature} {number or seen.call.number} {name}"
+
+
+def _leg(maker: _Maker, seen: Seen, signer: bytes, wallets: list[str]) -> Optional[Leg]:
+    """The leg that a row may be: a take that shows no discount wallet."""
+    coin, pc, discount, _ = wallets
+    is_take = maker.wish.make_swaps and seen.instruction.tag == _SEND_TAKE
+    return Leg(seen, signer, (coin, pc)) if is_take and discount == "-" else None
+
+
+def _is_swap(first: Leg, second: Leg) -> bool:
+    """Whether two takes go together: of one transaction and signer, on two markets, and no wallet named twice."""
+    is_one = first.seen.transaction is second.seen.transaction and first.signer == second.signer
+    wallets = {*first.wallets, *second.wallets}
+    return is_one and first.seen.market is not second.seen.market and len(wallets) == 4
+
+
+def _swap(first: Leg, second: Leg) -> Line:
+    """The row of two takes, which act both or neither, as their transaction did."""
+    row = ",".join(["swap", str(LANE), dump_word(first.signer), *first.fields(), *second.fields()])
+    return Line(row, _told(first.seen, "Swap", f"{first.seen.call.number},{second.seen.call.number}"))
+
+
+def _add_line(maker: _Maker, line: Line) -> None:
+    """Adds a row; a take that goes with the take in the row before makes one row with it."""
+    before = maker.lines[-1].leg if maker.lines else None
+    if before is not None and line.leg is not None and _is_swap(before, line.leg):
+        maker.lines[-1] = _swap(before, line.leg)
+    else:
+        maker.lines.append(line)
 
 
 def _open(maker: _Maker, seen: Seen, account: bytes) -> None:
@@ -263,8 +307,9 @@ def _add(maker: _Maker, seen: Seen) -> None:
     if len(seen.call.data) > MOST_DATA:
         raise seen.fault(f"its data has {len(seen.call.data)} bytes, and a row's at most {MOST_DATA}", "end the day before it")
     signer = seen.roles.get("signer", seen.transaction.signers[0])
-    row = _row(seen, signer, _wallets(maker, seen), seen.call.data)
-    maker.lines.append(Line(row, _told(seen, seen.instruction.name)))
+    wallets = _wallets(maker, seen)
+    row = _row(seen, signer, wallets, seen.call.data)
+    _add_line(maker, Line(row, _told(seen, seen.instruction.name), _leg(maker, seen, signer, wallets)))
 
 
 def _check_told_whole(maker: _Maker, transaction: Transaction) -> None:

@@ -15,7 +15,8 @@
  *  - the program's malloc, realloc and free are those of one allocator and align as the C standard says;
  *  - no call from a signal handler, nor in the child of a fork of a program with threads.
  *
- * `run` is not here: it needs threads of its own, which a library without a runtime does not make. */
+ * `run` and `batch` are not here: they need threads of their own, which a library without a runtime does not make. Scripts with `swap`
+ * rows are taken by all that take scripts. */
 #ifndef DEX_H
 #define DEX_H
 

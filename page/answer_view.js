@@ -21,7 +21,7 @@ function scriptLine(shown, row) {
 
 // A refused script: the row, what it has, how to mend it.
 function scriptAnswer(shown, answer) {
-  const { name, what, remedy } = scriptFaultWords(answer);
+  const { name, what, remedy } = scriptFaultWords(answer, shown.script === null ? [] : shown.script.fieldsOf(Number(answer.row)));
   return [
     verdict(`The script is refused at row ${answer.row}: ${what}.`),
     facts([

@@ -3,9 +3,11 @@
 import { amountNode, bareNode, numberNode, priceNode, sizeNode } from './amounts.js';
 import { orderOfId } from './accounts.js';
 import { element } from './elements.js';
-import { addressNode, orderNode } from './links.js';
+import { addressNode, entryNode, orderNode } from './links.js';
 import { isInTokens } from './units.js';
 
+// What the legs of a swap are called, in their order.
+const LEGS = ['first leg', 'second leg'];
 const TYPES = { limit: null, ioc: 'immediate or cancel', post: 'post only' };
 
 // Whether a budget says nothing: an ask's is not read.
@@ -28,22 +30,22 @@ function newNodes(instruction, market) {
   return [dealNodes(instruction, market), TYPES[type] ? `, ${TYPES[type]}` : '', latest === undefined ? '' : [', until ', numberNode(latest)]];
 }
 
-// A take in words.
+// What a take buys or sells, and the least that it has to get.
 function takeNodes(instruction, market) {
   const { minLots, minPc } = instruction;
   const least = [
     minLots > 0n ? [', at least ', sizeNode(minLots, market)] : [],
     minPc > 0n ? [', for at least ', bare(amountNode(minPc, 'pc', market), market)] : [],
   ];
-  return ['takes: ', dealNodes(instruction, market), least];
+  return [dealNodes(instruction, market), least];
 }
 
 // What an instruction does, in words behind its signer.
-function deedNodes(shown, market, { instruction, named, isSwap }) {
+function deedNodes(shown, market, { instruction, named }) {
   const account = named.length === 0 ? 'no account' : addressNode(shown, named[0]);
   switch (instruction.name) {
     case 'new': return [newNodes(instruction, market), ', with ', account];
-    case 'take': return [isSwap ? 'swaps, this leg ' : '', takeNodes(instruction, market)];
+    case 'take': return ['takes: ', takeNodes(instruction, market)];
     case 'cancel': return ['cancels the ', orderNode(shown, market, orderOfId(instruction.id, instruction.side === 'bid')), ' of ', account];
     case 'cancelc': return ['cancels client id ', numberNode(instruction.client), ' of ', account];
     case 'cancels': return ['cancels client ids ', instruction.clients.map((client, at) => [at > 0 ? ', ' : '', numberNode(client)]), ' of ', account];
@@ -60,11 +62,26 @@ function deedNodes(shown, market, { instruction, named, isSwap }) {
   }
 }
 
-/** What a row asked for, as a sentence. */
+// What a leg of a swap does, in words.
+function legNodes(market, { instruction }) {
+  if (instruction === null) return 'data that is no instruction';
+  return instruction.name === 'take' ? takeNodes(instruction, market) : ['asks for ', instruction.title];
+}
+
+/** What a row asked of a market, as a sentence; of a swap, which leg it is there, and where the other one is. */
 export function askedNode(shown, market, asked) {
   const signer = [addressNode(shown, asked.signer), ' '];
-  if (asked.instruction === null) return element('span', { class: 'asked' }, signer, 'hands in data that is no instruction');
-  return element('span', { class: 'asked' }, signer, deedNodes(shown, market, asked));
+  const told = (...nodes) => element('span', { class: 'asked' }, signer, nodes);
+  if (asked.other !== null) {
+    return told('swaps with ', entryNode(asked.other.market, asked.row), `, ${LEGS[asked.place]}: `, legNodes(market, asked));
+  }
+  return asked.instruction === null ? told('hands in data that is no instruction') : told(deedNodes(shown, market, asked));
+}
+
+/** What both legs of a swap row ask for, as one sentence; `marketOf` gives the market of an address. */
+export function swapNode(shown, asked, marketOf) {
+  const leg = (one) => [legNodes(marketOf(one.market), one), ' on ', addressNode(shown, one.market)];
+  return element('span', { class: 'asked' }, addressNode(shown, asked.signer), ' swaps: ', leg(asked), '; ', leg(asked.other));
 }
 
 /** The wallets of a row by their roles, and the words of its instruction that the sentence leaves out. */

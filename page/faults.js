@@ -1,6 +1,9 @@
 // What commands say where they write no report, as docs/FORMATS.md tells it: statuses, faults of scripts with how to mend them, faults of
 // dumps, findings of an audit.
 
+import { hexOfAddress } from './base58.js';
+import { legsOf } from './instructions.js';
+
 // Faults of a script by their number: name, what the row has, how to mend it.
 const SCRIPT_FAULTS = [
   null,
@@ -20,8 +23,10 @@ const SCRIPT_FAULTS = [
   ['OverLimit', 'it passes a limit', 'Keep to 16 mints, 256 wallets, 16 markets, 64 accounts of a market, 65,536 nodes of a side, 65,535 events, '
     + '100,000 instruction rows, lanes 0 to 15, 16 named accounts and 256 bytes of data.'],
   ['SetupRefused', 'what it sets up cannot be made', ''],
-  ['BadSwap', 'the two legs of the swap do not go together', 'Give a swap two markets, name no wallet twice, and let both legs be takes.'],
-  ['NoBatch', 'a swap row stands in a script for batch', 'Let a script with swap rows act by replay or run.'],
+  ['BadSwap', 'the two legs of the swap do not go together', 'Give a swap two markets and name no wallet twice, so that each leg has wallets of its '
+    + 'own; let both legs be SendTake.'],
+  ['NoBatch', 'a swap row stands in a script for batch', 'Let a script with swap rows act by replay or run; or write its legs as two rows, which then no '
+    + 'longer act both or neither.'],
 ];
 
 // What a setup code says, and how to mend it.
@@ -36,11 +41,26 @@ const SETUP_CODES = [
   ['the program row does not stand first', 'Put the program row first, or first behind the dump.'],
 ];
 
-/** What a refused script's row has, and how it is mended. */
-export function scriptFaultWords(answer) {
+// Why the legs of a swap row do not go together, by its fields; null where they do not tell.
+function badSwapWords(fields) {
+  if (fields.length !== 11) return null;
+  const legs = legsOf(fields);
+  const [first, second] = legs.map(({ market }) => hexOfAddress(market));
+  if (first === second) return `both legs are on ${legs[0].market}`;
+  const wallets = legs.flatMap(({ roles }) => [roles.coin, roles.pc]).filter((wallet) => wallet !== '-');
+  const keys = wallets.map(hexOfAddress);
+  const again = keys.findIndex((key, at) => keys.indexOf(key) < at);
+  if (again >= 0) return `the wallet ${wallets[again]} is named twice`;
+  const wrong = legs.findIndex(({ instruction }) => instruction !== null && instruction.name !== 'take');
+  return wrong < 0 ? null : `the data of its ${['first', 'second'][wrong]} leg is ${legs[wrong].instruction.title}`;
+}
+
+/** What a refused script's row has, and how it is mended; `fields` are the row's, where they are known. */
+export function scriptFaultWords(answer, fields = []) {
   const [name, what, remedy] = SCRIPT_FAULTS[answer.k] || [answer.name, 'the page knows no such fault', ''];
   const [setup, mending] = (answer.code !== undefined && SETUP_CODES[answer.code]) || [null, remedy];
-  return { name, what: setup || what, remedy: mending };
+  const told = name === 'BadSwap' && fields[0] === 'swap' ? badSwapWords(fields) : null;
+  return { name, what: told || setup || what, remedy: mending };
 }
 
 /** Faults of a dump by their kind: name, what is wrong. */

@@ -49,13 +49,15 @@ function instructionOfWords(text) {
   return instruction;
 }
 
+// What both deals have in front of their bytes: side, price, lots and the most native pc.
+function dealOf(bytes) {
+  return { side: SIDES[wordAt(bytes, 5)], price: longAt(bytes, 9), lots: longAt(bytes, 17), pc: longAt(bytes, 25) };
+}
+
 // The bytes of a new order's body by field.
 function newOrder(bytes) {
   return {
-    side: SIDES[wordAt(bytes, 5)],
-    price: longAt(bytes, 9),
-    lots: longAt(bytes, 17),
-    pc: longAt(bytes, 25),
+    ...dealOf(bytes),
     self: SELF_TRADES[wordAt(bytes, 33)],
     type: ORDER_TYPES[wordAt(bytes, 37)],
     client: longAt(bytes, 41),
@@ -66,15 +68,7 @@ function newOrder(bytes) {
 
 // The bytes of a take's body by field.
 function takeBody(bytes) {
-  return {
-    side: SIDES[wordAt(bytes, 5)],
-    price: longAt(bytes, 9),
-    lots: longAt(bytes, 17),
-    pc: longAt(bytes, 25),
-    minLots: longAt(bytes, 33),
-    minPc: longAt(bytes, 41),
-    limit: numberAt(bytes, 49, 2),
-  };
+  return { ...dealOf(bytes), minLots: longAt(bytes, 33), minPc: longAt(bytes, 41), limit: numberAt(bytes, 49, 2) };
 }
 
 // The bodies of instructions that have one, with the lengths of their data.
@@ -112,17 +106,37 @@ export function nameOfData(text) {
 // The roles of a row's wallets, in the order of their fields.
 const ROLES = ['coin', 'pc', 'discount', 'referrer'];
 
-// A leg of a swap on a market, as a row of its own.
-function legOf(fields, market) {
-  const at = fields[3] === market ? 3 : 7;
-  const [coin, pc] = [fields[at + 1], fields[at + 2]];
-  return { market, named: [], roles: { coin, pc, discount: '-', referrer: '-' }, instruction: instructionOfData(fields[at + 3] || ''), isSwap: true };
+/** The words of a do row that mean what data in base64 means, ? for one of no list; null where it is no instruction. */
+export function wordsOfData(text) {
+  const instruction = instructionOfData(text);
+  if (instruction === null) return null;
+  const fields = BY_NAME.get(instruction.name).fields.filter((field) => field !== '' && (field !== 'latest' || instruction.latest !== undefined));
+  return [instruction.name, ...fields.map((field) => (instruction[field] === undefined ? '?' : instruction[field])), ...instruction.clients].join(' ');
 }
 
-/** What an instruction row asks of a market: its lane, signer, accounts, wallets by role, and instruction; null where it is no such row. */
+/** The two legs of a swap row's fields, each as a row of its own. */
+export function legsOf(fields) {
+  return [3, 7].map((at) => {
+    const [market, coin, pc, data = ''] = fields.slice(at, at + 4);
+    return { market, named: [], roles: { coin, pc, discount: '-', referrer: '-' }, instruction: instructionOfData(data) };
+  });
+}
+
+// What a swap row asks of a market: the leg there, and the other one; `place` is 0 for the first leg and 1 for the second.
+function askedBySwap(fields, row, market) {
+  const [, lane, signer] = fields;
+  const legs = legsOf(fields).map((leg, place) => ({ row, lane, signer, place, ...leg }));
+  const place = Number(legs[0].market !== market && legs[1].market === market);
+  return { ...legs[place], other: legs[1 - place] };
+}
+
+/**
+ * What an instruction row asks of a market: its lane, signer, accounts, wallets by role, instruction, and of a swap the `other` leg; null
+ * where it is no such row.
+ */
 export function askedBy(script, row, market) {
   const fields = script.fieldsOf(row);
-  if (fields[0] === 'swap') return { row, lane: fields[1], signer: fields[2], ...legOf(fields, market || fields[3]) };
+  if (fields[0] === 'swap') return askedBySwap(fields, row, market);
   if (fields[0] !== 'ix' && fields[0] !== 'do') return null;
   const [kind, lane, on, signer, named = '-', coin, pc, discount, referrer, words = ''] = fields;
   const wallets = [coin, pc, discount, referrer];
@@ -134,6 +148,6 @@ export function askedBy(script, row, market) {
     named: named === '-' ? [] : named.split(' '),
     roles: Object.fromEntries(ROLES.map((role, at) => [role, wallets[at]])),
     instruction: kind === 'do' ? instructionOfWords(words) : instructionOfData(words),
-    isSwap: false,
+    other: null,
   };
 }

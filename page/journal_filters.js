@@ -1,12 +1,12 @@
-// Which entries of a journal are shown: by lane, reply, refusal and account; with the script beside the report by what was asked and who
-// signed too.
+// Which entries of a journal are shown: by lane, reply, refusal and account, or legs of swaps alone; with the script beside the report by
+// what was asked and who signed too.
 
 import { choice, element, tickBox } from './elements.js';
 import { linkTo, shortAddress } from './links.js';
 import { REFUSALS, REPLIES } from './replies.js';
 import { scriptChoices } from './script_view.js';
 
-const FILTERS = ['lane', 'kind', 'refusal', 'account', 'asked', 'signer'];
+const FILTERS = ['lane', 'kind', 'refusal', 'account', 'asked', 'signer', 'swaps'];
 
 /** Whether words have a filter. */
 export function isFiltered(words) { return FILTERS.some((name) => words[name] !== undefined); }
@@ -45,10 +45,24 @@ function entriesWith(journal, words) {
   return isNamed;
 }
 
-// Whether an entry has to do with an account, a wallet or a person: with the script by what its row names, else by the entry's words.
+// Marks the entries of legs whose other leg has one of some words in its line.
+function markLegs(shown, market, isNamed, words) {
+  for (const legs of shown.report.swaps.values()) {
+    const [own, other] = legs[0].address === market.address ? legs : [...legs].reverse();
+    if (own.address !== market.address) continue;
+    const { lines, first } = shown.report.markets.get(other.address);
+    const line = lines.at(first + other.at);
+    if ([...words].some((word) => hasWord(line, word))) isNamed[own.at] = 1;
+  }
+  return isNamed;
+}
+
+// Whether an entry has to do with an account, a wallet or a person: with the script by what its row names, else by the entry's words. A
+// swap's row names what either leg does.
 function accountTest(shown, market, journal, address) {
   const { joined } = shown;
-  const isNamed = entriesWith(journal, joined === null ? wordsOf(shown, market, address) : [address]);
+  const sought = joined === null ? wordsOf(shown, market, address) : new Set([address]);
+  const isNamed = markLegs(shown, market, entriesWith(journal, sought), sought);
   if (joined === null) return (at) => isNamed[at] === 1;
   const place = joined.placed.get(address) || -1;
   return (at) => {
@@ -63,6 +77,7 @@ export function passing(shown, market, journal, words) {
   const kind = REPLIES.findIndex((reply) => reply.kind === words.kind);
   const lane = words.lane === undefined ? -1 : Number(words.lane);
   const refusal = Number(words.refusal || 0);
+  const isSought = words.swaps === 'only' ? (row) => shown.report.swaps.has(row) : () => true;
   const isOfAccount = words.account === undefined ? null : accountTest(shown, market, journal, words.account);
   const place = (word) => (word === undefined || joined === null ? 0 : joined.placed.get(word) || -1);
   const [asked, signer] = [place(words.asked), place(words.signer)];
@@ -73,6 +88,7 @@ export function passing(shown, market, journal, words) {
     if (refusal > 0 && journal.refusals[at] !== refusal) continue;
     if (asked !== 0 && joined.names[journal.rows[at]] !== asked) continue;
     if (signer !== 0 && joined.signers[journal.rows[at]] !== signer) continue;
+    if (!isSought(journal.rows[at])) continue;
     if (isOfAccount === null || isOfAccount(at)) numbers.push(at);
   }
   return numbers;
@@ -96,7 +112,8 @@ export function journalChoices(shown, market, journal, words) {
   };
   const lanes = journal.laneNumbers();
   const lane = lanes.map((number) => [String(number), String(number)]);
-  const kind = REPLIES.map((reply) => [reply.kind, reply.title]);
+  const hasSwaps = shown.report.swaps.size > 0;
+  const kind = REPLIES.filter((reply) => hasSwaps || reply.kind !== 'held').map((reply) => [reply.kind, reply.title]);
   const refusal = REFUSALS.slice(1).map(({ name }, at) => [String(at + 1), `${at + 1} ${name}`]);
   const filter = (title, name, options) => choice(title, [['', 'all'], ...options], words[name] || '', go(name));
   return element('div', { class: 'filters' },
@@ -105,5 +122,6 @@ export function journalChoices(shown, market, journal, words) {
     filter('Refusal', 'refusal', refusal),
     filter('Account', 'account', accountOptions(shown, market)),
     shown.joined === null ? null : scriptChoices(shown.joined, words, go),
+    hasSwaps ? tickBox('Swaps alone', words.swaps === 'only', (isTicked) => go('swaps')(isTicked ? 'only' : null)) : null,
     tickBox('Hide probes', words.probes === 'hidden', (isTicked) => go('probes')(isTicked ? 'hidden' : null)));
 }

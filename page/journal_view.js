@@ -4,15 +4,22 @@ import { askedDetails, askedNode } from './asked_nodes.js';
 import { counted } from './amounts.js';
 import { element } from './elements.js';
 import { isFiltered, journalChoices, passing } from './journal_filters.js';
-import { linkTo } from './links.js';
+import { entryNode, linkTo } from './links.js';
 import { notice, section, seekRow, tableWithDetails } from './parts.js';
-import { moveNode, replyTitle, sentenceNode } from './sentences.js';
+import { moveNode, otherLegFacts, replyTitle, sentenceNode } from './sentences.js';
+import { otherLeg } from './swaps.js';
 import { grouped } from './units.js';
 
 // The wallets of an entry; those that it only looks at can be left out.
 function movesNode(shown, market, entry, words) {
   const moves = words.probes === 'hidden' ? entry.moves.filter(({ kind }) => kind !== 'probe') : entry.moves;
   return element('span', { class: 'moves' }, moves.map((move) => [moveNode(shown, market, entry, move), ' ']));
+}
+
+// The short name of a reply; without the script it tells what a row's words would, that the entry is a leg of a swap.
+function replyNode(shown, market, entry) {
+  const other = shown.joined === null ? otherLeg(shown.report, entry.row, market.address) : null;
+  return other === null ? replyTitle(entry) : [`${replyTitle(entry)}, swap with `, entryNode(other.address, entry.row)];
 }
 
 // One entry's cells; with the script what was asked stands in front of what happened.
@@ -28,12 +35,13 @@ function entryRow(shown, market, journal, at, words) {
       entry.row,
       entry.lane,
       ...(shown.joined === null ? [] : [asked === null ? '' : askedNode(shown, market, asked)]),
-      replyTitle(entry),
+      replyNode(shown, market, entry),
       answer,
       movesNode(shown, market, entry, words),
     ],
     details: [
       ...(asked === null ? [] : askedDetails(shown, asked, shown.joined.clockAt(entry.row))),
+      ...otherLegFacts(shown, market, entry.row),
       ['Order id', entry.values.id || entry.values.order || 'none told'],
       ['Line', element('code', {}, `${line}: ${journal.lines.at(line)}`)],
     ],
@@ -41,14 +49,16 @@ function entryRow(shown, market, journal, at, words) {
 }
 
 // The columns, with the script or without.
-function journalColumns(hasScript, journal, numbers) {
-  const lines = hasScript ? 3 : 2;
+function journalColumns(shown, journal, numbers) {
+  const hasScript = shown.joined !== null;
+  const hasSwaps = shown.report.swaps.size > 0;
+  const lines = (hasScript ? 3 : 2) + Number(hasScript && hasSwaps);
   const reply = (at) => 100 * journal.kinds[numbers[at]] + journal.refusals[numbers[at]];
   return [
     { title: 'Row', isNumber: true, size: '4.2rem', key: (at) => journal.rows[numbers[at]] },
     { title: 'Lane', isNumber: true, size: '3rem', key: (at) => journal.lanes[numbers[at]] },
-    ...(hasScript ? [{ title: 'Who did what', size: '1.7fr', isWide: true, lines, narrowLines: 4 }] : []),
-    { title: 'Reply', size: hasScript ? '9.2rem' : '11.5rem', isWide: true, lines, narrowLines: 1, key: reply },
+    ...(hasScript ? [{ title: 'Who did what', size: '1.7fr', isWide: true, lines, narrowLines: 4 + Number(hasSwaps) }] : []),
+    { title: 'Reply', size: hasScript ? '9.2rem' : '11.5rem', isWide: true, lines, narrowLines: hasSwaps && !hasScript ? 2 : 1, key: reply },
     { title: 'What happened', size: '1.7fr', isWide: true, lines, narrowLines: 4 },
     { title: 'Wallets', size: '1.1fr', isWide: true, lines, narrowLines: 3 },
   ];
@@ -68,7 +78,7 @@ export function journalView(shown, market, words) {
   const numbers = passing(shown, market, journal, words);
   const table = tableWithDetails({
     label: `Journal of ${market.address}`,
-    columns: journalColumns(shown.joined !== null, journal, numbers),
+    columns: journalColumns(shown, journal, numbers),
     count: numbers.length,
     least: shown.joined === null ? 900 : 1100,
     empty: 'No entry passes the filters.',

@@ -25,8 +25,8 @@ export function readLink(fragment) {
   return { view, subject, words: Object.fromEntries(new URLSearchParams(query)), isBroken: view === null || subject === null };
 }
 
-/** An address as it is printed, shortened where it has no label. */
-export function shortAddress(address) {
+/** An address as it is printed, shortened where it has no label; nothing where a row has none. */
+export function shortAddress(address = '') {
   return address.startsWith('0x') && address.length === 66 ? `${address.slice(0, 6)}…${address.slice(-4)}` : address;
 }
 
@@ -72,4 +72,10 @@ export function orderNode(shown, market, order) {
 /** The row of a journal as a link. */
 export function rowNode(market, row) {
   return element('a', { href: linkTo('journal', market, { row }) }, `row ${row}`);
+}
+
+/** A market by its address, as a link to the entry of a row in its journal. */
+export function entryNode(market, row) {
+  const name = shortAddress(market);
+  return element('a', { class: 'address', href: linkTo('journal', market, { row }), title: market === name ? null : market }, name);
 }

@@ -6,9 +6,18 @@ import { element } from './elements.js';
 import { addressNode, linkTo } from './links.js';
 import { facts, section } from './parts.js';
 import { REFUSALS, REPLIES } from './replies.js';
+import { swapSection } from './swap_table.js';
+import { isSwapDone, refusedRows } from './swaps.js';
 import { Table } from './table.js';
 import { lastTrade } from './trades.js';
 import { averageText, priceUnit } from './units.js';
+
+// How many rows are swaps, and how many of them acted; nothing where there are none.
+function swapCount(report) {
+  const rows = [...report.swaps.keys()];
+  const done = rows.filter((row) => isSwapDone(report, row)).length;
+  return rows.length === 0 ? [] : [['Swaps', [numberNode(rows.length, 'swaps'), ', of which ', numberNode(done, 'swaps done'), ' acted']]];
+}
 
 // What the journals say in all.
 function rowFacts(shown) {
@@ -23,8 +32,9 @@ function rowFacts(shown) {
   if (report.kind === 'dump') return [...sizes, ['Rows', 'a dump tells none']];
   return [
     ['Rows', numberNode(report.rows, 'rows')],
-    ['Accepted', numberNode(sum((journal) => journal.count - journal.refused), 'accepted')],
-    ['Refused', numberNode(sum((journal) => journal.refused), 'refused')],
+    ['Accepted', numberNode(report.rows - refusedRows(report), 'accepted')],
+    ['Refused', numberNode(refusedRows(report), 'refused')],
+    ...swapCount(report),
     ['Trades', numberNode(sum((journal) => journal.trades.length), 'trades')],
     ...sizes,
   ];
@@ -129,6 +139,7 @@ export function overview(shown) {
     verdictNode(shown),
     facts(rowFacts(shown)),
     section('Markets', marketTable(shown).node),
+    swapSection(shown, [...shown.report.swaps.keys()]),
     element('div', { class: 'beside' },
       shown.report.kind === 'dump' ? null : section('Replies and refusals', replyTable(shown).node),
       section('Mints', facts(mints.map((mint) => [addressNode(shown, mint.address),

@@ -3,9 +3,10 @@
 import { amountNode, counted, mintAmountNode, numberNode, priceNode, sizeNode } from './amounts.js';
 import { element } from './elements.js';
 import { addressNode, linkOfOrder, linkTo, shortAddress } from './links.js';
-import { accountsOf, personsOf, takesOf, worthOf } from './owners.js';
+import { accountsOf, personsOf, swapRowsOf, takesOf, worthOf } from './owners.js';
 import { addressFacts, facts, notice, section } from './parts.js';
 import { lockedBy } from './sums.js';
+import { swapSection } from './swap_table.js';
 import { Table } from './table.js';
 import { priceText } from './units.js';
 
@@ -128,6 +129,7 @@ function personNodes(shown, person) {
     ]),
     element('div', { class: 'sums' }, accounts.map((account) => accountSection(shown, account))),
     section(`Open orders (${count})`, table),
+    swapSection(shown, swapRowsOf(shown, person)),
   ];
 }
 

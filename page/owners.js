@@ -111,3 +111,9 @@ export function takesOf(shown, market, person) {
   }
   return takes;
 }
+
+/** The rows of the swaps that a person signed; none where the script is not there. */
+export function swapRowsOf(shown, person) {
+  const { joined } = shown;
+  return joined === null ? [] : [...shown.report.swaps.keys()].filter((row) => joined.signerOf(row) === person);
+}

@@ -2,7 +2,7 @@
 
 import { isAddress, isNumber, isTime } from './text.js';
 
-/** The answers of accepted rows, each with the names of its numbers. The last of the list is a refusal. */
+/** What rows are answered, each with the names of its numbers. Two are no words of a line: a refusal, and a take that was held back. */
 export const REPLIES = [
   { kind: 'order', title: 'Order', values: ['id', 'slot', 'lots', 'pc', 'fee', 'rested'] },
   { kind: 'take', title: 'Take', values: ['lots', 'pc', 'fee'] },
@@ -11,8 +11,13 @@ export const REPLIES = [
   { kind: 'settled', title: 'Settle', values: ['coin', 'pc', 'referrer'] },
   { kind: 'swept', title: 'Sweep', values: ['pc'] },
   { kind: 'done', title: 'Done', values: [] },
+  { kind: 'held', title: 'Held back', values: [] },
   { kind: 'refused', title: 'Refused', values: [] },
 ];
+
+/** The place of a take that was held back because the other leg of its swap was refused; its line says `ok done`. */
+export const HELD = 7;
+const REFUSED = 8;
 
 /** Refusals by their numbers: the name, the names of the values, and a sentence in which the values stand in braces. */
 export const REFUSALS = [
@@ -81,13 +86,13 @@ function takeRefusal(words) {
   const refusal = REFUSALS[number];
   if (!refusal || refusal.name !== words[5]) return null;
   const values = takeValues(refusal.values, words, 6);
-  return values && { kind: REPLIES.length - 1, refusal: number, values, next: 6 + refusal.values.length };
+  return values && { kind: REFUSED, refusal: number, values, next: 6 + refusal.values.length };
 }
 
 // What stands in an accepted row's reply.
 function takeAnswer(words) {
-  const kind = REPLIES.findIndex((reply) => reply.kind === words[4] && reply.kind !== 'refused');
-  if (kind < 0) return null;
+  const kind = REPLIES.findIndex((reply) => reply.kind === words[4]);
+  if (kind < 0 || kind >= HELD) return null;
   const values = takeValues(REPLIES[kind].values, words, 5);
   return values && { kind, refusal: 0, values, next: 5 + REPLIES[kind].values.length };
 }

@@ -1,7 +1,8 @@
 // A report: the journals of markets and wallets, then a dump. Entries stay lines of the text, and are read again when they are shown.
 
 import { readDump } from './dump.js';
-import { readEntry, readMove } from './replies.js';
+import { HELD, readEntry, readMove } from './replies.js';
+import { pairLegs } from './swaps.js';
 import { frontOf, isAddress, isNumber, LineFault, Lines, pause } from './text.js';
 
 const SLICE = 5000;
@@ -48,7 +49,10 @@ class MarketJournal {
   }
 
   /** The entry of a number, from 0. */
-  at(number) { return readEntry(this.lines.at(this.first + number)); }
+  at(number) {
+    const entry = readEntry(this.lines.at(this.first + number));
+    return this.kinds[number] === HELD ? { ...entry, kind: HELD } : entry;
+  }
 }
 
 /** The journal of a wallet: where its movements stand, and their rows. */
@@ -116,15 +120,14 @@ async function readJournals(lines, next, { kind, word, read, make, into }, tell)
   }
 }
 
-// The rows of instructions that the journals have must be as many as the first line tells; a swap is one row with an entry in each of
-// two journals.
-function checkRows(rows, markets) {
+// The swaps of a report. The rows that the journals have must be as many as the first line tells; a swap is one row with two entries.
+function swapsIn(rows, markets) {
   let entries = 0;
   for (const journal of markets.values()) entries += journal.count;
-  if (entries === rows) return;
-  const numbers = new Set();
-  for (const journal of markets.values()) for (const row of journal.rows) numbers.add(row);
-  if (numbers.size !== rows) throw new LineFault(1, `The report tells of ${rows} rows, and its markets’ journals have ${entries} entries.`);
+  if (entries === rows) return new Map();
+  const swaps = pairLegs(markets);
+  if (entries - swaps.size !== rows) throw new LineFault(1, `The report tells of ${rows} rows, and its markets’ journals have ${entries} entries.`);
+  return swaps;
 }
 
 // Each journal's market or wallet stands in the dump, and each wallet that an entry names has a journal.
@@ -150,7 +153,7 @@ async function readReportLines(lines, rows, tell) {
   if (lines.at(next) !== 'dump') {
     throw new LineFault(next, `The head of a journal or dump is wanted; here stands ${frontOf(lines.at(next))}.`);
   }
-  checkRows(rows, report.markets);
+  report.swaps = swapsIn(rows, report.markets);
   const dump = await readDump(lines, next, tell);
   report.exchange = dump.exchange;
   checkAccounts(report, next);
@@ -164,7 +167,7 @@ async function readLines(lines, tell) {
   let read;
   if (lines.at(1) === 'dump') {
     const { exchange, next } = await readDump(lines, 1, tell);
-    read = { report: { kind: 'dump', lines, rows: 0, markets: new Map(), wallets: new Map(), exchange }, next };
+    read = { report: { kind: 'dump', lines, rows: 0, markets: new Map(), wallets: new Map(), swaps: new Map(), exchange }, next };
   } else if (head.length === 2 && head[0] === 'report' && isNumber(head[1])) {
     read = await readReportLines(lines, Number(head[1]), tell);
   } else {

@@ -40,6 +40,9 @@ function quotedRecord(text, from) {
   return { fields: [...fields, field], next: at };
 }
 
+/** The fields of the record that begins at a place of a text. */
+export function fieldsAt(text, start) { return quotedRecord(text, start).fields; }
+
 /** Where the records of a text begin, without lines that are empty. */
 export function recordStarts(text) {
   const starts = [];
@@ -65,16 +68,18 @@ class Script {
     this.isQuoted = text.includes('"');
     this.starts = Uint32Array.from(recordStarts(text));
     this.count = this.starts.length;
-    // Of each row, from 1: its kind of instruction row, and the places of market, signer, first account and instruction's name in
-    // `addresses`; 0 is none.
+    // Of each row, from 1: its kind of instruction row, and the places of market, of a swap's other market, of signer, first account and
+    // instruction's name in `addresses`; 0 is none.
     this.kinds = new Uint8Array(this.count + 1);
     this.names = new Uint16Array(this.count + 1);
     this.markets = new Uint16Array(this.count + 1);
+    this.others = new Uint16Array(this.count + 1);
     this.signers = new Uint16Array(this.count + 1);
     this.accounts = new Uint16Array(this.count + 1);
     this.addresses = [null];
     this.placed = new Map();
     this.instructions = 0;
+    this.swaps = 0;
     this.program = 'serum';
     this.clocks = [];
     this.dumpEnd = 0;
@@ -84,9 +89,7 @@ class Script {
   /** The fields of a row; none where there is no such row. */
   fieldsOf(row) {
     if (!(row >= 1 && row <= this.count)) return [];
-    const start = this.starts[row - 1];
-    if (this.isQuoted) return quotedRecord(this.text, start).fields;
-    return this.lineOf(row).split(',');
+    return this.isQuoted ? fieldsAt(this.text, this.starts[row - 1]) : this.lineOf(row).split(',');
   }
 
   /** The text of a row. */
@@ -118,17 +121,33 @@ class Script {
     if (fields[0] === 'enddump' && this.dumpEnd === 0) this.dumpEnd = row;
     if (kind === 0) return;
     this.instructions += 1;
-    if (fields[0] === 'swap') {
-      this.signers[row] = this.placeOf(fields[2]);
-      this.names[row] = this.placeOf('swap');
-      return;
-    }
+    if (fields[0] === 'swap') this.noteSwap(row, fields);
+    else this.noteInstruction(row, fields);
+  }
+
+  // Notes a swap.
+  noteSwap(row, [, , signer, first, , , , second]) {
+    this.swaps += 1;
+    this.names[row] = this.placeOf('swap');
+    this.signers[row] = this.placeOf(signer);
+    this.markets[row] = this.placeOf(first);
+    this.others[row] = this.placeOf(second);
+  }
+
+  // Notes a row of one instruction.
+  noteInstruction(row, fields) {
     const named = (fields[4] || '-').split(' ')[0];
     const words = fields[9] || '';
     this.names[row] = this.placeOf(fields[0] === 'do' ? words.split(' ')[0] : nameOfData(words));
     this.markets[row] = this.placeOf(fields[2]);
     this.signers[row] = this.placeOf(fields[3]);
     if (named !== '-') this.accounts[row] = this.placeOf(named);
+  }
+
+  /** Whether a row is an instruction row on a market, or a swap with a leg there. */
+  isOn(row, market) {
+    const place = this.placed.get(market) || -1;
+    return this.kinds[row] > 0 && (this.markets[row] === place || this.others[row] === place);
   }
 
   /** The signer of a row; null where it is no instruction row. */
@@ -172,11 +191,11 @@ export function mismatch(script, report) {
   if (script.instructions !== report.rows) {
     return `it has ${script.instructions} instruction rows, and the report tells of ${report.rows}`;
   }
+  if (script.swaps !== report.swaps.size) return `it has ${script.swaps} swaps, and the report tells of ${report.swaps.size}`;
   for (const [address, journal] of report.markets) {
     for (let at = 0; at < journal.count; at += 1) {
       const row = journal.rows[at];
-      const isOther = script.kinds[row] !== 3 && script.addresses[script.markets[row] || 0] !== address;
-      if (!script.kinds[row] || isOther) return `its row ${row} is none on ${address}, where the report has an entry of that row`;
+      if (!script.isOn(row, address)) return `its row ${row} is none on ${address}, where the report has an entry of that row`;
     }
   }
   return null;

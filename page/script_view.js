@@ -1,6 +1,6 @@
 // The rows of a script in words, each with its text; the row at fault where the script was refused.
 
-import { askedDetails, askedNode } from './asked_nodes.js';
+import { askedDetails, askedNode, swapNode } from './asked_nodes.js';
 import { counted } from './amounts.js';
 import { choice, element } from './elements.js';
 import { askedBy } from './instructions.js';
@@ -15,15 +15,26 @@ function marketOfScript(shown, address) {
   return known || { address, coinMint: '', pcMint: '', coinLot: 1n, pcLot: 1n, coinDecimals: null, pcDecimals: null, bids: none, asks: none };
 }
 
-// What an instruction row asked for, and its link into the journal where the report is there.
+// The market of a row, as a link into its journal where the report is there.
+function placeNode(shown, { market, row }) {
+  const href = shown.joined === null ? null : linkTo('journal', market, { row });
+  return [element(href === null ? 'span' : 'a', { href, title: market }, shortAddress(market)), ' '];
+}
+
+// What an instruction row asked for, and where.
 function instructionCells(shown, script, row) {
   const asked = askedBy(script, row, null);
-  const market = marketOfScript(shown, asked.market);
-  const href = shown.joined === null ? null : linkTo('journal', asked.market, { row });
+  const clock = script.clockAt(row);
+  const marketOf = (address) => marketOfScript(shown, address);
+  const lane = `lane ${asked.lane}`;
+  if (asked.other === null) {
+    return { what: askedNode(shown, marketOf(asked.market), asked), place: [placeNode(shown, asked), lane], details: askedDetails(shown, asked, clock) };
+  }
+  const ofLeg = (title, leg) => askedDetails(shown, leg, clock).map(([name, value]) => [`${title}: ${name}`, value]);
   return {
-    what: [askedNode(shown, market, asked), asked.isSwap ? ', and another leg' : ''],
-    place: [element(href === null ? 'span' : 'a', { href, title: asked.market }, shortAddress(asked.market)), ` lane ${asked.lane}`],
-    details: askedDetails(shown, asked, script.clockAt(row)),
+    what: swapNode(shown, asked, marketOf),
+    place: [placeNode(shown, asked), placeNode(shown, asked.other), lane],
+    details: [...ofLeg('First leg', asked), ...ofLeg('Second leg', asked.other)],
   };
 }
 
@@ -67,12 +78,14 @@ export function scriptView(shown, subject, words) {
   const { script } = shown;
   const rows = scriptRows(script, words);
   const go = (name) => (value) => { window.location.hash = linkTo('script', '', { ...words, row: null, [name]: value }); };
+  // A swap tells both legs in one row.
+  const more = Number(script.swaps > 0);
   const table = tableWithDetails({
     label: 'Rows of the script',
     columns: [
       { title: 'Row', isNumber: true, size: '4.5rem' },
-      { title: 'Says', size: '2fr', isWide: true, lines: 3, narrowLines: 5 },
-      { title: 'Market', size: '7.5rem', lines: 2, narrowLines: 2 },
+      { title: 'Says', size: '2fr', isWide: true, lines: 3 + more, narrowLines: 5 + 2 * more },
+      { title: 'Market', size: '7.5rem', lines: 2 + more, narrowLines: 2 + more },
       { title: 'Text', size: '1.6fr', isWide: true, lines: 2, narrowLines: 3 },
     ],
     count: rows.length,

@@ -3,8 +3,9 @@
 import { orderOfId } from './accounts.js';
 import { amountNode, counted, numberNode, sizeNode, tokenOf } from './amounts.js';
 import { element } from './elements.js';
-import { addressNode, linkTo, orderNode, shortAddress } from './links.js';
+import { addressNode, entryNode, linkTo, orderNode, shortAddress } from './links.js';
 import { DATA_RULES, REFUSALS, REPLIES } from './replies.js';
+import { otherLeg } from './swaps.js';
 import { isInTokens } from './units.js';
 
 // A bid's id has the complement of its sequence number in its lower half, so the half tells the side.
@@ -43,6 +44,9 @@ function lotsNode(lots, market) {
   return isInTokens(market) ? sizeNode(lots, market) : element('data', { value: String(lots) }, counted(lots, 'lot'));
 }
 
+// The market of a swap's other leg.
+function otherNode(shown, market, { row }) { return entryNode(otherLeg(shown.report, row, market.address).address, row); }
+
 // What an accepted row was answered.
 function answerNodes(shown, market, entry) {
   const { values } = entry;
@@ -61,6 +65,7 @@ function answerNodes(shown, market, entry) {
     case 'consumed': return [counted(values.count, 'event was', 'events were'), ' consumed.'];
     case 'settled': return ['Paid out: ', coin('coin'), ' of coin, ', pc('pc'), ' of pc, and ', pc('referrer'), ' to the referrer.'];
     case 'swept': return ['Swept ', pc('pc'), ' of fees.'];
+    case 'held': return ['It did nothing, since the other leg, on ', otherNode(shown, market, entry), ', was refused.'];
     default: return shown.joined === null ? ['Done: an account opened or closed, the market disabled, or MatchOrders.'] : ['Done.'];
   }
 }
@@ -74,6 +79,15 @@ export function sentenceNode(shown, market, entry) {
 /** The short name of an entry's reply; a refusal with its number and name. */
 export function replyTitle(entry) {
   return entry.refusal === 0 ? REPLIES[entry.kind].title : `${entry.refusal} ${REFUSALS[entry.refusal].name}`;
+}
+
+/** A swap's other leg than the one on a market, with what it was answered, as a named value; none where the row is no swap. */
+export function otherLegFacts(shown, market, row) {
+  const other = otherLeg(shown.report, row, market.address);
+  if (other === null) return [];
+  const entry = shown.report.markets.get(other.address).at(other.at);
+  const told = sentenceNode(shown, shown.exchange.markets.get(other.address), entry);
+  return [['The swap’s other leg', ['on ', entryNode(other.address, row), `, ${replyTitle(entry)}: `, told]]];
 }
 
 /** What a row did to a wallet, as a link to that movement. */

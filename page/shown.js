@@ -10,7 +10,7 @@ import { strayWorth } from './worth.js';
 // What stands in the place of a report where only other texts were given.
 function noReport() {
   const exchange = { mints: new Map(), wallets: new Map(), markets: new Map(), accounts: new Map(), vaultOwners: new Map(), srm: null, msrm: null };
-  return { kind: 'none', rows: 0, lines: null, markets: new Map(), wallets: new Map(), exchange };
+  return { kind: 'none', rows: 0, lines: null, markets: new Map(), wallets: new Map(), swaps: new Map(), exchange };
 }
 
 /** What the texts that were read show together; `texts` has one of each kind at most. */

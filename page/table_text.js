@@ -13,7 +13,7 @@ export function cellText(cell) {
   for (const unit of node.querySelectorAll('.lots')) unit.remove();
   for (const address of node.querySelectorAll('.address[title]')) address.textContent = address.title;
   for (const line of node.querySelectorAll('.line, li')) line.append(' ');
-  return node.textContent.replace(/\s+/g, ' ').trim();
+  return node.textContent.replace(/\s+/g, ' ').replace(/ (?=[,.;](\s|$))/g, '').trim();
 }
 
 /** What a cell is sorted by: its number where it holds just one, else its text. */

@@ -6,6 +6,7 @@ import { addressNode, linkTo, orderNode } from './links.js';
 import { facts, section, seekRow, tableWithDetails } from './parts.js';
 import { priceChart } from './price_chart.js';
 import { lastFillPrice, lastTrade, tradeAt } from './trades.js';
+import { otherLegFacts } from './sentences.js';
 import { averageText, priceText, priceUnit, sizeUnit } from './units.js';
 
 // An average price as an element.
@@ -44,6 +45,12 @@ function fillNodes(shown, market, row) {
     ', rebate ', amountNode(rebate, 'pc', market))))]];
 }
 
+// What filled: an order, a take, or a take that is a leg of a swap.
+function tradeKind(shown, { row, isOrder }) {
+  if (isOrder) return 'order';
+  return shown.report.swaps.has(row) ? 'swap' : 'take';
+}
+
 // One trade's cells.
 function tradeRow(shown, market, trade) {
   const deed = { bid: 'buy', ask: 'sell' }[trade.side] || '?';
@@ -58,10 +65,10 @@ function tradeRow(shown, market, trade) {
       averageNode(trade.pc, trade.lots, market),
       amountNode(trade.pc, 'pc', market),
       amountNode(trade.fee, 'pc', market),
-      trade.isOrder ? 'order' : 'take',
+      tradeKind(shown, trade),
       whose,
     ],
-    details: fillNodes(shown, market, trade.row),
+    details: [...fillNodes(shown, market, trade.row), ...otherLegFacts(shown, market, trade.row)],
   };
 }
 

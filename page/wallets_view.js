@@ -4,6 +4,7 @@ import { amountNode, mintAmountNode, numberNode, tokenOf } from './amounts.js';
 import { element, tickBox } from './elements.js';
 import { addressNode, linkTo, nameOf, rowNode, shortAddress } from './links.js';
 import { addressFacts, facts, notice, section, seekRow, tableWithDetails } from './parts.js';
+import { otherLegFacts } from './sentences.js';
 import { Table } from './table.js';
 
 // The table of all wallets.
@@ -53,6 +54,7 @@ function moveRow(shown, wallet, move) {
       amount(move.before),
       amount(move.after),
     ],
+    details: market === undefined ? [] : otherLegFacts(shown, market, move.row),
   };
 }
 

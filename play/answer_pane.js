@@ -117,7 +117,7 @@ export class AnswerPane {
     this.saver.disabled = this.last === null || answer.text.length === 0;
     this.taker.hidden = answer.status !== 0 || !['dump', 'script'].includes(command.gives);
     const words = lossWords(answer);
-    const fault = words === null && answer.input !== null ? faultOf(answer) : null;
+    const fault = words === null && answer.input !== null ? faultOf(answer, source) : null;
     this.pane.setFault(fault !== null && !answer.isOfScript ? fault : null);
     if (words !== null) this.tellWords(words);
     else if (fault !== null && command.gives === 'report' && frame.shown !== null && this.isOf === 'report') this.tellStale(fault);

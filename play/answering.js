@@ -42,13 +42,13 @@ export function textsFor(command, answer, source) {
 }
 
 /** The row at fault of a refused script or dump, with what is wrong and what to do; null where the answer tells none. */
-export function faultOf(answer) {
+export function faultOf(answer, source) {
   if (answer.text.length > 1000) return null;
   const text = textOfAnswer(answer.text);
   if (!/^(script|dump) refused/.test(text)) return null;
   const told = readAnswer(new Lines(text));
   if (told.kind === 'script') {
-    const { name, what, remedy } = scriptFaultWords(told);
+    const { name, what, remedy } = scriptFaultWords(told, source.fieldsOfRow(Number(told.row)));
     return { row: Number(told.row), title: `${told.k} ${name}`, what, remedy };
   }
   const [name, what] = DUMP_FAULTS[told.k] || [told.name, 'the page knows no such fault'];

@@ -16,7 +16,7 @@ function noteText(known, text) {
     let end = text.indexOf('\n', from);
     if (end < 0) end = text.length;
     const line = text.slice(from, Math.min(end, from + 2000));
-    if (/^(do|ix),/.test(line)) return;
+    if (/^(do|ix|swap),/.test(line)) return;
     noteRow(known, line.split(','));
     from = end + 1;
   }

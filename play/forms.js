@@ -14,13 +14,25 @@ const ROLE_FIELDS = [
   field('Referrer wallet', 'a pc wallet that gets the referrer’s part, or -', 'pc'),
 ];
 
+const LANE_FIELD = field('Lane', '0 to 15; rows of one lane keep their order under run', 'lane');
+
 const INSTRUCTION_FIELDS = [
-  field('Lane', '0 to 15; rows of one lane keep their order under run', 'lane'),
+  LANE_FIELD,
   field('Market', 'a market that a row above declares', 'market'),
   field('Signer', 'who signs: the owner of the account and of the wallets that pay', 'signer'),
   field('Accounts', 'open-orders accounts, one space between two, or -', 'accounts'),
   ...ROLE_FIELDS,
 ];
+
+// The fields of a swap's leg: one of two takes, of which both act or neither does.
+function legFields(number) {
+  return [
+    field(`Market ${number}`, number === 1 ? 'the market of the first leg' : 'the market of the second leg, another one', 'market'),
+    field(`Coin wallet ${number}`, 'pays or gets the leg’s coin; a swap names each wallet once', 'coin'),
+    field(`Pc wallet ${number}`, 'pays or gets the leg’s pc; a swap names each wallet once', 'pc'),
+    field(`Data ${number}`, 'the leg’s take in base64: “Add a row” makes it; or type its words, such as take bid 50 1 600 0 0 10, and take what is offered', 'take'),
+  ];
+}
 
 /** Fields of rows behind the first word, by that word. */
 export const ROW_FORMS = {
@@ -42,7 +54,8 @@ export const ROW_FORMS = {
   ],
   orders: [field('Market', 'a market that a row above declares', 'market'), field('Address', NEW_ADDRESS)],
   do: [...INSTRUCTION_FIELDS, field('Words', 'the instruction and its words, one space between two', 'do')],
-  ix: [...INSTRUCTION_FIELDS, field('Data', 'the instruction’s bytes in base64')],
+  ix: [...INSTRUCTION_FIELDS, field('Data', 'the instruction’s bytes in base64', 'bytes')],
+  swap: [LANE_FIELD, field('Signer', 'who signs both legs: the owner of the wallets that pay', 'signer'), ...legFields(1), ...legFields(2)],
   dump: [],
   enddump: [],
 };
@@ -88,6 +101,30 @@ export const WORD_LISTS = {
   type: ['limit', 'ioc', 'post'],
 };
 
+/** What so many lots cost at a price, with the highest fee: the most native pc that a bid for them needs. */
+export function budgetOf(price, lots, market) {
+  const cost = price * lots * market.pcLot;
+  return cost + (cost * 22n + 9999n) / 10000n;
+}
+
+// Bytes in base64.
+function base64Of(view) { return btoa(String.fromCharCode(...new Uint8Array(view.buffer))); }
+
+/** The data in base64 of the words of a take: version 0, tag 13, side, price, lots, pc, least lots, least pc, limit; null where they are none. */
+export function takeData(words) {
+  if (!/^take (bid|ask)( (0|[1-9][0-9]{0,19})){6}$/.test(words)) return null;
+  const [, side, ...told] = words.split(' ');
+  const numbers = told.map((word) => BigInt(word));
+  const limit = numbers.pop();
+  if (limit >= 1n << 16n || numbers.some((number) => number >= 1n << 64n)) return null;
+  const view = new DataView(new ArrayBuffer(51));
+  view.setUint32(1, 13, true);
+  view.setUint32(5, Number(side === 'ask'), true);
+  numbers.forEach((number, at) => view.setBigUint64(9 + 8 * at, number, true));
+  view.setUint16(49, Number(limit), true);
+  return base64Of(view);
+}
+
 /** The data of a market row: version 0, tag 0, coin lot, pc lot, fee rate, nonce, dust threshold, in base64. */
 export function marketData({ coinLot, pcLot, feeRate = 0n, nonce = 0n, dust = 1n }) {
   const view = new DataView(new ArrayBuffer(39));
@@ -96,5 +133,5 @@ export function marketData({ coinLot, pcLot, feeRate = 0n, nonce = 0n, dust = 1n
   view.setUint16(21, Number(feeRate), true);
   view.setBigUint64(23, nonce, true);
   view.setBigUint64(31, dust, true);
-  return btoa(String.fromCharCode(...new Uint8Array(view.buffer)));
+  return base64Of(view);
 }

@@ -2,12 +2,14 @@
 // row was answered.
 
 import { element } from '../page/elements.js';
-import { rowNode } from '../page/links.js';
+import { entryNode, rowNode } from '../page/links.js';
 import { replyTitle, sentenceNode } from '../page/sentences.js';
 import { setupWords } from '../page/setup_words.js';
+import { legsInOrder } from '../page/swap_table.js';
 
-// The entries of a row in the journals of a report.
+// The entries of a row in the journals of a report: one, or those of a swap's legs in their order.
 function entriesOf(shown, row) {
+  if (shown.report.swaps.has(row)) return legsInOrder(shown, row);
   const found = [];
   for (const [address, journal] of shown.report.markets) {
     const at = journal.rows.indexOf(row);
@@ -16,10 +18,12 @@ function entriesOf(shown, row) {
   return found;
 }
 
-// How a row was answered.
+// How a row was answered; of a swap, each leg on its market.
 function answerNodesOf(shown, row) {
-  return entriesOf(shown, row).map(({ market, entry }) => element('p', { 'class': entry.refusal > 0 ? 'reply bad' : 'reply', 'data-name': 'reply' },
-    rowNode(market.address, row), ` ${replyTitle(entry)}: `, sentenceNode(shown, market, entry)));
+  const entries = entriesOf(shown, row);
+  const place = (address) => (entries.length === 1 ? rowNode(address, row) : [`row ${row} on `, entryNode(address, row)]);
+  return entries.map(({ market, entry }) => element('p', { 'class': entry.refusal > 0 ? 'reply bad' : 'reply', 'data-name': 'reply' },
+    place(market.address), `${entries.length === 1 ? ' ' : ', '}${replyTitle(entry)}: `, sentenceNode(shown, market, entry)));
 }
 
 /** The panel below the field; `take` is told of an offer that was chosen, `go` of a row to go to. */
@@ -55,7 +59,7 @@ export class Help {
     this.offers = hint.offers;
     this.piece = hint.piece;
     const chip = (offer) => element('button', { type: 'button', class: 'offer', title: offer.title || null, click: () => this.choose(offer) },
-      offer.word.length > 24 ? `${offer.word.slice(0, 22)}…` : offer.word);
+      offer.text || (offer.word.length > 24 ? `${offer.word.slice(0, 22)}…` : offer.word));
     this.chips.replaceChildren(...hint.offers.map(chip));
     const words = setupWords(fields);
     const told = row === null || shown === null ? [] : answerNodesOf(shown, row);

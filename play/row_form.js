@@ -107,7 +107,7 @@ export class RowForm {
   // Shows the row as it will stand.
   show(values) {
     const row = this.row(values);
-    this.preview.textContent = row === null ? 'It cannot be written yet: an order, or a number, is wanting.' : row;
+    this.preview.textContent = row === null ? 'It cannot be written yet: an order, a second market, or a number, is wanting.' : row;
     this.add.disabled = row === null;
   }
 

@@ -2,7 +2,7 @@
 
 import { restingOrders, signersOf, walletsOf } from './declared.js';
 import { doRow } from './deeds.js';
-import { marketData, WORD_LISTS } from './forms.js';
+import { budgetOf, marketData, takeData, WORD_LISTS } from './forms.js';
 
 // What a field of the form is: its name, its label, the words that are offered, whether only these may stand, and what stands at first.
 function asks(name, label, { offers = () => [], isChoice = false, start = () => '' } = {}) { return { name, label, offers, isChoice, start }; }
@@ -53,8 +53,7 @@ function bestPrice(known, values) {
 function budgetFor(known, values) {
   const market = shownMarket(known, values);
   if (values.side !== 'bid' || market === undefined || !/^[0-9]+$/.test(values.price) || !/^[0-9]+$/.test(values.lots)) return '1';
-  const cost = BigInt(values.price) * BigInt(values.lots) * market.pcLot;
-  return String(cost + (cost * 22n + 9999n) / 10000n);
+  return String(budgetOf(BigInt(values.price), BigInt(values.lots), market));
 }
 
 // A client id that no resting order has.
@@ -85,6 +84,43 @@ function actRow(values, words, wallets = {}) {
   return doRow({ lane: values.lane, market: values.market, signer: values.signer, accounts: values.account || '-', ...wallets, words });
 }
 
+// The fields of a take but for who signs, its wallets and its lane, and those of them that are its words.
+const TAKE_FIELDS = [MARKET, ...DEAL_FIELDS, count('most', 'At most, native pc with fee', budgetFor), count('leastLots', 'Least lots', '0'),
+  count('leastPc', 'Least native pc', '0'), LIMIT_FIELD];
+const TAKE_WORDS = ['side', 'price', 'lots', 'most', 'leastLots', 'leastPc', 'limit'];
+
+// What stands in the fields of a swap's second leg, by the names that the first one's have.
+function ofSecond(values) {
+  const second = Object.entries(values).filter(([name]) => name.endsWith('2'));
+  return { ...values, ...Object.fromEntries(second.map(([name, value]) => [name.slice(0, -1), value])) };
+}
+
+// A field of a swap's first leg, and one of the second, which hangs on the fields of its own leg.
+function firstField(one) { return { ...one, label: `1. ${one.label}` }; }
+function secondField({ name, label, offers, isChoice, start }) {
+  return {
+    name: `${name}2`, label: `2. ${label}`, isChoice, offers: (known, values) => offers(known, ofSecond(values)),
+    start: (known, values) => start(known, ofSecond(values)),
+  };
+}
+
+// The wallets for a token of a swap's second leg: none that the first leg names.
+function otherWallets(token) {
+  return (known, values) => walletsFor(token)(known, ofSecond(values)).filter((wallet) => wallet === '-' || ![values.coin, values.pc].includes(wallet));
+}
+
+const SECOND_FIELDS = [
+  among('market2', '2. Market', (known, { market }) => marketsOf(known).filter((one) => one !== market)),
+  oneOf('side2', '2. Side', ['ask', 'bid']), ...TAKE_FIELDS.slice(2).map(secondField),
+  among('coin2', '2. Coin wallet', otherWallets('coin')), among('pc2', '2. Pc wallet', otherWallets('pc')),
+];
+
+// The row of a swap: two takes on two markets; null where one of them cannot be made.
+function rowOfSwap(values) {
+  const legs = [values, ofSecond(values)].map((leg) => [leg.market, leg.coin, leg.pc, takeData(wordsFrom('take', leg, TAKE_WORDS))]);
+  return values.market2 === '' || legs.flat().includes(null) ? null : ['swap', values.lane, values.signer, ...legs.flat()].join(',');
+}
+
 // The order that is cancelled, by its words.
 const ORDER = asks('order', 'Order', {
   offers: (known, { market, account }) => restingOrders(known, market, account || '-').map(({ isBid, id }) => `${isBid ? 'bid' : 'ask'} ${id}`),
@@ -103,13 +139,10 @@ export const FORM_ROWS = {
     },
   },
   'a take': {
-    fields: [MARKET, ...DEAL_FIELDS, count('most', 'At most, native pc with fee', budgetFor), count('leastLots', 'Least lots', '0'),
-      count('leastPc', 'Least native pc', '0'), LIMIT_FIELD, ANYBODY, ...BOTH, LANE],
-    row: (values) => {
-      const words = wordsFrom('take', values, ['side', 'price', 'lots', 'most', 'leastLots', 'leastPc', 'limit']);
-      return actRow(values, words, { coin: values.coin, pc: values.pc });
-    },
+    fields: [...TAKE_FIELDS, ANYBODY, ...BOTH, LANE],
+    row: (values) => actRow(values, wordsFrom('take', values, TAKE_WORDS), { coin: values.coin, pc: values.pc }),
   },
+  'a swap': { fields: [ANYBODY, ...[...TAKE_FIELDS, ...BOTH].map(firstField), ...SECOND_FIELDS, LANE], row: rowOfSwap },
   'a cancel': {
     fields: [MARKET, ACCOUNT, ORDER, SIGNER, LANE],
     row: (values) => (values.order === '' ? null : actRow(values, `cancel ${values.order}`)),

@@ -1,7 +1,7 @@
 // What is played: a dump in front, kept folded, and the rows behind it, of which the field shows a part where they are many; or a file that
 // the field does not show.
 
-import { recordStarts } from '../page/script.js';
+import { fieldsAt, recordStarts } from '../page/script.js';
 import { grouped } from '../page/units.js';
 
 /** The most bytes that a command reads, as the program has it. */
@@ -128,6 +128,12 @@ export class Source {
   placeOfRow(row) {
     const start = recordStarts(this.rows)[row - this.dumpRows - 1];
     return start === undefined ? -1 : start;
+  }
+
+  /** The fields of a row by its number; none where the rows have none such. */
+  fieldsOfRow(row) {
+    const place = this.placeOfRow(row);
+    return place < 0 ? [] : fieldsAt(this.rows, place);
   }
 
   /** Takes the field's text; a dump that it begins with is folded. Tells whether the field has to be drawn anew. */

@@ -12,21 +12,24 @@ parsed right is tested. All amounts are native units of a token (the smallest th
 base that an order can move, `Market.coin_lot` native units of it, and a price is in pc lots a coin lot, of `Market.pc_lot` native units of
 quote. Text may be given in place of bytes.
 
+The commands `run` and `batch` need threads of their own and are not here: they are the program's alone.
+
 The module keeps nothing between calls, so threads may call it at once; they run side by side inside the library.
 """
 
 from .accounts import Accounts, Depth, Event, Level, Market, Mint, OpenOrders, Order, Wallet
 from .commands import Exchange, accounts, audit, bulk, dump, make, migrate, replay, worth
+from .entries import Cancelled, Consumed, Done, Entry, Move, Ordered, Refused, Reply, Settled, Swept, Took, WalletEntry
 from .errors import AuditFailed, DexError, DumpRefused, Finding, MigrateRefused, OutOfLimits, OutOfMemory, ScriptRefused
-from .report import (
-    Cancelled, Consumed, Done, Entry, Move, Ordered, Refused, Reply, Report, Settled, Swept, Took, WalletEntry,
-)
+from .report import Report
+from .rows import take_data
 from .summary import MarketSummary, Summary
+from .swaps import Leg, Swap
 from .worth import Worth, Worths
 
 __all__ = [
-    'replay', 'dump', 'audit', 'worth', 'migrate', 'make', 'bulk', 'accounts', 'Exchange',
-    'Report', 'Entry', 'Move', 'WalletEntry',
+    'replay', 'dump', 'audit', 'worth', 'migrate', 'make', 'bulk', 'accounts', 'Exchange', 'take_data',
+    'Report', 'Entry', 'Move', 'WalletEntry', 'Swap', 'Leg',
     'Reply', 'Ordered', 'Took', 'Cancelled', 'Consumed', 'Settled', 'Swept', 'Done', 'Refused',
     'Accounts', 'Market', 'Mint', 'Wallet', 'Order', 'Event', 'OpenOrders', 'Depth', 'Level',
     'Summary', 'MarketSummary', 'Worth', 'Worths',

@@ -129,8 +129,10 @@ def orders_of(address: str, data: bytes) -> OpenOrders:
     is_blank = not any(data)
     slots = {} if is_blank else {slot: number_at(data, 141 + 16 * slot, 16) for slot in range(128) if not free >> slot & 1}
     state = {0: 'blank', 5: 'open'}.get(number_at(data, 5), 'closed')
-    funds = (number_at(data, place) for place in (77, 85, 93, 101))
-    return OpenOrders(address, state, address_at(data, 45), *funds, number_at(data, 3213), slots)
+    return OpenOrders(
+        address, state, address_at(data, 45), coin_free=number_at(data, 77), coin_total=number_at(data, 85), pc_free=number_at(data, 93),
+        pc_total=number_at(data, 101), referrer_rebates=number_at(data, 3213), slots=slots,
+    )
 
 
 def side_of(data: bytes, is_bid: bool) -> tuple[Order, ...]:

@@ -113,7 +113,8 @@ class Exchange:
     def step(self, rows: Text) -> Exchange:
         """The exchange when further instruction rows have acted.
 
-        The rows are those of a script behind a dump: `do`, `ix` and `clock`, and a `program` row at their front where `openbook` runs.
+        The rows are those of a script behind a dump: `do`, `ix`, `swap` and `clock`, and a `program` row at their front where `openbook`
+        runs.
         Each step's clock begins at 0. Rows count from the dump's first row on, so the first row here has the number `first_row`.
         Raises ScriptRefused; then this exchange is as it was.
         """

@@ -32,7 +32,8 @@ class OutOfMemory(DexError, MemoryError):
 class ScriptRefused(DexError, ValueError):
     """A row of the script is at fault: the first such row, counted from 1, and the lowest of its faults.
 
-    `kind` is the fault's number, from 1 to 9, and `name` its name; `code` is the setup code where `kind` is 9, and else None.
+    `kind` is the fault's number, from 1 to 10, and `name` its name, such as `UnknownLabel` or `BadSwap`; `code` is the setup code where
+    `kind` is 9, and else None. Kind 11, `NoBatch`, is of the program's command `batch`, which refuses swaps.
     """
 
     def __init__(self, text: str) -> None:

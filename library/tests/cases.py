@@ -1,7 +1,7 @@
 """Stored cases through the Python module, from several threads at once, and what it reads from reports.
 
-cases.py ROOT CASE.. compares each case's text and refusal with what is stored, and the parsed reports of the examples with the
-numbers in their text. Prints 'N passed, M failed'.
+cases.py ROOT CASE.. compares each case's text and refusal with what is stored, and the parsed reports of the examples, and of one with
+swaps, with the numbers in their text. Prints 'N passed, M failed'.
 """
 
 import pickle
@@ -102,7 +102,7 @@ def slots_of(market: daisyhook.Market) -> set[int]:
 def try_steps(script: str) -> None:
     """Rows one by one leave what they leave together, and are answered alike."""
     rows = script.splitlines(keepends=True)
-    first = next(at for at, row in enumerate(rows) if row.startswith(('do,', 'ix,')))
+    first = next(at for at, row in enumerate(rows) if row.startswith(('do,', 'ix,', 'swap,')))
     here = daisyhook.Exchange(''.join(rows[:first]))
     replies: dict[str, list[daisyhook.Reply]] = {address: [] for address in here.report.markets}
     for row in rows[first:]:
@@ -114,13 +114,37 @@ def try_steps(script: str) -> None:
     same('their replies', replies, {address: [entry.reply for entry in one.journal] for address, one in whole.markets.items()})
 
 
+def try_swaps() -> None:
+    """Swaps: the stored report, its legs, the data of a leg, and a row whose legs do not go together."""
+    script, wanted = (root / 'tests' / 'data' / f'swaps.{kind}' for kind in ('csv', 'report'))
+    report = daisyhook.replay(script.read_bytes())
+    same('a report with swaps', report.text, wanted.read_bytes())
+    same('swaps, and which of them acted', {row: swap.acted for row, swap in report.swaps.items()},
+         {17: True, 18: False, 19: False, 20: False, 22: True})
+    legs = [(swap.row, leg) for swap in report.swaps.values() for leg in swap.legs]
+    same('legs that were held back', [(row, leg.market) for row, leg in legs if leg.is_held_back], [(18, 'm'), (19, 'n')])
+    same('legs that were refused', [(row, leg.market, leg.entry.reply.number) for row, leg in legs if leg.is_refused],
+         [(18, 'n', 22), (19, 'm', 20), (20, 'm', 20), (20, 'n', 1)])
+    same('a report without swaps', daisyhook.Report((root / 'examples' / 'deep_book.report').read_bytes()).swaps, {})
+    rows = [row.split(',') for row in script.read_text().splitlines()]
+    same('data of both legs', [daisyhook.take_data('bid', 60, 1, 700, 1, 0, 10), daisyhook.take_data('ask', 65, 1, 1, 0, 600, 10)],
+         [rows[16][6], rows[16][10]])
+    rows[16][7] = 'm'
+    try:
+        daisyhook.replay('\n'.join(map(','.join, rows)))
+        same('a swap on one market', 'a report', 'a refusal')
+    except daisyhook.ScriptRefused as refusal:
+        same('a swap on one market', repr(refusal), "ScriptRefused(row=17, kind=10, name='BadSwap')")
+
+
 with ThreadPoolExecutor(4) as threads:
     for told in threads.map(try_case, sys.argv[2:] * 2):
         same(*told)
-for path in sorted((root / 'examples').glob('*.report')):
+for path in (*sorted((root / 'examples').glob('*.report')), root / 'tests' / 'data' / 'swaps.report'):
     try_report(path.read_bytes())
-for name in ('two_traders', 'deep_book', 'discount_and_referrer'):
-    try_steps((root / 'examples' / f'{name}.csv').read_text())
+for name in ('examples/two_traders', 'examples/deep_book', 'examples/discount_and_referrer', 'tests/data/swaps'):
+    try_steps((root / f'{name}.csv').read_text())
+try_swaps()
 traders = daisyhook.replay((root / 'examples' / 'two_traders.csv').read_text())
 same('what rests in two_traders', traders.markets['m'].depth, daisyhook.Depth((), (daisyhook.Level(50, 1, 1),)))
 same('what Ann holds', traders.wallets['ann_usd'].amount, 1500)

@@ -19,6 +19,7 @@ PROGRAM = os.environ.get("DEX_PROGRAM") or os.path.join(ROOT, "dex")
 sys.path.insert(0, ROOT)
 sys.dont_write_bytecode = True
 
+from bridge.accounts import TOKEN_KINDS  # noqa: E402
 from bridge.command import main  # noqa: E402
 from bridge.dump_text import dump_rows, read_dump  # noqa: E402
 from bridge.encoding import base58_text, base64_text  # noqa: E402
@@ -26,7 +27,6 @@ from bridge.snapshot import Entry, Snapshot, is_blank  # noqa: E402
 from bridge.tables import PROGRAMS, TOKEN_PROGRAM  # noqa: E402
 
 SERUM, OPENBOOK = PROGRAMS["serum"], PROGRAMS["openbook"]
-TOKEN_KINDS = ("mint", "wallet", "coin_vault", "pc_vault")
 
 
 @dataclass(frozen=True)

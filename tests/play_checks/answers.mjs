@@ -28,11 +28,7 @@ async function checkExamples(suite, player) {
   const names = options.filter((name) => name !== '');
   suite.holds('there are examples', names.length > 5);
   for (const name of names) {
-    await player.page.run((value) => {
-      const select = document.querySelector('[data-key="choice Example"]');
-      select.value = value;
-      select.dispatchEvent(new Event('change'));
-    }, name);
+    await player.page.choose('Example', name);
     await player.calm();
     const { text } = await player.saved();
     suite.same(`example ${name}`, text, stored(`examples/${name}.report`));

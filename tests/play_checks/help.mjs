@@ -51,23 +51,18 @@ async function checkForm(suite, player) {
   const before = await player.rows();
   await player.click('Add a row');
   const kinds = await player.page.run(() => [...document.querySelectorAll('.row-form select')[0].options].map(({ value }) => value));
+  suite.holds('the form has a swap', kinds.includes('a swap'));
   for (const kind of kinds) {
-    await player.drop('two.csv', before);
-    await player.page.run((value) => {
-      const [select] = document.querySelectorAll('.row-form select');
-      select.value = value;
-      select.dispatchEvent(new Event('change'));
-    }, kind);
+    await player.drop('two.csv', kind === 'a swap' ? stored('tests/data/swaps.csv') : before);
+    await player.form(kind);
     const row = await player.named('new row');
     await player.click('Write the row');
     suite.holds(`the form for ${kind}: its row stands there`, (await player.rows()).includes(`${row}\n`), row);
     suite.same(`the form for ${kind}: no row is at fault`, await player.named('row fault'), '');
   }
   await player.drop('two.csv', before);
+  await player.form('a market');
   await player.page.run(() => {
-    const [select] = document.querySelectorAll('.row-form select');
-    select.value = 'a market';
-    select.dispatchEvent(new Event('change'));
     for (const [name, value] of [['address', 'big'], ['coinLot', '1000'], ['pcLot', '25'], ['bids', '63']]) {
       const field = document.querySelector(`.row-form [name=${name}]`);
       field.value = value;

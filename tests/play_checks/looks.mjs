@@ -15,6 +15,15 @@ const STATES = {
   'with a made script': (player) => player.command('make', '18446744073709551615', '20'),
 };
 
+// Where a script with swaps is looked at besides.
+const SWAP_STATES = {
+  'with a refused swap at the caret': (player) => player.caretBehind('swap,1,bob,n,bob_coin2,'),
+  'with the form of a swap': async (player) => {
+    await player.click('Add a row');
+    await player.form('a swap');
+  },
+};
+
 // One look at the page as it stands.
 async function checkLook(suite, page, name) {
   const { covers, hidden, wide, texts } = await page.run(faultsOfLayout);
@@ -25,8 +34,8 @@ async function checkLook(suite, page, name) {
 }
 
 // Each state at each width.
-async function checkStates(suite, player, name, script) {
-  for (const [state, reach] of Object.entries(STATES)) {
+async function checkStates(suite, player, name, script, states = STATES) {
+  for (const [state, reach] of Object.entries(states)) {
     await player.page.size(1280, 1200);
     await player.open('book');
     await player.drop('script.csv', script);
@@ -78,17 +87,6 @@ async function checkContrast(suite, player) {
   }
 }
 
-// Whether anything of a text became an element, ran, or was asked for.
-async function checkHarmless(suite, page, name) {
-  const found = await page.run(() => ({
-    hurt: window.hurt === undefined, images: document.querySelectorAll('img, iframe, object, embed, svg:not([role="img"])').length,
-    handlers: document.querySelectorAll('[onload], [onerror], [onclick]').length,
-    hrefs: [...document.querySelectorAll('a[href]')].filter((link) => !link.getAttribute('href').startsWith('#')).length,
-  }));
-  suite.same(`${name}: it stays text`, found, { hurt: true, images: 0, handlers: 0, hrefs: 0 });
-  suite.same(`${name}: nothing is asked for`, page.requests(), []);
-}
-
 // Markup in scripts, dumps, names of files and the page's address.
 async function checkMarkup(suite, player) {
   const quoted = `"${MARKUP.replace(/"/g, '""')}"`;
@@ -100,12 +98,12 @@ async function checkMarkup(suite, player) {
     await player.caretBehind(MARKUP.slice(0, 8));
     for (const command of ['replay', 'audit', 'replay']) {
       await player.command(command);
-      await checkHarmless(suite, player.page, `markup ${at}, ${command}`);
+      await suite.harmless(`markup ${at}, ${command}`, player.page);
     }
   }
   for (const fragment of [`book/${encodeURIComponent(MARKUP)}`, `journal/m?row=${encodeURIComponent(MARKUP)}`, encodeURIComponent(MARKUP)]) {
     await player.open(fragment);
-    await checkHarmless(suite, player.page, `#${fragment.slice(0, 40)}`);
+    await suite.harmless(`#${fragment.slice(0, 40)}`, player.page);
   }
   const policy = await player.page.run(() => document.querySelector('meta[http-equiv]').content);
   const wanted = /^default-src 'none'; script-src 'sha256-[A-Za-z0-9+/=]{44}' 'wasm-unsafe-eval'; style-src 'unsafe-inline'; worker-src blob:; /;
@@ -125,6 +123,9 @@ export async function lookCases(suite) {
   const script = stored('examples/deep_book.csv');
   await checkStates(suite, player, 'deep_book', script);
   await checkStates(suite, player, 'deep_book in hexadecimal', withHexAddresses(script, labelsOf(script)).text);
+  const swaps = stored('tests/data/swaps.csv');
+  await checkStates(suite, player, 'swaps', swaps, SWAP_STATES);
+  await checkStates(suite, player, 'swaps in hexadecimal', withHexAddresses(swaps, labelsOf(swaps)).text, { 'as it opens': STATES['as it opens'] });
   await checkContrast(suite, player);
   await checkMarkup(suite, player);
   await player.page.close();

@@ -84,11 +84,7 @@ export class Player {
 
   /** Chooses a command, with words behind it. */
   async command(name, ...words) {
-    await this.page.run((value) => {
-      const select = document.querySelector('[data-key="choice Command"]');
-      select.value = value;
-      select.dispatchEvent(new Event('change'));
-    }, name);
+    await this.page.choose('Command', name);
     await this.page.run((values) => {
       const fields = [...document.querySelectorAll('.numbers input')];
       for (const [at, value] of values.entries()) {
@@ -101,6 +97,15 @@ export class Player {
 
   /** The commands that are offered. */
   commands() { return this.page.run(() => [...document.querySelectorAll('[data-key="choice Command"] option')].map(({ value }) => value)); }
+
+  /** Chooses what the small form writes; the form is open. */
+  async form(kind) {
+    await this.page.run((value) => {
+      const [select] = document.querySelectorAll('.row-form select');
+      select.value = value;
+      select.dispatchEvent(new Event('change'));
+    }, kind);
+  }
 
   /** Clicks the first button of a text. */
   async click(text, within = 'body') {

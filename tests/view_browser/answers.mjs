@@ -14,7 +14,7 @@ const LINES = [
   ['read failed', 'The input could not be read.', ''],
   ['input too long', 'More than 67,108,864 bytes were given.', ''],
   ['no memory', 'Memory was wanting.', ''],
-  ['usage: dex replay, run, audit, dump, make NUMBER ROWS, bulk NUMBER ROWS or migrate NODES EVENTS', 'The words of the command are none', ''],
+  ['usage: dex replay, run, audit, dump, worth, make NUMBER ROWS, bulk NUMBER ROWS, migrate NODES EVENTS or batch WORKERS', 'The words of the command are none', ''],
 ];
 
 // Each answer of one line.

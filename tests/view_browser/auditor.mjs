@@ -1,8 +1,6 @@
 // What an auditor asks: addresses in base58, parts of markets by name, copies and CSV of tables, sorting, an overview, paper; and the words of
 // the field.
 
-import { readFileSync } from 'node:fs';
-import { join } from 'node:path';
 import { makePage, stored, withHexAddresses, labelsOf } from './texts.mjs';
 
 // Addresses and their base58, by another way: repeated division of the digits.
@@ -63,9 +61,8 @@ async function checkSorting(suite, page) {
 
 // A table as CSV, and as text on the clipboard.
 async function checkCopies(suite, page) {
-  await suite.browser.ask('Browser.setDownloadBehavior', { behavior: 'allow', downloadPath: suite.folder });
   await page.go('#wallets');
-  await page.point('[aria-label="CSV of Wallets"]');
+  const found = await page.csv('Wallets', suite.folder);
   const wanted = ['Wallet,Owner,Mint,Balance,Moves'];
   const report = stored('examples/deep_book.report');
   for (const line of report.split('\n').filter((one) => one.startsWith('wallet,'))) {
@@ -74,11 +71,6 @@ async function checkCopies(suite, page) {
     const label = (from) => bytes.subarray(from, bytes.indexOf(0, from)).toString();
     const moves = report.split('\n').find((one) => one.startsWith(`wallet ${name} `)).split(' ')[2];
     wanted.push([name, label(32), label(0), bytes.readBigUInt64LE(64), moves].join(','));
-  }
-  let found = '';
-  for (let tries = 0; tries < 50 && found === ''; tries += 1) {
-    await new Promise((resume) => { setTimeout(resume, 100); });
-    try { found = readFileSync(join(suite.folder, 'Wallets.csv'), 'utf8'); } catch { found = ''; }
   }
   suite.same('CSV of the wallets', found, `${wanted.join('\r\n')}\r\n`);
   await suite.browser.ask('Browser.grantPermissions', { permissions: ['clipboardReadWrite', 'clipboardSanitizedWrite'] });
@@ -131,7 +123,7 @@ async function checkWords(suite, page) {
   const all = texts.join('\n');
   for (const word of ['coin_deposits_total', 'pc_deposits_total', 'Sequence number', 'unchanged', 'short by']) suite.holds(`the word ${word} stands`, all.includes(word));
   for (const word of [/\bage\b/i, /\bSeq\b/, /looked at/, /are wanting/, /below a/, /word of .* deposits/]) suite.holds(`no ${word}`, !word.test(all), (word.exec(all) || [''])[0]);
-  await page.run(() => { const select = document.querySelector('[data-key="choice Amounts"]'); select.value = 'native'; select.dispatchEvent(new Event('change')); });
+  await page.choose('Amounts', 'native');
   await page.go('#vaults/m');
   suite.holds('native: < 1 pc lot', (await page.text('main')).includes('< 1 pc lot'));
   await page.go('#wallets/ann_usd');

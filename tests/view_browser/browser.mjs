@@ -1,6 +1,8 @@
 // Chromium without a window, driven over a pipe: pages, widths, keys, clicks, and functions that are called in a page.
 
 import { spawn } from 'node:child_process';
+import { existsSync, readFileSync, rmSync } from 'node:fs';
+import { join } from 'node:path';
 
 const PATIENCE = 60000;
 
@@ -151,6 +153,30 @@ class Page {
   /** The texts of all elements of a selector. */
   texts(selector) {
     return this.run((words) => [...document.querySelectorAll(words)].map((node) => node.textContent), selector);
+  }
+
+  /** Chooses a value of the choice of a name. */
+  async choose(name, value) {
+    await this.run((words, chosen) => {
+      const select = document.querySelector(`[data-key="choice ${words}"]`);
+      select.value = chosen;
+      select.dispatchEvent(new Event('change'));
+    }, name, value);
+    await this.settle();
+  }
+
+  /** What the CSV of a table holds, which is kept in a folder meanwhile; nothing where none comes. */
+  async csv(label, folder) {
+    await this.browser.ask('Browser.setDownloadBehavior', { behavior: 'allow', downloadPath: folder });
+    await this.point(`[aria-label="CSV of ${label}"]`);
+    const path = join(folder, `${label.replace(/[^A-Za-z0-9_]+/g, '_')}.csv`);
+    let text = '';
+    for (let tries = 0; tries < 50 && text === ''; tries += 1) {
+      await new Promise((resume) => { setTimeout(resume, 100); });
+      text = existsSync(path) ? readFileSync(path, 'utf8') : '';
+    }
+    rmSync(path, { force: true });
+    return text;
   }
 
   /** Writes a picture of the page; `height` makes it as high as it is. */

@@ -26,13 +26,14 @@ async function checkViews(suite, name, file) {
 
 /** Layouts of reports with labels, with hexadecimal addresses, and of a dump with findings. */
 export async function layoutCases(suite) {
-  for (const example of ['deep_book', 'discount_and_referrer']) {
-    const [script, report] = ['csv', 'report'].map((kind) => stored(`examples/${example}.${kind}`));
+  for (const example of ['examples/deep_book', 'examples/discount_and_referrer', 'tests/data/swaps']) {
+    const [script, report] = ['csv', 'report'].map((kind) => stored(`${example}.${kind}`));
     await checkViews(suite, example, makePage(suite.folder, report, { 'script.csv': script }));
     const labels = labelsOf(script);
     const hex = { report: withHexAddresses(report, labels).text, script: withHexAddresses(script, labels).text };
     await checkViews(suite, `${example} in hexadecimal`, makePage(suite.folder, hex.report, { 'script.csv': hex.script }));
   }
+  await checkViews(suite, 'swaps without their script', makePage(suite.folder, stored('tests/data/swaps.report')));
   const answer = stored('tests/cases/audit/0452.out');
   await checkViews(suite, 'findings', makePage(suite.folder, stored('tests/cases/audit/0452.in'), { 'answer.txt': answer }));
   const large = withBytes(dumpOf(stored('examples/deep_book.report')), 'market,m,', 5, 64, Buffer.alloc(8, 255));

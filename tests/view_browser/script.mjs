@@ -20,16 +20,6 @@ const SENTENCES = {
   ],
 };
 
-// Shows native amounts.
-async function showNative(page) {
-  await page.run(() => {
-    const select = document.querySelector('[data-key="choice Amounts"]');
-    select.value = 'native';
-    select.dispatchEvent(new Event('change'));
-  });
-  await page.settle();
-}
-
 // What a row of the journal says was asked.
 async function askedIn(page, row) {
   await page.go(`#journal/m?row=${row}`);
@@ -40,7 +30,7 @@ async function askedIn(page, row) {
 async function checkSentences(suite, page) {
   for (const [name, rows] of Object.entries(SENTENCES)) {
     await page.open(makePage(suite.folder, stored(`examples/${name}.report`), { 'script.csv': stored(`examples/${name}.csv`) }), 'journal/m');
-    await showNative(page);
+    await page.choose('Amounts', 'native');
     for (const [row, sentence] of rows) suite.same(`${name}: row ${row}`, await askedIn(page, row), sentence);
   }
   await page.go('#journal/m?row=12');

@@ -21,17 +21,6 @@ const HOSTILE = {
   'backslashes': 'script refused row 3: 3 FieldCount\\l\\\\n\\0\n',
 };
 
-// Whether anything of a text became an element, ran, or was asked for.
-async function checkHarmless(suite, page, name) {
-  const found = await page.run(() => ({
-    hurt: window.hurt === undefined, images: document.querySelectorAll('img, iframe, object, embed, svg:not([role="img"])').length,
-    handlers: document.querySelectorAll('[onload], [onerror], [onclick]').length,
-    hrefs: [...document.querySelectorAll('a[href]')].filter((link) => !link.getAttribute('href').startsWith('#')).length,
-  }));
-  suite.same(`${name}: it stays text`, found, { hurt: true, images: 0, handlers: 0, hrefs: 0 });
-  suite.same(`${name}: nothing is asked for`, page.requests(), []);
-}
-
 // The row of a table whose cells have markup is chosen too, so that its details are drawn.
 async function chooseFirst(page) {
   await page.run(() => { for (const row of document.querySelectorAll('.rows .row')) row.click(); });
@@ -44,16 +33,16 @@ export async function securityCases(suite) {
   for (const [name, text] of Object.entries(HOSTILE)) {
     await page.open(makePage(suite.folder, text));
     await chooseFirst(page);
-    await checkHarmless(suite, page, name);
+    await suite.harmless(name, page);
     await page.open(makePage(suite.folder, stored('examples/two_traders.report'), { '"><img src=x onerror="window.hurt=1">': text }));
-    await checkHarmless(suite, page, `${name}, beside a report, as a file of a hostile name`);
+    await suite.harmless(`${name}, beside a report, as a file of a hostile name`, page);
   }
   const file = makePage(suite.folder, stored('examples/two_traders.report'));
   for (const view of ['book', 'journal', 'wallets', 'bytes', 'owners', 'orders', 'script', MARKUP]) {
     const mark = encodeURIComponent(MARKUP);
     for (const fragment of [`${view}/${mark}`, `${view}/m?row=${mark}&account=${mark}&id=${mark}&place=${mark}&signer=${mark}`, `${view}?__proto__=1&constructor=2`]) {
       await page.open(file, fragment);
-      await checkHarmless(suite, page, `#${fragment.slice(0, 60)}`);
+      await suite.harmless(`#${fragment.slice(0, 60)}`, page);
     }
   }
   const text = readFileSync(file, 'utf8');

@@ -3,16 +3,6 @@
 
 import { makePage, stored } from './texts.mjs';
 
-// Chooses the units of amounts.
-async function showIn(page, units) {
-  await page.run((value) => {
-    const select = document.querySelector('[data-key="choice Amounts"]');
-    select.value = value;
-    select.dispatchEvent(new Event('change'));
-  }, units);
-  await page.settle();
-}
-
 // The example's market has mints of 6 decimals, a coin lot of 100 and a pc lot of 10: a lot is 0.0001 coin, price 1 is 0.1 usd per coin.
 async function checkBook(suite, page) {
   await page.go('#book/m');
@@ -23,10 +13,10 @@ async function checkBook(suite, page) {
   suite.same('spread', [await value('spread'), await native('spread'), await value('basis points')], ['0.3', '3', ' (594.1 basis points)']);
   suite.same('last price', await value('last price'), '4.8');
   suite.same('the native price under the pointer', await page.run(() => document.querySelector('[data-name="best bid"]').parentNode.title), '49 pc lots per coin lot');
-  await showIn(page, 'native');
+  await page.choose('Amounts', 'native');
   suite.same('best bid, native', await value('best bid'), '49');
   suite.same('last price, native', await value('last price'), '48');
-  await showIn(page, 'tokens');
+  await page.choose('Amounts', 'tokens');
 }
 
 // The tape has a row for each entry that filled something, and the volume is their sum.

@@ -68,7 +68,7 @@ pub fn round<R: Clock + AllocGlobal>(rt: &R, rows: u32) -> Result<Bulk, Error>
     let make_7 = watch.lap(rt)?;
     let bytes = make_script(alloc, 1, rows)?;
     let make_1 = watch.lap(rt)?;
-    let script = read_script(alloc, &bytes)?;
+    let script = read_script(alloc, &bytes, false)?;
     let reading = watch.lap(rt)?;
     let outcome = replay(alloc, script)?;
     let replay = watch.lap(rt)?;

@@ -55,7 +55,7 @@ pub struct Replayed {
 pub fn round<R: Clock + AllocGlobal>(rt: &R, bytes: &[u8]) -> Result<Replayed, Error> {
     let alloc = rt.alloc();
     let mut watch = Watch::start(rt)?;
-    let script = read_script(alloc, bytes)?;
+    let script = read_script(alloc, bytes, false)?;
     let lanes = script.lanes;
     let count = items_in(&script.rows);
     let reading = watch.lap(rt)?;

@@ -13,6 +13,6 @@ pub use Rattle.dex_run.specs.Inside.{call_made}
 pub use Rattle.dex_run.specs.Opened.{first_passes, fresh_pass, passes_of, seat_in, split_once}
 pub use Rattle.dex_run.specs.Running.{CanRun, HasRun, IsJobOf}
 pub use Rattle.dex_run.specs.Seats.{IsDone, IsMarketPass, IsPass, IsSeat, IsSeatOf, IsWalletPass, SeatState}
-pub use Rattle.dex_run.specs.Submitted.{HasCalled, HasMoved, HasSubmitted, IsNext, Where}
-pub use Rattle.dex_run.specs.Turns.{AreInHand, AreReady, HasCall, HasEntry, HasLeft, HaveGrown, IsDue, IsReady, MayDraw, MayEnter, MayLeave, OneGrows, world_in}
+pub use Rattle.dex_run.specs.Submitted.{AreNext, HasCalled, HasMoved, HasSubmitted, HaveSubmitted, IsNext, Where}
+pub use Rattle.dex_run.specs.Turns.{AreInHand, AreReady, HasCall, HasEntry, HasLeft, HaveGrown, IsReady, MayDraw, MayEnter, MayLeave, MayName, OneGrows, world_in}
 pub use Rattle.dex_run.specs.declared.lane.LaneJob.{LaneJob}

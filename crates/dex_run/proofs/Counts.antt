@@ -2,8 +2,7 @@
 use Rattle.std.proofs.Common.{◌≡◌, ℕ, ◌+◌, ◌<◌, ◌==◌, Bool, true, false, cond, List, [], ◌∷◌, ◌++◌, length, map, take, refl, sym, ap, ◌∙◌, subst, arith, ⊎_elim}
 use Rattle.dex_fold.proofs.Common.{Address, All-head, All-tail, Asked, Call, Movement, PlainRow, asked-once, asked_of, asked_wallets, cases_Bool, cond-false, cond-true, filter, filter-append, is_same, is_same-sym, length-map, list_any, names, rows_of_lane}
 use Rattle.dex_replay.proofs.Common.{PlainScript, rows_of_market, rows_of_wallet}
-use Rattle.dex_order.proofs.Common.{MovesEach, Stamped, calls_on, entries_in, entries_on, entry_made, filter-of, filter-swap, items_of-stamped, stamped}
-use Rattle.dex_run.proofs.Common.{IsDue}
+use Rattle.dex_order.proofs.Common.{IsLane, MovesEach, Stamped, calls_on, entries_in, entries_on, entry_made, filter-of, filter-swap, items_of-stamped, stamped}
 use Rattle.std.specs.List.{All}
 use Rattle.std.proofs.lemmas.List.{length-append}
 use Rattle.dex_history.specs.Journal.{front}
@@ -83,26 +82,41 @@ calls-pass q calls rows are =
     ∙ ap (λ (asked : List Asked). length (filter q asked)) are
     ∙ length-filter_map q asked_of rows
 
+-- a row that is still to come, behind so many rows and some between
+pub record IsAhead (rows : List PlainRow) (done : ℕ) (row : PlainRow) : Type 0 where
+  pub between : List PlainRow
+  pub later : List PlainRow
+  pub is : rows ≡ take done rows ++ (between ++ row ∷ later)
+
 -- the rows of a lane that pass a test are more than those that are done
-fewer : (lane : ℕ) (q : PlainRow → Bool) (rows done later : List PlainRow) (row : PlainRow) → rows_of_lane lane rows ≡ done ++ row ∷ later → q row ≡ true
+fewer : (lane : ℕ) (q : PlainRow → Bool) (rows done rest : List PlainRow) → rows_of_lane lane rows ≡ done ++ rest → 0 < length (filter q rest)
     → length (filter q done) < length (filter (λ (r : PlainRow). r.lane == lane) (filter q rows))
-fewer lane q rows done later row are passes =
+fewer lane q rows done rest are some =
     subst (λ (l : List PlainRow). length (filter q done) < length l) (sym (filter-swap (λ (r : PlainRow). r.lane == lane) q rows))
-    (subst (λ (l : List PlainRow). length (filter q done) < length (filter q l)) (sym are) (filter-fewer q done row later passes))
+    (subst (λ (l : List PlainRow). length (filter q done) < length (filter q l)) (sym are)
+    (omega (arith, some, ap length (filter-append q done rest), length-append (filter q done) (filter q rest))))
 
-module _ (row : PlainRow) (calls : List (Stamped Call)) (address : Address) where
-  pub calls-left : (script : PlainScript) → IsDue script calls row → is_same row.market address ≡ true
-      → length (calls_on address calls) < length (rows_of_market row.lane address script.rows)
-  calls-left script due on =
-      let done : List PlainRow = take (length calls) (rows_of_lane row.lane script.rows) in
-      subst (λ (n : ℕ). n < length (rows_of_market row.lane address script.rows))
-      (sym (calls-pass (λ (asked : Asked). is_same asked.market address) calls done due.lane.asks))
-      (fewer row.lane (λ (r : PlainRow). is_same r.market address) script.rows done due.later row due.next on)
+some-left : (q : PlainRow → Bool) (between : List PlainRow) (row : PlainRow) (later : List PlainRow) → q row ≡ true → 0 < length (filter q (between ++ row ∷ later))
+some-left q between row later passes = omega (arith, filter-fewer q between row later passes)
 
-  pub entries-left : (script : PlainScript) → IsDue script calls row → names row address ≡ true
-      → length (entries_on address calls) < length (rows_of_wallet row.lane address script.rows)
-  entries-left script due named =
-      let done : List PlainRow = take (length calls) (rows_of_lane row.lane script.rows) in
-      subst (λ (n : ℕ). n < length (rows_of_wallet row.lane address script.rows))
-      (sym (length-entries address calls due.lane.moves ∙ calls-pass (asks address) calls done due.lane.asks))
-      (fewer row.lane (λ (r : PlainRow). names r address) script.rows done due.later row due.next named)
+module _ (script : PlainScript) (lane : ℕ) (row : PlainRow) (calls : List (Stamped Call)) (is : IsLane script lane calls)
+    (ahead : IsAhead (rows_of_lane lane script.rows) (length calls) row) (address : Address) where
+  abbrev done : List PlainRow
+  done = take (length calls) (rows_of_lane lane script.rows)
+
+  abbrev rest : List PlainRow
+  rest = ahead.between ++ row ∷ ahead.later
+
+  pub calls-left : is_same row.market address ≡ true → length (calls_on address calls) < length (rows_of_market lane address script.rows)
+  calls-left on =
+      let q : PlainRow → Bool = λ r. is_same r.market address in
+      subst (λ (n : ℕ). n < length (rows_of_market lane address script.rows))
+      (sym (calls-pass (λ (asked : Asked). is_same asked.market address) calls done is.asks))
+      (fewer lane q script.rows done rest ahead.is (some-left q ahead.between row ahead.later on))
+
+  pub entries-left : names row address ≡ true → length (entries_on address calls) < length (rows_of_wallet lane address script.rows)
+  entries-left named =
+      let q : PlainRow → Bool = λ r. names r address in
+      subst (λ (n : ℕ). n < length (rows_of_wallet lane address script.rows))
+      (sym (length-entries address calls is.moves ∙ calls-pass (asks address) calls done is.asks))
+      (fewer lane q script.rows done rest ahead.is (some-left q ahead.between row ahead.later named))

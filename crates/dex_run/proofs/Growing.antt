@@ -1,7 +1,7 @@
 -- Passes in declared order, one of which takes a turn.
 use Rattle.std.proofs.Common.{◌≡◌, ℕ, zero, suc, ◌<◌, ◌≤◌, Bool, true, false, ◌||◌, List, [], ◌∷◌, ◌++◌, length, set, get_or, Some, refl, sym, ap, ◌∙◌, subst, arith}
 use Rattle.dex_fold.proofs.Common.{Address, AllZip, PlainAccount, WalletEntry, false≢true, is_same, is_same-refl, is_same-sym, list_any, or_parts, or_right}
-use Rattle.dex_replay.proofs.Common.{AllThree}
+use Rattle.dex_replay.proofs.Common.{AllThree, PlainScript}
 use Rattle.dex_order.proofs.Common.{Stamped, WalletOrigin}
 use Rattle.dex_run.proofs.Common.{GateView, IsPass, MayDraw, OneGrows, PassView, Where}
 use Rattle.dex_run.specs.Submitted.{HasMade}
@@ -58,41 +58,41 @@ WalletPass = PassView (Stamped WalletEntry) WalletOrigin
 
 module _ (address : Address) (others : List Address) where
   -- one pass holds its turn, the others may draw as before
-  drawn-weaker : (lane : ℕ) (calls : List _) (starts : List PlainAccount) (passes : List WalletPass) → AllZip (MayDraw lane calls (address ∷ others)) starts passes
-      → AllZip (MayDraw lane calls others) starts passes
-  drawn-weaker lane calls [] [] each = tt
-  drawn-weaker lane calls [] (pass ∷ passes) each = absurd each
-  drawn-weaker lane calls (start ∷ starts) [] each = absurd each
-  drawn-weaker lane calls (start ∷ starts) (pass ∷ passes) each = (
+  drawn-weaker : (script : PlainScript) (lane : ℕ) (starts : List PlainAccount) (passes : List WalletPass) → AllZip (MayDraw script lane (address ∷ others)) starts passes
+      → AllZip (MayDraw script lane others) starts passes
+  drawn-weaker script lane [] [] each = tt
+  drawn-weaker script lane [] (pass ∷ passes) each = absurd each
+  drawn-weaker script lane (start ∷ starts) [] each = absurd each
+  drawn-weaker script lane (start ∷ starts) (pass ∷ passes) each = (
     record {
       number = each.0.number;
-      mine = each.0.mine;
       idle = λ among. each.0.idle (or_right (is_same start.address address) (list_any (is_same start.address) others) among);
+      left = λ among. each.0.left (or_right (is_same start.address address) (list_any (is_same start.address) others) among);
     },
-    drawn-weaker lane calls starts passes each.1,
+    drawn-weaker script lane starts passes each.1,
   )
 
-  pub drawn-ready : (lane : ℕ) (calls : List _) (starts : List PlainAccount) (passes : List WalletPass) (place : ℕ) (out : WalletPass)
-      → AllZip (MayDraw lane calls (address ∷ others)) starts passes → list_any (is_same address) others ≡ false → place < length starts
-      → ((d : PlainAccount) → (get_or starts place d).address ≡ address) → ((d : WalletPass) → (out.number ≡ (get_or passes place d).number) × (out.mine ≡ (get_or passes place d).mine))
-      → AllZip (MayDraw lane calls others) starts (set passes place out)
-  drawn-ready lane calls [] passes place out each none within here same = absurd (omega (arith, within))
-  drawn-ready lane calls (start ∷ starts) [] place out each none within here same = absurd each
-  drawn-ready lane calls (start ∷ starts) (pass ∷ passes) zero out each none within here same = (
+  pub drawn-ready : (script : PlainScript) (lane : ℕ) (starts : List PlainAccount) (passes : List WalletPass) (place : ℕ) (out : WalletPass)
+      → AllZip (MayDraw script lane (address ∷ others)) starts passes → list_any (is_same address) others ≡ false → place < length starts
+      → ((d : PlainAccount) → (get_or starts place d).address ≡ address) → ((d : WalletPass) → out.number ≡ (get_or passes place d).number)
+      → AllZip (MayDraw script lane others) starts (set passes place out)
+  drawn-ready script lane [] passes place out each none within here same = absurd (omega (arith, within))
+  drawn-ready script lane (start ∷ starts) [] place out each none within here same = absurd each
+  drawn-ready script lane (start ∷ starts) (pass ∷ passes) zero out each none within here same = (
     record {
-      number = (same pass).0 ∙ each.0.number;
-      mine = (same pass).1 ∙ each.0.mine;
+      number = same pass ∙ each.0.number;
       idle = λ among. absurd (false≢true (sym none ∙ ap (λ (a : Address). list_any (is_same a) others) (sym (here start)) ∙ among));
+      left = λ among. absurd (false≢true (sym none ∙ ap (λ (a : Address). list_any (is_same a) others) (sym (here start)) ∙ among));
     },
-    drawn-weaker lane calls starts passes each.1,
+    drawn-weaker script lane starts passes each.1,
   )
-  drawn-ready lane calls (start ∷ starts) (pass ∷ passes) (suc place) out each none within here same = (
+  drawn-ready script lane (start ∷ starts) (pass ∷ passes) (suc place) out each none within here same = (
     record {
       number = each.0.number;
-      mine = each.0.mine;
       idle = λ among. each.0.idle (or_right (is_same start.address address) (list_any (is_same start.address) others) among);
+      left = λ among. each.0.left (or_right (is_same start.address address) (list_any (is_same start.address) others) among);
     },
-    drawn-ready lane calls starts passes place out each.1 none (omega (arith, within)) here same,
+    drawn-ready script lane starts passes place out each.1 none (omega (arith, within)) here same,
   )
 
   -- another wallet's pass grows as it did

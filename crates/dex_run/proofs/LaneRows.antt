@@ -1,12 +1,12 @@
--- The rows of a lane, one after the other.
-use Rattle.std.proofs.Common.{◌≡◌, ℕ, zero, suc, ◌+◌, ◌<◌, ◌≤◌, nat_eq, Bool, cond, List, [], ◌∷◌, ◌++◌, length, get_or, map, take, sym, ap, ◌∙◌, subst, arith}
-use Rattle.dex_fold.proofs.Common.{All-cons, All-filter, All-nil, EachTwo, PlainRow, Row, eq-eqb, filter-append, row_of, rows_of_lane, take_all, take_at, take_more}
-use Rattle.dex_replay.proofs.Common.{HasNoSwap, PlainScript}
-use Rattle.dex_order.proofs.Common.{each-two}
+-- The items of a lane, one after the other.
+use Rattle.std.proofs.Common.{◌≡◌, ℕ, zero, suc, ◌+◌, ◌<◌, ◌≤◌, ⊎_elim, nat_eq, Bool, cond, List, [], ◌∷◌, ◌++◌, length, get_or, map, take, sym, ap, ◌∙◌, subst, arith}
+use Rattle.dex_fold.proofs.Common.{All-filter, All-map, get_or-map, length-map, PlainRow, Row, eq-eqb, filter-append, row_of, rows_of_lane, take_all, take_at, take_more}
+use Rattle.dex_replay.proofs.Common.{AreLegs, AreRows, PlainScript}
 use Rattle.std.specs.List.{All}
-use Rattle.dex_run.proofs.Taking.{all-midst}
-use Rattle.dex_run.proofs.Common.{IsDone, IsNext, SeatState}
-use Rattle.std.proofs.lemmas.List.{length-append, map-append}
+use Rattle.dex_run.proofs.Taking.{same-get}
+use Rattle.dex_run.proofs.Common.{AreNext, IsDone, IsNext, SeatState}
+use Rattle.std.proofs.lemmas.Bool.{cases_lt}
+use Rattle.std.proofs.lemmas.List.{append_assoc, get_or-take, length-append, length-take-le, map-append}
 
 rows_of_lane-append : (lane : ℕ) (xs ys : List PlainRow) → rows_of_lane lane (xs ++ ys) ≡ rows_of_lane lane xs ++ rows_of_lane lane ys
 rows_of_lane-append lane xs ys = filter-append (λ (row : PlainRow). nat_eq row.lane lane) xs ys
@@ -17,19 +17,103 @@ behind [] i x within at = absurd (omega (arith, within))
 behind (y ∷ xs) zero x within at = (xs, ap (λ z. z ∷ xs) (sym at))
 behind (y ∷ xs) (suc i) x within at = let found = behind xs i x (omega (arith, within)) at in (found.0, ap (λ l. y ∷ l) found.1)
 
--- what holds of each two holds of those before one and it
-before-midst : {A : Type 0} (R : A → A → Type 0) (xs : List A) (y : A) (ys : List A) → EachTwo R (xs ++ y ∷ ys) → All (λ x. R x y) xs
-before-midst R [] y ys each = All-nil (λ x. R x y)
-before-midst R (x ∷ xs) y ys each = All-cons (λ z. R z y) x xs (all-midst (R x) xs y ys each.0) (before-midst R xs y ys each.1)
+-- and behind one and the next
+behind-two : {A : Type 0} (xs : List A) (i : ℕ) (x y : A) → suc i < length xs → x ≡ get_or xs i x → y ≡ get_or xs (suc i) y → (rest : List A) × (xs ≡ take i xs ++ x ∷ y ∷ rest)
+behind-two [] i x y within at next = absurd (omega (arith, within))
+behind-two (z ∷ xs) zero x y within at next =
+    let found = behind xs 0 y (omega (arith, within)) next in
+    (found.0, ap (λ w. w ∷ xs) (sym at) ∙ ap (λ l. x ∷ l) found.1)
+behind-two (z ∷ xs) (suc i) x y within at next = let found = behind-two xs i x y (omega (arith, within)) at next in (found.0, ap (λ l. z ∷ l) found.1)
 
--- where no two rows have one number, those before a row have lower ones
-pub lower-before : (rows : List Row) (i : ℕ) (row : Row) → i < length rows → row ≡ get_or rows i row → HasNoSwap (map row_of rows)
+-- ---- where items begin
+
+-- with the row at a place an item begins: the rows before it have lower numbers
+abbrev pub Begins : List Row → ℕ → Type 0
+Begins rows place = (k : ℕ) (d : Row) → k < place → place < length rows → (get_or rows k d).number < (get_or rows place d).number
+
+module _ (script : PlainScript) (rows : List Row) (are : map row_of rows ≡ script.rows) (is : AreRows script) where
+  long : length script.rows ≡ length rows
+  long = ap (λ (l : List PlainRow). length l) (sym are) ∙ length-map rows row_of
+
+  number-at : (i : ℕ) (d : Row) → i < length rows → (get_or script.rows i (row_of d)).number ≡ (get_or rows i d).number
+  number-at i d within =
+      ap (λ (l : List PlainRow). (get_or l i (row_of d)).number) (sym are) ∙ ap (λ (r : PlainRow). r.number) (get_or-map row_of rows i d (row_of d) within)
+
+  never-falls : (i j : ℕ) (d : Row) → i < j → j < length rows → (get_or rows i d).number ≤ (get_or rows j d).number
+  never-falls i j d less within =
+      omega (arith, is.rising i j (row_of d) less (omega (arith, within, long)), number-at i d (omega (arith, less, within)), number-at j d within)
+
+  pub begins-first : Begins rows 0
+  begins-first = λ k d less within. absurd (omega (arith, less))
+
+  -- behind a row alone
+  pub begins-alone : (place : ℕ) → Begins rows place → ((d : Row) → place + 1 < length rows → (get_or rows place d).number ≡ (get_or rows (place + 1) d).number → ⊥)
+      → Begins rows (place + 1)
+  begins-alone place begins other = λ k d less within.
+      let le : (get_or rows place d).number ≤ (get_or rows (place + 1) d).number = never-falls place (place + 1) d (omega arith) within in
+      let not : (get_or rows place d).number ≡ (get_or rows (place + 1) d).number → ⊥ = other d within in
+      ⊎_elim
+      (λ (before : k < place). let lower = begins k d before (omega (arith, within)) in omega (arith, lower, le))
+      (λ (here : place ≤ k).
+      let at : (get_or rows k d).number ≡ (get_or rows place d).number = ap (λ (n : ℕ). (get_or rows n d).number) (omega (arith, less, here)) in
+      omega (arith, at, le, not))
+      (cases_lt k place)
+
+  -- behind two legs
+  pub begins-two : (place : ℕ) → Begins rows place → ((d : Row) → (place + 1 < length rows) × ((get_or rows place d).number ≡ (get_or rows (place + 1) d).number))
+      → Begins rows (place + 2)
+  begins-two place begins swap = λ k d less within.
+      let above : (get_or script.rows place (row_of d)).number < (get_or script.rows (place + 2) (row_of d)).number = is.two place (row_of d) (omega (arith, within, long)) in
+      let higher : (get_or rows place d).number < (get_or rows (place + 2) d).number =
+      omega (arith, above, number-at place d (omega (arith, within)), number-at (place + 2) d within) in
+      let same : (get_or rows place d).number ≡ (get_or rows (place + 1) d).number = (swap d).1 in
+      ⊎_elim
+      (λ (before : k < place). let lower = begins k d before (omega (arith, within)) in omega (arith, lower, higher))
+      (λ (here : place ≤ k).
+      ⊎_elim
+      (λ (first : k < place + 1).
+      let at : (get_or rows k d).number ≡ (get_or rows place d).number = ap (λ (n : ℕ). (get_or rows n d).number) (omega (arith, first, here)) in
+      omega (arith, at, higher))
+      (λ (second : place + 1 ≤ k).
+      let at : (get_or rows k d).number ≡ (get_or rows (place + 1) d).number = ap (λ (n : ℕ). (get_or rows n d).number) (omega (arith, less, second)) in
+      omega (arith, at, same, higher))
+      (cases_lt k (place + 1)))
+      (cases_lt k place)
+
+  -- the two are legs of one swap
+  pub are-legs : (place : ℕ) (first second : Row) → first ≡ get_or rows place first → second ≡ get_or rows (place + 1) second
+      → ((d : Row) → (place + 1 < length rows) × ((get_or rows place d).number ≡ (get_or rows (place + 1) d).number)) → AreLegs (row_of first) (row_of second)
+  are-legs place first second at next swap =
+      let more : place + 1 < length rows = (swap first).0 in
+      let inside : place + 1 < length script.rows = omega (arith, more, long) in
+      let row-at : (i : ℕ) (d : Row) → i < length rows → get_or script.rows i (row_of d) ≡ row_of (get_or rows i d) = λ i d within.
+      ap (λ (l : List PlainRow). get_or l i (row_of d)) (sym are) ∙ get_or-map row_of rows i d (row_of d) within in
+      let one : get_or script.rows place (row_of first) ≡ row_of first = row-at place first (omega (arith, more)) ∙ ap row_of (sym at) in
+      let two : get_or script.rows (place + 1) (row_of first) ≡ row_of second =
+      row-at (place + 1) first more ∙ ap row_of (same-get rows (place + 1) first second more ∙ sym next) in
+      subst (λ (r : PlainRow). AreLegs r (row_of second)) one
+      (subst (AreLegs (get_or script.rows place (row_of first))) two
+      (is.legs place (place + 1) (row_of first) (omega arith) inside
+      (number-at place first (omega (arith, more)) ∙ (swap first).1 ∙ sym (number-at (place + 1) first more))))
+
+-- two legs have one number
+pub one-number : (rows : List Row) (place : ℕ) (first second : Row) → first ≡ get_or rows place first → second ≡ get_or rows (place + 1) second
+    → ((d : Row) → (place + 1 < length rows) × ((get_or rows place d).number ≡ (get_or rows (place + 1) d).number)) → second.number ≡ first.number
+one-number rows place first second at next swap =
+    let more : place + 1 < length rows = (swap first).0 in
+    ap (λ (r : Row). r.number) (next ∙ same-get rows (place + 1) second first more) ∙ sym (swap first).1 ∙ ap (λ (r : Row). r.number) (sym at)
+
+-- the rows before it have lower numbers
+pub lower-before : (rows : List Row) (i : ℕ) (row : Row) → i < length rows → row ≡ get_or rows i row → Begins rows i
     → All (λ (one : PlainRow). one.number < row.number) (map row_of (take i rows))
-lower-before rows i row within at single =
-    let found = behind rows i row within at in
-    let Lower : PlainRow → PlainRow → Type 0 = λ one other. one.number < other.number in
-    before-midst Lower (map row_of (take i rows)) (row_of row) (map row_of found.0)
-    (subst (EachTwo Lower) (ap (map row_of) found.1 ∙ map-append row_of (take i rows) (row ∷ found.0)) (each-two Lower (map row_of rows) single))
+lower-before rows i row within at begins =
+    All-map (λ (one : PlainRow). one.number < row.number) row_of (take i rows)
+    (λ k d inside.
+    let early : k < i = omega (arith, inside, length-take-le i rows (omega (arith, within))) in
+    let lower : (get_or rows k row).number < (get_or rows i row).number = begins k row early within in
+    let here : (get_or (take i rows) k d).number ≡ (get_or rows k row).number =
+    ap (λ (r : Row). r.number) (get_or-take i rows k d early ∙ same-get rows k d row (omega (arith, early, within))) in
+    omega (arith, here, lower, ap (λ (r : Row). r.number) at))
 
 -- a row of the lane is the next one, where all before it are done
 pub next-own : (rows : List Row) (i : ℕ) (row : Row) (seat : SeatState) → i < length rows → row ≡ get_or rows i row → map row_of rows ≡ seat.script.rows
@@ -53,6 +137,33 @@ next-own rows i row seat within at are so_far lower own =
           (All-filter (λ (one : PlainRow). nat_eq one.lane seat.lane) (λ (one : PlainRow). one.number < row.number) (map row_of (take i rows)) lower);
     }
 
+-- and two legs are the next ones
+pub next-both : (rows : List Row) (i : ℕ) (first second : Row) (seat : SeatState) → i + 1 < length rows → first ≡ get_or rows i first → second ≡ get_or rows (i + 1) second
+    → map row_of rows ≡ seat.script.rows → length seat.calls ≡ length (rows_of_lane seat.lane (map row_of (take i rows)))
+    → All (λ (one : PlainRow). one.number < first.number) (map row_of (take i rows)) → second.number ≡ first.number → AreLegs (row_of first) (row_of second)
+    → first.lane ≡ seat.lane → AreNext (row_of first) (row_of second) seat
+next-both rows i first second seat within at at_second are so_far lower together legs own =
+    let found = behind-two rows i first second (omega (arith, within)) at (at_second ∙ ap (λ (n : ℕ). get_or rows n second) (omega arith)) in
+    let rest : List PlainRow = map row_of found.0 in
+    let before : List PlainRow = rows_of_lane seat.lane (map row_of (take i rows)) in
+    let later : List PlainRow = rows_of_lane seat.lane rest in
+    let whole : rows_of_lane seat.lane seat.script.rows ≡ before ++ row_of first ∷ row_of second ∷ later =
+    ap (rows_of_lane seat.lane) (sym are ∙ ap (map row_of) found.1 ∙ map-append row_of (take i rows) (first ∷ second ∷ found.0))
+    ∙ rows_of_lane-append seat.lane (map row_of (take i rows)) (row_of first ∷ row_of second ∷ rest)
+    ∙ ap (λ (b : Bool). before ++ cond b (row_of first ∷ cond (nat_eq second.lane seat.lane) (row_of second ∷ later) later) (cond (nat_eq second.lane seat.lane) (row_of second ∷ later) later))
+    (eq-eqb first.lane seat.lane own)
+    ∙ ap (λ (b : Bool). before ++ row_of first ∷ cond b (row_of second ∷ later) later) (eq-eqb second.lane seat.lane (sym legs.lane ∙ own)) in
+    let taken : take (length seat.calls) (rows_of_lane seat.lane seat.script.rows) ≡ before =
+    ap (take (length seat.calls)) whole ∙ take_at before (row_of first ∷ row_of second ∷ later) (length seat.calls) (sym so_far) in
+    record {
+      later = later;
+      are = whole ∙ ap (λ (l : List PlainRow). l ++ row_of first ∷ row_of second ∷ later) (sym taken);
+      lower = subst (All (λ (one : PlainRow). one.number < first.number)) (sym taken)
+          (All-filter (λ (one : PlainRow). nat_eq one.lane seat.lane) (λ (one : PlainRow). one.number < first.number) (map row_of (take i rows)) lower);
+      together = together;
+      legs = legs;
+    }
+
 -- one row more
 pub calls-more : (rows : List Row) (i : ℕ) (row : Row) (lane now calls calls' : ℕ) → i < length rows → row ≡ get_or rows i row → now ≡ lane
     → calls ≡ length (rows_of_lane lane (map row_of (take i rows))) → calls' ≡ calls + length (rows_of_lane now (row_of row ∷ []))
@@ -70,6 +181,27 @@ calls-more rows i row lane now calls calls' within at same so_far more =
     ∙ length-append (rows_of_lane lane before) (rows_of_lane lane (row_of row ∷ [])) in
     let moved : length (rows_of_lane now (row_of row ∷ [])) ≡ length (rows_of_lane lane (row_of row ∷ [])) =
     ap (λ (n : ℕ). length (rows_of_lane n (row_of row ∷ []))) same in
+    omega (arith, so_far, more, count, moved)
+
+-- two rows more
+pub calls-two : (rows : List Row) (i : ℕ) (first second : Row) (lane now calls calls' : ℕ) → i + 1 < length rows → first ≡ get_or rows i first → second ≡ get_or rows (i + 1) second
+    → now ≡ lane → calls ≡ length (rows_of_lane lane (map row_of (take i rows)))
+    → calls' ≡ calls + length (rows_of_lane now (row_of first ∷ row_of second ∷ [])) → calls' ≡ length (rows_of_lane lane (map row_of (take (i + 2) rows)))
+calls-two rows i first second lane now calls calls' within at next same so_far more =
+    let before : List PlainRow = map row_of (take i rows) in
+    let both : map row_of (take (i + 2) rows) ≡ before ++ row_of first ∷ row_of second ∷ [] =
+    ap (λ (n : ℕ). map row_of (take n rows)) (omega arith)
+    ∙ ap (map row_of) (take_more rows (i + 1) second within ∙ ap (λ (r : Row). take (i + 1) rows ++ r ∷ []) (sym next)
+    ∙ ap (λ (l : List Row). l ++ second ∷ []) (take_more rows i first (omega (arith, within)) ∙ ap (λ (r : Row). take i rows ++ r ∷ []) (sym at))
+    ∙ append_assoc (take i rows) (first ∷ []) (second ∷ []))
+    ∙ map-append row_of (take i rows) (first ∷ second ∷ []) in
+    let count : length (rows_of_lane lane (map row_of (take (i + 2) rows)))
+    ≡ length (rows_of_lane lane before) + length (rows_of_lane lane (row_of first ∷ row_of second ∷ [])) =
+    ap (λ (l : List PlainRow). length (rows_of_lane lane l)) both
+    ∙ ap length (rows_of_lane-append lane before (row_of first ∷ row_of second ∷ []))
+    ∙ length-append (rows_of_lane lane before) (rows_of_lane lane (row_of first ∷ row_of second ∷ [])) in
+    let moved : length (rows_of_lane now (row_of first ∷ row_of second ∷ [])) ≡ length (rows_of_lane lane (row_of first ∷ row_of second ∷ [])) =
+    ap (λ (n : ℕ). length (rows_of_lane n (row_of first ∷ row_of second ∷ []))) same in
     omega (arith, so_far, more, count, moved)
 
 -- when all rows have been gone through, those of the lane are done

@@ -4,7 +4,6 @@ pub mod ClosingPasses
 pub mod ClosingLaws
 pub mod Openings
 pub mod Seating
-pub mod Apart
 pub mod LaneRows
 pub mod Jobs
 mod Counts
@@ -17,3 +16,10 @@ mod Taking
 mod Entering
 mod SeatAfter
 mod RowMore
+mod LegHands
+mod LegNames
+mod LegReady
+mod LegReplies
+mod LegSeat
+mod LegTurns
+mod TwoPlaces

@@ -1,34 +1,41 @@
 -- A seat before and after a row.
 use Rattle.std.proofs.Common.{◌≡◌, ℕ, zero, suc, ◌<◌, ◌≤◌, ◌==◌, Bool, true, false, cond, List, [], ◌∷◌, ◌++◌, length, set, get_or, take, Some, refl, sym, ap, ◌∙◌, subst, arith}
-use Rattle.dex_fold.proofs.Common.{Address, All-filter, All-push, All-weaker, AllZip, AllZip-long, Asked, Call, IsLegal, IsWalletLegal, PlainAccount, PlainMarketAccounts, PlainRow, WalletEntry, asked_of, asked_wallets, eqb-true, filter-append, filter_passes, get_or-map, is_same, is_same-refl, is_same-sym, length-map, list_any, names, row_wallets, rows_of_lane}
-use Rattle.dex_replay.proofs.Common.{AllThree, IsRowOf, IsScript, IsSight, PlainScript, balance_of, has_market, market_in}
-use Rattle.dex_order.proofs.Common.{IsLane, MarketOrigin, MovesEach, Stamped, calls_on, entries_in, entries_on, list_any-map}
-use Rattle.dex_run.proofs.Common.{AreReady, BankState, GateView, HasCalled, HasSubmitted, HaveGrown, IsBank, IsDue, IsMarketGate, IsMarketPass, IsNext, IsPlace, IsSeat, IsSeatOf, IsWalletPass, MayDraw, MayEnter, SeatState, Where}
+use Rattle.dex_fold.proofs.Common.{Address, All-filter, All-push, All-tail, All-weaker, AllZip, AllZip-long, Asked, Call, IsLegal, IsWalletLegal, PlainAccount, PlainMarketAccounts, PlainRow, WalletEntry, asked_of, asked_wallets, eqb-true, filter-append, filter_passes, get_or-map, is_same, is_same-refl, is_same-sym, length-map, is_held, list_any, names, row_wallets, rows_of_lane}
+use Rattle.dex_replay.proofs.Common.{AllThree, IsRowOf, IsScript, IsSight, PlainScript, balance_of, market_in, rows_of_market, rows_of_wallet}
+use Rattle.dex_order.proofs.Common.{MarketOrigin, MovesEach, Stamped, calls_on, entries_in, entries_on, list_any-map}
+use Rattle.dex_run.proofs.Common.{AreNext, AreReady, BankState, GateView, HasCalled, HasSubmitted, HaveGrown, IsBank, IsMarketGate, IsMarketPass, IsNext, IsPlace, IsSeat, IsSeatOf, IsWalletPass, MayDraw, MayEnter, MayName, SeatState, Where}
 use Rattle.std.specs.List.{All}
 use Rattle.std.proofs.lemmas.List.{append-nil, append_assoc}
 use Rattle.dex_stamps.specs.Stamped.{items_of}
 use Rattle.dex_run.specs.Bank.{market_addresses}
 use Rattle.dex_run.specs.Submitted.{MarketGrows, WalletGrows}
-use Rattle.dex_run.specs.Turns.{IsTold}
-use Rattle.dex_run.proofs.Counts.{entries-one}
+use Rattle.dex_run.specs.Turns.{IsTold, MayEnterAt}
+use Rattle.dex_run.proofs.Counts.{IsAhead, calls-left, entries-left, entries-one}
 use Rattle.dex_run.proofs.Distinct.{markets-differ}
 use Rattle.dex_run.proofs.Entering.{MarketPass}
 use Rattle.dex_order.proofs.LaneGrowth.{lane-more}
 use Rattle.dex_run.proofs.Growing.{Differ, WalletPass, gates-grown, passes-grown, set-three}
+use Rattle.dex_run.proofs.LegNames.{row-names}
 use Rattle.dex_run.proofs.RowMore.{row-more}
 use Rattle.dex_run.proofs.Taking.{all-midst, same-get, zip-at}
 use Rattle.dex_run.specs.Submitted.{written_by}
 
 -- ---- before
 
-draws : (lane other : ℕ) (calls : List (Stamped Call)) (others : List Address) (starts : List PlainAccount) (passes : List WalletPass) → other ≡ lane
-    → AllZip (IsWalletPass lane calls) starts passes → AllZip (MayDraw other calls others) starts passes
-draws lane other calls others [] [] same all = tt
-draws lane other calls others [] (p ∷ passes) same all = absurd all
-draws lane other calls others (start ∷ starts) [] same all = absurd all
-draws lane other calls others (start ∷ starts) (p ∷ passes) same all = (
-  record { number = all.0.number ∙ sym same; mine = all.0.mine; idle = λ among. all.0.idle },
-  draws lane other calls others starts passes same all.1,
+pub draws : (script : PlainScript) (lane other : ℕ) (calls : List (Stamped Call)) (others : List Address) (starts : List PlainAccount) (passes : List WalletPass) → other ≡ lane
+    → ((address : Address) → list_any (is_same address) others ≡ true → length (entries_on address calls) < length (rows_of_wallet other address script.rows))
+    → AllZip (IsWalletPass lane calls) starts passes → AllZip (MayDraw script other others) starts passes
+draws script lane other calls others [] [] same free all = tt
+draws script lane other calls others [] (p ∷ passes) same free all = absurd all
+draws script lane other calls others (start ∷ starts) [] same free all = absurd all
+draws script lane other calls others (start ∷ starts) (p ∷ passes) same free all = (
+  record {
+    number = all.0.number ∙ sym same;
+    idle = λ among. all.0.idle;
+    left = λ among.
+        subst (λ (made : List (Stamped WalletEntry)). length made < length (rows_of_wallet other start.address script.rows)) (sym all.0.mine) (free start.address among);
+  },
+  draws script lane other calls others starts passes same free all.1,
 )
 
 -- there is a gate for each market
@@ -44,7 +51,27 @@ within-gates bank kept address place at =
 abbrev IsAtMarket : GateView (Stamped Call) MarketOrigin → MarketPass → Type 0
 IsAtMarket gate pass = pass.gate ≡ Some gate
 
-module _ (bank : BankState) (row : PlainRow) (before : SeatState) (next : IsNext row before) (bank_kept : IsBank bank) (of : IsSeatOf bank before) where
+-- what holds of all holds of those behind
+all-back : {A : Type 0} (P : A → Type 0) (front rest : List A) → All P (front ++ rest) → All P rest
+all-back P [] rest all = all
+all-back P (x ∷ front) rest all = all-back P front rest (All-tail P x (front ++ rest) all)
+
+all-ahead : (P : PlainRow → Type 0) (rows : List PlainRow) (done : ℕ) (row : PlainRow) → (ahead : IsAhead rows done row) → All P rows → P row
+all-ahead P rows done row ahead all =
+    all-midst P ahead.between row ahead.later (all-back P (take done rows) (ahead.between ++ row ∷ ahead.later) (subst (All P) ahead.is all))
+
+-- the next row is ahead of those that are done, and so are two legs
+pub next-ahead : (row : PlainRow) (seat : SeatState) → IsNext row seat → IsAhead (rows_of_lane seat.lane seat.script.rows) (length seat.calls) row
+next-ahead row seat next = record { between = []; later = next.later; is = next.is }
+
+pub first-ahead : (first second : PlainRow) (seat : SeatState) → AreNext first second seat → IsAhead (rows_of_lane seat.lane seat.script.rows) (length seat.calls) first
+first-ahead first second seat next = record { between = []; later = second ∷ next.later; is = next.are }
+
+pub second-ahead : (first second : PlainRow) (seat : SeatState) → AreNext first second seat → IsAhead (rows_of_lane seat.lane seat.script.rows) (length seat.calls) second
+second-ahead first second seat next = record { between = first ∷ []; later = next.later; is = next.are }
+
+module _ (bank : BankState) (row : PlainRow) (before : SeatState) (ahead : IsAhead (rows_of_lane before.lane before.script.rows) (length before.calls) row)
+    (bank_kept : IsBank bank) (of : IsSeatOf bank before) where
   abbrev lane_rows : List PlainRow
   lane_rows = rows_of_lane before.lane before.script.rows
 
@@ -54,38 +81,43 @@ module _ (bank : BankState) (row : PlainRow) (before : SeatState) (next : IsNext
   pub lane-is : row.lane ≡ before.lane
   lane-is =
       eqb-true row.lane before.lane
-      (all-midst (λ (r : PlainRow). (r.lane == before.lane) ≡ true) (take (length before.calls) lane_rows) row next.later
-      (subst (All (λ (r : PlainRow). (r.lane == before.lane) ≡ true)) next.is (filter_passes (λ (r : PlainRow). r.lane == before.lane) before.script.rows)))
+      (all-ahead (λ (r : PlainRow). (r.lane == before.lane) ≡ true) lane_rows (length before.calls) row ahead
+      (filter_passes (λ (r : PlainRow). r.lane == before.lane) before.script.rows))
 
-  row-fits : IsRowOf before.script.start row
+  pub row-fits : IsRowOf bank.script.start row
   row-fits =
-      all-midst (IsRowOf before.script.start) (take (length before.calls) lane_rows) row next.later
-      (subst (All (IsRowOf before.script.start)) next.is
+      subst (λ (s : PlainScript). IsRowOf s.start row) of.script
+      (all-ahead (IsRowOf before.script.start) lane_rows (length before.calls) row ahead
       (All-filter (λ (r : PlainRow). r.lane == before.lane) (IsRowOf before.script.start) before.script.rows script-kept.rows.each))
 
   pub market-known : list_any (is_same row.market) (market_addresses bank.script) ≡ true
-  market-known =
-      list_any-map (is_same row.market) (λ (accounts : PlainMarketAccounts). accounts.address) bank.script.start.markets
-      ∙ subst (λ (s : PlainScript). has_market row.market s.start.markets ≡ true) of.script row-fits.market
+  market-known = list_any-map (is_same row.market) (λ (accounts : PlainMarketAccounts). accounts.address) bank.script.start.markets ∙ row-fits.market
 
   module _ (kept : IsSeat before) where
-    pub due : IsDue bank.script before.calls row
-    due =
-        subst (λ (s : PlainScript). IsDue s before.calls row) of.script
-        (record {
-          lane = subst (λ (n : ℕ). IsLane before.script n before.calls) (sym lane-is) kept.calls;
-          later = next.later;
-          next =
-              subst (λ (n : ℕ). rows_of_lane n before.script.rows ≡ take (length before.calls) (rows_of_lane n before.script.rows) ++ row ∷ next.later) (sym lane-is) next.is;
-          fits = row-fits;
-        })
+    -- its lane has made fewer entries than it has rows, on each wallet that it names
+    pub entries-free : (address : Address) → names row address ≡ true
+        → length (entries_on address before.calls) < length (rows_of_wallet row.lane address bank.script.rows)
+    entries-free address named =
+        subst (λ (n : ℕ). length (entries_on address before.calls) < length (rows_of_wallet n address bank.script.rows)) (sym lane-is)
+        (subst (λ (s : PlainScript). length (entries_on address before.calls) < length (rows_of_wallet before.lane address s.rows)) of.script
+        (entries-left before.script before.lane row before.calls kept.calls ahead address named))
 
-    pub ready : AreReady bank row.lane before.calls (row_wallets row) before.wallets
+    calls-free : (address : Address) → is_same row.market address ≡ true
+        → length (calls_on address before.calls) < length (rows_of_market row.lane address bank.script.rows)
+    calls-free address on =
+        subst (λ (n : ℕ). length (calls_on address before.calls) < length (rows_of_market n address bank.script.rows)) (sym lane-is)
+        (subst (λ (s : PlainScript). length (calls_on address before.calls) < length (rows_of_market before.lane address s.rows)) of.script
+        (calls-left before.script before.lane row before.calls kept.calls ahead address on))
+
+    pub names-own : MayName bank.script (row_wallets row)
+    names-own = row-names bank.script row row-fits
+
+    pub ready : AreReady bank row.lane (row_wallets row) before.wallets
     ready = record {
       gates = of.wallets;
       each =
-          subst (λ (s : PlainScript). AllZip (MayDraw row.lane before.calls (row_wallets row)) s.start.wallets before.wallets) of.script
-          (draws before.lane row.lane before.calls (row_wallets row) before.script.start.wallets before.wallets lane-is kept.wallets);
+          draws bank.script before.lane row.lane before.calls (row_wallets row) bank.script.start.wallets before.wallets lane-is entries-free
+          (subst (λ (s : PlainScript). AllZip (IsWalletPass before.lane before.calls) s.start.wallets before.wallets) of.script kept.wallets);
     }
 
     module _ (place : ℕ) (at : IsPlace row.market (market_addresses bank.script) place) where
@@ -106,7 +138,7 @@ module _ (bank : BankState) (row : PlainRow) (before : SeatState) (next : IsNext
 
       -- the pass of the row's market may draw
       pub enters : (d : PlainMarketAccounts) (gate : GateView (Stamped Call) MarketOrigin) (pass : MarketPass) → gate ≡ get_or bank.markets place gate
-          → pass ≡ get_or before.markets place pass → MayEnter bank.script row before.calls gate pass
+          → pass ≡ get_or before.markets place pass → MayEnter bank.script row gate pass
       enters d gate pass gate_is pass_is =
           let is_gate : IsMarketGate bank.script (get_or market_starts place d) gate =
           subst (IsMarketGate bank.script (get_or market_starts place d)) (sym gate_is) (zip-at (IsMarketGate bank.script) market_starts bank.markets place d gate bank_kept.markets within) in
@@ -114,12 +146,16 @@ module _ (bank : BankState) (row : PlainRow) (before : SeatState) (next : IsNext
           subst (IsMarketPass before.lane before.calls (get_or market_starts place d)) (sym pass_is)
           (zip-at (IsMarketPass before.lane before.calls) market_starts before.markets place d pass passes-kept within) in
           let origin_address : gate.origin.start.address ≡ (get_or market_starts place d).address = ap (λ (o : MarketOrigin). o.start.address) is_gate.origin in
+          let on : row.market ≡ gate.origin.start.address = sym (here d) ∙ sym origin_address in
           record {
             home = ap (λ (p : MarketPass). p.gate) pass_is ∙ zip-at IsAtMarket bank.markets before.markets place gate pass of.markets (within-gates bank bank_kept row.market place at) ∙ ap (λ (g : _). Some g) (sym gate_is);
             number = is_pass.number ∙ sym lane-is;
-            mine = is_pass.mine ∙ ap (λ (a : Address). calls_on a before.calls) (sym origin_address);
+            left =
+                subst (λ (made : List (Stamped Call)). length made < length (rows_of_market row.lane gate.origin.start.address bank.script.rows))
+                (sym (is_pass.mine ∙ ap (λ (a : Address). calls_on a before.calls) (sym origin_address)))
+                (calls-free gate.origin.start.address (ap (is_same row.market) (sym on) ∙ is_same-refl row.market));
             idle = is_pass.idle;
-            on = sym (here d) ∙ sym origin_address;
+            on = on;
             rows = ap (λ (o : MarketOrigin). o.script) is_gate.origin;
             opening = is_gate.opening;
           }
@@ -128,6 +164,18 @@ module _ (bank : BankState) (row : PlainRow) (before : SeatState) (next : IsNext
       gate-start d gate gate_is =
           ap (λ (o : MarketOrigin). o.start)
           (subst (IsMarketGate bank.script (get_or market_starts place d)) (sym gate_is) (zip-at (IsMarketGate bank.script) market_starts bank.markets place d gate bank_kept.markets within)).origin
+
+      -- the same, said of the place
+      pub enters-at : MayEnterAt bank row before.markets place
+      enters-at = record {
+        within = (within, within-gates bank bank_kept row.market place at, within-passes);
+        here = here;
+        from = λ start gate. gate-start start (get_or bank.markets place gate) (same-get bank.markets place gate (get_or bank.markets place gate) (within-gates bank bank_kept row.market place at));
+        enters = λ gate pass.
+            enters gate.origin.start (get_or bank.markets place gate) (get_or before.markets place pass)
+            (same-get bank.markets place gate (get_or bank.markets place gate) (within-gates bank bank_kept row.market place at))
+            (same-get before.markets place pass (get_or before.markets place pass) within-passes);
+      }
 
 -- ---- what grows
 
@@ -175,13 +223,13 @@ module _ (row : PlainRow) (call : Stamped Call) (asked : call.item.asked ≡ ask
       (λ (start : PlainMarketAccounts). calls_on start.address (calls ++ call ∷ [])) (λ start on. calls-more start.address calls true on)
       (λ start off. calls-more start.address calls false off ∙ append-nil (calls_on start.address calls))
 
-  entries-more : (address : Address) (calls : List (Stamped Call)) → entries_on address (calls ++ call ∷ []) ≡ entries_on address calls ++ entries_in address call
+  pub entries-more : (address : Address) (calls : List (Stamped Call)) → entries_on address (calls ++ call ∷ []) ≡ entries_on address calls ++ entries_in address call
   entries-more address [] = append-nil (entries_in address call)
   entries-more address (first ∷ calls) =
       ap (λ (l : List (Stamped WalletEntry)). entries_in address first ++ l) (entries-more address calls)
       ∙ sym (append_assoc (entries_in address first) (entries_on address calls) (entries_in address call))
 
-  none-in : (address : Address) → MovesEach call.item → names row address ≡ false → entries_in address call ≡ []
+  pub none-in : (address : Address) → MovesEach call.item → names row address ≡ false → entries_in address call ≡ []
   none-in address moves not =
       empty (entries_in address call)
       (entries-one address call moves ∙ ap (λ (b : Bool). cond b 1 0) (ap (λ (a : Asked). list_any (is_same address) (asked_wallets a)) asked ∙ not))
@@ -202,17 +250,17 @@ module _ (row : PlainRow) (call : Stamped Call) (asked : call.item.asked ≡ ask
       ∙ append-nil (entries_on start.address calls))
       starts before after
 
-  pub below-more : (script : PlainScript) (last : ℕ) (calls : List (Stamped Call)) → All (λ (c : Stamped Call). c.stamp ≤ last) calls → IsTold script last call
+  pub below-more : (script : PlainScript) (last : ℕ) (calls : List (Stamped Call)) → All (λ (c : Stamped Call). c.stamp ≤ last) calls → last < call.stamp
       → All (λ (c : Stamped Call). c.stamp ≤ call.stamp) (calls ++ call ∷ [])
-  below-more script last calls below told =
+  below-more script last calls below above =
       All-push (λ (c : Stamped Call). c.stamp ≤ call.stamp) calls call
-      (All-weaker (λ (c : Stamped Call). c.stamp ≤ last) (λ (c : Stamped Call). c.stamp ≤ call.stamp) (λ c less. omega (arith, less, told.later)) calls below) (omega arith)
+      (All-weaker (λ (c : Stamped Call). c.stamp ≤ last) (λ (c : Stamped Call). c.stamp ≤ call.stamp) (λ c less. omega (arith, less, above)) calls below) (omega arith)
 
 -- ---- the seat behind it
 
 module _ (bank : BankState) (row : PlainRow) (before : SeatState) (next : IsNext row before) (bank_kept : IsBank bank) (of : IsSeatOf bank before) (kept : IsSeat before)
     (place : ℕ) (at : IsPlace row.market (market_addresses bank.script) place) (call : Stamped Call) (asked : call.item.asked ≡ asked_of row)
-    (told : IsTold bank.script before.last call) (gate : GateView (Stamped Call) MarketOrigin) (pass left : MarketPass) (gate_is : gate ≡ get_or bank.markets place gate)
+    (own : is_held call.item ≡ false) (told : IsTold bank.script call) (above : before.last < call.stamp) (gate : GateView (Stamped Call) MarketOrigin) (pass left : MarketPass) (gate_is : gate ≡ get_or bank.markets place gate)
     (pass_is : pass ≡ get_or before.markets place pass) (called : HasCalled call gate.origin.start pass left) (wallets : List WalletPass)
     (grown : HaveGrown bank (row_wallets row) (written_by call) before.wallets wallets) where
   abbrev pub seat_after : SeatState
@@ -227,21 +275,21 @@ module _ (bank : BankState) (row : PlainRow) (before : SeatState) (next : IsNext
 
   markets-grown : AllThree (MarketGrows row call) bank.script.start.markets before.markets (set before.markets place left)
   markets-grown =
-      let inside_passes = within-passes bank row before next bank_kept of kept place at in
-      let inside = within bank row before next bank_kept of kept place at in
+      let inside_passes = within-passes bank row before (next-ahead row before next) bank_kept of kept place at in
+      let inside = within bank row before (next-ahead row before next) bank_kept of kept place at in
       markets-grow row call asked bank.script.start.markets before.markets place pass left (markets-differ bank.script.start bank_kept.script.start.accepted) inside
-      (AllZip-long (IsMarketPass before.lane before.calls) bank.script.start.markets before.markets (passes-kept bank row before next bank_kept of kept place at))
-      (here bank row before next bank_kept of kept place at) pass_is
+      (AllZip-long (IsMarketPass before.lane before.calls) bank.script.start.markets before.markets (passes-kept bank row before (next-ahead row before next) bank_kept of kept place at))
+      (here bank row before (next-ahead row before next) bank_kept of kept place at) pass_is
       (λ d e.
       subst (λ (p : MarketPass). HasCalled call (get_or bank.script.start.markets place d) p left) (pass_is ∙ same-get before.markets place pass e inside_passes)
-      (subst (λ (s : PlainMarketAccounts). HasCalled call s pass left) (gate-start bank row before next bank_kept of kept place at d gate gate_is) called))
+      (subst (λ (s : PlainMarketAccounts). HasCalled call s pass left) (gate-start bank row before (next-ahead row before next) bank_kept of kept place at d gate gate_is) called))
 
   pub seat-submitted : HasSubmitted row call.item.entry.reply before seat_after
   seat-submitted = record {
     call = call;
     asked = asked;
     answered = refl;
-    own = told.own;
+    own = own;
     sees = subst (λ (s : PlainScript). IsSight s call.item.seen) (sym of.script) told.sees;
     moves = told.moves;
     lane = refl;
@@ -267,13 +315,13 @@ module _ (bank : BankState) (row : PlainRow) (before : SeatState) (next : IsNext
   pub seat-kept : IsSeat seat_after
   unfolding seat-submitted
   seat-kept =
-      let told_here : IsTold before.script before.last call = subst (λ (s : PlainScript). IsTold s before.last call) (sym of.script) told in
+      let told_here : IsTold before.script call = subst (λ (s : PlainScript). IsTold s call) (sym of.script) told in
       record {
         calls =
             lane-more before.script before.lane before.calls (row ∷ []) call [] kept.calls
             (row-more row call asked before.script before.lane before.last before.calls next.later next.lower kept.calls next.is
-            kept.below told_here);
-        below = below-more row call asked before.script before.last before.calls kept.below told_here;
+            kept.below own told_here above);
+        below = below-more row call asked before.script before.last before.calls kept.below above;
         markets =
             market-passes row call asked before.lane before.calls before.script.start.markets before.markets (set before.markets place left) kept.markets
             seat-submitted.markets;

@@ -1,19 +1,18 @@
--- The turn of a row's next wallet: what is known when it is taken, and when it is left.
+-- The turn of an item's next wallet: what is known when it is taken, and when it is left.
 use Rattle.std.proofs.Common.{◌≡◌, ℕ, zero, suc, ◌+◌, ◌-◌, ◌<◌, ◌==◌, true, false, List, [], ◌∷◌, ◌++◌, drop, length, map, set, take, get_or, Option, Some, None, refl, sym, ap, ◌∙◌, subst, arith}
-use Rattle.dex_fold.proofs.Common.{Address, All-head, All-push, All-tail, AllZip, AllZip-long, Call, PlainAccount, PlainRow, WalletEntry, asked-once, asked_of, get_or-map, is_same, is_same-refl, length-map, list_any, names, once-head, or_left, or_right, row_wallets}
+use Rattle.dex_fold.proofs.Common.{Address, All-head, All-push, All-tail, AllZip, AllZip-long, PlainAccount, WalletEntry, get_or-map, is_same, is_same-refl, length-map, list_any, or_left}
 use Rattle.dex_replay.proofs.Common.{AllThree, CellState, PlainScript, has_account, rows_of_wallet}
-use Rattle.dex_order.proofs.Common.{Stamped, TrailState, WalletOrigin, entries_by, entries_on, left_by, list_any-map, roles-all, wallet_entries}
-use Rattle.dex_run.proofs.Common.{AreInHand, AreReady, BankState, GateView, HasEntry, HasLeft, HaveGrown, Idle, IsBank, IsDue, IsPlace, IsReady, IsWalletGate, MayDraw, MayLeave, OneGrows, added, of_lane}
+use Rattle.dex_order.proofs.Common.{Stamped, TrailState, WalletOrigin, entries_by, left_by, list_any-map, wallet_entries}
+use Rattle.dex_run.proofs.Common.{AreInHand, AreReady, BankState, GateView, HasEntry, HasLeft, HaveGrown, Idle, IsBank, IsPlace, IsReady, IsWalletGate, MayDraw, MayLeave, OneGrows, added, of_lane}
 use Rattle.std.specs.List.{All}
 use Rattle.std.proofs.Math.Seq.{take-length}
 use Rattle.dex_gate.specs.declared.stage.Stage.TheVariants.{Out}
 use Rattle.dex_locks.specs.Places.{front}
-use Rattle.dex_fold.proofs.OnceLaws.{AreOnce, once-behind}
 use Rattle.dex_journals.specs.Journals.{wallet_origin}
 use Rattle.dex_journals.proofs.WalletLaws.{spare-wallet}
 use Rattle.dex_run.specs.Bank.{wallet_addresses}
-use Rattle.dex_run.specs.Turns.{IsOut, first_in}
-use Rattle.dex_run.proofs.Counts.{entries-left, length-stamped}
+use Rattle.dex_run.specs.Turns.{AreOnce, IsOut, MayName, first_in}
+use Rattle.dex_run.proofs.Counts.{length-stamped}
 use Rattle.dex_run.proofs.Distinct.{wallets-differ}
 use Rattle.dex_run.proofs.Growing.{Differ, IsAtGate, WalletPass, drawn-ready, gates-set, one-grows, still-out}
 use Rattle.dex_run.proofs.LeavingTurns.{has-moved}
@@ -64,21 +63,19 @@ pub all-midst : {A : Type 0} (P : A → Type 0) (before : List A) (x : A) (behin
 all-midst P [] x behind all = All-head P x behind all
 all-midst P (y ∷ before) x behind all = all-midst P before x behind (All-tail P y (before ++ x ∷ behind) all)
 
--- ---- the wallets of a row
+-- ---- the wallets of an item
 
--- one in the midst is among them
-any-midst : (before : List Address) (address : Address) (behind : List Address) → list_any (is_same address) (before ++ address ∷ behind) ≡ true
-any-midst [] address behind = or_left (is_same address address) (list_any (is_same address) behind) (is_same-refl address)
-any-midst (first ∷ before) address behind =
-    or_right (is_same address first) (list_any (is_same address) (before ++ address ∷ behind)) (any-midst before address behind)
+once-behind : (front behind : List Address) → AreOnce (front ++ behind) → AreOnce behind
+once-behind [] behind once = once
+once-behind (first ∷ front) behind once = once-behind front behind once.1
 
 abbrev address_in : CellState → Address
 address_in cell = cell.address
 
--- ---- the next wallet of a row
+-- ---- the next wallet of an item
 
-module _ (bank : BankState) (row : PlainRow) (calls : List (Stamped _)) (address : Address) (others : List Address) (hands : List CellState) (passes : List WalletPass)
-    (due : IsDue bank.script calls row) (hand : AreInHand bank.script (row_wallets row) (address ∷ others) hands) (ready : AreReady bank row.lane calls (address ∷ others) passes) where
+module _ (bank : BankState) (named : List Address) (lane : ℕ) (address : Address) (others : List Address) (hands : List CellState) (passes : List WalletPass)
+    (may : MayName bank.script named) (hand : AreInHand bank.script named (address ∷ others) hands) (ready : AreReady bank lane (address ∷ others) passes) where
   abbrev starts : List PlainAccount
   starts = bank.script.start.wallets
 
@@ -87,14 +84,11 @@ module _ (bank : BankState) (row : PlainRow) (calls : List (Stamped _)) (address
   known =
       list_any-map (is_same address) (λ (account : PlainAccount). account.address) starts
       ∙ all-midst (λ (a : Address). has_account a starts ≡ true) (map address_in hands) address others
-      (subst (All (λ (a : Address). has_account a starts ≡ true)) (sym hand.are) (roles-all (λ (a : Address). has_account a starts ≡ true) bank.script.start (λ a is. is) row due.fits))
+      (subst (All (λ (a : Address). has_account a starts ≡ true)) (sym hand.are) may.known)
 
   -- and none of those behind it
   pub none : list_any (is_same address) others ≡ false
-  none = once-head address others (once-behind (map address_in hands) (address ∷ others) (subst AreOnce (sym hand.are) (asked-once (asked_of row))))
-
-  named : names row address ≡ true
-  named = subst (λ (l : List Address). list_any (is_same address) l ≡ true) hand.are (any-midst (map address_in hands) address others)
+  none = (once-behind (map address_in hands) (address ∷ others) (subst AreOnce (sym hand.are) may.once)).0
 
   module _ (kept : IsBank bank) (place : ℕ) (at : IsPlace address (wallet_addresses bank.script) place) where
     pub within : place < length starts
@@ -107,14 +101,14 @@ module _ (bank : BankState) (row : PlainRow) (calls : List (Stamped _)) (address
     within-gates = omega (arith, within, AllZip-long (IsWalletGate bank.script) starts bank.wallets kept.wallets)
 
     pub within-passes : place < length passes
-    within-passes = omega (arith, within, AllZip-long (MayDraw row.lane calls (address ∷ others)) starts passes ready.each)
+    within-passes = omega (arith, within, AllZip-long (MayDraw bank.script lane (address ∷ others)) starts passes ready.each)
 
     pub gate-at : (g : GateView (Stamped WalletEntry) WalletOrigin) (p : WalletPass) → (get_or passes place p).gate ≡ Some (get_or bank.wallets place g)
     gate-at g p = zip-at IsAtGate bank.wallets passes place g p ready.gates within-gates
 
     pub idle-at : (d : PlainAccount) (p : WalletPass) → (get_or passes place p).stage ≡ Idle
     idle-at d p =
-        (zip-at (MayDraw row.lane calls (address ∷ others)) starts passes place d p ready.each within).idle
+        (zip-at (MayDraw bank.script lane (address ∷ others)) starts passes place d p ready.each within).idle
         (ap (λ (a : Address). list_any (is_same a) (address ∷ others)) (here d) ∙ or_left (is_same address address) (list_any (is_same address) others) (is_same-refl address))
 
     -- its turn is out
@@ -127,10 +121,10 @@ module _ (bank : BankState) (row : PlainRow) (calls : List (Stamped _)) (address
       is_gate =
           subst (IsWalletGate bank.script start) (sym gate_is) (zip-at (IsWalletGate bank.script) starts bank.wallets place d gate kept.wallets within)
 
-      may_draw : MayDraw row.lane calls (address ∷ others) start before
+      may_draw : MayDraw bank.script lane (address ∷ others) start before
       may_draw =
-          subst (MayDraw row.lane calls (address ∷ others) start) (sym before_is)
-          (zip-at (MayDraw row.lane calls (address ∷ others)) starts passes place d before ready.each within)
+          subst (MayDraw bank.script lane (address ∷ others) start) (sym before_is)
+          (zip-at (MayDraw bank.script lane (address ∷ others)) starts passes place d before ready.each within)
 
       origin : wallet_origin (left_by trail) ≡ record { start = start; script = bank.script }
       origin = is_out.origin ∙ is_gate.origin
@@ -148,22 +142,23 @@ module _ (bank : BankState) (row : PlainRow) (calls : List (Stamped _)) (address
       cell-script = ap (λ (o : WalletOrigin). o.script) origin
 
       -- the lane has an entry to make
-      mine : of_lane (λ (e : Stamped WalletEntry). e.item.lane) row.lane (wallet_entries (left_by trail)) ≡ entries_on start.address calls
+      mine : of_lane (λ (e : Stamped WalletEntry). e.item.lane) lane (wallet_entries (left_by trail)) ≡ before.mine
       mine =
           ap (λ (n : ℕ). of_lane (λ (e : Stamped WalletEntry). e.item.lane) n (wallet_entries (left_by trail))) (sym may_draw.number)
           ∙ ap (λ (l : List (Stamped WalletEntry)). of_lane (λ (e : Stamped WalletEntry). e.item.lane) before.number (added l (wallet_entries (left_by trail)))) (sym is_gate.opening)
           ∙ is_out.mine
-          ∙ may_draw.mine
 
-      pub few : entries_by row.lane trail.before.entries < length (rows_of_wallet row.lane trail.before.address trail.script.rows)
+      pub few : entries_by lane trail.before.entries < length (rows_of_wallet lane trail.before.address trail.script.rows)
       few =
-          let count : entries_by row.lane trail.before.entries ≡ length (entries_on start.address calls) =
-          sym (length-stamped (λ (e : WalletEntry). e.lane == row.lane) trail.before.entries trail.stamps is_out.kept.counted) ∙ ap length mine in
-          let named_start : names row start.address ≡ true = ap (names row) (here d) ∙ named in
-          let rows : length (rows_of_wallet row.lane trail.before.address trail.script.rows) ≡ length (rows_of_wallet row.lane start.address bank.script.rows) =
-          ap (λ (a : Address). length (rows_of_wallet row.lane a trail.script.rows)) cell-address
-          ∙ ap (λ (s : PlainScript). length (rows_of_wallet row.lane start.address s.rows)) cell-script in
-          omega (arith, count, entries-left row calls start.address bank.script due named_start, rows)
+          let count : entries_by lane trail.before.entries ≡ length before.mine =
+          sym (length-stamped (λ (e : WalletEntry). e.lane == lane) trail.before.entries trail.stamps is_out.kept.counted) ∙ ap length mine in
+          let among : list_any (is_same start.address) (address ∷ others) ≡ true =
+          ap (λ (a : Address). list_any (is_same a) (address ∷ others)) (here d) ∙ or_left (is_same address address) (list_any (is_same address) others) (is_same-refl address) in
+          let left : length before.mine < length (rows_of_wallet lane start.address bank.script.rows) = may_draw.left among in
+          let rows : length (rows_of_wallet lane trail.before.address trail.script.rows) ≡ length (rows_of_wallet lane start.address bank.script.rows) =
+          ap (λ (a : Address). length (rows_of_wallet lane a trail.script.rows)) cell-address
+          ∙ ap (λ (s : PlainScript). length (rows_of_wallet lane start.address s.rows)) cell-script in
+          omega (arith, count, left, rows)
 
       -- its cell is ready, and in hand with the others
       ready-cell : IsReady bank.script trail.before
@@ -173,7 +168,7 @@ module _ (bank : BankState) (row : PlainRow) (calls : List (Stamped _)) (address
           ap (λ (a : Address). record { address = a; bytes = trail.before.start }) cell-address ∙ ap (λ (b : List ℕ). record { address = start.address; bytes = b }) cell-start in
           record {
             kept = is_out.kept.cell;
-            spare = spare-wallet (left_by trail) is_out.kept row.lane few;
+            spare = spare-wallet (left_by trail) is_out.kept lane few;
             start = record {
               earlier = split.earlier;
               later = split.later;
@@ -181,7 +176,7 @@ module _ (bank : BankState) (row : PlainRow) (calls : List (Stamped _)) (address
             };
           }
 
-      pub in-hand : AreInHand bank.script (row_wallets row) others (hands ++ trail.before ∷ [])
+      pub in-hand : AreInHand bank.script named others (hands ++ trail.before ∷ [])
       in-hand = record {
         ready = All-push (IsReady bank.script) hands trail.before hand.ready ready-cell;
         are = shift hands ∙ ap (λ (a : Address). map address_in hands ++ a ∷ others) cell-here ∙ hand.are;
@@ -192,7 +187,7 @@ module _ (bank : BankState) (row : PlainRow) (calls : List (Stamped _)) (address
           shift (cell ∷ cells) = ap (λ (l : List Address). cell.address ∷ l) (shift cells)
 
       -- the other passes may draw
-      pub ready-others : AreReady bank row.lane calls others (set passes place out)
+      pub ready-others : AreReady bank lane others (set passes place out)
       ready-others =
           let Pass : Type 0 = WalletPass in
           record {
@@ -200,16 +195,13 @@ module _ (bank : BankState) (row : PlainRow) (calls : List (Stamped _)) (address
                 gates-set bank.wallets passes place out ready.gates
                 (λ p. ap (λ (x : Pass). x.gate) is_out.pass ∙ ap (λ (x : Pass). x.gate) before_is ∙ ap (λ (x : Pass). x.gate) (same-get passes place before p within-passes));
             each =
-                drawn-ready address others row.lane calls starts passes place out ready.each none within here
-                (λ p. (
-                  ap (λ (x : Pass). x.number) is_out.pass ∙ ap (λ (x : Pass). x.number) (before_is ∙ same-get passes place before p within-passes),
-                  ap (λ (x : Pass). x.mine) is_out.pass ∙ ap (λ (x : Pass). x.mine) (before_is ∙ same-get passes place before p within-passes),
-                ));
+                drawn-ready address others bank.script lane starts passes place out ready.each none within here
+                (λ p. ap (λ (x : Pass). x.number) is_out.pass ∙ ap (λ (x : Pass). x.number) (before_is ∙ same-get passes place before p within-passes));
           }
 
       -- ---- and left
 
-      module _ (written : Written) (mid : List WalletPass) (asked : written.lane ≡ row.lane) (grown : HaveGrown bank others written (set passes place out) mid) where
+      module _ (written : Written) (mid : List WalletPass) (asked : written.lane ≡ lane) (grown : HaveGrown bank others written (set passes place out) mid) where
         pub mid-is : (p : WalletPass) → get_or mid place p ≡ out
         mid-is p = still-out others written starts passes mid place out address none within here grown p
 
@@ -247,51 +239,51 @@ module _ (bank : BankState) (row : PlainRow) (calls : List (Stamped _)) (address
 -- ---- all that is known of the turn of the next wallet
 
 -- what was known before it, and what was taken
-pub record Facts (bank : BankState) (row : PlainRow) (calls : List (Stamped Call)) (address : Address) (others : List Address) (hands : List CellState)
+pub record Facts (bank : BankState) (named : List Address) (lane : ℕ) (address : Address) (others : List Address) (hands : List CellState)
     (passes : List WalletPass) (place : ℕ) (gate : GateView (Stamped WalletEntry) WalletOrigin) (before out : WalletPass) (trail : TrailState) : Type 0 where
-  pub due : IsDue bank.script calls row
-  pub hand : AreInHand bank.script (row_wallets row) (address ∷ others) hands
-  pub ready : AreReady bank row.lane calls (address ∷ others) passes
+  pub may : MayName bank.script named
+  pub hand : AreInHand bank.script named (address ∷ others) hands
+  pub ready : AreReady bank lane (address ∷ others) passes
   pub kept : IsBank bank
   pub at : IsPlace address (wallet_addresses bank.script) place
   pub gate_is : gate ≡ get_or bank.wallets place gate
   pub before_is : before ≡ get_or passes place before
   pub is_out : IsOut gate before out trail
 
-module _ (bank : BankState) (row : PlainRow) (calls : List (Stamped Call)) (address : Address) (others : List Address) (hands : List CellState)
+module _ (bank : BankState) (named : List Address) (lane : ℕ) (address : Address) (others : List Address) (hands : List CellState)
     (passes : List WalletPass) (place : ℕ) (gate : GateView (Stamped WalletEntry) WalletOrigin) (before out : WalletPass) (trail : TrailState)
-    (f : Facts bank row calls address others hands passes place gate before out trail) where
+    (f : Facts bank named lane address others hands passes place gate before out trail) where
   abbrev any_start : PlainAccount
   any_start = record { address = address; bytes = [] }
 
-  pub facts-hand : AreInHand bank.script (row_wallets row) others (hands ++ trail.before ∷ [])
+  pub facts-hand : AreInHand bank.script named others (hands ++ trail.before ∷ [])
   facts-hand =
-      in-hand bank row calls address others hands passes f.due f.hand f.ready f.kept place f.at any_start gate before out trail f.gate_is f.before_is f.is_out
+      in-hand bank named lane address others hands passes f.may f.hand f.ready f.kept place f.at any_start gate before out trail f.gate_is f.before_is f.is_out
 
-  pub facts-ready : AreReady bank row.lane calls others (set passes place out)
+  pub facts-ready : AreReady bank lane others (set passes place out)
   facts-ready =
-      ready-others bank row calls address others hands passes f.due f.hand f.ready f.kept place f.at any_start gate before out trail f.gate_is f.before_is f.is_out
+      ready-others bank named lane address others hands passes f.may f.hand f.ready f.kept place f.at any_start gate before out trail f.gate_is f.before_is f.is_out
 
-  module _ (written : Written) (mid : List WalletPass) (asked : written.lane ≡ row.lane) (grown : HaveGrown bank others written (set passes place out) mid) where
+  module _ (written : Written) (mid : List WalletPass) (asked : written.lane ≡ lane) (grown : HaveGrown bank others written (set passes place out) mid) where
     pub facts-mid : place < length mid
     facts-mid =
-        within-mid bank row calls address others hands passes f.due f.hand f.ready f.kept place f.at any_start gate before out trail f.gate_is f.before_is f.is_out written mid asked
+        within-mid bank named lane address others hands passes f.may f.hand f.ready f.kept place f.at any_start gate before out trail f.gate_is f.before_is f.is_out written mid asked
         grown
 
     module _ (now : WalletPass) (now_is : now ≡ get_or mid place now) where
       pub facts-number : now.number ≡ before.number
       facts-number =
-          number-mid bank row calls address others hands passes f.due f.hand f.ready f.kept place f.at any_start gate before out trail f.gate_is f.before_is f.is_out written mid
+          number-mid bank named lane address others hands passes f.may f.hand f.ready f.kept place f.at any_start gate before out trail f.gate_is f.before_is f.is_out written mid
           asked grown now now_is
 
       pub facts-leave : (cell : CellState) → HasEntry written trail.before cell → trail.last < written.stamp → MayLeave written gate now trail cell
       facts-leave cell entry above =
-          may-leave bank row calls address others hands passes f.due f.hand f.ready f.kept place f.at any_start gate before out trail f.gate_is f.before_is f.is_out written mid
+          may-leave bank named lane address others hands passes f.may f.hand f.ready f.kept place f.at any_start gate before out trail f.gate_is f.before_is f.is_out written mid
           asked grown now cell now_is entry above
 
       pub facts-grown : (left : WalletPass) → HasLeft written trail now left → HaveGrown bank (address ∷ others) written passes (set mid place left)
       facts-grown left has =
-          have-grown bank row calls address others hands passes f.due f.hand f.ready f.kept place f.at any_start gate before out trail f.gate_is f.before_is f.is_out written mid
+          have-grown bank named lane address others hands passes f.may f.hand f.ready f.kept place f.at any_start gate before out trail f.gate_is f.before_is f.is_out written mid
           asked grown now left (wallets-differ bank.script.start f.kept.script.start.accepted) now_is has
 
 -- ---- the wallets still to come

@@ -8,3 +8,4 @@ pub mod Closing
 pub mod Opened
 pub mod Running
 pub mod Turns
+pub mod Legs

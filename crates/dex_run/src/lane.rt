@@ -1,20 +1,21 @@
-//! The rows of one lane.
+//! The items of one lane.
 
 ghost use Rattle.std.specs.Prelude.{◌≡◌, ◌+◌, ◌∷◌, [], length};
 ghost use Rattle.dex_types.specs.Rows.{row_of};
 ghost use Rattle.dex_fold.specs.Items.{rows_of_lane};
 ghost use Rattle.dex_run.specs.Running.{CanRun, HasRun};
 ghost use Rattle.dex_run.specs.Seats.{IsSeatOf};
-ghost use Rattle.dex_run.specs.Submitted.{IsNext};
+ghost use Rattle.dex_run.specs.Submitted.{AreNext, IsNext};
 
 use crate::bank::Bank;
 use crate::seat::LaneSeat;
 use dex_io::Pace;
 use dex_lanes::Job;
+use dex_replay::is_swap;
 use dex_types::Row;
 use std::sync::Wait;
 
-/// A row acts where it is one of the seat's lane.
+/// A row alone acts where it is one of the seat's lane.
 fn submit_own<R: Wait, P: Pace>(rt: &R, bank: &Bank, seat: &mut LaneSeat, row: &Row, pace: &P)
     requires seat { IsSeatOf bank.now seat.old }
     requires row { row.now.lane ≡ seat.old.lane → IsNext (row_of row.now) seat.old }
@@ -29,17 +30,47 @@ fn submit_own<R: Wait, P: Pace>(rt: &R, bank: &Bank, seat: &mut LaneSeat, row: &
     }
 }
 
-/// The rows of the seat's lane act, in their order.
+/// The two legs of a swap act where they are of the seat's lane.
+fn submit_both<R: Wait, P: Pace>(
+    rt: &R,
+    bank: &Bank,
+    seat: &mut LaneSeat,
+    first: &Row,
+    second: &Row,
+    pace: &P,
+)
+    requires seat { IsSeatOf bank.now seat.old }
+    requires lane { first.now.lane ≡ second.now.lane }
+    requires legs { first.now.lane ≡ seat.old.lane → AreNext (row_of first.now) (row_of second.now) seat.old }
+    ensures bank { IsSeatOf bank.now seat.new }
+    ensures lane { seat.new.lane ≡ seat.old.lane }
+    ensures script { seat.new.script ≡ seat.old.script }
+    ensures calls { length seat.new.calls ≡ length seat.old.calls
+        + length (rows_of_lane seat.old.lane (row_of first.entry.now ∷ row_of second.entry.now ∷ [])) }
+{
+    if first.lane == seat.lane {
+        bank.submit_two(rt, seat, first, second, pace);
+    }
+}
+
+/// The items of the seat's lane act, in their order.
 fn submit_all<R: Wait, P: Pace>(rt: &R, bank: &Bank, seat: &mut LaneSeat, rows: &[Row], pace: &P)
     requires { CanRun bank.now rows.now seat.old }
     ensures { HasRun bank.now seat.old seat.new }
 {
-    for row in rows {
-        submit_own(rt, bank, seat, row, pace);
+    let mut place = 0;
+    'item: while place < rows.len() {
+        if is_swap(rows, place) {
+            submit_both(rt, bank, seat, &rows[place], &rows[place + 1], pace);
+            place += 2;
+        } else {
+            submit_own(rt, bank, seat, &rows[place], pace);
+            place += 1;
+        }
     }
 }
 
-/// A lane's rows, as a job on a thread of its own.
+/// A lane's items, as a job on a thread of its own.
 #[derive(Drop)]
 pub(crate) struct LaneJob<'a, R, P> {
     pub(crate) rt: &'a R,

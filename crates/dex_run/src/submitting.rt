@@ -1,37 +1,46 @@
-//! A row of a lane, under the turns of all that it acts on.
+//! The items of a lane, under the turns of all that they act on.
 
-ghost use Rattle.std.specs.Prelude.{◌≡◌, ◌≤◌, ◌+◌, [], length, map, vec_capacity};
+ghost use Rattle.std.specs.Prelude.{◌≡◌, ◌≤◌, ◌<◌, ◌+◌, [], false, length, vec_capacity};
 ghost use Rattle.std.specs.List.{All, AllZip};
 ghost use Rattle.dex_types.specs.Rows.{row_of};
 ghost use Rattle.dex_types.specs.Wallets.{row_wallets};
+ghost use Rattle.dex_script.specs.Facts.{AreLegs};
 ghost use Rattle.dex_locks.specs.Places.{front};
 ghost use Rattle.dex_fold.specs.World as world;
 ghost use Rattle.dex_act.specs.Wallets.{Fits, roles_of};
+ghost use Rattle.dex_history.specs.Journal.{is_held};
+ghost use Rattle.dex_replay.specs.Lawful.{AllThree};
+ghost use Rattle.dex_order.specs.Lanes.{AreAllOrNone};
+ghost use Rattle.dex_run.specs.Bank.{IsBank};
 ghost use Rattle.dex_run.specs.Inside.{call_made, written_of};
+ghost use Rattle.dex_run.specs.Legs.{legs_written, one_made, two_made};
 ghost use Rattle.dex_run.specs.Seats.{IsSeat, IsSeatOf};
-ghost use Rattle.dex_run.specs.Submitted.{HasCalled, HasSubmitted, IsNext};
-ghost use Rattle.dex_run.specs.Turns.{AreInHand, AreReady, HasCall, HasEntry, HaveGrown, IsDue, IsTold};
-ghost use Rattle.dex_run.specs.Turns.{MayCall, MayEnter, world_in};
+ghost use Rattle.dex_run.specs.Submitted.{AreNext, HasCalled, HasSubmitted, HaveSubmitted, IsNext, LegMarketGrows};
+ghost use Rattle.dex_run.specs.Turns.{AreInHand, AreReady, HasEntry, HaveGrown, IsTold, IsWritten};
+ghost use Rattle.dex_run.specs.Turns.{HaveLegsTold, MayEnter, MayEnterAt, MayName, leg_wallets, world_in};
 
+use crate::acts::Acts;
+use crate::alone::RowAlone;
 use crate::bank::Bank;
+use crate::legs::{SwapLegs, TwoMarkets, TwoRecords};
 use crate::seat::LaneSeat;
-use crate::seeing::{last_entry, role_at};
+use crate::seeing::role_at;
 use crate::stamped_record::StampedRecord;
 use crate::turns::{first_of, leave_wallet, put_in_hand, take_from_hand, take_market, take_wallet};
+use crate::two_turns::{TwoTurns, leave_at, take_two};
 use dex_gate::{Gate, Pass};
 use dex_io::Pace;
 use dex_journals::{BankMarket, BankWallet};
-use dex_locks::plan_locks;
+use dex_locks::{by_address, plan_locks, plan_wallets};
 use dex_stamps::Stamp;
-use dex_types::{Address, Reply, Row, Seen};
+use dex_types::{Address, Reply, Row, Seen, is_same};
 use dex_wallet::WalletCell;
-use http_server::Log as CallLog;
 use std::sync::Wait;
 
 impl Bank {
-    /// A row of the seat's lane acts: it draws and waits for the turn of its market, and then of each wallet that it names, by
-    /// rising address; it is decided and done or refused, its parcels move, and the turns are left, the wallets' and then the
-    /// market's. It takes no memory.
+    /// A row of the seat's lane acts, which is a whole item: it draws and waits for the turn of its market, and then of each wallet
+    /// that it names, by rising address; it is decided and done or refused, its parcels move, and the turns are left, the wallets' and
+    /// then the market's. It takes no memory.
     pub fn submit<R: Wait, P: Pace>(
         &self,
         rt: &R,
@@ -54,7 +63,6 @@ impl Bank {
             &plan.wallets,
             &mut seat.wallets,
             &mut seat.hands,
-            &seat.calls,
             &seat.last,
             row,
             pace,
@@ -69,6 +77,54 @@ impl Bank {
         entry.reply
     }
 
+    /// The two legs of a swap of the seat's lane act, both or neither: they draw and wait for the turns of their markets, by rising
+    /// address, and then of all wallets that they name, by rising address; both are looked at and decided before either acts; where
+    /// neither would be refused both act, and else each that would not be refused is held back; and the turns are left, the wallets'
+    /// and then the markets'. It takes no memory.
+    pub fn submit_two<R: Wait, P: Pace>(
+        &self,
+        rt: &R,
+        seat: &mut LaneSeat,
+        first: &Row,
+        second: &Row,
+        pace: &P,
+    ) -> (Reply, Reply)
+        requires seat { IsSeatOf self.now seat.old }
+        requires legs { AreNext (row_of first.now) (row_of second.now) seat.old }
+        ensures submitted { HaveSubmitted (row_of first.entry.now) (row_of second.entry.now) result seat.old seat.new }
+        ensures bank { IsSeatOf self.now seat.new }
+        ensures kept { IsSeat seat.new }
+    {
+        let wallets = plan_wallets(&first.coin, &first.pc, &second.coin, &second.pc);
+        let place = self.market_places.place(first.market);
+        let next = self.market_places.place(second.market);
+        let made = self.in_markets(
+            rt,
+            place,
+            next,
+            &mut seat.markets,
+            &wallets,
+            &mut seat.wallets,
+            &mut seat.hands,
+            &seat.last,
+            first,
+            second,
+            pace,
+        );
+        let TwoRecords {
+            first: one,
+            second: two,
+        } = made;
+        seat.calls = seat.calls.and(first, &one).and(second, &two);
+        let StampedRecord {
+            seen: _,
+            entry,
+            stamp: last,
+        } = one;
+        seat.last = last;
+        (entry.reply, two.entry.reply)
+    }
+
     // A row acts when it has the turn of its market.
     fn in_market<R: Wait, P: Pace>(
         &self,
@@ -78,19 +134,19 @@ impl Bank {
         wallets: &[Option<Address>],
         passes: &mut Vec<Pass<BankWallet>>,
         hands: &mut Vec<WalletCell>,
-        calls: &CallLog<Row, StampedRecord>,
         last: &Stamp,
         row: &Row,
         pace: &P,
     ) -> StampedRecord
-        requires due { IsDue self.now.script (map call_made calls.now.items) (row_of row.now) }
-        requires market { MayEnter self.now.script (row_of row.now) (map call_made calls.now.items) gate.now pass.old }
+        requires market { MayEnter self.now.script (row_of row.now) gate.now pass.old }
         requires wallets { front wallets.now ≡ row_wallets (row_of row.now) }
-        requires passes { AreReady self.now row.now.lane (map call_made calls.now.items)
-            (row_wallets (row_of row.now)) passes.old.items }
+        requires named { MayName self.now.script (row_wallets (row_of row.now)) }
+        requires passes { AreReady self.now row.now.lane (row_wallets (row_of row.now)) passes.old.items }
         requires hands { hands.old.items ≡ [] }
         requires room { length wallets.now ≤ vec_capacity hands.old }
-        ensures told { IsTold self.now.script last.now.number (call_made (row.entry.now, result)) }
+        ensures own { is_held (call_made (row.entry.now, result)).item ≡ false }
+        ensures told { IsTold self.now.script (call_made (row.entry.now, result)) }
+        ensures later { last.now.number < result.stamp.number }
         ensures market { HasCalled (call_made (row.entry.now, result)) gate.now.origin.start pass.old pass.new }
         ensures passes { HaveGrown self.now (row_wallets (row_of row.entry.now)) (written_of (row.entry.now, result))
             passes.old.items passes.new.items }
@@ -98,46 +154,104 @@ impl Bank {
         ensures room { vec_capacity hands.old ≤ vec_capacity hands.new }
     {
         let (mut market, away, stamp) = take_market(rt, gate, pass, last);
-        let made = self.with_wallets(
-            rt,
-            wallets,
-            &mut market,
-            passes,
-            hands,
-            calls,
-            &stamp,
-            row,
-            pace,
-        );
+        let item = RowAlone { row, pace };
+        let made = self.with_wallets(rt, wallets, &item, &mut market, passes, hands, &stamp);
         gate.leave(pass, away.put(market));
         made
     }
 
-    // It takes the turns of its wallets, one after the other, acts, and leaves them.
-    fn with_wallets<R: Wait, P: Pace>(
+    // Two legs act when they have the turns of their markets.
+    fn in_markets<R: Wait, P: Pace>(
+        &self,
+        rt: &R,
+        place: usize,
+        next: usize,
+        markets: &mut Vec<Pass<BankMarket>>,
+        wallets: &[Option<Address>],
+        passes: &mut Vec<Pass<BankWallet>>,
+        hands: &mut Vec<WalletCell>,
+        last: &Stamp,
+        first: &Row,
+        second: &Row,
+        pace: &P,
+    ) -> TwoRecords
+        requires bank { IsBank self.now }
+        requires legs { AreLegs (row_of first.now) (row_of second.now) }
+        requires first { MayEnterAt self.now (row_of first.now) markets.old.items place }
+        requires second { MayEnterAt self.now (row_of second.now) markets.old.items next }
+        requires markets { length markets.old.items ≡ length self.now.script.start.markets }
+        requires wallets { front wallets.now ≡ leg_wallets (row_of first.now) (row_of second.now) }
+        requires named { MayName self.now.script (leg_wallets (row_of first.now) (row_of second.now)) }
+        requires passes { AreReady self.now first.now.lane (leg_wallets (row_of first.now) (row_of second.now))
+            passes.old.items }
+        requires hands { hands.old.items ≡ [] }
+        requires room { length wallets.now ≤ vec_capacity hands.old }
+        ensures told { HaveLegsTold self.now.script last.now.number (one_made first.entry.now result)
+            (two_made second.entry.now result) }
+        ensures markets { AllThree (LegMarketGrows (row_of first.entry.now) (row_of second.entry.now)
+            (one_made first.entry.now result) (two_made second.entry.now result))
+            self.now.script.start.markets markets.old.items markets.new.items }
+        ensures passes { HaveGrown self.now (leg_wallets (row_of first.entry.now) (row_of second.entry.now))
+            (legs_written first.entry.now second.entry.now result) passes.old.items passes.new.items }
+        ensures hands { hands.new.items ≡ [] }
+        ensures room { vec_capacity hands.old ≤ vec_capacity hands.new }
+    {
+        let one = self.market_gate(place);
+        let two = self.market_gate(next);
+        let [lower, _] = by_address(first.market, second.market);
+        let turns = take_two(
+            rt,
+            one,
+            two,
+            markets,
+            place,
+            next,
+            is_same(lower, first.market),
+            last,
+        );
+        let TwoTurns {
+            markets: mut taken,
+            first: away,
+            second: away_next,
+            stamp,
+        } = turns;
+        let item = SwapLegs {
+            first,
+            second,
+            pace,
+        };
+        let made = self.with_wallets(rt, wallets, &item, &mut taken, passes, hands, &stamp);
+        let TwoMarkets {
+            first: market,
+            second: market_next,
+        } = taken;
+        leave_at(one, markets, place, away, market);
+        leave_at(two, markets, next, away_next, market_next);
+        made
+    }
+
+    // The item takes the turns of its wallets, one after the other, acts, and leaves them.
+    fn with_wallets<R: Wait, A: Acts>(
         &self,
         rt: &R,
         others: &[Option<Address>],
-        market: &mut BankMarket,
+        item: &A,
+        markets: &mut A::Markets,
         passes: &mut Vec<Pass<BankWallet>>,
         hands: &mut Vec<WalletCell>,
-        calls: &CallLog<Row, StampedRecord>,
         stamp: &Stamp,
-        row: &Row,
-        pace: &P,
-    ) -> StampedRecord
-        requires due { IsDue self.now.script (map call_made calls.now.items) (row_of row.now) }
-        requires market { MayCall (row_of row.now) stamp.now.number market.old }
-        requires hands { AreInHand self.now.script (row_wallets (row_of row.now)) (front others.now)
-            hands.old.items }
-        requires passes { AreReady self.now row.now.lane (map call_made calls.now.items) (front others.now)
-            passes.old.items }
+    ) -> A::Made
+        requires named { MayName self.now.script (A.named item.now) }
+        requires ready { A.ready item.now markets.old }
+        requires below { A.last item.now markets.old ≤ stamp.now.number }
+        requires hands { AreInHand self.now.script (A.named item.now) (front others.now) hands.old.items }
+        requires passes { AreReady self.now (A.lane item.now) (front others.now) passes.old.items }
         requires room { length hands.old.items + length others.now ≤ vec_capacity hands.old }
-        ensures told { IsTold self.now.script stamp.now.number (call_made (row.entry.now, result)) }
-        ensures market { HasCall (call_made (row.entry.now, result)) market.old market.new }
-        ensures passes { HaveGrown self.now (front others.now) (written_of (row.entry.now, result))
+        ensures did { A.did item.now self.now.script result markets.old markets.new }
+        ensures written { IsWritten (A.lane item.now) stamp.now.number (A.written item.now result) }
+        ensures passes { HaveGrown self.now (front others.now) (A.written item.now result)
             passes.old.items passes.new.items }
-        ensures hands { AllZip (HasEntry (written_of (row.entry.now, result))) hands.old.items hands.new.items }
+        ensures hands { AllZip (HasEntry (A.written item.now result)) hands.old.items hands.new.items }
         ensures room { vec_capacity hands.old ≤ vec_capacity hands.new }
     {
         match first_of(others) {
@@ -148,43 +262,18 @@ impl Bank {
                 let later = trail.later(stamp);
                 put_in_hand(hands, cell);
                 let rest = &others[1..];
-                let made = self.with_wallets(
-                    rt, rest, market, passes, hands, calls, &later, row, pace,
-                );
+                let made = self.with_wallets(rt, rest, item, markets, passes, hands, &later);
                 let cell = take_from_hand(hands);
-                leave_wallet(gate, &mut passes[place], cell, trail, away, row, &made);
+                let own = item.stamp(&made);
+                leave_wallet(gate, &mut passes[place], cell, trail, away, own);
                 made
             }
-            None => self.act_in(market, hands, stamp, row, pace),
+            None => item.act(self, markets, hands, stamp),
         }
     }
 
-    // It acts on the market and on the wallets in hand, under all turns.
-    fn act_in<P: Pace>(
-        &self,
-        market: &mut BankMarket,
-        hands: &mut Vec<WalletCell>,
-        stamp: &Stamp,
-        row: &Row,
-        pace: &P,
-    ) -> StampedRecord
-        requires market { MayCall (row_of row.now) stamp.now.number market.old }
-        requires hands { AreInHand self.now.script (row_wallets (row_of row.now)) [] hands.old.items }
-        ensures told { IsTold self.now.script stamp.now.number (call_made (row.entry.now, result)) }
-        ensures market { HasCall (call_made (row.entry.now, result)) market.old market.new }
-        ensures hands { AllZip (HasEntry (written_of (row.entry.now, result))) hands.old.items hands.new.items }
-        ensures room { vec_capacity hands.old ≤ vec_capacity hands.new }
-    {
-        pace.inside(row.lane, row.number);
-        let seen = self.seen_by(hands, row);
-        let stamp = stamp.next();
-        market.act(hands, row, &seen, &stamp);
-        let entry = last_entry(market.cell());
-        StampedRecord { seen, entry, stamp }
-    }
-
-    // What the row sees of the wallets in hand.
-    fn seen_by(&self, hands: &[WalletCell], row: &Row) -> Seen
+    // What a row sees of the wallets in hand.
+    pub(crate) fn seen_by(&self, hands: &[WalletCell], row: &Row) -> Seen
         ensures seen { result ≡ world.seen_by (row_of row.entry.now) (world_in self.now.script hands.now) }
         ensures fits { All Fits (roles_of result) }
     {

@@ -4,14 +4,13 @@ ghost use Rattle.std.specs.Prelude.{◌≡◌, ◌<◌, ◌≤◌, ◌++◌, ◌
 ghost use Rattle.dex_gate.specs.declared.stage.Stage.TheVariants.{Idle, Out};
 ghost use Rattle.dex_gate.specs.History.{Extends, added, of_lane};
 ghost use Rattle.dex_journals.specs.Journals.{IsBankMarket, left_by, market_calls, wallet_entries};
-ghost use Rattle.dex_run.specs.Inside.{written_of};
+ghost use Rattle.dex_run.specs.Submitted.{Written};
 ghost use Rattle.dex_run.specs.Turns.{HasLeft, IsMarketOut, IsOut, MayLeave, first_in};
 
-use crate::stamped_record::StampedRecord;
 use dex_gate::{Away, Gate, Journaled, Pass, Turn};
 use dex_journals::{BankMarket, BankWallet, WalletTrail};
 use dex_stamps::Stamp;
-use dex_types::{Address, Row};
+use dex_types::Address;
 use dex_wallet::WalletCell;
 use std::sync::Wait;
 
@@ -83,29 +82,30 @@ pub(crate) fn take_wallet<R: Wait>(
     (cell, trail, away)
 }
 
-/// Puts the cell of a wallet back with a call's entry, and leaves the turn.
+/// Puts the cell of a wallet back with an item's entry, and leaves the turn.
 pub(crate) fn leave_wallet(
     gate: &Gate<BankWallet>,
     pass: &mut Pass<BankWallet>,
     cell: WalletCell,
     trail: WalletTrail,
     away: Away<BankWallet>,
-    row: &Row,
-    made: &StampedRecord,
+    stamp: &Stamp,
 )
-    requires entry { MayLeave (written_of (row.now, made.now)) gate.now pass.old trail cell }
+    requires entry { (written : Written) × (written.stamp ≡ stamp.now.number)
+        × MayLeave written gate.now pass.old trail cell }
     requires away { away ≡ record {
       gate = Some gate.now;
       number = pass.old.number;
       start = wallet_entries (left_by trail);
     } }
-    ensures { HasLeft (written_of (row.entry.now, made.now)) trail pass.old pass.new }
+    ensures { (written : Written) → written.stamp ≡ stamp.now.number
+        → MayLeave written gate.now pass.old trail cell → HasLeft written trail pass.old pass.new }
 {
-    let wallet = trail.with(cell, &made.stamp);
+    let wallet = trail.with(cell, stamp);
     gate.leave(pass, away.put(wallet));
 }
 
-/// The first of a row's wallets that are still to come.
+/// The first of the wallets that are still to come.
 pub(crate) fn first_of(others: &[Option<Address>]) -> Option<Address>
     ensures { result ≡ first_in others.now }
 {

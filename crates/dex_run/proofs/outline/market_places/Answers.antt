@@ -2,7 +2,7 @@ use Rattle.std.proofs.Common.{List, map, ap, sym, subst, ◌∙◌}
 use Rattle.dex_fold.proofs.Common.{PlainMarketAccounts, accounts_of, market_accounts_of}
 use Rattle.dex_run.proofs.Common.{AreDistinct}
 use Rattle.dex_types.specs.declared.account_bytes.MarketAccounts.{MarketAccounts}
-use Rattle.dex_run.proofs.Apart.{markets-distinct}
+use Rattle.dex_replay.proofs.Apart.{markets-distinct}
 use Rattle.dex_run.proofs.outline.market_places.Goals as goal
 
 pub of-requires : goal.of-requires

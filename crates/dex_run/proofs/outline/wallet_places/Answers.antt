@@ -2,7 +2,7 @@ use Rattle.std.proofs.Common.{List, map, ap, sym, subst, ◌∙◌}
 use Rattle.dex_fold.proofs.Common.{PlainAccount, accounts_of, named_of}
 use Rattle.dex_run.proofs.Common.{AreDistinct}
 use Rattle.dex_types.specs.declared.account_bytes.Named.{Named}
-use Rattle.dex_run.proofs.Apart.{wallets-distinct}
+use Rattle.dex_replay.proofs.Apart.{wallets-distinct}
 use Rattle.dex_run.proofs.outline.wallet_places.Goals as goal
 
 pub of-requires : goal.of-requires

@@ -5,8 +5,8 @@ use Rattle.dex_run.proofs.Jobs.{after-done, after-lanes, after-of_bank}
 use Rattle.dex_run.proofs.running.run.Goals as goal
 
 -- each seat may run all rows of the script
-pub run_all-seats-requires : goal.run_all-seats-requires
-run_all-seats-requires g c = λ k d within.
+pub run_all-requires-after_bounds : goal.run_all-requires-after_bounds
+run_all-requires-after_bounds g c κs bounds = λ k d within.
     let here = c.in_ok-bank.ensures.seats k d within in
     let script_is = here.script ∙ c.in_ok-bank.ensures.bank ∙ c.in_ok-outline.ensures in
     record {

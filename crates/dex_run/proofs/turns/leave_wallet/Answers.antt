@@ -1,45 +1,51 @@
-use Rattle.std.proofs.Common.{◌≡◌, ◌++◌, Some, sym, ap, ◌∙◌, subst}
+use Rattle.std.proofs.Common.{◌≡◌, ◌++◌, ◌∷◌, [], ℕ, List, Some, sym, ap, ◌∙◌, subst}
 use Rattle.dex_fold.proofs.Common.{WalletEntry}
 use Rattle.dex_order.proofs.Common.{BankWalletState, IsBankWallet, Stamped, WalletOrigin, left_by, wallet_entries}
-use Rattle.dex_run.proofs.Common.{AddsOne, AwayView, Extends, Idle, PassView, TurnView, added}
+use Rattle.dex_run.proofs.Common.{AddsOne, AwayView, Extends, Idle, MayLeave, PassView, TurnView, added}
 use Rattle.dex_run.proofs.LeavingTurns.{comes-back, has-left, put_back, wallet-adds}
-use Rattle.dex_run.specs.Inside.{written_of}
 use Rattle.dex_run.specs.Submitted.{Written}
 use Rattle.dex_run.proofs.turns.leave_wallet.Goals as goal
 
 pub with-wallet-requires-clause-entry : goal.with-wallet-requires-clause-entry
 with-wallet-requires-clause-entry c =
-    comes-back (written_of (c.args.row.now, c.args.made.now)) c.args.gate.now c.args.pass.now c.args.trail c.args.cell c.requires.entry
+    comes-back c.requires.entry.0 c.args.gate.now c.args.pass.now c.args.trail c.args.cell c.requires.entry.2
 
-abbrev written : goal.After-put → Written
-written c = written_of (c.args.row.now, c.args.made.now)
+-- the wallet that is put back
+put : (c : goal.After-put) (written : Written) (same : written.stamp ≡ c.args.stamp.now.number) (may : MayLeave written c.args.gate.now c.args.pass.now c.args.trail c.args.cell)
+    → c.with-wallet.result ≡ put_back written c.args.trail c.args.cell may.entry
+put c written same may =
+    c.with-wallet.ensures.wallet
+    ∙ ap (λ (n : ℕ). record { cell = c.args.cell; stamps = c.args.trail.stamps ++ n ∷ []; last = n; script = c.args.trail.script }) (sym same)
 
-abbrev whole : goal.After-put → BankWalletState
-whole c = put_back (written c) c.args.trail c.args.cell c.requires.entry.entry
+kept : (c : goal.After-put) (written : Written) (same : written.stamp ≡ c.args.stamp.now.number) (may : MayLeave written c.args.gate.now c.args.pass.now c.args.trail c.args.cell)
+    → IsBankWallet (put_back written c.args.trail c.args.cell may.entry)
+kept c written same may = subst IsBankWallet (put c written same may) c.with-wallet.ensures.kept
 
 abbrev Turn : Type 0
 Turn = TurnView BankWalletState (Stamped WalletEntry) WalletOrigin
 
 -- the turn with the wallet
-turn-is : (c : goal.After-put) → c.put.result
-    ≡ record { gate = Some c.args.gate.now; number = c.args.pass.now.number; start = wallet_entries (left_by c.args.trail); value = whole c }
-turn-is c =
+turn-is : (c : goal.After-put) (whole : BankWalletState) → c.with-wallet.result ≡ whole → c.put.result
+    ≡ record { gate = Some c.args.gate.now; number = c.args.pass.now.number; start = wallet_entries (left_by c.args.trail); value = whole }
+turn-is c whole is =
     let turn_of : AwayView (Stamped WalletEntry) WalletOrigin → BankWalletState → Turn =
     λ away wallet. record { gate = away.gate; number = away.number; start = away.start; value = wallet } in
-    c.put.ensures ∙ ap (λ (a : AwayView (Stamped WalletEntry) WalletOrigin). turn_of a c.with-wallet.result) c.requires.away ∙ ap (turn_of _) c.with-wallet.ensures.wallet
-
-kept : (c : goal.After-put) → IsBankWallet (whole c)
-kept c = subst IsBankWallet c.with-wallet.ensures.wallet c.with-wallet.ensures.kept
+    c.put.ensures ∙ ap (λ (a : AwayView (Stamped WalletEntry) WalletOrigin). turn_of a c.with-wallet.result) c.requires.away ∙ ap (turn_of _) is
 
 pub leave-requires-clause-entry : goal.leave-requires-clause-entry
 leave-requires-clause-entry c =
-    subst (λ (t : Turn). AddsOne (λ (e : Stamped WalletEntry). e.item.lane) c.args.pass.now.number t.start (wallet_entries t.value)) (sym (turn-is c))
-    (wallet-adds (written c) c.args.trail c.args.cell c.requires.entry.entry c.args.pass.now.number (kept c) c.requires.entry.number)
+    let written : Written = c.requires.entry.0 in
+    let may : MayLeave written c.args.gate.now c.args.pass.now c.args.trail c.args.cell = c.requires.entry.2 in
+    subst (λ (t : Turn). AddsOne (λ (e : Stamped WalletEntry). e.item.lane) c.args.pass.now.number t.start (wallet_entries t.value))
+    (sym (turn-is c (put_back written c.args.trail c.args.cell may.entry) (put c written c.requires.entry.1 may)))
+    (wallet-adds written c.args.trail c.args.cell may.entry c.args.pass.now.number (kept c written c.requires.entry.1 may) may.number)
 
 pub returns : goal.returns
-returns c =
+returns c = λ written same may.
     let Pass : Type 0 = PassView (Stamped WalletEntry) WalletOrigin in
     let pass_of : Turn → Pass = λ t.
     record c.args.pass.now { seen = wallet_entries t.value; mine = c.args.pass.now.mine ++ added t.start (wallet_entries t.value); stage = Idle } in
-    has-left (written c.before) c.args.trail c.args.cell c.requires.entry.entry c.args.pass.now c.leave.new.pass (kept c.before) (c.leave.ensures.pass ∙ ap pass_of (turn-is c.before))
-    (subst (λ (t : Turn). Extends c.args.pass.now.seen (wallet_entries t.value)) (turn-is c.before) c.leave.ensures.seen)
+    let whole : BankWalletState = put_back written c.args.trail c.args.cell may.entry in
+    let is = turn-is c.before whole (put c.before written same may) in
+    has-left written c.args.trail c.args.cell may.entry c.args.pass.now c.leave.new.pass (kept c.before written same may) (c.leave.ensures.pass ∙ ap pass_of is)
+    (subst (λ (t : Turn). Extends c.args.pass.now.seen (wallet_entries t.value)) is c.leave.ensures.seen)

@@ -5,14 +5,14 @@ use Rattle.dex_run.proofs.Common.{BankState, HasSubmitted, IsBank, IsNext, IsPla
 use Rattle.std.proofs.lemmas.List.{map-append}
 use Rattle.dex_run.specs.Bank.{market_addresses}
 use Rattle.dex_run.specs.Inside.{seat_inside}
-use Rattle.dex_run.proofs.SeatAfter.{due, enters, market-known, ready, seat-kept, seat-of, seat-submitted, within-gates, within-passes}
+use Rattle.dex_run.proofs.SeatAfter.{enters, market-known, names-own, next-ahead, ready, seat-kept, seat-of, seat-submitted, within-gates, within-passes}
 use Rattle.dex_run.proofs.bank.Bank.submit.Goals as goal
 
 pub place-place-requires : goal.place-place-requires
 place-place-requires g c =
     subst (λ (l : List Address). list_any (is_same c.args.row.now.market) l ≡ true)
     (sym (c.self.invariant.market_places ∙ ap (λ (b : BankState). market_addresses b.script) c.self.view_is))
-    (market-known c.args.self.now (row_of c.args.row.now) c.args.seat.now c.requires.row (subst IsBank c.self.view_is c.self.invariant.bank) c.requires.seat)
+    (market-known c.args.self.now (row_of c.args.row.now) c.args.seat.now (next-ahead (row_of c.args.row.now) c.args.seat.now c.requires.row) (subst IsBank c.self.view_is c.self.invariant.bank) c.requires.seat)
 
 pub market_gate-requires : goal.market_gate-requires
 market_gate-requires g c =
@@ -25,21 +25,21 @@ index_mut-requires g c =
     omega (
       arith,
       within-passes c.args.self.now (row_of c.args.row.now) (seat_inside c.seat.inside)
-          (subst (IsNext (row_of c.args.row.now)) (sym c.seat.view_is) c.requires.row) (subst IsBank c.self.view_is c.self.invariant.bank)
+          (next-ahead (row_of c.args.row.now) (seat_inside c.seat.inside) (subst (IsNext (row_of c.args.row.now)) (sym c.seat.view_is) c.requires.row)) (subst IsBank c.self.view_is c.self.invariant.bank)
           (subst (IsSeatOf c.args.self.now) (sym c.seat.view_is) c.requires.seat) c.seat.invariant.seat
           c.place-place.result (subst (λ (l : List Address). IsPlace c.args.row.now.market l c.place-place.result) (c.self.invariant.market_places ∙ ap (λ (b : BankState). market_addresses b.script) c.self.view_is) c.place-place.ensures),
     )
 
-pub in_market-made-requires-clause-due : goal.in_market-made-requires-clause-due
-in_market-made-requires-clause-due g c =
-    due c.args.self.now (row_of c.args.row.now) (seat_inside c.seat.inside)
-    (subst (IsNext (row_of c.args.row.now)) (sym c.seat.view_is) c.requires.row) (subst IsBank c.self.view_is c.self.invariant.bank)
+pub in_market-made-requires-clause-named : goal.in_market-made-requires-clause-named
+in_market-made-requires-clause-named g c =
+    names-own c.args.self.now (row_of c.args.row.now) (seat_inside c.seat.inside)
+    (next-ahead (row_of c.args.row.now) (seat_inside c.seat.inside) (subst (IsNext (row_of c.args.row.now)) (sym c.seat.view_is) c.requires.row)) (subst IsBank c.self.view_is c.self.invariant.bank)
     (subst (IsSeatOf c.args.self.now) (sym c.seat.view_is) c.requires.seat) c.seat.invariant.seat
 
 pub in_market-made-requires-clause-market : goal.in_market-made-requires-clause-market
 in_market-made-requires-clause-market g c =
     enters c.args.self.now (row_of c.args.row.now) (seat_inside c.seat.inside)
-    (subst (IsNext (row_of c.args.row.now)) (sym c.seat.view_is) c.requires.row) (subst IsBank c.self.view_is c.self.invariant.bank)
+    (next-ahead (row_of c.args.row.now) (seat_inside c.seat.inside) (subst (IsNext (row_of c.args.row.now)) (sym c.seat.view_is) c.requires.row)) (subst IsBank c.self.view_is c.self.invariant.bank)
     (subst (IsSeatOf c.args.self.now) (sym c.seat.view_is) c.requires.seat) c.seat.invariant.seat
     c.place-place.result (subst (λ (l : List Address). IsPlace c.args.row.now.market l c.place-place.result) (c.self.invariant.market_places ∙ ap (λ (b : BankState). market_addresses b.script) c.self.view_is) c.place-place.ensures)
     c.market_gate.result.now.origin.start c.market_gate.result.now c.index_mut.result.now (c.market_gate.ensures c.market_gate.result.now) c.index_mut.ensures.value
@@ -47,7 +47,7 @@ in_market-made-requires-clause-market g c =
 pub in_market-made-requires-clause-passes : goal.in_market-made-requires-clause-passes
 in_market-made-requires-clause-passes g c =
     ready c.args.self.now (row_of c.args.row.now) (seat_inside c.seat.inside)
-    (subst (IsNext (row_of c.args.row.now)) (sym c.seat.view_is) c.requires.row) (subst IsBank c.self.view_is c.self.invariant.bank)
+    (next-ahead (row_of c.args.row.now) (seat_inside c.seat.inside) (subst (IsNext (row_of c.args.row.now)) (sym c.seat.view_is) c.requires.row)) (subst IsBank c.self.view_is c.self.invariant.bank)
     (subst (IsSeatOf c.args.self.now) (sym c.seat.view_is) c.requires.seat) c.seat.invariant.seat
 
 -- ---- the seat behind it
@@ -69,7 +69,7 @@ invariant_of-seat g c =
           (subst (IsNext (row_of c.args.row.now)) (sym c.seat.view_is) c.requires.row) (subst IsBank c.self.view_is c.self.invariant.bank)
           (subst (IsSeatOf c.args.self.now) (sym c.seat.view_is) c.requires.seat) c.seat.invariant.seat
           c.place-place.result (subst (λ (l : List Address). IsPlace c.args.row.now.market l c.place-place.result) (c.self.invariant.market_places ∙ ap (λ (b : BankState). market_addresses b.script) c.self.view_is) c.place-place.ensures)
-          (call_made (c.args.row.now, c.in_market-made.result)) refl c.in_market-made.ensures.told c.market_gate.result.now c.index_mut.result.now c.in_market-made.new.pass (c.market_gate.ensures c.market_gate.result.now)
+          (call_made (c.args.row.now, c.in_market-made.result)) refl c.in_market-made.ensures.own c.in_market-made.ensures.told c.in_market-made.ensures.later c.market_gate.result.now c.index_mut.result.now c.in_market-made.new.pass (c.market_gate.ensures c.market_gate.result.now)
           c.index_mut.ensures.value c.in_market-made.ensures.market c.in_market-made.new.passes.items c.in_market-made.ensures.passes);
       hands = c.in_market-made.ensures.hands;
       room = omega (arith, c.seat.invariant.room, c.in_market-made.ensures.room);
@@ -92,7 +92,7 @@ returns-clause-submitted g c =
     (subst (IsNext (row_of c.args.row.now)) (sym c.seat.view_is) c.requires.row) (subst IsBank c.self.view_is c.self.invariant.bank)
     (subst (IsSeatOf c.args.self.now) (sym c.seat.view_is) c.requires.seat) c.seat.invariant.seat
     c.place-place.result (subst (λ (l : List Address). IsPlace c.args.row.now.market l c.place-place.result) (c.self.invariant.market_places ∙ ap (λ (b : BankState). market_addresses b.script) c.self.view_is) c.place-place.ensures)
-    (call_made (c.args.row.now, c.in_market-made.result)) refl c.in_market-made.ensures.told c.market_gate.result.now c.index_mut.result.now c.in_market-made.new.pass (c.market_gate.ensures c.market_gate.result.now)
+    (call_made (c.args.row.now, c.in_market-made.result)) refl c.in_market-made.ensures.own c.in_market-made.ensures.told c.in_market-made.ensures.later c.market_gate.result.now c.index_mut.result.now c.in_market-made.new.pass (c.market_gate.ensures c.market_gate.result.now)
     c.index_mut.ensures.value c.in_market-made.ensures.market c.in_market-made.new.passes.items c.in_market-made.ensures.passes))
 
 pub returns-clause-bank : goal.returns-clause-bank
@@ -111,7 +111,7 @@ returns-clause-bank g c =
     (subst (IsNext (row_of c.args.row.now)) (sym c.seat.view_is) c.requires.row) (subst IsBank c.self.view_is c.self.invariant.bank)
     (subst (IsSeatOf c.args.self.now) (sym c.seat.view_is) c.requires.seat) c.seat.invariant.seat
     c.place-place.result (subst (λ (l : List Address). IsPlace c.args.row.now.market l c.place-place.result) (c.self.invariant.market_places ∙ ap (λ (b : BankState). market_addresses b.script) c.self.view_is) c.place-place.ensures)
-    (call_made (c.args.row.now, c.in_market-made.result)) refl c.in_market-made.ensures.told c.market_gate.result.now c.index_mut.result.now c.in_market-made.new.pass (c.market_gate.ensures c.market_gate.result.now)
+    (call_made (c.args.row.now, c.in_market-made.result)) refl c.in_market-made.ensures.own c.in_market-made.ensures.told c.in_market-made.ensures.later c.market_gate.result.now c.index_mut.result.now c.in_market-made.new.pass (c.market_gate.ensures c.market_gate.result.now)
     c.index_mut.ensures.value c.in_market-made.ensures.market c.in_market-made.new.passes.items c.in_market-made.ensures.passes)
 
 pub returns-clause-kept : goal.returns-clause-kept
@@ -130,5 +130,5 @@ returns-clause-kept g c =
     (subst (IsNext (row_of c.args.row.now)) (sym c.seat.view_is) c.requires.row) (subst IsBank c.self.view_is c.self.invariant.bank)
     (subst (IsSeatOf c.args.self.now) (sym c.seat.view_is) c.requires.seat) c.seat.invariant.seat
     c.place-place.result (subst (λ (l : List Address). IsPlace c.args.row.now.market l c.place-place.result) (c.self.invariant.market_places ∙ ap (λ (b : BankState). market_addresses b.script) c.self.view_is) c.place-place.ensures)
-    (call_made (c.args.row.now, c.in_market-made.result)) refl c.in_market-made.ensures.told c.market_gate.result.now c.index_mut.result.now c.in_market-made.new.pass (c.market_gate.ensures c.market_gate.result.now)
+    (call_made (c.args.row.now, c.in_market-made.result)) refl c.in_market-made.ensures.own c.in_market-made.ensures.told c.in_market-made.ensures.later c.market_gate.result.now c.index_mut.result.now c.in_market-made.new.pass (c.market_gate.ensures c.market_gate.result.now)
     c.index_mut.ensures.value c.in_market-made.ensures.market c.in_market-made.new.passes.items c.in_market-made.ensures.passes)

@@ -1,0 +1,9 @@
+pub mod Changes
+pub mod Meetings
+pub mod Pays
+pub mod Ends
+pub mod Trades
+pub mod Cancels
+pub mod Lists
+pub mod Starts
+pub mod Acts

@@ -1,0 +1,38 @@
+use Rattle.std.proofs.Common.{arith}
+use Rattle.dex_eager_market.proofs.acting.order.Goals as goal
+
+pub order_in-requires-clause-own : goal.order_in-requires-clause-own
+order_in-requires-clause-own c = rw c.in-Bid.is c.requires.bids
+
+pub order_in-requires-clause-opposing : goal.order_in-requires-clause-opposing
+order_in-requires-clause-opposing c = rw c.in-Bid.is c.requires.asks
+
+pub returns-in-Bid-clause-does : goal.returns-in-Bid-clause-does
+returns-in-Bid-clause-does c = rw c.in-Bid.is (rw c.in-Bid.is at c.order_in.ensures.market)
+
+pub returns-in-Bid-clause-kept : goal.returns-in-Bid-clause-kept
+returns-in-Bid-clause-kept c = λ bound kept. record {
+  bids = (rw c.in-Bid.is at c.order_in.ensures.own).0;
+  asks = (rw c.in-Bid.is at c.order_in.ensures.opposing).0;
+  accounts = c.order_in.ensures.within bound kept.accounts;
+  takings = omega (arith, kept.takings, c.order_in.ensures.takings);
+  listed = omega (arith, kept.listed, c.order_in.ensures.own.1, c.order_in.ensures.opposing.1);
+}
+
+pub order_in-requires-in-Ask-clause-own : goal.order_in-requires-in-Ask-clause-own
+order_in-requires-in-Ask-clause-own c = rw c.in-Ask.is c.requires.asks
+
+pub order_in-requires-in-Ask-clause-opposing : goal.order_in-requires-in-Ask-clause-opposing
+order_in-requires-in-Ask-clause-opposing c = rw c.in-Ask.is c.requires.bids
+
+pub returns-in-Ask-clause-does : goal.returns-in-Ask-clause-does
+returns-in-Ask-clause-does c = rw c.in-Ask.is (rw c.in-Ask.is at c.order_in-in-Ask.ensures.market)
+
+pub returns-in-Ask-clause-kept : goal.returns-in-Ask-clause-kept
+returns-in-Ask-clause-kept c = λ bound kept. record {
+  bids = (rw c.in-Ask.is at c.order_in-in-Ask.ensures.opposing).0;
+  asks = (rw c.in-Ask.is at c.order_in-in-Ask.ensures.own).0;
+  accounts = c.order_in-in-Ask.ensures.within bound kept.accounts;
+  takings = omega (arith, kept.takings, c.order_in-in-Ask.ensures.takings);
+  listed = omega (arith, kept.listed, c.order_in-in-Ask.ensures.own.1, c.order_in-in-Ask.ensures.opposing.1);
+}

@@ -1,0 +1,78 @@
+use Rattle.std.proofs.Common.{◌≡◌, ◌≤◌, ◌+◌, ◌∙◌, ap, sym, subst, arith}
+use Rattle.std.specs.Vec.{vec_capacity}
+use Rattle.dex_types.specs.Accounts.{market_accounts_of}
+use Rattle.dex_types.specs.Market.{Market}
+use Rattle.dex_accounts.specs.Decoded.{market_in}
+use Rattle.dex_audit_rules.specs.Books.{PlainGathered}
+use Rattle.dex_eager.specs.Slots.{without_slots}
+use Rattle.dex_slab.specs.Slab.{IsSlab, room_in}
+use Rattle.dex_eager_market.proofs.Starts.{start-is, start-kept}
+use Rattle.dex_eager_market.proofs.making.state_of.Goals as goal
+
+pub room_of-bid_room-requires : goal.room_of-bid_room-requires
+room_of-bid_room-requires c = subst IsSlab (sym c.deref.ensures.value) c.requires.accepted.bids.slab
+
+pub room_of-ask_room-requires : goal.room_of-ask_room-requires
+room_of-ask_room-requires c = subst IsSlab (sym c.deref-2.ensures.value) c.requires.accepted.asks.slab
+
+pub returns-clause-is : goal.returns-clause-is
+unfolding market_in
+returns-clause-is c =
+    let m : Market = market_in (market_accounts_of c.args.market.now) in
+    let bid_room : c.in_ok-bids.bids.room ≡ m.listing.bid_capacity = c.in_ok-bids.ensures.room ∙ c.room_of-bid_room.ensures ∙ ap room_in c.deref.ensures.value in
+    let ask_room : c.in_ok-asks.asks.room ≡ m.listing.ask_capacity = c.in_ok-asks.ensures.room ∙ c.room_of-ask_room.ensures ∙ ap room_in c.deref-2.ensures.value in
+    let bids : c.in_ok-bids.bids.orders.items ≡ without_slots m.bids =
+    c.in_ok-bids.ensures.orders ∙ ap without_slots (c.deref-3.ensures.value ∙ ap (λ (g : PlainGathered). g.bids) c.in_ok-gathered.ensures) in
+    let asks : c.in_ok-asks.asks.orders.items ≡ without_slots m.asks =
+    c.in_ok-asks.ensures.orders ∙ ap without_slots (c.deref-4.ensures.value ∙ ap (λ (g : PlainGathered). g.asks) c.in_ok-gathered.ensures) in
+    start-is m (record {
+      sizes = c.sizes_of.result;
+      bids = c.in_ok-bids.bids;
+      asks = c.in_ok-asks.asks;
+      next_sequence = c.sequence_of.result;
+      accounts = c.in_ok-accounts.accounts;
+      takings = c.takings_of.result;
+      listed = c.in_ok-listed.listed;
+    }) c.requires.sound (record {
+      sizes = c.sizes_of.ensures;
+      bid_room = bid_room;
+      ask_room = ask_room;
+      bids = bids;
+      asks = asks;
+      next = c.sequence_of.ensures;
+      accounts = c.in_ok-accounts.ensures;
+      takings = c.takings_of.ensures.value;
+    })
+
+pub returns-clause-kept : goal.returns-clause-kept
+unfolding market_in
+returns-clause-kept c =
+    let m : Market = market_in (market_accounts_of c.args.market.now) in
+    let bid_room : c.in_ok-bids.bids.room ≡ m.listing.bid_capacity = c.in_ok-bids.ensures.room ∙ c.room_of-bid_room.ensures ∙ ap room_in c.deref.ensures.value in
+    let ask_room : c.in_ok-asks.asks.room ≡ m.listing.ask_capacity = c.in_ok-asks.ensures.room ∙ c.room_of-ask_room.ensures ∙ ap room_in c.deref-2.ensures.value in
+    let bids : c.in_ok-bids.bids.orders.items ≡ without_slots m.bids =
+    c.in_ok-bids.ensures.orders ∙ ap without_slots (c.deref-3.ensures.value ∙ ap (λ (g : PlainGathered). g.bids) c.in_ok-gathered.ensures) in
+    let asks : c.in_ok-asks.asks.orders.items ≡ without_slots m.asks =
+    c.in_ok-asks.ensures.orders ∙ ap without_slots (c.deref-4.ensures.value ∙ ap (λ (g : PlainGathered). g.asks) c.in_ok-gathered.ensures) in
+    let reserved : c.in_ok-bids.bids.room ≤ vec_capacity c.in_ok-bids.bids.orders = omega (arith, c.in_ok-bids.ensures.room, c.in_ok-bids.ensures.reserved) in
+    let kept : c.in_ok-asks.asks.room ≤ vec_capacity c.in_ok-asks.asks.orders = omega (arith, c.in_ok-asks.ensures.room, c.in_ok-asks.ensures.reserved) in
+    let listed : c.in_ok-bids.bids.room + c.in_ok-asks.asks.room ≤ vec_capacity c.in_ok-listed.listed =
+    omega (arith, c.in_ok-bids.ensures.room, c.in_ok-asks.ensures.room, c.in_ok-listed.ensures) in
+    start-kept m (record {
+      sizes = c.sizes_of.result;
+      bids = c.in_ok-bids.bids;
+      asks = c.in_ok-asks.asks;
+      next_sequence = c.sequence_of.result;
+      accounts = c.in_ok-accounts.accounts;
+      takings = c.takings_of.result;
+      listed = c.in_ok-listed.listed;
+    }) c.requires.sound (record {
+      sizes = c.sizes_of.ensures;
+      bid_room = bid_room;
+      ask_room = ask_room;
+      bids = bids;
+      asks = asks;
+      next = c.sequence_of.ensures;
+      accounts = c.in_ok-accounts.ensures;
+      takings = c.takings_of.ensures.value;
+    }) reserved kept listed c.takings_of.ensures.small

@@ -1,0 +1,63 @@
+use Rattle.std.proofs.Common.{◌∙◌, refl, sym, ap, subst, arith}
+use Rattle.std.specs.List.{All}
+use Rattle.dex_types.specs.Meeting.{Meeting, meet}
+use Rattle.dex_types.specs.NewOrder.{terms_of}
+use Rattle.dex_types.specs.Side.{opposite}
+use Rattle.dex_match.specs.OrderTerms.{meeting_with, order_of}
+use Rattle.dex_meet.specs.Taker.{demand, taking}
+use Rattle.dex_eager_market.specs.Foreseen.{CanFill}
+use Rattle.dex_eager_market.specs.Trading.{quote_too_large}
+use Rattle.dex_eager_market.proofs.Trades.{order-met, seen-as, goes-on, lock-small, modest-order, order-stops, order-too-large, quote-small}
+use Rattle.dex_eager_market.proofs.trading.foresee_order.Goals as goal
+
+pub returns-then-base_too_large : goal.returns-then-base_too_large
+returns-then-base_too_large c =
+    order-too-large c.args.taker.id_side c.args.sizes c.args.taker.lots c.args.next (meeting_with c.args.sizes c.args.taker c.args.opposing.now.orders.items)
+    (sym c.base_too_large.ensures ∙ c.if-base_too_large.true)
+
+pub foresee-foreseen-requires-clause-modest : goal.foresee-foreseen-requires-clause-modest
+foresee-foreseen-requires-clause-modest c =
+    rw c.order_terms-terms.ensures.sizes rw c.want_of.ensures
+    (modest-order c.args.taker.id_side c.args.sizes (order_of c.args.taker) (omega arith) (omega arith) (sym c.base_too_large.ensures ∙ c.if-base_too_large.false))
+
+pub foresee-foreseen-requires-clause-orders : goal.foresee-foreseen-requires-clause-orders
+foresee-foreseen-requires-clause-orders c =
+    rw c.order_terms-terms.ensures.sizes (subst (All (CanFill (opposite c.args.taker.id_side) c.args.sizes)) (sym c.deref.ensures.value) c.requires.can_fill)
+
+pub returns-then-stops : goal.returns-then-stops
+returns-then-stops c =
+    let met : Meeting = meeting_with c.args.sizes c.args.taker c.args.opposing.now.orders.items in
+    let foreseen = c.foresee-foreseen.result in
+    let reached = seen-as c.args.sizes c.args.taker c.order_terms-terms.result (meet c.args.taker.id_side (taking c.order_terms-terms.result) (demand c.want_of.result) c.deref.result.now)
+    (meeting_with c.args.sizes c.args.taker c.args.opposing.now.orders.items) c.deref.result.now c.args.opposing.now.orders.items c.foresee-foreseen.result
+    c.order_terms-terms.ensures.sizes c.order_terms-terms.ensures.limit
+    (order-met c.args.sizes c.args.taker c.order_terms-terms.result c.want_of.result c.deref.result.now c.args.opposing.now.orders.items c.order_terms-terms.ensures.keeps c.want_of.ensures c.deref.ensures.value)
+    c.deref.ensures.value c.foresee-foreseen.ensures.foreseen in
+    order-stops c.args.taker.id_side c.args.sizes c.args.taker.lots c.args.next foreseen.sums.pc foreseen.aborts met (sym c.base_too_large.ensures ∙ c.if-base_too_large.false)
+    reached.pc reached.aborts ∙ sym c.stops.ensures ∙ c.if-stops.true
+
+pub returns : goal.returns
+returns c =
+    let side = c.args.taker.id_side in
+    let n = order_of c.args.taker in
+    let met : Meeting = meeting_with c.args.sizes c.args.taker c.args.opposing.now.orders.items in
+    let foreseen = c.foresee-foreseen.result in
+    let reached = seen-as c.args.sizes c.args.taker c.order_terms-terms.result (meet c.args.taker.id_side (taking c.order_terms-terms.result) (demand c.want_of.result) c.deref.result.now)
+    (meeting_with c.args.sizes c.args.taker c.args.opposing.now.orders.items) c.deref.result.now c.args.opposing.now.orders.items c.foresee-foreseen.result
+    c.order_terms-terms.ensures.sizes c.order_terms-terms.ensures.limit
+    (order-met c.args.sizes c.args.taker c.order_terms-terms.result c.want_of.result c.deref.result.now c.args.opposing.now.orders.items c.order_terms-terms.ensures.keeps c.want_of.ensures c.deref.ensures.value)
+    c.deref.ensures.value c.foresee-foreseen.ensures.foreseen in
+    let small = sym c.base_too_large.ensures ∙ c.if-base_too_large.false in
+    let free = sym c.stops.ensures ∙ c.if-stops.false in
+    let on = goes-on side foreseen.sums.pc c.args.next foreseen.aborts (omega arith) free in
+    let quote = ap (quote_too_large side) (sym reached.pc) ∙ on.1 in (
+      order-stops side c.args.sizes c.args.taker.lots c.args.next foreseen.sums.pc foreseen.aborts met small reached.pc reached.aborts ∙ free,
+      on.0,
+      record {
+        reached = reached;
+        modest = modest-order side c.args.sizes n (omega arith) (omega arith) small;
+        lock = lock-small side c.args.sizes n (omega arith) small;
+        base = c.foresee-foreseen.ensures.base;
+        pc = omega (arith, reached.pc, quote-small side c.args.sizes n (terms_of c.args.sizes n) c.args.opposing.now.orders.items refl (omega arith) quote);
+      },
+    )

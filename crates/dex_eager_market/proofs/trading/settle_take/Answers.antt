@@ -1,0 +1,52 @@
+use Rattle.std.proofs.Common.{ℕ, ◌≡◌, ◌∙◌, ◌+◌, ◌-◌, ◌^◌, map, refl, ap, arith}
+use Rattle.dex_types.specs.Fees.{taker_fee}
+use Rattle.dex_types.specs.Meeting.{Meeting, meet}
+use Rattle.dex_types.specs.Take.{take_fee}
+use Rattle.dex_eager.specs.Eager.{with_fills}
+use Rattle.dex_eager.specs.Slots.{maker_fills}
+use Rattle.dex_meet.specs.Taker.{demand, taking}
+use Rattle.dex_take.specs.TakeTerms.{meeting_with, take_of}
+use Rattle.dex_eager_market.specs.Accounts.{entry_of}
+use Rattle.dex_eager_market.proofs.Changes.{all-more}
+use Rattle.dex_eager_market.proofs.Trades.{seen-by, take-met}
+use Rattle.dex_eager_market.proofs.trading.settle_take.Goals as goal
+
+pub meet_book-requires-clause-modest : goal.meet_book-requires-clause-modest
+meet_book-requires-clause-modest c = rw c.take_terms-terms.ensures.sizes rw c.want_of-want.ensures c.requires.modest
+
+pub meet_book-requires-clause-book : goal.meet_book-requires-clause-book
+meet_book-requires-clause-book c = rw c.take_terms-terms.ensures.sizes c.requires.opposing
+
+pub meet_book-requires-clause-accounts : goal.meet_book-requires-clause-accounts
+meet_book-requires-clause-accounts c = all-more (2 ^ 124) (2 ^ 125) c.args.accounts.now.items (omega arith) c.requires.accounts
+
+pub meet_book-requires-clause-foreseen : goal.meet_book-requires-clause-foreseen
+meet_book-requires-clause-foreseen c =
+    seen-by c.args.sizes c.args.taker c.take_terms-terms.result
+    (meet c.args.taker.id_side (taking c.take_terms-terms.result) (demand c.want_of-want.result) c.args.opposing.now.orders.items)
+    (meeting_with c.args.sizes c.args.taker c.args.opposing.now.orders.items) c.args.opposing.now.orders.items c.args.foreseen.now
+    c.take_terms-terms.ensures.sizes c.take_terms-terms.ensures.limit
+    (take-met c.args.sizes c.args.taker c.take_terms-terms.result c.want_of-want.result c.args.opposing.now.orders.items c.args.opposing.now.orders.items c.take_terms-terms.ensures.keeps c.want_of-want.ensures refl)
+    c.requires.foreseen
+
+pub returns-clause-left : goal.returns-clause-left
+returns-clause-left c = c.meet_book.ensures.left ∙ ap (λ (m : Meeting). m.left) (take-met c.args.sizes c.args.taker c.take_terms-terms.result c.want_of-want.result c.args.opposing.now.orders.items c.args.opposing.now.orders.items c.take_terms-terms.ensures.keeps c.want_of-want.ensures refl)
+
+pub returns-clause-worths : goal.returns-clause-worths
+returns-clause-worths c =
+    c.meet_book.ensures.worths ∙ ap (λ (m : Meeting). with_fills (maker_fills m.events) (map entry_of c.args.accounts.now.items)) (take-met c.args.sizes c.args.taker c.take_terms-terms.result c.want_of-want.result c.args.opposing.now.orders.items c.args.opposing.now.orders.items c.take_terms-terms.ensures.keeps c.want_of-want.ensures refl)
+
+pub returns-clause-takings : goal.returns-clause-takings
+returns-clause-takings c =
+    let met : Meeting = meeting_with c.args.sizes c.args.taker c.args.opposing.now.orders.items in
+    let fee_is : c.taker_fee-fee.result ≡ take_fee (take_of c.args.taker 0 0) met =
+    c.taker_fee-fee.ensures.value ∙ ap (taker_fee c.args.taker.program c.args.taker.tier) (c.narrow.ensures ∙ c.requires.foreseen.pc) in
+    c.charge.ensures
+    ∙ ap (λ (f : ℕ). c.args.takings.now + (f - c.args.foreseen.now.sums.rebates)) fee_is
+    ∙ ap (λ (r : ℕ). c.args.takings.now + (take_fee (take_of c.args.taker 0 0) met - r)) c.requires.foreseen.rebates
+
+pub returns-clause-small : goal.returns-clause-small
+returns-clause-small c = omega (arith, c.charge.ensures, c.taker_fee-fee.ensures.at_most_all, c.narrow.ensures, c.requires.pc)
+
+pub returns-clause-opposing : goal.returns-clause-opposing
+returns-clause-opposing c = (rw c.take_terms-terms.ensures.sizes at c.meet_book.ensures.book, c.meet_book.ensures.room)

@@ -1,0 +1,81 @@
+//! What each account gained and paid.
+
+ghost use Rattle.std.specs.Prelude.{◌≡◌, ℕ, ◌+◌, ◌^◌, map};
+ghost use Rattle.std.specs.List.{All};
+ghost use Rattle.dex_eager.specs.Eager as eager;
+ghost use Rattle.dex_worth.specs.Amounts.{IsWithin as AreUpTo};
+ghost use Rattle.dex_eager_market.specs.Accounts as book;
+
+use dex_types::{Address, is_same};
+use dex_worth::amounts::Amounts;
+
+/// What came in for an account, and what it paid, in native units.
+#[derive(Clone, Copy, Debug)]
+pub struct Change {
+    pub gained: Amounts,
+    pub paid: Amounts,
+}
+
+/// An account of the market: its address, and all that came in for it and that it paid so far.
+#[derive(Clone, Copy, Debug)]
+pub struct Account {
+    pub address: Address,
+    pub total: Change,
+}
+
+/// Both together.
+fn sum(one: Amounts, other: Amounts) -> Amounts
+    requires one { AreUpTo (2 ^ 126) one }
+    requires other { AreUpTo (2 ^ 126) other }
+    ensures { result ≡ record { coin = one.coin + other.coin; pc = one.pc + other.pc } }
+{
+    Amounts {
+        coin: one.coin + other.coin,
+        pc: one.pc + other.pc,
+    }
+}
+
+/// An account with a change of the owner, where it is the owner's.
+fn changed(account: Account, owner: Address, change: Change) -> Account
+    requires account { book.IsWithin (2 ^ 126) account }
+    requires change { book.IsSmall (2 ^ 126) change }
+    ensures value { result ≡ book.changed owner change account }
+{
+    if is_same(account.address, owner) {
+        Account {
+            address: account.address,
+            total: Change {
+                gained: sum(account.total.gained, change.gained),
+                paid: sum(account.total.paid, change.paid),
+            },
+        }
+    } else {
+        account
+    }
+}
+
+/// Changes what the owner's account gained and paid.
+pub fn change_worth(accounts: &mut [Account], owner: Address, change: Change)
+    requires accounts { All (book.IsWithin (2 ^ 126)) accounts.old }
+    requires change { book.IsSmall (2 ^ 126) change }
+    ensures worths { map book.entry_of accounts.new
+        ≡ eager.with_change owner (book.worth_of change) (map book.entry_of accounts.old) }
+    ensures within { (bound more : ℕ) → All (book.IsWithin bound) accounts.old → book.IsSmall more change
+        → All (book.IsWithin (bound + more)) accounts.new }
+{
+    for place in 0..accounts.len() {
+        accounts[place] = changed(accounts[place], owner, change);
+    }
+}
+
+/// Adds a change of the owner to its account.
+pub fn add(accounts: &mut Vec<Account>, owner: Address, change: Change)
+    requires accounts { All (book.IsWithin (2 ^ 126)) accounts.old.items }
+    requires change { book.IsSmall (2 ^ 126) change }
+    ensures worths { map book.entry_of accounts.new.items
+        ≡ eager.with_change owner (book.worth_of change) (map book.entry_of accounts.old.items) }
+    ensures within { (bound more : ℕ) → All (book.IsWithin bound) accounts.old.items → book.IsSmall more change
+        → All (book.IsWithin (bound + more)) accounts.new.items }
+{
+    change_worth(accounts, owner, change);
+}

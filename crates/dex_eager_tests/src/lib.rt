@@ -1,0 +1,5 @@
+//! The market that pays each fill at once beside the one that pays makers when events are consumed.
+#![tactic(auto)]
+
+#[cfg(test)]
+mod beside;
