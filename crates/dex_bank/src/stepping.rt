@@ -187,7 +187,8 @@ fn waits(any: bool, refused: bool) -> bool
 /// Two legs of one swap act, both or neither, and these are their markets' replies.
 pub(crate) fn stepped_both(cells: &mut Cells, first: &Row, second: &Row) -> (Reply, Reply)
     requires { CanActBoth (row_of first.now) (row_of second.now) cells.old }
-    ensures replies { AreReplies (world_of cells.old) (pair_of (row_of first.entry.now) (row_of second.entry.now)) result }
+    ensures replies { AreReplies (world_of cells.old)
+        (pair_of (row_of first.entry.now) (row_of second.entry.now)) result }
     ensures acted { world_of cells.new
         ≡ act_item (pair_of (row_of first.entry.now) (row_of second.entry.now)) (world_of cells.old) }
     ensures kept { opened_of cells.new ≡ opened_of cells.old }

@@ -42,7 +42,8 @@ pub(crate) fn lend<T: Drop>(slots: &mut Vec<Slot<T>>, place: usize, since: usize
 /// Whether the cell at a place is out since this row.
 fn is_out<T>(slots: &[Slot<T>], place: usize, since: usize) -> bool
     requires { place < length slots.now }
-    ensures { IsTrue result → (s : SlotOf T) → slice_index_or slots.now place s ≡ record { cell = None; since = since } }
+    ensures { IsTrue result
+        → (s : SlotOf T) → slice_index_or slots.now place s ≡ record { cell = None; since = since } }
 {
     match slots[place].cell {
         Some(_) => false,

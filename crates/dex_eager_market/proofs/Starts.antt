@@ -109,9 +109,9 @@ pub record IsStart (m : Market) (s : State) : Type 0 where
   pub ask_room : s.asks.room ≡ m.listing.ask_capacity
   pub bids : s.bids.orders.items ≡ without_slots m.bids
   pub asks : s.asks.orders.items ≡ without_slots m.asks
-  pub next : s.next_sequence ≡ m.next_sequence
-  pub accounts : s.accounts.items ≡ held_accounts m
-  pub takings : s.takings ≡ m.pc_fees + m.referrer_rebates
+  pub next : s.till.next_sequence ≡ m.next_sequence
+  pub accounts : s.till.accounts.items ≡ held_accounts m
+  pub takings : s.till.takings ≡ m.pc_fees + m.referrer_rebates
 
 abbrev market-of : Lots → ℕ → ℕ → List Order → List Order → ℕ → Worths → ℕ → Eager
 market-of sizes bid_room ask_room bids asks next worths takings = record {
@@ -129,24 +129,23 @@ market-of sizes bid_room ask_room bids asks next worths takings = record {
 pub start-is : (m : Market) (s : State) → IsSound m → IsStart m s → eager_of s ≡ eager_start m
 start-is m s sound is =
     let all : m.pc_fees + m.referrer_rebates ≡ m.pc_fees + m.referrer_rebates + 0 + 0 = omega arith in
-    ap (λ (z : Lots). market-of z s.bids.room s.asks.room s.bids.orders.items s.asks.orders.items s.next_sequence (map entry_of s.accounts.items) s.takings) is.sizes
-    ∙ ap (λ (n : ℕ). market-of m.listing.sizes n s.asks.room s.bids.orders.items s.asks.orders.items s.next_sequence (map entry_of s.accounts.items) s.takings) is.bid_room
-    ∙ ap (λ (n : ℕ). market-of m.listing.sizes m.listing.bid_capacity n s.bids.orders.items s.asks.orders.items s.next_sequence (map entry_of s.accounts.items) s.takings) is.ask_room
-    ∙ ap (λ (o : List Order). market-of m.listing.sizes m.listing.bid_capacity m.listing.ask_capacity o s.asks.orders.items s.next_sequence (map entry_of s.accounts.items) s.takings) is.bids
-    ∙ ap (λ (o : List Order). market-of m.listing.sizes m.listing.bid_capacity m.listing.ask_capacity (without_slots m.bids) o s.next_sequence (map entry_of s.accounts.items) s.takings) is.asks
-    ∙ ap (λ (n : ℕ). market-of m.listing.sizes m.listing.bid_capacity m.listing.ask_capacity (without_slots m.bids) (without_slots m.asks) n (map entry_of s.accounts.items) s.takings) is.next
-    ∙ ap (λ (w : Worths). market-of m.listing.sizes m.listing.bid_capacity m.listing.ask_capacity (without_slots m.bids) (without_slots m.asks) m.next_sequence w s.takings)
+    ap (λ (z : Lots). market-of z s.bids.room s.asks.room s.bids.orders.items s.asks.orders.items s.till.next_sequence (map entry_of s.till.accounts.items) s.till.takings) is.sizes
+    ∙ ap (λ (n : ℕ). market-of m.listing.sizes n s.asks.room s.bids.orders.items s.asks.orders.items s.till.next_sequence (map entry_of s.till.accounts.items) s.till.takings) is.bid_room
+    ∙ ap (λ (n : ℕ). market-of m.listing.sizes m.listing.bid_capacity n s.bids.orders.items s.asks.orders.items s.till.next_sequence (map entry_of s.till.accounts.items) s.till.takings) is.ask_room
+    ∙ ap (λ (o : List Order). market-of m.listing.sizes m.listing.bid_capacity m.listing.ask_capacity o s.asks.orders.items s.till.next_sequence (map entry_of s.till.accounts.items) s.till.takings) is.bids
+    ∙ ap (λ (o : List Order). market-of m.listing.sizes m.listing.bid_capacity m.listing.ask_capacity (without_slots m.bids) o s.till.next_sequence (map entry_of s.till.accounts.items) s.till.takings) is.asks
+    ∙ ap (λ (n : ℕ). market-of m.listing.sizes m.listing.bid_capacity m.listing.ask_capacity (without_slots m.bids) (without_slots m.asks) n (map entry_of s.till.accounts.items) s.till.takings) is.next
+    ∙ ap (λ (w : Worths). market-of m.listing.sizes m.listing.bid_capacity m.listing.ask_capacity (without_slots m.bids) (without_slots m.asks) m.next_sequence w s.till.takings)
     (ap (map entry_of) is.accounts ∙ start-worths m sound m.traders)
     ∙ ap (λ (n : ℕ). market-of m.listing.sizes m.listing.bid_capacity m.listing.ask_capacity (without_slots m.bids) (without_slots m.asks) m.next_sequence
     (map (λ (entry : Address × Trader). (entry.0, worth_of entry.0 m no_moves)) m.traders) n) (is.takings ∙ all)
 
 -- and all that is kept holds
 pub start-kept : (m : Market) (s : State) → IsSound m → IsStart m s → s.bids.room ≤ vec_capacity s.bids.orders → s.asks.room ≤ vec_capacity s.asks.orders
-    → s.bids.room + s.asks.room ≤ vec_capacity s.listed → s.takings < 2 ^ 65 → IsKept (2 ^ 84) s
+    → s.bids.room + s.asks.room ≤ vec_capacity s.listed → s.till.takings < 2 ^ 65 → IsKept (2 ^ 84) s
 start-kept m s sound is bids asks listed small = record {
   bids = subst (λ (z : Lots). IsBook Bid z s.bids) (sym is.sizes) (start-book Bid m s.bids sound is.bid_room bids is.bids);
   asks = subst (λ (z : Lots). IsBook Ask z s.asks) (sym is.sizes) (start-book Ask m s.asks sound is.ask_room asks is.asks);
-  accounts = subst (All (IsWithin (2 ^ 84))) (sym is.accounts) (start-within m sound m.traders);
-  takings = omega (arith, small);
+  till = record { accounts = subst (All (IsWithin (2 ^ 84))) (sym is.accounts) (start-within m sound m.traders); takings = omega (arith, small) };
   listed = listed;
 }

@@ -35,13 +35,13 @@ use Rattle.dex_take.specs.TakeTerms.{meeting_with as take_meets, take_of}
 use Rattle.dex_eager.specs.Eager.{Eager, EagerStep, Worths, after_meeting, after_new_order, is_too_large, order_by, take_by, with_change, with_fills}
 use Rattle.dex_eager.specs.Slots.{maker_fills}
 use Rattle.dex_eager.specs.Worth.{net}
-use Rattle.dex_eager_market.specs.declared.accounts.Account.{Account}
 use Rattle.dex_eager_market.specs.declared.states.Book.{Book}
 use Rattle.dex_eager_market.specs.declared.states.State.{State}
+use Rattle.dex_eager_market.specs.declared.states.Till.{Till}
 use Rattle.dex_eager_market.specs.Accounts.{entry_of, worth_of}
 use Rattle.dex_eager_market.specs.declared.foreseeing.Foreseen.{Foreseen}
 use Rattle.dex_eager_market.specs.Foreseen.{CanFill, IsForeseen, IsModest, left_by}
-use Rattle.dex_eager_market.specs.States.{CanList, IsBook, IsKept, market_by}
+use Rattle.dex_eager_market.specs.States.{CanList, IsBook, IsKept, IsTill, market_by}
 use Rattle.dex_eager_market.specs.Trading.{IsOrderForeseen, IsTakeForeseen, base_too_large, quote_too_large, rested_by, stops, taker_change}
 use Rattle.dex_eager_market.proofs.Changes.{all-more}
 use Rattle.dex_eager_market.proofs.Ends.{can-fill-left, length-left}
@@ -127,14 +127,15 @@ post-fills P side room order orders one all =
     ]
 
 -- the market after a new order, part by part
-pub record HasTraded (side : Side) (sizes : Lots) (n : NewOrder) (met : Meeting) (own opposing own' opposing' : Book) (next : ℕ) (accounts accounts' : List Account) (takings takings' : ℕ) : Type 0 where
+pub record HasTraded (side : Side) (sizes : Lots) (n : NewOrder) (met : Meeting) (own opposing own' opposing' : Book) (till till' : Till) : Type 0 where
   pub own_room : own'.room ≡ own.room
   pub opposing_room : opposing'.room ≡ opposing.room
-  pub own_is : own'.orders.items ≡ (post side own.room (resting side next 0 n (rested side sizes n met)) own.orders.items).side
+  pub own_is : own'.orders.items ≡ (post side own.room (resting side till.next_sequence 0 n (rested side sizes n met)) own.orders.items).side
   pub opposing_is : opposing'.orders.items ≡ met.left
-  pub worths : map entry_of accounts' ≡ with_change n.owner (net (taker_gets side sizes met (fee_of n met)) (taker_pays side sizes met (fee_of n met)))
-      (with_fills (maker_fills met.events) (map entry_of accounts))
-  pub takings_are : takings' ≡ takings + (fee_of n met - met.rebates)
+  pub next : till'.next_sequence ≡ till.next_sequence + 1
+  pub worths : map entry_of till'.accounts.items ≡ with_change n.owner (net (taker_gets side sizes met (fee_of n met)) (taker_pays side sizes met (fee_of n met)))
+      (with_fills (maker_fills met.events) (map entry_of till.accounts.items))
+  pub takings_are : till'.takings ≡ till.takings + (fee_of n met - met.rebates)
 
 abbrev market-from : Side → Lots → ℕ → ℕ → List Order → List Order → ℕ → Worths → ℕ → Eager
 market-from side sizes own_room opposing_room own opposing next worths takings = record {
@@ -148,44 +149,50 @@ market-from side sizes own_room opposing_room own opposing next worths takings =
   takings = takings;
 }
 
-pub order-left : (side : Side) (sizes : Lots) (n : NewOrder) (met : Meeting) (own opposing own' opposing' : Book) (next : ℕ) (accounts accounts' : List Account) (takings takings' : ℕ)
-    → HasTraded side sizes n met own opposing own' opposing' next accounts accounts' takings takings'
-    → market_by side sizes own' opposing' (next + 1) accounts' takings' ≡ after_new_order side n met (market_by side sizes own opposing next accounts takings)
-order-left side sizes n met own opposing own' opposing' next accounts accounts' takings takings' has =
-    ap (λ (r : ℕ). market-from side sizes r opposing'.room own'.orders.items opposing'.orders.items (next + 1) (map entry_of accounts') takings') has.own_room
-    ∙ ap (λ (r : ℕ). market-from side sizes own.room r own'.orders.items opposing'.orders.items (next + 1) (map entry_of accounts') takings') has.opposing_room
-    ∙ ap (λ (o : List Order). market-from side sizes own.room opposing.room o opposing'.orders.items (next + 1) (map entry_of accounts') takings') has.own_is
-    ∙ ap (λ (o : List Order). market-from side sizes own.room opposing.room (post side own.room (resting side next 0 n (rested side sizes n met)) own.orders.items).side o (next + 1)
-    (map entry_of accounts') takings') has.opposing_is
-    ∙ ap (λ (w : Worths). market-from side sizes own.room opposing.room (post side own.room (resting side next 0 n (rested side sizes n met)) own.orders.items).side met.left
-    (next + 1) w takings') has.worths
-    ∙ ap (λ (k : ℕ). market-from side sizes own.room opposing.room (post side own.room (resting side next 0 n (rested side sizes n met)) own.orders.items).side met.left
-    (next + 1) (with_change n.owner (net (taker_gets side sizes met (fee_of n met)) (taker_pays side sizes met (fee_of n met)))
-    (with_fills (maker_fills met.events) (map entry_of accounts))) k) has.takings_are
+pub order-left : (side : Side) (sizes : Lots) (n : NewOrder) (met : Meeting) (own opposing own' opposing' : Book) (till till' : Till)
+    → HasTraded side sizes n met own opposing own' opposing' till till'
+    → market_by side sizes own' opposing' till' ≡ after_new_order side n met (market_by side sizes own opposing till)
+order-left side sizes n met own opposing own' opposing' till till' has =
+    let posted : List Order = (post side own.room (resting side till.next_sequence 0 n (rested side sizes n met)) own.orders.items).side in
+    let paid : Worths = with_change n.owner (net (taker_gets side sizes met (fee_of n met)) (taker_pays side sizes met (fee_of n met)))
+    (with_fills (maker_fills met.events) (map entry_of till.accounts.items)) in
+    ap (λ (r : ℕ). market-from side sizes r opposing'.room own'.orders.items opposing'.orders.items till'.next_sequence (map entry_of till'.accounts.items) till'.takings) has.own_room
+    ∙ ap (λ (r : ℕ). market-from side sizes own.room r own'.orders.items opposing'.orders.items till'.next_sequence (map entry_of till'.accounts.items) till'.takings) has.opposing_room
+    ∙ ap (λ (o : List Order). market-from side sizes own.room opposing.room o opposing'.orders.items till'.next_sequence (map entry_of till'.accounts.items) till'.takings) has.own_is
+    ∙ ap (λ (o : List Order). market-from side sizes own.room opposing.room posted o till'.next_sequence (map entry_of till'.accounts.items) till'.takings) has.opposing_is
+    ∙ ap (λ (k : ℕ). market-from side sizes own.room opposing.room posted met.left k (map entry_of till'.accounts.items) till'.takings) has.next
+    ∙ ap (λ (w : Worths). market-from side sizes own.room opposing.room posted met.left (till.next_sequence + 1) w till'.takings) has.worths
+    ∙ ap (λ (k : ℕ). market-from side sizes own.room opposing.room posted met.left (till.next_sequence + 1) paid k) has.takings_are
     ∙ by-side side
   where
     by-side : (s : Side)
-        → market-from s sizes own.room opposing.room (post s own.room (resting s next 0 n (rested s sizes n met)) own.orders.items).side met.left
-        (next + 1) (with_change n.owner (net (taker_gets s sizes met (fee_of n met)) (taker_pays s sizes met (fee_of n met)))
-        (with_fills (maker_fills met.events) (map entry_of accounts))) (takings + (fee_of n met - met.rebates))
-        ≡ after_new_order s n met (market_by s sizes own opposing next accounts takings)
+        → market-from s sizes own.room opposing.room (post s own.room (resting s till.next_sequence 0 n (rested s sizes n met)) own.orders.items).side met.left
+        (till.next_sequence + 1) (with_change n.owner (net (taker_gets s sizes met (fee_of n met)) (taker_pays s sizes met (fee_of n met)))
+        (with_fills (maker_fills met.events) (map entry_of till.accounts.items))) (till.takings + (fee_of n met - met.rebates))
+        ≡ after_new_order s n met (market_by s sizes own opposing till)
     by-side Bid = refl
     by-side Ask = refl
 
 -- the market after a take, part by part
-pub take-left : (side : Side) (sizes : Lots) (t : Take) (met : Meeting) (own opposing opposing' : Book) (next : ℕ) (accounts accounts' : List Account) (takings takings' : ℕ)
-    → opposing'.room ≡ opposing.room → opposing'.orders.items ≡ met.left → map entry_of accounts' ≡ with_fills (maker_fills met.events) (map entry_of accounts)
-    → takings' ≡ takings + (take_fee t met - met.rebates)
-    → market_by side sizes own opposing' next accounts' takings' ≡ after_meeting side met (take_fee t met) (market_by side sizes own opposing next accounts takings)
-take-left side sizes t met own opposing opposing' next accounts accounts' takings takings' room left worths taken =
-    ap (λ (r : ℕ). market-from side sizes own.room r own.orders.items opposing'.orders.items next (map entry_of accounts') takings') room
-    ∙ ap (λ (o : List Order). market-from side sizes own.room opposing.room own.orders.items o next (map entry_of accounts') takings') left
-    ∙ ap (λ (w : Worths). market-from side sizes own.room opposing.room own.orders.items met.left next w takings') worths
-    ∙ ap (λ (k : ℕ). market-from side sizes own.room opposing.room own.orders.items met.left next (with_fills (maker_fills met.events) (map entry_of accounts)) k) taken
+pub record HasMet (met : Meeting) (fee : ℕ) (opposing opposing' : Book) (till till' : Till) : Type 0 where
+  pub room : opposing'.room ≡ opposing.room
+  pub left : opposing'.orders.items ≡ met.left
+  pub next : till'.next_sequence ≡ till.next_sequence
+  pub worths : map entry_of till'.accounts.items ≡ with_fills (maker_fills met.events) (map entry_of till.accounts.items)
+  pub takings_are : till'.takings ≡ till.takings + (fee - met.rebates)
+
+pub take-left : (side : Side) (sizes : Lots) (fee : ℕ) (met : Meeting) (own opposing opposing' : Book) (till till' : Till) → HasMet met fee opposing opposing' till till'
+    → market_by side sizes own opposing' till' ≡ after_meeting side met fee (market_by side sizes own opposing till)
+take-left side sizes fee met own opposing opposing' till till' has =
+    ap (λ (r : ℕ). market-from side sizes own.room r own.orders.items opposing'.orders.items till'.next_sequence (map entry_of till'.accounts.items) till'.takings) has.room
+    ∙ ap (λ (o : List Order). market-from side sizes own.room opposing.room own.orders.items o till'.next_sequence (map entry_of till'.accounts.items) till'.takings) has.left
+    ∙ ap (λ (k : ℕ). market-from side sizes own.room opposing.room own.orders.items met.left k (map entry_of till'.accounts.items) till'.takings) has.next
+    ∙ ap (λ (w : Worths). market-from side sizes own.room opposing.room own.orders.items met.left till.next_sequence w till'.takings) has.worths
+    ∙ ap (λ (k : ℕ). market-from side sizes own.room opposing.room own.orders.items met.left till.next_sequence (with_fills (maker_fills met.events) (map entry_of till.accounts.items)) k) has.takings_are
     ∙ by-side side
   where
-    by-side : (s : Side) → market-from s sizes own.room opposing.room own.orders.items met.left next (with_fills (maker_fills met.events) (map entry_of accounts))
-        (takings + (take_fee t met - met.rebates)) ≡ after_meeting s met (take_fee t met) (market_by s sizes own opposing next accounts takings)
+    by-side : (s : Side) → market-from s sizes own.room opposing.room own.orders.items met.left till.next_sequence (with_fills (maker_fills met.events) (map entry_of till.accounts.items))
+        (till.takings + (fee - met.rebates)) ≡ after_meeting s met fee (market_by s sizes own opposing till)
     by-side Bid = refl
     by-side Ask = refl
 
@@ -279,12 +286,14 @@ book-without side sizes book after id is room capacity left = record {
 -- ---- states
 
 -- what holds with a bound holds with a greater one
+pub till-more : (bound more : ℕ) (till : Till) → bound ≤ more → IsTill bound till → IsTill more till
+till-more bound more till le is = record { accounts = all-more bound more till.accounts.items le is.accounts; takings = omega (arith, is.takings) }
+
 pub kept-more : (bound more : ℕ) (s : State) → bound ≤ more → IsKept bound s → IsKept more s
 kept-more bound more s le kept = record {
   bids = kept.bids;
   asks = kept.asks;
-  accounts = all-more bound more s.accounts.items le kept.accounts;
-  takings = omega (arith, kept.takings);
+  till = till-more bound more s.till le kept.till;
   listed = kept.listed;
 }
 

@@ -37,13 +37,13 @@ fn has_account(accounts: &[Account], owner: Address) -> bool
 
 /// The account that a row names first, where it is one of the market's.
 fn acting(state: &State, named: &[Address]) -> Option<Address>
-    ensures { result ≡ acts.account_named named.now (map entry_of state.now.accounts.items) }
+    ensures { result ≡ acts.account_named named.now (map entry_of state.now.till.accounts.items) }
 {
     if named.is_empty() {
         return None;
     }
     let owner = named[0];
-    if !has_account(&state.accounts, owner) {
+    if !has_account(&state.till.accounts, owner) {
         return None;
     }
     Some(owner)
@@ -66,24 +66,21 @@ fn order(state: &mut State, taker: Taker)
         (eager.order_meeting taker.id_side (order_of taker) (eager_of state.old)) (eager_of state.old)).market }
     ensures kept { (bound : ℕ) → IsKept bound state.old → IsKept (bound + 2 ^ 82) state.new }
 {
+    let sizes = state.sizes;
     match taker.id_side {
         Side::Bid => order_in(
-            state.sizes,
+            sizes,
             taker,
-            &mut state.next_sequence,
-            &mut state.takings,
             &mut state.bids,
             &mut state.asks,
-            &mut state.accounts,
+            &mut state.till,
         ),
         Side::Ask => order_in(
-            state.sizes,
+            sizes,
             taker,
-            &mut state.next_sequence,
-            &mut state.takings,
             &mut state.asks,
             &mut state.bids,
-            &mut state.accounts,
+            &mut state.till,
         ),
     }
 }
@@ -96,20 +93,8 @@ fn take(state: &mut State, taker: Taker)
     ensures kept { (bound : ℕ) → IsKept bound state.old → IsKept (bound + 2 ^ 82) state.new }
 {
     match taker.id_side {
-        Side::Bid => take_in(
-            state.sizes,
-            taker,
-            &mut state.takings,
-            &mut state.asks,
-            &mut state.accounts,
-        ),
-        Side::Ask => take_in(
-            state.sizes,
-            taker,
-            &mut state.takings,
-            &mut state.bids,
-            &mut state.accounts,
-        ),
+        Side::Bid => take_in(state.sizes, taker, &mut state.asks, &mut state.till),
+        Side::Ask => take_in(state.sizes, taker, &mut state.bids, &mut state.till),
     }
 }
 

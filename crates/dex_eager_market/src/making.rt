@@ -17,7 +17,7 @@ ghost use Rattle.dex_eager_market.specs.States.{IsKept, eager_of};
 
 use crate::accounts::{Account, Change};
 use crate::listing::Resting;
-use crate::states::{Book, State};
+use crate::states::{Book, State, Till};
 use dex_audit_rules::gather;
 use dex_market::{MarketRef, RequestRef};
 use dex_slab::SlabRef;
@@ -166,15 +166,17 @@ pub fn state_of(alloc: Global, market: &MarketAccounts) -> Result<State, NoMemor
     let ask_room = room_of(&market.asks, Side::Ask);
     let bids = book_of(alloc, bid_room, &gathered.bids)?;
     let asks = book_of(alloc, ask_room, &gathered.asks)?;
-    let accounts = held_accounts(alloc, market)?;
+    let till = Till {
+        next_sequence: sequence_of(market),
+        accounts: held_accounts(alloc, market)?,
+        takings: takings_of(market),
+    };
     let listed = list_with(alloc, bid_room, ask_room)?;
     Ok(State {
         sizes: sizes_of(market),
         bids,
         asks,
-        next_sequence: sequence_of(market),
-        accounts,
-        takings: takings_of(market),
+        till,
         listed,
     })
 }

@@ -107,6 +107,6 @@ impl EagerMarket {
     pub fn worth(&self, account: Address) -> Option<Worth>
         ensures { book.plain_there result ≡ worth_at account self.now.market.worths }
     {
-        worth_in(&self.state.accounts, account)
+        worth_in(&self.state.till.accounts, account)
     }
 }

@@ -11,15 +11,20 @@ pub struct Book {
     pub orders: Vec<Order>,
 }
 
-/// Both sides, the next sequence number, what each account gained and paid, what the market took of quote, and room for
-/// a list of resting orders.
+/// What is counted: the next sequence number, what each account gained and paid, and what the market took of quote.
+#[derive(Drop)]
+pub struct Till {
+    pub next_sequence: u64,
+    pub accounts: Vec<Account>,
+    pub takings: u128,
+}
+
+/// Both sides, what is counted, and room for a list of resting orders.
 #[derive(Drop)]
 pub struct State {
     pub sizes: Lots,
     pub bids: Book,
     pub asks: Book,
-    pub next_sequence: u64,
-    pub accounts: Vec<Account>,
-    pub takings: u128,
+    pub till: Till,
     pub listed: Vec<Resting>,
 }

@@ -12,7 +12,7 @@ ghost use Rattle.dex_types.specs.Side as book;
 ghost use Rattle.dex_types.specs.Take as takes;
 ghost use Rattle.dex_eager_market.specs.Accounts.{Grows, IsSmall, IsWithin, entry_of};
 ghost use Rattle.dex_eager_market.specs.Foreseen.{CanFill, IsForeseen, IsModest};
-ghost use Rattle.dex_eager_market.specs.States.{IsBook, market_by};
+ghost use Rattle.dex_eager_market.specs.States.{IsBook, IsTill, StaysBook, TillGrows, market_by};
 ghost use Rattle.dex_eager_market.specs.Trading as trading;
 ghost use Rattle.dex_eager_market.specs.declared.states.Book.{Book as BookOf};
 
@@ -20,7 +20,7 @@ use crate::accounts::{Account, Change, add};
 use crate::book_list::{post, take_front};
 use crate::foreseeing::{Foreseen, Sums, foresee};
 use crate::paying::pay_makers;
-use crate::states::Book;
+use crate::states::{Book, Till};
 use dex_fees::{taker_fee, tier_number};
 use dex_match::{Taker, want_of};
 use dex_meet::prices::id_of;
@@ -205,53 +205,36 @@ fn settle_order(
     sizes: Lots,
     taker: Taker,
     foreseen: &Foreseen,
-    next: u64,
-    takings: &mut u128,
     own: &mut Book,
     opposing: &mut Book,
-    accounts: &mut Vec<Account>,
+    till: &mut Till,
 )
-    requires modest { IsModest taker.id_side sizes (orders.demand_of taker.id_side sizes (order_of taker)) }
-    requires next { next < 2 ^ 64 - 1 }
-    requires foreseen { IsForeseen taker.id_side sizes taker.price opposing.old.orders.items
+    requires trade { trading.IsTrade sizes taker opposing.old.orders.items
         (meeting_with sizes taker opposing.old.orders.items) foreseen.now }
-    requires base { foreseen.now.sums.base < 2 ^ 81 }
-    requires pc { foreseen.now.sums.pc < 2 ^ 64 }
-    requires lock { orders.full_lock taker.id_side sizes (order_of taker) < 2 ^ 64 }
+    requires next { till.old.next_sequence < 2 ^ 64 - 1 }
     requires own { IsBook taker.id_side sizes own.old }
     requires opposing { IsBook (book.opposite taker.id_side) sizes opposing.old }
-    requires accounts { All (IsWithin (2 ^ 124)) accounts.old.items }
-    requires takings { takings.old ≤ 2 ^ 124 }
-    ensures market { market_by taker.id_side sizes own.new opposing.new (next + 1) accounts.new.items takings.new
+    requires till { IsTill (2 ^ 124) till.old }
+    ensures market { market_by taker.id_side sizes own.new opposing.new till.new
         ≡ eager.after_new_order taker.id_side (order_of taker) (meeting_with sizes taker opposing.old.orders.items)
-        (market_by taker.id_side sizes own.old opposing.old next accounts.old.items takings.old) }
-    ensures own { IsBook taker.id_side sizes own.new × (own.new.room ≡ own.old.room) }
-    ensures opposing { IsBook (book.opposite taker.id_side) sizes opposing.new
-        × (opposing.new.room ≡ opposing.old.room) }
-    ensures within { Grows (2 ^ 82) accounts.old.items accounts.new.items }
-    ensures takings { takings.new < takings.old + 2 ^ 64 }
+        (market_by taker.id_side sizes own.old opposing.old till.old) }
+    ensures own { StaysBook taker.id_side sizes own.old own.new }
+    ensures opposing { StaysBook (book.opposite taker.id_side) sizes opposing.old opposing.new }
+    ensures till { TillGrows (2 ^ 82) till.old till.new }
 {
     let side = taker.id_side;
     let pc = narrow(foreseen.sums.pc);
     let fee = taker_fee(taker.program, taker.tier, pc);
     let terms = order_terms(sizes, taker);
-    meet_book(
-        side,
-        terms,
-        want_of(sizes, taker),
-        foreseen,
-        opposing,
-        accounts,
-    );
+    let want = want_of(sizes, taker);
+    meet_book(side, terms, want, foreseen, opposing, &mut till.accounts);
     let rested = rested_of(sizes, taker, foreseen, pc, fee);
-    let order = resting_order(taker, next, rested);
+    let order = resting_order(taker, till.next_sequence, rested);
     post(side, own.room, order, &mut own.orders);
-    add(
-        accounts,
-        taker.account,
-        taker_change(side, foreseen.sums.base, pc, fee),
-    );
-    charge(takings, fee, foreseen.sums.rebates);
+    let change = taker_change(side, foreseen.sums.base, pc, fee);
+    add(&mut till.accounts, taker.account, change);
+    charge(&mut till.takings, fee, foreseen.sums.rebates);
+    till.next_sequence += 1;
 }
 
 /// What a new order would meet, unless it changes nothing: it is too large, has no sequence number, or would have to
@@ -273,33 +256,19 @@ fn foresee_order(sizes: Lots, taker: Taker, next: u64, opposing: &Book) -> Optio
 }
 
 /// A new order of an account; `own` is its side of the book.
-pub fn order_in(
-    sizes: Lots,
-    taker: Taker,
-    next: &mut u64,
-    takings: &mut u128,
-    own: &mut Book,
-    opposing: &mut Book,
-    accounts: &mut Vec<Account>,
-)
+pub fn order_in(sizes: Lots, taker: Taker, own: &mut Book, opposing: &mut Book, till: &mut Till)
     requires own { IsBook taker.id_side sizes own.old }
     requires opposing { IsBook (book.opposite taker.id_side) sizes opposing.old }
-    requires accounts { All (IsWithin (2 ^ 124)) accounts.old.items }
-    requires takings { takings.old ≤ 2 ^ 124 }
-    ensures market { market_by taker.id_side sizes own.new opposing.new next.new accounts.new.items takings.new
+    requires till { IsTill (2 ^ 124) till.old }
+    ensures market { market_by taker.id_side sizes own.new opposing.new till.new
         ≡ (eager.order_by taker.id_side (order_of taker) (meeting_with sizes taker opposing.old.orders.items)
-        (market_by taker.id_side sizes own.old opposing.old next.old accounts.old.items takings.old)).market }
-    ensures own { IsBook taker.id_side sizes own.new × (own.new.room ≡ own.old.room) }
-    ensures opposing { IsBook (book.opposite taker.id_side) sizes opposing.new
-        × (opposing.new.room ≡ opposing.old.room) }
-    ensures within { Grows (2 ^ 82) accounts.old.items accounts.new.items }
-    ensures takings { takings.new ≤ takings.old + 2 ^ 64 }
+        (market_by taker.id_side sizes own.old opposing.old till.old)).market }
+    ensures own { StaysBook taker.id_side sizes own.old own.new }
+    ensures opposing { StaysBook (book.opposite taker.id_side) sizes opposing.old opposing.new }
+    ensures till { TillGrows (2 ^ 82) till.old till.new }
 {
-    if let Some(foreseen) = foresee_order(sizes, taker, *next, opposing) {
-        settle_order(
-            sizes, taker, &foreseen, *next, takings, own, opposing, accounts,
-        );
-        *next += 1;
+    if let Some(foreseen) = foresee_order(sizes, taker, till.next_sequence, opposing) {
+        settle_order(sizes, taker, &foreseen, own, opposing, till);
     }
 }
 
@@ -320,62 +289,39 @@ fn foresee_take(sizes: Lots, taker: Taker, opposing: &Book) -> Option<Foreseen>
     Some(foreseen)
 }
 
-/// Does a take as it was foreseen.
-fn settle_take(
-    sizes: Lots,
-    taker: Taker,
-    foreseen: &Foreseen,
-    takings: &mut u128,
-    opposing: &mut Book,
-    accounts: &mut Vec<Account>,
-)
-    requires modest { IsModest taker.id_side sizes (orders.demand_of taker.id_side sizes (order_of taker)) }
-    requires foreseen { IsForeseen taker.id_side sizes taker.price opposing.old.orders.items
+/// Does a take as it was foreseen: the makers are paid, and the market takes the fee less the rebates.
+fn settle_take(sizes: Lots, taker: Taker, foreseen: &Foreseen, opposing: &mut Book, till: &mut Till)
+    requires trade { trading.IsTrade sizes taker opposing.old.orders.items
         (take_met sizes taker opposing.old.orders.items) foreseen.now }
-    requires pc { foreseen.now.sums.pc < 2 ^ 64 }
     requires opposing { IsBook (book.opposite taker.id_side) sizes opposing.old }
-    requires accounts { All (IsWithin (2 ^ 124)) accounts.old.items }
-    requires takings { takings.old ≤ 2 ^ 124 }
-    ensures left { opposing.new.orders.items ≡ (take_met sizes taker opposing.old.orders.items).left }
-    ensures worths { map entry_of accounts.new.items ≡ eager.with_fills
-        (maker_fills (take_met sizes taker opposing.old.orders.items).events) (map entry_of accounts.old.items) }
-    ensures takings { takings.new ≡ takings.old + (takes.take_fee (take_of taker 0 0)
-        (take_met sizes taker opposing.old.orders.items)
-        - (take_met sizes taker opposing.old.orders.items).rebates) }
-    ensures small { takings.new ≤ takings.old + 2 ^ 64 }
-    ensures opposing { IsBook (book.opposite taker.id_side) sizes opposing.new
-        × (opposing.new.room ≡ opposing.old.room) }
-    ensures within { Grows (2 ^ 81) accounts.old.items accounts.new.items }
+    requires till { IsTill (2 ^ 124) till.old }
+    ensures market { (own : BookOf) → market_by taker.id_side sizes own opposing.new till.new
+        ≡ eager.after_meeting taker.id_side (take_met sizes taker opposing.old.orders.items)
+        (takes.take_fee (take_of taker 0 0) (take_met sizes taker opposing.old.orders.items))
+        (market_by taker.id_side sizes own opposing.old till.old) }
+    ensures opposing { StaysBook (book.opposite taker.id_side) sizes opposing.old opposing.new }
+    ensures till { TillGrows (2 ^ 82) till.old till.new }
 {
+    let side = taker.id_side;
     let fee = taker_fee(taker.program, taker.tier, narrow(foreseen.sums.pc));
     let terms = take_terms(sizes, taker);
     let want = want_of(sizes, taker);
-    meet_book(taker.id_side, terms, want, foreseen, opposing, accounts);
-    charge(takings, fee, foreseen.sums.rebates);
+    meet_book(side, terms, want, foreseen, opposing, &mut till.accounts);
+    charge(&mut till.takings, fee, foreseen.sums.rebates);
 }
 
-/// A take: the makers are paid, and the market takes the fee less the rebates. The taker has no account.
-pub fn take_in(
-    sizes: Lots,
-    taker: Taker,
-    takings: &mut u128,
-    opposing: &mut Book,
-    accounts: &mut Vec<Account>,
-)
+/// A take. The taker has no account.
+pub fn take_in(sizes: Lots, taker: Taker, opposing: &mut Book, till: &mut Till)
     requires opposing { IsBook (book.opposite taker.id_side) sizes opposing.old }
-    requires accounts { All (IsWithin (2 ^ 124)) accounts.old.items }
-    requires takings { takings.old ≤ 2 ^ 124 }
-    ensures market { (own : BookOf) (next min_lots min_pc : ℕ) →
-        market_by taker.id_side sizes own opposing.new next accounts.new.items takings.new
+    requires till { IsTill (2 ^ 124) till.old }
+    ensures market { (own : BookOf) (min_lots min_pc : ℕ) → market_by taker.id_side sizes own opposing.new till.new
         ≡ (eager.take_by taker.id_side (take_of taker min_lots min_pc)
         (takes.take_meeting taker.id_side sizes (take_of taker min_lots min_pc) opposing.old.orders.items)
-        (market_by taker.id_side sizes own opposing.old next accounts.old.items takings.old)).market }
-    ensures opposing { IsBook (book.opposite taker.id_side) sizes opposing.new
-        × (opposing.new.room ≡ opposing.old.room) }
-    ensures within { Grows (2 ^ 82) accounts.old.items accounts.new.items }
-    ensures takings { takings.new ≤ takings.old + 2 ^ 64 }
+        (market_by taker.id_side sizes own opposing.old till.old)).market }
+    ensures opposing { StaysBook (book.opposite taker.id_side) sizes opposing.old opposing.new }
+    ensures till { TillGrows (2 ^ 82) till.old till.new }
 {
     if let Some(foreseen) = foresee_take(sizes, taker, opposing) {
-        settle_take(sizes, taker, &foreseen, takings, opposing, accounts);
+        settle_take(sizes, taker, &foreseen, opposing, till);
     }
 }

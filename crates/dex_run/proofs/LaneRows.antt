@@ -1,12 +1,12 @@
 -- The items of a lane, one after the other.
-use Rattle.std.proofs.Common.{◌≡◌, ℕ, zero, suc, ◌+◌, ◌<◌, ◌≤◌, ⊎_elim, nat_eq, Bool, cond, List, [], ◌∷◌, ◌++◌, length, get_or, map, take, sym, ap, ◌∙◌, subst, arith}
+use Rattle.std.proofs.Common.{◌≡◌, ℕ, zero, suc, ◌+◌, ◌<◌, ◌≤◌, ⊎_elim, nat_eq, drop, length-drop, Bool, cond, List, [], ◌∷◌, ◌++◌, length, get_or, map, take, sym, ap, ◌∙◌, subst, arith}
 use Rattle.dex_fold.proofs.Common.{All-filter, All-map, get_or-map, length-map, PlainRow, Row, eq-eqb, filter-append, row_of, rows_of_lane, take_all, take_at, take_more}
 use Rattle.dex_replay.proofs.Common.{AreLegs, AreRows, PlainScript}
 use Rattle.std.specs.List.{All}
 use Rattle.dex_run.proofs.Taking.{same-get}
 use Rattle.dex_run.proofs.Common.{AreNext, IsDone, IsNext, SeatState}
 use Rattle.std.proofs.lemmas.Bool.{cases_lt}
-use Rattle.std.proofs.lemmas.List.{append_assoc, get_or-take, length-append, length-take-le, map-append}
+use Rattle.std.proofs.lemmas.List.{append_assoc, drop_more, get_or-drop, take-append-drop, get_or-take, length-append, length-take-le, map-append}
 
 rows_of_lane-append : (lane : ℕ) (xs ys : List PlainRow) → rows_of_lane lane (xs ++ ys) ≡ rows_of_lane lane xs ++ rows_of_lane lane ys
 rows_of_lane-append lane xs ys = filter-append (λ (row : PlainRow). nat_eq row.lane lane) xs ys
@@ -80,6 +80,22 @@ module _ (script : PlainScript) (rows : List Row) (are : map row_of rows ≡ scr
       (cases_lt k (place + 1)))
       (cases_lt k place)
 
+  -- behind a row alone all numbers are higher
+  pub higher-behind : (i : ℕ) (row : Row) → i < length rows → row ≡ get_or rows i row → Begins rows (i + 1)
+      → All (λ (other : PlainRow). row.number < other.number) (map row_of (drop (i + 1) rows))
+  higher-behind i row within at begins =
+      All-map (λ (other : PlainRow). row.number < other.number) row_of (drop (i + 1) rows)
+      (λ k d inside.
+      let more : i + 1 + k < length rows = omega (arith, inside, length-drop (i + 1) rows) in
+      let higher : (get_or rows i d).number < (get_or rows (i + 1) d).number = begins i d (omega arith) (omega (arith, more)) in
+      let never : (get_or rows (i + 1) d).number ≤ (get_or rows (i + 1 + k) d).number =
+      ⊎_elim (λ (some : 0 < k). never-falls (i + 1) (i + 1 + k) d (omega (arith, some)) more)
+      (λ (none : k ≤ 0).
+      let same : (get_or rows (i + 1 + k) d).number ≡ (get_or rows (i + 1) d).number = ap (λ (n : ℕ). (get_or rows n d).number) (omega (arith, none)) in
+      omega (arith, same)) (cases_lt 0 k) in
+      let here : (get_or (drop (i + 1) rows) k d).number ≡ (get_or rows (i + 1 + k) d).number = ap (λ (r : Row). r.number) (get_or-drop (i + 1) rows k d) in
+      omega (arith, higher, never, here, ap (λ (r : Row). r.number) (at ∙ same-get rows i row d within)))
+
   -- the two are legs of one swap
   pub are-legs : (place : ℕ) (first second : Row) → first ≡ get_or rows place first → second ≡ get_or rows (place + 1) second
       → ((d : Row) → (place + 1 < length rows) × ((get_or rows place d).number ≡ (get_or rows (place + 1) d).number)) → AreLegs (row_of first) (row_of second)
@@ -118,14 +134,17 @@ lower-before rows i row within at begins =
 -- a row of the lane is the next one, where all before it are done
 pub next-own : (rows : List Row) (i : ℕ) (row : Row) (seat : SeatState) → i < length rows → row ≡ get_or rows i row → map row_of rows ≡ seat.script.rows
     → length seat.calls ≡ length (rows_of_lane seat.lane (map row_of (take i rows)))
-    → All (λ (one : PlainRow). one.number < row.number) (map row_of (take i rows)) → row.lane ≡ seat.lane → IsNext (row_of row) seat
-next-own rows i row seat within at are so_far lower own =
-    let found = behind rows i row within at in
-    let rest : List PlainRow = map row_of found.0 in
+    → All (λ (one : PlainRow). one.number < row.number) (map row_of (take i rows))
+    → All (λ (other : PlainRow). row.number < other.number) (map row_of (drop (i + 1) rows)) → row.lane ≡ seat.lane → IsNext (row_of row) seat
+next-own rows i row seat within at are so_far lower higher own =
+    let split : rows ≡ take i rows ++ row ∷ drop (i + 1) rows =
+    sym (take-append-drop i rows)
+    ∙ ap (λ (l : List Row). take i rows ++ l) (drop_more rows i row within ∙ ap (λ (r : Row). r ∷ drop (i + 1) rows) (sym at)) in
+    let rest : List PlainRow = map row_of (drop (i + 1) rows) in
     let before : List PlainRow = rows_of_lane seat.lane (map row_of (take i rows)) in
     let later : List PlainRow = rows_of_lane seat.lane rest in
     let whole : rows_of_lane seat.lane seat.script.rows ≡ before ++ row_of row ∷ later =
-    ap (rows_of_lane seat.lane) (sym are ∙ ap (map row_of) found.1 ∙ map-append row_of (take i rows) (row ∷ found.0))
+    ap (rows_of_lane seat.lane) (sym are ∙ ap (map row_of) split ∙ map-append row_of (take i rows) (row ∷ drop (i + 1) rows))
     ∙ rows_of_lane-append seat.lane (map row_of (take i rows)) (row_of row ∷ rest)
     ∙ ap (λ (b : Bool). before ++ cond b (row_of row ∷ later) later) (eq-eqb row.lane seat.lane own) in
     let taken : take (length seat.calls) (rows_of_lane seat.lane seat.script.rows) ≡ before =
@@ -135,6 +154,7 @@ next-own rows i row seat within at are so_far lower own =
       is = whole ∙ ap (λ (l : List PlainRow). l ++ row_of row ∷ later) (sym taken);
       lower = subst (All (λ (one : PlainRow). one.number < row.number)) (sym taken)
           (All-filter (λ (one : PlainRow). nat_eq one.lane seat.lane) (λ (one : PlainRow). one.number < row.number) (map row_of (take i rows)) lower);
+      alone = All-filter (λ (one : PlainRow). nat_eq one.lane seat.lane) (λ (other : PlainRow). row.number < other.number) rest higher;
     }
 
 -- and two legs are the next ones

@@ -94,13 +94,15 @@ abbrev pub WalletGrows : PlainRow → Stamped Call → PlainAccount → PassView
     → PassView (Stamped WalletEntry) WalletOrigin → Type 0
 WalletGrows row call start before after = Where (names row start.address) (HasMoved call start before after) (after ≡ before)
 
--- the row is the next of the seat's lane, behind those of its calls, whose numbers are lower
+-- the row is the next of the seat's lane, behind those of its calls, whose numbers are lower; and it is an item by itself: those behind
+-- it have higher numbers
 pub record IsNext (row : PlainRow) (seat : SeatState) : Type 0 where
   pub later : List PlainRow
   pub is : rows_of_lane seat.lane seat.script.rows
       ≡ take (length seat.calls) (rows_of_lane seat.lane seat.script.rows) ++ row ∷ later
   pub lower : All (λ (one : PlainRow). one.number < row.number)
       (take (length seat.calls) (rows_of_lane seat.lane seat.script.rows))
+  pub alone : All (λ (other : PlainRow). row.number < other.number) later
 
 -- a row was submitted at a seat: its lane has one call more, which is this row's, has this reply, was not held back, saw the script's wallets,
 -- and moves each wallet that the row names once; and the passes of its market and of these wallets have grown by it, and no others

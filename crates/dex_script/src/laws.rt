@@ -29,6 +29,12 @@ pub fn a_script_for_batches_is_one_for_every_command()
     ensures { (text : List ℕ) (script : PlainScript) → Reads true text script → Reads false text script }
 {}
 
+/// And a script without a swap is the same script where it is to act in batches.
+pub fn a_script_without_swaps_is_one_for_batches()
+    ensures { (text : List ℕ) (script : PlainScript) → Reads false text script → HasNoSwap script.rows
+        → Reads true text script }
+{}
+
 /// A script that begins with a dump starts with accounts that are accepted and have no findings.
 pub fn a_dump_at_the_start_is_accepted()
     ensures { (batch : Bool) (text : List ℕ) (script : PlainScript) → begins_with_dump (rows_of text) ≡ true
@@ -38,7 +44,8 @@ pub fn a_dump_at_the_start_is_accepted()
 /// A script starts with accounts that are accepted, market by market those of a sound market, and of which each mint is
 /// conserved: its supply is what wallets and vaults hold of it.
 pub fn a_script_starts_sound()
-    ensures { (batch : Bool) (text : List ℕ) (script : PlainScript) → Reads batch text script → IsStart script.start }
+    ensures { (batch : Bool) (text : List ℕ) (script : PlainScript) → Reads batch text script
+        → IsStart script.start }
 {
     accounts_without_findings_are_of_sound_markets();
     mints_without_findings_are_conserved();

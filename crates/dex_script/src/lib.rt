@@ -20,7 +20,7 @@ pub use fault::ScriptError;
 pub use laws::{
     a_dump_at_the_start_is_accepted, a_script_for_batches_has_no_swap,
     a_script_for_batches_is_one_for_every_command, a_script_starts_sound,
-    rows_of_a_script_are_in_order,
+    a_script_without_swaps_is_one_for_batches, rows_of_a_script_are_in_order,
 };
 pub use reading::read_script;
 pub use script::Script;

@@ -8,12 +8,12 @@ pub returns-then-not-has_account : goal.returns-then-not-has_account
 returns-then-not-has_account c =
     let some : 0 < length c.args.named.now = search rules in
     let owner = get_or c.args.named.now 0 no_address in
-    sym (first-named c.args.named.now (map entry_of c.args.state.now.accounts.items) owner no_address false some refl
+    sym (first-named c.args.named.now (map entry_of c.args.state.now.till.accounts.items) owner no_address false some refl
     (ap (λ l. has_account owner (map entry_of l)) (sym c.deref.ensures.value) ∙ sym c.has_account.ensures ∙ c.if-not-has_account.true))
 
 pub returns : goal.returns
 returns c =
     let some : 0 < length c.args.named.now = search rules in
     let owner = get_or c.args.named.now 0 no_address in
-    sym (first-named c.args.named.now (map entry_of c.args.state.now.accounts.items) owner no_address true some refl
+    sym (first-named c.args.named.now (map entry_of c.args.state.now.till.accounts.items) owner no_address true some refl
     (ap (λ l. has_account owner (map entry_of l)) (sym c.deref.ensures.value) ∙ sym c.has_account.ensures ∙ c.if-not-has_account.false))

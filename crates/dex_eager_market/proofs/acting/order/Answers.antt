@@ -14,8 +14,7 @@ pub returns-in-Bid-clause-kept : goal.returns-in-Bid-clause-kept
 returns-in-Bid-clause-kept c = λ bound kept. record {
   bids = (rw c.in-Bid.is at c.order_in.ensures.own).0;
   asks = (rw c.in-Bid.is at c.order_in.ensures.opposing).0;
-  accounts = c.order_in.ensures.within bound kept.accounts;
-  takings = omega (arith, kept.takings, c.order_in.ensures.takings);
+  till = c.order_in.ensures.till bound kept.till;
   listed = omega (arith, kept.listed, c.order_in.ensures.own.1, c.order_in.ensures.opposing.1);
 }
 
@@ -32,7 +31,6 @@ pub returns-in-Ask-clause-kept : goal.returns-in-Ask-clause-kept
 returns-in-Ask-clause-kept c = λ bound kept. record {
   bids = (rw c.in-Ask.is at c.order_in-in-Ask.ensures.opposing).0;
   asks = (rw c.in-Ask.is at c.order_in-in-Ask.ensures.own).0;
-  accounts = c.order_in-in-Ask.ensures.within bound kept.accounts;
-  takings = omega (arith, kept.takings, c.order_in-in-Ask.ensures.takings);
+  till = c.order_in-in-Ask.ensures.till bound kept.till;
   listed = omega (arith, kept.listed, c.order_in-in-Ask.ensures.own.1, c.order_in-in-Ask.ensures.opposing.1);
 }

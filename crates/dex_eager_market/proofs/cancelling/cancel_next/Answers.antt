@@ -17,4 +17,4 @@ returns-clause-does c = λ clients.
 pub returns-clause-kept : goal.returns-clause-kept
 returns-clause-kept c = λ bound kept.
     let off = c.take_found.ensures.kept bound kept in
-    record { bids = off.bids; asks = off.asks; accounts = off.accounts; takings = off.takings; listed = omega (arith, off.listed, c.forget.ensures.capacity) }
+    record { bids = off.bids; asks = off.asks; till = off.till; listed = omega (arith, off.listed, c.forget.ensures.capacity) }

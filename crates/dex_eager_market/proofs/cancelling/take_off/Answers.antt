@@ -21,8 +21,7 @@ returns-in-Bid-clause-kept c = λ bound kept. record {
   bids = book-without Bid c.args.state.now.sizes c.args.state.now.bids (record c.args.state.now.bids { orders = c.remove_order.new.orders }) c.args.gone.order.id kept.bids refl
       c.remove_order.ensures.capacity c.remove_order.ensures.orders;
   asks = kept.asks;
-  accounts = kept.accounts;
-  takings = kept.takings;
+  till = kept.till;
   listed = kept.listed;
 }
 
@@ -31,7 +30,6 @@ returns-in-Ask-clause-kept c = λ bound kept. record {
   bids = kept.bids;
   asks = book-without Ask c.args.state.now.sizes c.args.state.now.asks (record c.args.state.now.asks { orders = c.remove_order-in-Ask.new.orders }) c.args.gone.order.id kept.asks refl
       c.remove_order-in-Ask.ensures.capacity c.remove_order-in-Ask.ensures.orders;
-  accounts = kept.accounts;
-  takings = kept.takings;
+  till = kept.till;
   listed = kept.listed;
 }

@@ -29,9 +29,7 @@ returns-clause-is c =
       sizes = c.sizes_of.result;
       bids = c.in_ok-bids.bids;
       asks = c.in_ok-asks.asks;
-      next_sequence = c.sequence_of.result;
-      accounts = c.in_ok-accounts.accounts;
-      takings = c.takings_of.result;
+      till = record { next_sequence = c.sequence_of.result; accounts = c.in_ok-held_accounts.field-0; takings = c.takings_of.result };
       listed = c.in_ok-listed.listed;
     }) c.requires.sound (record {
       sizes = c.sizes_of.ensures;
@@ -40,7 +38,7 @@ returns-clause-is c =
       bids = bids;
       asks = asks;
       next = c.sequence_of.ensures;
-      accounts = c.in_ok-accounts.ensures;
+      accounts = c.in_ok-held_accounts.ensures;
       takings = c.takings_of.ensures.value;
     })
 
@@ -62,9 +60,7 @@ returns-clause-kept c =
       sizes = c.sizes_of.result;
       bids = c.in_ok-bids.bids;
       asks = c.in_ok-asks.asks;
-      next_sequence = c.sequence_of.result;
-      accounts = c.in_ok-accounts.accounts;
-      takings = c.takings_of.result;
+      till = record { next_sequence = c.sequence_of.result; accounts = c.in_ok-held_accounts.field-0; takings = c.takings_of.result };
       listed = c.in_ok-listed.listed;
     }) c.requires.sound (record {
       sizes = c.sizes_of.ensures;
@@ -73,6 +69,6 @@ returns-clause-kept c =
       bids = bids;
       asks = asks;
       next = c.sequence_of.ensures;
-      accounts = c.in_ok-accounts.ensures;
+      accounts = c.in_ok-held_accounts.ensures;
       takings = c.takings_of.ensures.value;
     }) reserved kept listed c.takings_of.ensures.small

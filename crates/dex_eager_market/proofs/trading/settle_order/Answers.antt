@@ -16,28 +16,28 @@ use Rattle.dex_eager_market.proofs.Trades.{seen-by, order-met, book-posted, orde
 use Rattle.dex_eager_market.proofs.trading.settle_order.Goals as goal
 
 pub meet_book-requires-clause-modest : goal.meet_book-requires-clause-modest
-meet_book-requires-clause-modest c = rw c.order_terms-terms.ensures.sizes rw c.want_of.ensures c.requires.modest
+meet_book-requires-clause-modest c = rw c.order_terms-terms.ensures.sizes rw c.want_of-want.ensures c.requires.trade.modest
 
 pub meet_book-requires-clause-book : goal.meet_book-requires-clause-book
 meet_book-requires-clause-book c = rw c.order_terms-terms.ensures.sizes c.requires.opposing
 
 pub meet_book-requires-clause-accounts : goal.meet_book-requires-clause-accounts
-meet_book-requires-clause-accounts c = all-more (2 ^ 124) (2 ^ 125) c.args.accounts.now.items (omega arith) c.requires.accounts
+meet_book-requires-clause-accounts c = all-more (2 ^ 124) (2 ^ 125) c.args.till.now.accounts.items (omega arith) c.requires.till.accounts
 
 pub meet_book-requires-clause-foreseen : goal.meet_book-requires-clause-foreseen
 meet_book-requires-clause-foreseen c =
     seen-by c.args.sizes c.args.taker c.order_terms-terms.result
-    (meet c.args.taker.id_side (taking c.order_terms-terms.result) (demand c.want_of.result) c.args.opposing.now.orders.items)
+    (meet c.args.taker.id_side (taking c.order_terms-terms.result) (demand c.want_of-want.result) c.args.opposing.now.orders.items)
     (meeting_with c.args.sizes c.args.taker c.args.opposing.now.orders.items) c.args.opposing.now.orders.items c.args.foreseen.now
     c.order_terms-terms.ensures.sizes c.order_terms-terms.ensures.limit
-    (order-met c.args.sizes c.args.taker c.order_terms-terms.result c.want_of.result c.args.opposing.now.orders.items c.args.opposing.now.orders.items c.order_terms-terms.ensures.keeps c.want_of.ensures refl)
-    c.requires.foreseen
+    (order-met c.args.sizes c.args.taker c.order_terms-terms.result c.want_of-want.result c.args.opposing.now.orders.items c.args.opposing.now.orders.items c.order_terms-terms.ensures.keeps c.want_of-want.ensures refl)
+    c.requires.trade.reached
 
 pub add-requires-clause-accounts : goal.add-requires-clause-accounts
-add-requires-clause-accounts c = all-more (2 ^ 124 + 2 ^ 81) (2 ^ 126) _ (omega arith) (c.meet_book.ensures.within (2 ^ 124) c.requires.accounts)
+add-requires-clause-accounts c = all-more (2 ^ 124 + 2 ^ 81) (2 ^ 126) _ (omega arith) (c.meet_book.ensures.within (2 ^ 124) c.requires.till.accounts)
 
 pub add-requires-clause-change : goal.add-requires-clause-change
-add-requires-clause-change c = small-more (2 ^ 81) (2 ^ 126) c.taker_change.result (omega arith) c.taker_change.ensures.small
+add-requires-clause-change c = small-more (2 ^ 81) (2 ^ 126) c.taker_change-change.result (omega arith) c.taker_change-change.ensures.small
 
 pub returns-clause-market : goal.returns-clause-market
 returns-clause-market c =
@@ -45,33 +45,34 @@ returns-clause-market c =
     let sizes = c.args.sizes in
     let n = order_of c.args.taker in
     let met : Meeting = meeting_with sizes c.args.taker c.args.opposing.now.orders.items in
-    let reached = c.requires.foreseen in
+    let reached = c.requires.trade.reached in
     let pc_is : c.narrow-pc.result ≡ met.pc = c.narrow-pc.ensures ∙ reached.pc in
     let fee_is : c.taker_fee-fee.result ≡ fee_of n met = c.taker_fee-fee.ensures.value ∙ ap (taker_fee n.program n.tier) pc_is in
     let rested_is : c.rested_of-rested.result ≡ rested side sizes n met =
     c.rested_of-rested.ensures
     ∙ rested-is side sizes n met c.args.foreseen.now.crosses c.args.foreseen.now.want.lots c.narrow-pc.result c.taker_fee-fee.result reached.crosses
     (ap (λ (d : Demand). d.lots) reached.demand_is) pc_is fee_is in
-    let order_is : c.resting_order-order.result ≡ resting side c.args.next 0 n (rested side sizes n met) =
-    c.resting_order-order.ensures ∙ ap (resting side c.args.next 0 n) rested_is in
-    let paid : Worths = with_fills (maker_fills met.events) (map entry_of c.args.accounts.now.items) in
-    order-left side sizes n met c.args.own.now c.args.opposing.now (record c.args.own.now { orders = c.post.new.orders }) c.meet_book.new.opposing c.args.next
-    c.args.accounts.now.items c.add.new.accounts.items c.args.takings.now c.charge.new.takings
+    let order_is : c.resting_order-order.result ≡ resting side c.args.till.now.next_sequence 0 n (rested side sizes n met) =
+    c.resting_order-order.ensures ∙ ap (resting side c.args.till.now.next_sequence 0 n) rested_is in
+    let paid : Worths = with_fills (maker_fills met.events) (map entry_of c.args.till.now.accounts.items) in
+    order-left side sizes n met c.args.own.now c.args.opposing.now (record c.args.own.now { orders = c.post.new.orders }) c.meet_book.new.opposing c.args.till.now
+    (record { next_sequence = c.args.till.now.next_sequence + 1; accounts = c.add.new.accounts; takings = c.charge.new.takings })
     (record {
       own_room = refl;
       opposing_room = c.meet_book.ensures.room;
       own_is = c.post.ensures.orders ∙ ap (λ (o : Order). (post side c.args.own.now.room o c.args.own.now.orders.items).side) order_is;
-      opposing_is = c.meet_book.ensures.left ∙ ap (λ (m : Meeting). m.left) (order-met c.args.sizes c.args.taker c.order_terms-terms.result c.want_of.result c.args.opposing.now.orders.items c.args.opposing.now.orders.items c.order_terms-terms.ensures.keeps c.want_of.ensures refl);
+      opposing_is = c.meet_book.ensures.left ∙ ap (λ (m : Meeting). m.left) (order-met c.args.sizes c.args.taker c.order_terms-terms.result c.want_of-want.result c.args.opposing.now.orders.items c.args.opposing.now.orders.items c.order_terms-terms.ensures.keeps c.want_of-want.ensures refl);
+      next = refl;
       worths = c.add.ensures.worths
-          ∙ ap (with_change c.args.taker.account (worth_of c.taker_change.result))
-          (c.meet_book.ensures.worths ∙ ap (λ (m : Meeting). with_fills (maker_fills m.events) (map entry_of c.args.accounts.now.items)) (order-met c.args.sizes c.args.taker c.order_terms-terms.result c.want_of.result c.args.opposing.now.orders.items c.args.opposing.now.orders.items c.order_terms-terms.ensures.keeps c.want_of.ensures refl))
+          ∙ ap (with_change c.args.taker.account (worth_of c.taker_change-change.result))
+          (c.meet_book.ensures.worths ∙ ap (λ (m : Meeting). with_fills (maker_fills m.events) (map entry_of c.args.till.now.accounts.items)) (order-met c.args.sizes c.args.taker c.order_terms-terms.result c.want_of-want.result c.args.opposing.now.orders.items c.args.opposing.now.orders.items c.order_terms-terms.ensures.keeps c.want_of-want.ensures refl))
           ∙ ap (λ (v : Worth). with_change c.args.taker.account v paid)
-          (ap worth_of c.taker_change.ensures.value
+          (ap worth_of c.taker_change-change.ensures.value
           ∙ taker-worth side sizes met c.taker_fee-fee.result c.args.foreseen.now.sums.base c.narrow-pc.result reached.base pc_is
           ∙ ap (λ (f : ℕ). net (taker_gets side sizes met f) (taker_pays side sizes met f)) fee_is);
       takings_are = c.charge.ensures
-          ∙ ap (λ (f : ℕ). c.args.takings.now + (f - c.args.foreseen.now.sums.rebates)) fee_is
-          ∙ ap (λ (r : ℕ). c.args.takings.now + (fee_of n met - r)) reached.rebates;
+          ∙ ap (λ (f : ℕ). c.args.till.now.takings + (f - c.args.foreseen.now.sums.rebates)) fee_is
+          ∙ ap (λ (r : ℕ). c.args.till.now.takings + (fee_of n met - r)) reached.rebates;
     })
 
 pub returns-clause-own : goal.returns-clause-own
@@ -80,17 +81,17 @@ returns-clause-own c =
     let sizes = c.args.sizes in
     let n = order_of c.args.taker in
     let met : Meeting = meeting_with sizes c.args.taker c.args.opposing.now.orders.items in
-    let reached = c.requires.foreseen in
+    let reached = c.requires.trade.reached in
     let pc_is : c.narrow-pc.result ≡ met.pc = c.narrow-pc.ensures ∙ reached.pc in
     let fee_is : c.taker_fee-fee.result ≡ fee_of n met = c.taker_fee-fee.ensures.value ∙ ap (taker_fee n.program n.tier) pc_is in
     let rested_is : c.rested_of-rested.result ≡ rested side sizes n met =
     c.rested_of-rested.ensures
     ∙ rested-is side sizes n met c.args.foreseen.now.crosses c.args.foreseen.now.want.lots c.narrow-pc.result c.taker_fee-fee.result reached.crosses
     (ap (λ (d : Demand). d.lots) reached.demand_is) pc_is fee_is in
-    let order_is : c.resting_order-order.result ≡ resting side c.args.next 0 n (rested side sizes n met) =
-    c.resting_order-order.ensures ∙ ap (resting side c.args.next 0 n) rested_is in (
-      book-posted side sizes c.args.own.now (record c.args.own.now { orders = c.post.new.orders }) (resting side c.args.next 0 n (rested side sizes n met)) c.requires.own
-          (resting-fills side sizes n c.args.next c.args.opposing.now.orders.items (omega (arith, c.requires.next)) c.requires.lock (tier-small n.tier)) refl
+    let order_is : c.resting_order-order.result ≡ resting side c.args.till.now.next_sequence 0 n (rested side sizes n met) =
+    c.resting_order-order.ensures ∙ ap (resting side c.args.till.now.next_sequence 0 n) rested_is in (
+      book-posted side sizes c.args.own.now (record c.args.own.now { orders = c.post.new.orders }) (resting side c.args.till.now.next_sequence 0 n (rested side sizes n met)) c.requires.own
+          (resting-fills side sizes n c.args.till.now.next_sequence c.args.opposing.now.orders.items (omega (arith, c.requires.next)) c.requires.trade.lock (tier-small n.tier)) refl
           c.post.ensures.reserved c.post.ensures.within
           (c.post.ensures.orders ∙ ap (λ (o : Order). (post side c.args.own.now.room o c.args.own.now.orders.items).side) order_is),
       refl,
@@ -99,10 +100,10 @@ returns-clause-own c =
 pub returns-clause-opposing : goal.returns-clause-opposing
 returns-clause-opposing c = (rw c.order_terms-terms.ensures.sizes at c.meet_book.ensures.book, c.meet_book.ensures.room)
 
-pub returns-clause-within : goal.returns-clause-within
-returns-clause-within c = λ bound all.
-    all-more (bound + 2 ^ 81 + 2 ^ 81) (bound + 2 ^ 82) _ (omega arith)
-    (c.add.ensures.within (bound + 2 ^ 81) (2 ^ 81) (c.meet_book.ensures.within bound all) c.taker_change.ensures.small)
-
-pub returns-clause-takings : goal.returns-clause-takings
-returns-clause-takings c = omega (arith, c.charge.ensures, c.taker_fee-fee.ensures.at_most_all, c.narrow-pc.ensures, c.requires.pc)
+pub returns-clause-till : goal.returns-clause-till
+returns-clause-till c = λ bound is.
+    record {
+      accounts = all-more (bound + 2 ^ 81 + 2 ^ 81) (bound + 2 ^ 82) _ (omega arith)
+          (c.add.ensures.within (bound + 2 ^ 81) (2 ^ 81) (c.meet_book.ensures.within bound is.accounts) c.taker_change-change.ensures.small);
+      takings = omega (arith, is.takings, c.charge.ensures, c.taker_fee-fee.ensures.at_most_all, c.narrow-pc.ensures, c.requires.trade.pc);
+    }

@@ -8,17 +8,17 @@ use Rattle.dex_meet.specs.Taker.{demand, taking}
 use Rattle.dex_take.specs.TakeTerms.{meeting_with, take_of}
 use Rattle.dex_eager_market.specs.Accounts.{entry_of}
 use Rattle.dex_eager_market.proofs.Changes.{all-more}
-use Rattle.dex_eager_market.proofs.Trades.{seen-by, take-met}
+use Rattle.dex_eager_market.proofs.Trades.{seen-by, take-left, take-met}
 use Rattle.dex_eager_market.proofs.trading.settle_take.Goals as goal
 
 pub meet_book-requires-clause-modest : goal.meet_book-requires-clause-modest
-meet_book-requires-clause-modest c = rw c.take_terms-terms.ensures.sizes rw c.want_of-want.ensures c.requires.modest
+meet_book-requires-clause-modest c = rw c.take_terms-terms.ensures.sizes rw c.want_of-want.ensures c.requires.trade.modest
 
 pub meet_book-requires-clause-book : goal.meet_book-requires-clause-book
 meet_book-requires-clause-book c = rw c.take_terms-terms.ensures.sizes c.requires.opposing
 
 pub meet_book-requires-clause-accounts : goal.meet_book-requires-clause-accounts
-meet_book-requires-clause-accounts c = all-more (2 ^ 124) (2 ^ 125) c.args.accounts.now.items (omega arith) c.requires.accounts
+meet_book-requires-clause-accounts c = all-more (2 ^ 124) (2 ^ 125) c.args.till.now.accounts.items (omega arith) c.requires.till.accounts
 
 pub meet_book-requires-clause-foreseen : goal.meet_book-requires-clause-foreseen
 meet_book-requires-clause-foreseen c =
@@ -27,26 +27,34 @@ meet_book-requires-clause-foreseen c =
     (meeting_with c.args.sizes c.args.taker c.args.opposing.now.orders.items) c.args.opposing.now.orders.items c.args.foreseen.now
     c.take_terms-terms.ensures.sizes c.take_terms-terms.ensures.limit
     (take-met c.args.sizes c.args.taker c.take_terms-terms.result c.want_of-want.result c.args.opposing.now.orders.items c.args.opposing.now.orders.items c.take_terms-terms.ensures.keeps c.want_of-want.ensures refl)
-    c.requires.foreseen
+    c.requires.trade.reached
 
-pub returns-clause-left : goal.returns-clause-left
-returns-clause-left c = c.meet_book.ensures.left ∙ ap (λ (m : Meeting). m.left) (take-met c.args.sizes c.args.taker c.take_terms-terms.result c.want_of-want.result c.args.opposing.now.orders.items c.args.opposing.now.orders.items c.take_terms-terms.ensures.keeps c.want_of-want.ensures refl)
-
-pub returns-clause-worths : goal.returns-clause-worths
-returns-clause-worths c =
-    c.meet_book.ensures.worths ∙ ap (λ (m : Meeting). with_fills (maker_fills m.events) (map entry_of c.args.accounts.now.items)) (take-met c.args.sizes c.args.taker c.take_terms-terms.result c.want_of-want.result c.args.opposing.now.orders.items c.args.opposing.now.orders.items c.take_terms-terms.ensures.keeps c.want_of-want.ensures refl)
-
-pub returns-clause-takings : goal.returns-clause-takings
-returns-clause-takings c =
+pub returns-clause-market : goal.returns-clause-market
+returns-clause-market c = λ own.
+    let t = take_of c.args.taker 0 0 in
     let met : Meeting = meeting_with c.args.sizes c.args.taker c.args.opposing.now.orders.items in
-    let fee_is : c.taker_fee-fee.result ≡ take_fee (take_of c.args.taker 0 0) met =
-    c.taker_fee-fee.ensures.value ∙ ap (taker_fee c.args.taker.program c.args.taker.tier) (c.narrow.ensures ∙ c.requires.foreseen.pc) in
-    c.charge.ensures
-    ∙ ap (λ (f : ℕ). c.args.takings.now + (f - c.args.foreseen.now.sums.rebates)) fee_is
-    ∙ ap (λ (r : ℕ). c.args.takings.now + (take_fee (take_of c.args.taker 0 0) met - r)) c.requires.foreseen.rebates
+    let met_is =
+    take-met c.args.sizes c.args.taker c.take_terms-terms.result c.want_of-want.result c.args.opposing.now.orders.items c.args.opposing.now.orders.items c.take_terms-terms.ensures.keeps c.want_of-want.ensures refl in
+    let fee_is : c.taker_fee-fee.result ≡ take_fee t met =
+    c.taker_fee-fee.ensures.value ∙ ap (taker_fee c.args.taker.program c.args.taker.tier) (c.narrow.ensures ∙ c.requires.trade.reached.pc) in
+    take-left c.args.taker.id_side c.args.sizes (take_fee t met) met own c.args.opposing.now c.meet_book.new.opposing c.args.till.now
+    (record { next_sequence = c.args.till.now.next_sequence; accounts = c.meet_book.new.accounts; takings = c.charge.new.takings })
+    (record {
+      room = c.meet_book.ensures.room;
+      left = c.meet_book.ensures.left ∙ ap (λ (m : Meeting). m.left) met_is;
+      next = refl;
+      worths = c.meet_book.ensures.worths ∙ ap (λ (m : Meeting). with_fills (maker_fills m.events) (map entry_of c.args.till.now.accounts.items)) met_is;
+      takings_are = c.charge.ensures
+          ∙ ap (λ (f : ℕ). c.args.till.now.takings + (f - c.args.foreseen.now.sums.rebates)) fee_is
+          ∙ ap (λ (r : ℕ). c.args.till.now.takings + (take_fee t met - r)) c.requires.trade.reached.rebates;
+    })
 
-pub returns-clause-small : goal.returns-clause-small
-returns-clause-small c = omega (arith, c.charge.ensures, c.taker_fee-fee.ensures.at_most_all, c.narrow.ensures, c.requires.pc)
+pub returns-clause-till : goal.returns-clause-till
+returns-clause-till c = λ bound is.
+    record {
+      accounts = all-more (bound + 2 ^ 81) (bound + 2 ^ 82) _ (omega arith) (c.meet_book.ensures.within bound is.accounts);
+      takings = omega (arith, is.takings, c.charge.ensures, c.taker_fee-fee.ensures.at_most_all, c.narrow.ensures, c.requires.trade.pc);
+    }
 
 pub returns-clause-opposing : goal.returns-clause-opposing
 returns-clause-opposing c = (rw c.take_terms-terms.ensures.sizes at c.meet_book.ensures.book, c.meet_book.ensures.room)

@@ -15,7 +15,7 @@ use Rattle.dex_plain.specs.LaneAnswers.{AnswersBatch}
 use Rattle.dex_program.proofs.batch.batch_answer.Goals as goal
 
 pub run_batch-requires-clause-rows : goal.run_batch-requires-clause-rows
-run_batch-requires-clause-rows g c = c.in-Ok.ensures.apart refl
+run_batch-requires-clause-rows g c = λ κs lives. c.in-Ok.ensures.apart refl
 
 pub returns-in_ok-outcome-in-Ok : goal.returns-in_ok-outcome-in-Ok
 returns-in_ok-outcome-in-Ok g c =

@@ -22,7 +22,7 @@ pub returns-else-is_plain : goal.returns-else-is_plain
 returns-else-is_plain g c = rw c.in-Ok.ensures.command c.on_threads.ensures
 
 pub on_threads-requires-clause-within : goal.on_threads-requires-clause-within
-on_threads-requires-clause-within g c = ((one-spelling _ _).0 c.in-Ok.ensures.command).1
+on_threads-requires-clause-within g c = λ κs lives. ((one-spelling _ _).0 c.in-Ok.ensures.command).1
 
 pub on_threads-requires-clause-threads : goal.on_threads-requires-clause-threads
-on_threads-requires-clause-threads g c = c.if-is_plain.ensures.other refl
+on_threads-requires-clause-threads g c = λ κs lives. c.if-is_plain.ensures.other refl

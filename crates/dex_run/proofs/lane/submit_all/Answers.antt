@@ -1,7 +1,7 @@
 use Rattle.std.proofs.Common.{ℕ, ◌∙◌, ap, sym, length, map, take, arith}
 use Rattle.dex_fold.proofs.Common.{row_of, rows_of_lane}
 use Rattle.dex_replay.proofs.Common.{PlainScript}
-use Rattle.dex_run.proofs.LaneRows.{are-legs, begins-alone, begins-two, calls-more, calls-two, lower-before, next-both, next-own, one-number}
+use Rattle.dex_run.proofs.LaneRows.{are-legs, begins-alone, begins-two, calls-more, calls-two, higher-behind, lower-before, next-both, next-own, one-number}
 use Rattle.dex_run.proofs.lane.submit_all.Goals as goal
 
 -- ---- two legs
@@ -47,7 +47,10 @@ submit_own-requires-clause-row g c = λ own.
     next-own c.args.rows.now c.item.place row c.item.seat (omega (arith, c.item-test.true)) c.index-rows-place-else-is_swap.is
     (c.requires.rows_are ∙ ap (λ (s : PlainScript). s.rows) (sym c.item.invariant.script))
     (c.item.invariant.calls ∙ ap (λ (n : ℕ). length (rows_of_lane n (map row_of (take c.item.place c.args.rows.now)))) (sym c.item.invariant.lane))
-    (lower-before c.args.rows.now c.item.place row (omega (arith, c.item-test.true)) c.index-rows-place-else-is_swap.is c.item.invariant.begins) own
+    (lower-before c.args.rows.now c.item.place row (omega (arith, c.item-test.true)) c.index-rows-place-else-is_swap.is c.item.invariant.begins)
+    (higher-behind c.args.seat.now.script c.args.rows.now c.requires.rows_are c.requires.is.rows c.item.place row (omega (arith, c.item-test.true)) c.index-rows-place-else-is_swap.is
+    (begins-alone c.args.seat.now.script c.args.rows.now c.requires.rows_are c.requires.is.rows c.item.place c.item.invariant.begins (c.is_swap.ensures.no c.if-is_swap.false)))
+    own
 
 pub item-preserved : goal.item-preserved
 item-preserved g c = record {
