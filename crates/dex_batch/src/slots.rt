@@ -1,7 +1,7 @@
 //! The leader's slots.
 
-ghost use Rattle.std.specs.Prelude.{◌≡◌, ◌<◌, ◌++◌, ◌∷◌, [], Some, None, IfOk, IfSome, IfNone, IsTrue, OnOk, length, map};
-ghost use Rattle.std.specs.Prelude.{slice_index_or, slice_set};
+ghost use Rattle.std.specs.Prelude.{◌≡◌, ◌<◌, ◌++◌, ◌∷◌, [], Some, None, length, map, slice_index_or, slice_set};
+ghost use Rattle.std.specs.Prelude.{IfNone, IfOk, IfSome, IsTrue, OnOk};
 ghost use Rattle.dex_batch.specs.Slots.{IsPut, home_slot};
 ghost use Rattle.dex_batch.specs.declared.slots.Slot.{Slot as SlotOf};
 
@@ -19,7 +19,8 @@ pub struct Slot<T> {
 fn lend_at<T: Drop>(slots: &mut [Slot<T>], place: usize, since: usize) -> Option<T>
     requires { place < length slots.old }
     ensures some { IfSome result (λ cell. (d : SlotOf T) → (slice_index_or slots.old place d).cell ≡ Some cell) }
-    ensures left { IfSome result (λ _. slots.new ≡ slice_set slots.old place (record { cell = None; since = since })) }
+    ensures left { IfSome result
+        (λ _. slots.new ≡ slice_set slots.old place (record { cell = None; since = since })) }
     ensures none { IfNone result (slots.new ≡ slots.old) }
 {
     let cell = slots[place].cell.take()?;
