@@ -168,20 +168,51 @@ impl Pace for Counts {
     }
 }
 
+// How many were inside, and how many of them met another there.
+fn counted<R: Threads + Wait + Sync>(
+    rt: &R,
+    alloc: Global,
+    line: &str,
+    script: &[u8],
+) -> Result<(u64, u64), Fail> {
+    let pace = Counts {
+        entered: AtomicU64::new(0),
+        left: AtomicU64::new(0),
+        met: AtomicU64::new(0),
+    };
+    let (status, _) = run(rt, alloc, line, script, &pace)?;
+    if status != Status::Ok {
+        return Err(Fail::new("no report"));
+    }
+    Ok((pace.left.into_inner(), pace.met.into_inner()))
+}
+
 #[test]
 fn rows_that_share_are_inside_one_at_a_time(rt: HostRuntime) -> Result<(), Fail> {
     for script in TOGETHER {
         for line in ["run", "batch 4"] {
-            let pace = Counts {
-                entered: AtomicU64::new(0),
-                left: AtomicU64::new(0),
-                met: AtomicU64::new(0),
-            };
-            let (status, _) = run(&rt, rt.alloc(), line, script, &pace)?;
-            assert_eq!(rt; status, Status::Ok);
-            assert_eq!(rt; pace.met.into_inner(), 0, "{line}");
-            assert_eq!(rt; pace.left.into_inner(), 4, "{line}");
+            assert_eq!(rt; counted(&rt, rt.alloc(), line, script)?, (4, 0), "{line}");
         }
     }
+    Ok(())
+}
+
+/// Swaps of a lane over two markets, and of another lane over the same two in the other order, with a row of it on each: of two lanes
+/// no two can be inside at once.
+const SWAPS: &[u8] = b"mint,coin,6
+mint,usd,6
+market,m,coin,usd,admin,5,5,8,AAAAAABkAAAAAAAAAAoAAAAAAAAAAAAAAAAAAAAAAAEAAAAAAAAA
+market,n,coin,usd,admin,5,5,8,AAAAAABkAAAAAAAAAAoAAAAAAAAAAAAAAAAAAAAAAAEAAAAAAAAA
+swap,0,ann,m,-,-,AAAAAA==,n,-,-,AAAAAA==
+do,1,m,bob,-,-,-,-,-,settle
+swap,0,ann,m,-,-,AAAAAA==,n,-,-,AAAAAA==
+swap,1,bob,n,-,-,AAAAAA==,m,-,-,AAAAAA==
+do,1,n,bob,-,-,-,-,-,settle
+";
+
+// A swap is inside once, under the turns of both its markets.
+#[test]
+fn a_swap_is_inside_once_with_both_its_markets(rt: HostRuntime) -> Result<(), Fail> {
+    assert_eq!(rt; counted(&rt, rt.alloc(), "run", SWAPS)?, (5, 0));
     Ok(())
 }
