@@ -1,10 +1,10 @@
-ghost use Rattle.std.specs.Prelude.{◌≡◌, ◌≤◌, ◌==◌, not, drop, map, Some};
+ghost use Rattle.std.specs.Prelude.{◌≡◌, ◌≤◌, ◌==◌, ◌++◌, codes, not, drop, false, length, map, true, IfSome, None, Some};
 ghost use Rattle.std.specs.List.{list_all};
 ghost use Rattle.std.specs.Simd.Lanes.{mask_l};
 ghost use Rattle.hex.specs.Hex.{encode_lower};
 ghost use Rattle.std.specs.Str.{IsAscii, bytes_eq};
 ghost use Rattle.dex_types.specs.Addresses as addresses;
-ghost use Rattle.dex_types.specs.Text.{address_text, is_label, is_label_character, is_labelled, first_zero};
+ghost use Rattle.dex_types.specs.Text.{address_text, is_label, is_label_character, is_labelled, first_zero, front_of};
 
 use std::fmt;
 use std::hash::{Hash, Hasher};
@@ -59,20 +59,51 @@ pub fn is_same(a: Address, b: Address) -> bool
     a == b
 }
 
+impl Address {
+    /// The label that the address is, if it is one.
+    pub fn label(&self) -> Option<&[u8]>
+        ensures none { result ≡ None → is_labelled self.now.0 ≡ false }
+        ensures label { IfSome result (λ label. label.now ≡ front_of self.now.0) }
+        ensures labelled { IfSome result (λ label. is_labelled self.now.0 ≡ true) }
+        ensures ascii { IfSome result (λ label. IsAscii label.now) }
+        ensures short { IfSome result (λ label. length label.now ≤ 24) }
+    {
+        let place = first_zero(&self.0);
+        let label = &self.0[..place];
+        if is_label(label) && is_zero_from(&self.0, place) {
+            Some(label)
+        } else {
+            None
+        }
+    }
+
+    /// `0x` and two hexadecimal digits for each byte.
+    pub fn prefixed_digits(&self) -> [u8; 66]
+        ensures digits { result ≡ codes "0x" ++ encode_lower self.now.0 }
+        ensures ascii { IsAscii result }
+    {
+        let mut text = [b'0'; 66];
+        text[1] = b'x';
+        text[2..].copy_from_slice(&digits_of(&self.0));
+        text
+    }
+}
+
 impl fmt::Display for Address {
     ghost output = { λ a. Some (address_text a) };
 
     #[tactic(auto, unfolding(crate::specs::Text::address_text))]
     fn fmt<W: fmt::Write>(&self, f: &mut fmt::Formatter<W>) -> fmt::Result {
-        let place = first_zero(&self.0);
-        let label = &self.0[..place];
-        if is_label(label) && is_zero_from(&self.0, place) {
-            let label = ascii(label);
-            write!(f, "{label}")
-        } else {
-            let digits = digits_of(&self.0);
-            let digits = ascii(&digits);
-            write!(f, "0x{digits}")
+        match self.label() {
+            Some(label) => {
+                let label = ascii(label);
+                write!(f, "{label}")
+            }
+            None => {
+                let digits = self.prefixed_digits();
+                let digits = ascii(&digits);
+                write!(f, "{digits}")
+            }
         }
     }
 }

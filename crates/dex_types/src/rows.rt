@@ -20,6 +20,17 @@ pub struct Row {
     pub now: i64,
 }
 
+/// Where the market and the wallets of a row stand in the lists of those with which its script starts. The place of a role that names
+/// no wallet says nothing.
+#[derive(Clone, Copy, Debug, PartialEq, Eq)]
+pub struct RowPlaces {
+    pub market: u16,
+    pub coin: u16,
+    pub pc: u16,
+    pub discount: u16,
+    pub referrer: u16,
+}
+
 /// A wallet as a row sees it: its address, the mint of its token, its owning person, and its native balance before the row.
 #[derive(Clone, Copy, Debug, PartialEq, Eq)]
 pub struct WalletSeen {
