@@ -1,6 +1,6 @@
 //! The lines of journals. A line is put together from its last word to its first, in one array, and stands at its end.
 
-ghost use Rattle.std.specs.Prelude.{◌≡◌, ◌+◌, ◌<◌, ◌≤◌, ◌++◌, OnOk, Some, drop, false, length};
+ghost use Rattle.std.specs.Prelude.{◌≡◌, ◌+◌, ◌<◌, ◌≤◌, [], ◌∷◌, ◌++◌, ◌^◌, OnOk, Some, drop, false, length};
 ghost use Rattle.dex_history.specs.Journal.{is_refusal};
 ghost use Rattle.std.specs.Fmt.{decimal};
 ghost use Rattle.std.specs.List.{All, flat_map};
@@ -27,18 +27,18 @@ pub(crate) fn write_entry(
     ensures fits { OnOk result (FitEntry entry.now) }
     ensures text { OnOk result (text.new.items ≡ text.old.items ++ texts.entry_line entry.now) }
 {
-    let end = put_word(line, b"\n", LINE);
+    let end = put_end(line);
     let tail = put_moves(line, &entry.moves, end);
     match entry.reply {
         Reply::Refused(why) => {
             push_front(text, entry)?;
             push_refusal(text, why)?;
-            text.extend_from_slice(&line[tail..])
+            push_from(text, line, tail)
         }
         reply => {
             let reply = put_reply(line, reply, tail);
             let start = put_front(line, entry, reply);
-            text.extend_from_slice(&line[start..])
+            push_from(text, line, start)
         }
     }
 }
@@ -52,15 +52,12 @@ pub(crate) fn write_move(
     ensures fits { OnOk result (FitWalletEntry entry.now) }
     ensures text { OnOk result (text.new.items ≡ text.old.items ++ texts.move_line entry.now) }
 {
-    let end = put_word(line, b"\n", LINE);
-    let before = put_number(line, entry.before, end);
-    let amount = put_number(line, entry.amount, before);
-    let kind = put_kind(line, entry.kind, amount);
-    let row = put_number(line, entry.row as u64, kind);
-    let lane = put_number(line, entry.lane as u64, row);
+    let end = put_end(line);
+    let moved = put_moved(line, entry.kind, entry.amount, entry.before, end);
+    let lane = put_two(line, entry.lane as u64, entry.row as u64, moved);
     let market = put_address(line, entry.market, lane);
     let start = put_word(line, b"move", market);
-    text.extend_from_slice(&line[start..])
+    push_from(text, line, start)
 }
 
 /// Writes a line of a word, an address where there is one, and a number.
@@ -74,33 +71,50 @@ pub(crate) fn write_head(
     ensures { OnOk result (text.new.items ≡ text.old.items ++ texts.head_line word.now address number) }
 {
     let mut line = [0; LINE];
-    let end = put_word(&mut line, b"\n", LINE);
+    let end = put_end(&mut line);
     let number = put_number(&mut line, number, end);
     let address = match address {
         Some(address) => put_address(&mut line, address, number),
         None => number,
     };
     let start = put_word(&mut line, word, address);
+    push_from(text, &line, start)
+}
+
+/// Writes what stands in a line from a place on.
+fn push_from(text: &mut Vec<u8>, line: &[u8; LINE], start: usize) -> Result<(), AllocError>
+    requires { start ≤ 768 }
+    ensures { OnOk result (text.new.items ≡ text.old.items ++ drop start line.now) }
+{
     text.extend_from_slice(&line[start..])
+}
+
+/// Puts the end of a line at the end of the array.
+fn put_end(line: &mut [u8; LINE]) -> usize
+    ensures start { result ≡ 767 }
+    ensures written { drop result line.new ≡ 10 ∷ [] }
+{
+    put_word(line, b"\n", LINE)
 }
 
 /// Writes what stands before an entry's reply.
 fn push_front(text: &mut Vec<u8>, entry: &Entry) -> Result<(), AllocError>
-    ensures { OnOk result (text.new.items ≡ text.old.items ++ texts.entry_front entry.now) }
+    ensures fits { (entry.now.lane < 2 ^ 32) × (entry.now.row < 2 ^ 32) }
+    ensures text { OnOk result (text.new.items ≡ text.old.items ++ texts.entry_front entry.now) }
 {
     let mut line = [0; LINE];
     let start = put_front(&mut line, entry, LINE);
-    text.extend_from_slice(&line[start..])
+    push_from(text, &line, start)
 }
 
 /// Puts what stands before an entry's reply in front of a place, and returns where it starts.
 fn put_front(line: &mut [u8; LINE], entry: &Entry, end: usize) -> usize
     requires { (47 ≤ end) × (end ≤ 768) }
-    ensures start { end ≤ result + 47 }
+    ensures fits { (entry.now.lane < 2 ^ 32) × (entry.now.row < 2 ^ 32) }
+    ensures start { (result ≤ end) × (end ≤ result + 47) }
     ensures written { drop result line.new ≡ texts.entry_front entry.now ++ drop end line.old }
 {
-    let row = put_number(line, entry.row as u64, end);
-    let lane = put_number(line, entry.lane as u64, row);
+    let lane = put_two(line, entry.lane as u64, entry.row as u64, end);
     put_word(line, b"entry", lane)
 }
 
@@ -108,7 +122,8 @@ fn put_front(line: &mut [u8; LINE], entry: &Entry, end: usize) -> usize
 fn put_moves(line: &mut [u8; LINE], moves: &[Option<Movement>; 4], end: usize) -> usize
     requires { (464 ≤ end) × (end ≤ 768) }
     ensures fits { All FitMove moves.now }
-    ensures start { end ≤ result + 464 }
+    ensures four { length moves.now ≡ 4 }
+    ensures start { (result ≤ end) × (end ≤ result + 464) }
     ensures written { drop result line.new ≡ flat_map texts.move_text moves.now ++ drop end line.old }
 {
     let [first, second, third, fourth] = *moves;
@@ -122,7 +137,7 @@ fn put_moves(line: &mut [u8; LINE], moves: &[Option<Movement>; 4], end: usize) -
 fn put_move(line: &mut [u8; LINE], movement: Option<Movement>, end: usize) -> usize
     requires { (116 ≤ end) × (end ≤ 768) }
     ensures fits { FitMove movement }
-    ensures start { end ≤ result + 116 }
+    ensures start { (result ≤ end) × (end ≤ result + 116) }
     ensures written { drop result line.new ≡ texts.move_text movement ++ drop end line.old }
 {
     match movement {
@@ -135,13 +150,28 @@ fn put_move(line: &mut [u8; LINE], movement: Option<Movement>, end: usize) -> us
 fn put_movement(line: &mut [u8; LINE], movement: Movement, end: usize) -> usize
     requires { (116 ≤ end) × (end ≤ 768) }
     ensures fits { FitMove (Some movement) }
-    ensures start { end ≤ result + 116 }
+    ensures start { (result ≤ end) × (end ≤ result + 116) }
     ensures written { drop result line.new ≡ texts.move_text (Some movement) ++ drop end line.old }
 {
-    let before = put_number(line, movement.before, end);
-    let amount = put_number(line, movement.amount, before);
-    let kind = put_kind(line, movement.kind, amount);
-    put_address(line, movement.wallet, kind)
+    let moved = put_moved(line, movement.kind, movement.amount, movement.before, end);
+    put_address(line, movement.wallet, moved)
+}
+
+/// Puts what was moved in front of a place: the kind, the amount, and the balance before it.
+fn put_moved(
+    line: &mut [u8; LINE],
+    kind: MoveKind,
+    amount: u64,
+    before: u64,
+    end: usize,
+) -> usize
+    requires { (49 ≤ end) × (end ≤ 768) }
+    ensures start { (result ≤ end) × (end ≤ result + 49) }
+    ensures written { drop result line.new ≡ spaced (kind_text kind) ++ (spaced (decimal amount)
+        ++ (spaced (decimal before) ++ drop end line.old)) }
+{
+    let amount = put_two(line, amount, before, end);
+    put_kind(line, kind, amount)
 }
 
 /// Puts a space and a reply that is no refusal in front of a place.
@@ -149,7 +179,7 @@ fn put_reply(line: &mut [u8; LINE], reply: Reply, end: usize) -> usize
     requires room { (180 ≤ end) × (end ≤ 768) }
     requires done { is_refusal reply ≡ false }
     ensures fits { FitReply reply }
-    ensures start { end ≤ result + 180 }
+    ensures start { (result ≤ end) × (end ≤ result + 180) }
     ensures written { drop result line.new ≡ spaced (reply_text reply) ++ drop end line.old }
 {
     match reply {
@@ -161,10 +191,8 @@ fn put_reply(line: &mut [u8; LINE], reply: Reply, end: usize) -> usize
             fee,
             rested,
         } => {
-            let rested = put_number(line, rested, end);
-            let fee = put_number(line, fee, rested);
-            let pc = put_number(line, pc, fee);
-            let lots = put_number(line, lots, pc);
+            let fee = put_two(line, fee, rested, end);
+            let lots = put_two(line, lots, pc, fee);
             let slot = put_number(line, slot as u64, lots);
             let id = put_wide(line, id, slot);
             put_word(line, b" ok order", id)
@@ -191,19 +219,18 @@ fn put_three(
     end: usize,
 ) -> usize
     requires { (80 ≤ end) × (end ≤ 768) × (length word.now ≤ 13) }
-    ensures start { end ≤ result + 80 }
+    ensures start { (result ≤ end) × (end ≤ result + 80) }
     ensures written { drop result line.new ≡ word.now ++ (spaced (decimal first) ++ (spaced (decimal second)
         ++ (spaced (decimal third) ++ drop end line.old))) }
 {
-    let third = put_number(line, third, end);
-    let second = put_number(line, second, third);
+    let second = put_two(line, second, third, end);
     put_told(line, word, first, second)
 }
 
 /// Puts a word, a space and a number in front of a place.
 fn put_told(line: &mut [u8; LINE], word: &[u8], number: u64, end: usize) -> usize
     requires { (38 ≤ end) × (end ≤ 768) × (length word.now ≤ 13) }
-    ensures start { end ≤ result + 38 }
+    ensures start { (result ≤ end) × (end ≤ result + 38) }
     ensures written { drop result line.new ≡ word.now ++ (spaced (decimal number) ++ drop end line.old) }
 {
     let number = put_number(line, number, end);
@@ -254,7 +281,7 @@ fn put_word(line: &mut [u8; LINE], word: &[u8], end: usize) -> usize
 /// Puts a space and the word of a kind of movement in front of a place.
 fn put_kind(line: &mut [u8; LINE], kind: MoveKind, end: usize) -> usize
     requires { (7 ≤ end) × (end ≤ 768) }
-    ensures start { end ≤ result + 7 }
+    ensures start { (result ≤ end) × (end ≤ result + 7) }
     ensures written { drop result line.new ≡ spaced (kind_text kind) ++ drop end line.old }
 {
     match kind {
@@ -269,9 +296,10 @@ fn put_kind(line: &mut [u8; LINE], kind: MoveKind, end: usize) -> usize
 fn put_address(line: &mut [u8; LINE], address: Address, end: usize) -> usize
     requires { (67 ≤ end) × (end ≤ 768) }
     ensures fits { IsAddress address }
-    ensures start { end ≤ result + 67 }
+    ensures start { (result ≤ end) × (end ≤ result + 67) }
     ensures written { drop result line.new ≡ spaced (address_text address) ++ drop end line.old }
 {
+    address_fits(address);
     match address.label() {
         Some(label) => put_spaced(line, label, end),
         None => put_spaced(line, &address.prefixed_digits(), end),
@@ -288,10 +316,21 @@ fn put_spaced(line: &mut [u8; LINE], word: &[u8], end: usize) -> usize
     put_word(line, b" ", start)
 }
 
+/// Puts a space and a number, and then another one, in front of a place.
+fn put_two(line: &mut [u8; LINE], first: u64, second: u64, end: usize) -> usize
+    requires { (42 ≤ end) × (end ≤ 768) }
+    ensures start { (result ≤ end) × (end ≤ result + 42) }
+    ensures written { drop result line.new
+        ≡ spaced (decimal first) ++ (spaced (decimal second) ++ drop end line.old) }
+{
+    let second = put_number(line, second, end);
+    put_number(line, first, second)
+}
+
 /// Puts a space and a number in front of a place, and returns where the space stands.
 fn put_number(line: &mut [u8; LINE], number: u64, end: usize) -> usize
     requires { (21 ≤ end) × (end ≤ 768) }
-    ensures start { end ≤ result + 21 }
+    ensures start { (result ≤ end) × (end ≤ result + 21) }
     ensures written { drop result line.new ≡ spaced (decimal number) ++ drop end line.old }
 {
     let start = write_digits(number, line, end) - 1;
@@ -302,7 +341,7 @@ fn put_number(line: &mut [u8; LINE], number: u64, end: usize) -> usize
 /// Puts a space and a number of 128 bits in front of a place.
 fn put_wide(line: &mut [u8; LINE], number: u128, end: usize) -> usize
     requires { (40 ≤ end) × (end ≤ 768) }
-    ensures start { end ≤ result + 40 }
+    ensures start { (result ≤ end) × (end ≤ result + 40) }
     ensures written { drop result line.new ≡ spaced (decimal number) ++ drop end line.old }
 {
     let mut buffer = Buffer::new();
