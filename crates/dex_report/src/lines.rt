@@ -158,13 +158,7 @@ fn put_movement(line: &mut [u8; LINE], movement: Movement, end: usize) -> usize
 }
 
 /// Puts what was moved in front of a place: the kind, the amount, and the balance before it.
-fn put_moved(
-    line: &mut [u8; LINE],
-    kind: MoveKind,
-    amount: u64,
-    before: u64,
-    end: usize,
-) -> usize
+fn put_moved(line: &mut [u8; LINE], kind: MoveKind, amount: u64, before: u64, end: usize) -> usize
     requires { (49 ≤ end) × (end ≤ 768) }
     ensures start { (result ≤ end) × (end ≤ result + 49) }
     ensures written { drop result line.new ≡ spaced (kind_text kind) ++ (spaced (decimal amount)

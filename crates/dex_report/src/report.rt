@@ -46,7 +46,9 @@ fn room_of(outcome: &Outcome) -> usize {
         room = room.saturating_add(journal.entries.len().saturating_mul(96));
     }
     'wallets: for journal in &outcome.wallets {
-        room = room.saturating_add(journal.entries.len().saturating_mul(48)).saturating_add(512);
+        room = room
+            .saturating_add(journal.entries.len().saturating_mul(48))
+            .saturating_add(512);
     }
     'accounts: for accounts in &outcome.accounts.markets {
         room = room.saturating_add(room_of_market(accounts));
@@ -57,11 +59,18 @@ fn room_of(outcome: &Outcome) -> usize {
 /// Room for the rows of a market's accounts: four characters for three bytes, and the words around them.
 fn room_of_market(accounts: &MarketAccounts) -> usize {
     let mut bytes: usize = 1024;
-    'sides: for buffer in [&accounts.requests, &accounts.events, &accounts.bids, &accounts.asks] {
+    'sides: for buffer in [
+        &accounts.requests,
+        &accounts.events,
+        &accounts.bids,
+        &accounts.asks,
+    ] {
         bytes = bytes.saturating_add(buffer.len());
     }
     'orders: for account in &accounts.orders {
-        bytes = bytes.saturating_add(account.bytes.len()).saturating_add(128);
+        bytes = bytes
+            .saturating_add(account.bytes.len())
+            .saturating_add(128);
     }
     bytes.saturating_add(bytes / 3)
 }
