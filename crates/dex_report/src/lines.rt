@@ -55,7 +55,7 @@ pub(crate) fn write_move(
     let end = put_end(line);
     let moved = put_moved(line, entry.kind, entry.amount, entry.before, end);
     let lane = put_two(line, entry.lane as u64, entry.row as u64, moved);
-    let market = put_address(line, entry.market, lane);
+    let market = put_address(line, &entry.market, lane);
     let start = put_word(line, b"move", market);
     push_from(text, line, start)
 }
@@ -74,7 +74,7 @@ pub(crate) fn write_head(
     let end = put_end(&mut line);
     let number = put_number(&mut line, number, end);
     let address = match address {
-        Some(address) => put_address(&mut line, address, number),
+        Some(address) => put_address(&mut line, &address, number),
         None => number,
     };
     let start = put_word(&mut line, word, address);
@@ -126,7 +126,7 @@ fn put_moves(line: &mut [u8; LINE], moves: &[Option<Movement>; 4], end: usize) -
     ensures start { (result ≤ end) × (end ≤ result + 464) }
     ensures written { drop result line.new ≡ flat_map texts.move_text moves.now ++ drop end line.old }
 {
-    let [first, second, third, fourth] = *moves;
+    let [first, second, third, fourth] = moves;
     let fourth = put_move(line, fourth, end);
     let third = put_move(line, third, fourth);
     let second = put_move(line, second, third);
@@ -134,11 +134,11 @@ fn put_moves(line: &mut [u8; LINE], moves: &[Option<Movement>; 4], end: usize) -
 }
 
 /// Puts a space and a movement in front of a place, or nothing.
-fn put_move(line: &mut [u8; LINE], movement: Option<Movement>, end: usize) -> usize
+fn put_move(line: &mut [u8; LINE], movement: &Option<Movement>, end: usize) -> usize
     requires { (116 ≤ end) × (end ≤ 768) }
-    ensures fits { FitMove movement }
+    ensures fits { FitMove movement.now }
     ensures start { (result ≤ end) × (end ≤ result + 116) }
-    ensures written { drop result line.new ≡ texts.move_text movement ++ drop end line.old }
+    ensures written { drop result line.new ≡ texts.move_text movement.now ++ drop end line.old }
 {
     match movement {
         Some(movement) => put_movement(line, movement, end),
@@ -147,14 +147,14 @@ fn put_move(line: &mut [u8; LINE], movement: Option<Movement>, end: usize) -> us
 }
 
 /// Puts a space and a movement in front of a place.
-fn put_movement(line: &mut [u8; LINE], movement: Movement, end: usize) -> usize
+fn put_movement(line: &mut [u8; LINE], movement: &Movement, end: usize) -> usize
     requires { (116 ≤ end) × (end ≤ 768) }
-    ensures fits { FitMove (Some movement) }
+    ensures fits { FitMove (Some movement.now) }
     ensures start { (result ≤ end) × (end ≤ result + 116) }
-    ensures written { drop result line.new ≡ texts.move_text (Some movement) ++ drop end line.old }
+    ensures written { drop result line.new ≡ texts.move_text (Some movement.now) ++ drop end line.old }
 {
     let moved = put_moved(line, movement.kind, movement.amount, movement.before, end);
-    put_address(line, movement.wallet, moved)
+    put_address(line, &movement.wallet, moved)
 }
 
 /// Puts what was moved in front of a place: the kind, the amount, and the balance before it.
@@ -287,13 +287,13 @@ fn put_kind(line: &mut [u8; LINE], kind: MoveKind, end: usize) -> usize
 
 /// Puts a space and an address in front of a place: nearly all are labels.
 #[tactic(auto, unfolding(dex_types::specs::Text::address_text))]
-fn put_address(line: &mut [u8; LINE], address: Address, end: usize) -> usize
+fn put_address(line: &mut [u8; LINE], address: &Address, end: usize) -> usize
     requires { (67 ≤ end) × (end ≤ 768) }
-    ensures fits { IsAddress address }
+    ensures fits { IsAddress address.now }
     ensures start { (result ≤ end) × (end ≤ result + 67) }
-    ensures written { drop result line.new ≡ spaced (address_text address) ++ drop end line.old }
+    ensures written { drop result line.new ≡ spaced (address_text address.now) ++ drop end line.old }
 {
-    address_fits(address);
+    address_fits(*address);
     match address.label() {
         Some(label) => put_spaced(line, label, end),
         None => put_spaced(line, &address.prefixed_digits(), end),
