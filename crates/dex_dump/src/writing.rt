@@ -7,7 +7,7 @@ ghost use Rattle.dex_types.specs.Text.{address_text};
 ghost use Rattle.hex.specs.Hex.{IsBytes};
 ghost use Rattle.dex_dump.specs.Accepted.{AreAccepted, HoldBytes, IsAddress, IsHeld, IsHeldMarket};
 ghost use Rattle.dex_dump.specs.Answers.{IsReadAs};
-ghost use Rattle.dex_dump.specs.DumpText.{base64_text, behind_first, dump_text, line_text, lines_text, market_fields, market_row, market_rows, mint_row, named_rows, orders_row, wallet_row};
+ghost use Rattle.dex_dump.specs.DumpText.{account_row, base64_text, behind_first, dump_text, line_text, lines_text, market_fields, market_row, market_rows, named_rows, orders_row};
 
 use base64::engine::general_purpose::STANDARD;
 use dex_types::{Accounts, Address, MarketAccounts, Named, NoMemory, OrdersAccount};
@@ -37,33 +37,23 @@ pub fn append_dump(text: &mut Vec<u8>, accounts: &Accounts) -> Result<(), AllocE
     ensures held { OnOk result (HoldBytes (accounts_of accounts.now)) }
 {
     write_word(text, "dump\n")?;
-    write_mints(text, &accounts.mints)?;
+    write_accounts(text, "mint", &accounts.mints)?;
     write_name(text, "srm", accounts.srm)?;
     write_name(text, "msrm", accounts.msrm)?;
-    write_wallets(text, &accounts.wallets)?;
+    write_accounts(text, "wallet", &accounts.wallets)?;
     write_markets(text, &accounts.markets)?;
     write_word(text, "enddump\n")?;
     Ok(())
 }
 
-fn write_mints(text: &mut Vec<u8>, mints: &[Named]) -> Result<(), AllocError>
+/// The rows of mints or of wallets.
+fn write_accounts(text: &mut Vec<u8>, word: &str, accounts: &[Named]) -> Result<(), AllocError>
     ensures text { OnOk result (text.new.items
-        ≡ text.old.items ++ lines_text (map mint_row (map named_of mints.now))) }
-    ensures held { OnOk result (All IsHeld (map named_of mints.now)) }
+        ≡ text.old.items ++ lines_text (map (account_row word.now) (map named_of accounts.now))) }
+    ensures held { OnOk result (All IsHeld (map named_of accounts.now)) }
 {
-    for mint in mints {
-        write_account(text, "mint", mint)?;
-    }
-    Ok(())
-}
-
-fn write_wallets(text: &mut Vec<u8>, wallets: &[Named]) -> Result<(), AllocError>
-    ensures text { OnOk result (text.new.items
-        ≡ text.old.items ++ lines_text (map wallet_row (map named_of wallets.now))) }
-    ensures held { OnOk result (All IsHeld (map named_of wallets.now)) }
-{
-    for wallet in wallets {
-        write_account(text, "wallet", wallet)?;
+    for account in accounts {
+        write_account(text, word, account)?;
     }
     Ok(())
 }
@@ -112,8 +102,8 @@ fn write_name(text: &mut Vec<u8>, word: &str, mint: Option<Address>) -> Result<(
 
 /// The row of a mint or a wallet.
 fn write_account(text: &mut Vec<u8>, word: &str, account: &Named) -> Result<(), AllocError>
-    ensures text { OnOk result (text.new.items ≡ text.old.items
-        ++ line_text (word.now ∷ address_text account.now.address ∷ base64_text account.now.bytes.items ∷ [])) }
+    ensures text { OnOk result (text.new.items
+        ≡ text.old.items ++ line_text (account_row word.now (named_of account.now))) }
     ensures held { OnOk result (IsHeld (named_of account.now)) }
 {
     write_word(text, word)?;

@@ -3,6 +3,7 @@ use Rattle.std.proofs.lemmas.Bool.{cases_lt}
 use Rattle.std.proofs.lemmas.List.{nil_from_length}
 use Rattle.std.specs.Slice.Iter.{chunks_rest}
 use Rattle.base64.specs.Engines.{standard}
+use Rattle.base64.specs.GeneralPurpose.{encode_of}
 use Rattle.base64.proofs.EngineFacts.{encode_of-append, encode_of-nil}
 use Rattle.dex_dump.specs.DumpText.{base64_text}
 use Rattle.dex_dump.proofs.writing.write_bytes.Goals as goal
@@ -16,7 +17,7 @@ piece-first bytes piece rest parts size =
     elim (cases_lt (length bytes) 768) [
       | inl short ↦
           let none : rest ≡ [] = nil_from_length rest (omega arith) in
-          rw (parts, none, encode_of-nil standard, append-nil, append-nil)
+          rw (parts, none, append-nil piece, encode_of-nil standard) (sym (append-nil (encode_of standard piece)))
       | inr long ↦ ap base64_text parts ∙ encode_of-append standard piece rest (omega arith)
     ]
 
