@@ -1,15 +1,15 @@
 //! The lines of journals. A line is put together from its last word to its first, in one array, and stands at its end.
 
-ghost use Rattle.std.specs.Prelude.{◌≡◌, ◌+◌, ◌<◌, ◌≤◌, [], ◌∷◌, ◌++◌, ◌^◌, OnOk, Some, drop, false, length};
+ghost use Rattle.std.specs.Prelude.{◌≡◌, ◌+◌, ◌<◌, ◌≤◌, [], ◌∷◌, ◌++◌, OnOk, Some, drop, false, length};
 ghost use Rattle.dex_history.specs.Journal.{is_refusal};
 ghost use Rattle.std.specs.Fmt.{decimal};
-ghost use Rattle.std.specs.List.{All, flat_map};
+ghost use Rattle.std.specs.List.{flat_map};
 ghost use Rattle.dex_types.specs.MovementText.{kind_text};
 ghost use Rattle.dex_types.specs.Text.{address_text, refusal_text, reply_text, spaced};
-ghost use Rattle.dex_dump.specs.Accepted.{IsAddress};
 ghost use Rattle.dex_report.specs.Report as texts;
-ghost use Rattle.dex_report.specs.Telling.{FitEntry, FitMove, FitRefusal, FitReply, FitWalletEntry};
+ghost use Rattle.dex_report.specs.Telling.{FitEntry, FitWalletEntry};
 
+use crate::fitting::{address_fits, entry_fits};
 use dex_types::{Address, Entry, MoveKind, Movement, Refusal, Reply, WalletEntry};
 use itoa::{Buffer, write_digits};
 use std::alloc::AllocError;
@@ -27,6 +27,7 @@ pub(crate) fn write_entry(
     ensures fits { OnOk result (FitEntry entry.now) }
     ensures text { OnOk result (text.new.items ≡ text.old.items ++ texts.entry_line entry.now) }
 {
+    entry_fits(entry);
     let end = put_end(line);
     let tail = put_moves(line, &entry.moves, end);
     match entry.reply {
@@ -52,6 +53,7 @@ pub(crate) fn write_move(
     ensures fits { OnOk result (FitWalletEntry entry.now) }
     ensures text { OnOk result (text.new.items ≡ text.old.items ++ texts.move_line entry.now) }
 {
+    address_fits(entry.market);
     let end = put_end(line);
     let moved = put_moved(line, entry.kind, entry.amount, entry.before, end);
     let lane = put_two(line, entry.lane as u64, entry.row as u64, moved);
@@ -99,8 +101,7 @@ fn put_end(line: &mut [u8; LINE]) -> usize
 
 /// Writes what stands before an entry's reply.
 fn push_front(text: &mut Vec<u8>, entry: &Entry) -> Result<(), AllocError>
-    ensures fits { (entry.now.lane < 2 ^ 32) × (entry.now.row < 2 ^ 32) }
-    ensures text { OnOk result (text.new.items ≡ text.old.items ++ texts.entry_front entry.now) }
+    ensures { OnOk result (text.new.items ≡ text.old.items ++ texts.entry_front entry.now) }
 {
     let mut line = [0; LINE];
     let start = put_front(&mut line, entry, LINE);
@@ -110,7 +111,6 @@ fn push_front(text: &mut Vec<u8>, entry: &Entry) -> Result<(), AllocError>
 /// Puts what stands before an entry's reply in front of a place, and returns where it starts.
 fn put_front(line: &mut [u8; LINE], entry: &Entry, end: usize) -> usize
     requires { (47 ≤ end) × (end ≤ 768) }
-    ensures fits { (entry.now.lane < 2 ^ 32) × (entry.now.row < 2 ^ 32) }
     ensures start { (result ≤ end) × (end ≤ result + 47) }
     ensures written { drop result line.new ≡ texts.entry_front entry.now ++ drop end line.old }
 {
@@ -121,8 +121,6 @@ fn put_front(line: &mut [u8; LINE], entry: &Entry, end: usize) -> usize
 /// Puts the movements of an entry in front of a place, and returns where they start.
 fn put_moves(line: &mut [u8; LINE], moves: &[Option<Movement>; 4], end: usize) -> usize
     requires { (464 ≤ end) × (end ≤ 768) }
-    ensures fits { All FitMove moves.now }
-    ensures four { length moves.now ≡ 4 }
     ensures start { (result ≤ end) × (end ≤ result + 464) }
     ensures written { drop result line.new ≡ flat_map texts.move_text moves.now ++ drop end line.old }
 {
@@ -136,7 +134,6 @@ fn put_moves(line: &mut [u8; LINE], moves: &[Option<Movement>; 4], end: usize) -
 /// Puts a space and a movement in front of a place, or nothing.
 fn put_move(line: &mut [u8; LINE], movement: &Option<Movement>, end: usize) -> usize
     requires { (116 ≤ end) × (end ≤ 768) }
-    ensures fits { FitMove movement.now }
     ensures start { (result ≤ end) × (end ≤ result + 116) }
     ensures written { drop result line.new ≡ texts.move_text movement.now ++ drop end line.old }
 {
@@ -149,7 +146,6 @@ fn put_move(line: &mut [u8; LINE], movement: &Option<Movement>, end: usize) -> u
 /// Puts a space and a movement in front of a place.
 fn put_movement(line: &mut [u8; LINE], movement: &Movement, end: usize) -> usize
     requires { (116 ≤ end) × (end ≤ 768) }
-    ensures fits { FitMove (Some movement.now) }
     ensures start { (result ≤ end) × (end ≤ result + 116) }
     ensures written { drop result line.new ≡ texts.move_text (Some movement.now) ++ drop end line.old }
 {
@@ -172,7 +168,6 @@ fn put_moved(line: &mut [u8; LINE], kind: MoveKind, amount: u64, before: u64, en
 fn put_reply(line: &mut [u8; LINE], reply: Reply, end: usize) -> usize
     requires room { (180 ≤ end) × (end ≤ 768) }
     requires done { is_refusal reply ≡ false }
-    ensures fits { FitReply reply }
     ensures start { (result ≤ end) × (end ≤ result + 180) }
     ensures written { drop result line.new ≡ spaced (reply_text reply) ++ drop end line.old }
 {
@@ -233,33 +228,12 @@ fn put_told(line: &mut [u8; LINE], word: &[u8], number: u64, end: usize) -> usiz
 
 /// A space and a refusal.
 fn push_refusal(text: &mut Vec<u8>, why: Refusal) -> Result<(), AllocError>
-    ensures fits { OnOk result (FitRefusal why) }
-    ensures text { OnOk result (text.new.items ≡ text.old.items ++ spaced (refusal_text why)) }
+    ensures { OnOk result (text.new.items ≡ text.old.items ++ spaced (refusal_text why)) }
 {
-    refusal_fits(why);
     let mut told = String::new(*text.allocator());
     write!(told, " {why}")?;
     text.extend_from_slice(told.as_bytes())
 }
-
-/// The values of a refusal fit.
-fn refusal_fits(why: Refusal)
-    ensures { FitRefusal why }
-{
-    match why {
-        Refusal::NotOwner { owner } => address_fits(owner),
-        Refusal::NotAuthority { authority } => address_fits(authority),
-        Refusal::WrongMint { mint } => address_fits(mint),
-        Refusal::WalletNotSigned { owner } => address_fits(owner),
-        Refusal::OrderNotYours { owner } => address_fits(owner),
-        _ => {}
-    }
-}
-
-/// An address has 32 bytes.
-pub(crate) fn address_fits(address: Address)
-    ensures { IsAddress address }
-{}
 
 /// Puts a word in front of a place, and returns where it starts.
 fn put_word(line: &mut [u8; LINE], word: &[u8], end: usize) -> usize
@@ -289,11 +263,9 @@ fn put_kind(line: &mut [u8; LINE], kind: MoveKind, end: usize) -> usize
 #[tactic(auto, unfolding(dex_types::specs::Text::address_text))]
 fn put_address(line: &mut [u8; LINE], address: &Address, end: usize) -> usize
     requires { (67 ≤ end) × (end ≤ 768) }
-    ensures fits { IsAddress address.now }
     ensures start { (result ≤ end) × (end ≤ result + 67) }
     ensures written { drop result line.new ≡ spaced (address_text address.now) ++ drop end line.old }
 {
-    address_fits(*address);
     match address.label() {
         Some(label) => put_spaced(line, label, end),
         None => put_spaced(line, &address.prefixed_digits(), end),

@@ -6,7 +6,8 @@ ghost use Rattle.dex_report.specs.Outcomes.{market_journal_of, outcome_of, walle
 ghost use Rattle.dex_report.specs.Report as texts;
 ghost use Rattle.dex_report.specs.Telling.{FitMarket, FitOutcome, IsToldWallet};
 
-use crate::lines::{LINE, address_fits, write_entry, write_head, write_move};
+use crate::fitting::address_fits;
+use crate::lines::{LINE, write_entry, write_head, write_move};
 use crate::outcome::{MarketJournal, Outcome, WalletJournal};
 use dex_dump::append_dump;
 use dex_types::{MarketAccounts, NoMemory};
