@@ -1,3 +1,6 @@
+pub mod SplitLemmas
+pub mod LineLemmas
+pub mod PlainLaws
 pub mod NumberLemmas
 pub mod RecordLemmas
 pub mod AddressLemmas

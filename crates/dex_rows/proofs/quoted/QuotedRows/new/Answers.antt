@@ -1,5 +1,5 @@
 use Rattle.dex_rows.proofs.RecordLemmas.{rows_at_start}
-use Rattle.dex_rows.proofs.records.Rows.new.Goals as goal
+use Rattle.dex_rows.proofs.quoted.QuotedRows.new.Goals as goal
 
 pub returns : goal.returns
 returns c =
