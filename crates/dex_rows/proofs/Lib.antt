@@ -1,9 +1,9 @@
 pub mod SplitLemmas
-pub mod LineLemmas
-pub mod PlainLaws
+mod LineLemmas
+mod PlainLaws
 pub mod NumberLemmas
 pub mod RecordLemmas
-pub mod AddressLemmas
+mod AddressLemmas
 pub mod PrintableLemmas
 pub mod OnLiterals
 pub mod NumberLaws

@@ -1,6 +1,6 @@
 -- A row that stands in a text without quotes, cut at its commas byte by byte.
 use Rattle.std.proofs.Common.{◌≡◌, ◌∙◌, ◌^◌, ◌+◌, ◌-◌, ◌<◌, ◌≤◌, ◌++◌, ◌==◌, ◌∷◌, [], ℕ, List, All, Bor, Bool, true, false, length, length-append, append-nil, take, drop, get_or, map, arith, refl, sym, ap, inl, inr, Fits, w64}
-use Rattle.std.proofs.lemmas.List.{at_drop_more, drop_more, length-take, take-append-le, take_all, take_more}
+use Rattle.std.proofs.lemmas.List.{at_drop_more, drop_more, get_or-map, get_or-take, length-map, length-take, take-append-le, take_all, take_more}
 use Rattle.std.proofs.lemmas.List.Elements.{All-append, All-cons, All-nil}
 use Rattle.std.proofs.lemmas.Bool.{cases_lt}
 use Rattle.dex_rows.specs.Lines.{IsCut, KeepsField, behind_ends, cells_of, ends_row, texts}
@@ -88,3 +88,15 @@ line_end text start at count fields line size bytes more kept h =
 -- a place of a row is below the size of its text
 pub count_fits : (text : List ℕ) (start at count : ℕ) (fields : List (Bor (List ℕ))) → at ≤ length text → length text < 2 ^ 63 → InLine text start at count fields → Fits w64 (count + 1)
 count_fits text start at count fields within size h = omega (arith, h.few, h.part.order)
+
+-- a field that is kept
+pub field_kept : (line : Line) (place : ℕ) (d : Bor (List ℕ)) → IsCut line → place < length (cells_of line.bytes.now) → place < 12
+    → (get_or line.fields place d).now ≡ get_or (cells_of line.bytes.now) place []
+field_kept line place d cut below few =
+    let text : Bor (List ℕ) → List ℕ = λ field. field.now in
+    let kept = take line.count line.fields in
+    let size : length kept ≡ length (take 12 (cells_of line.bytes.now)) = sym (length-map kept text) ∙ ap length cut.kept in
+    let there : place < length kept = omega (arith, size, length-take 12 (cells_of line.bytes.now)) in
+    let counted : place < line.count = omega (arith, cut.count) in
+    ap text (sym (get_or-take line.count line.fields place d counted)) ∙ sym (get_or-map text kept place d [] there)
+    ∙ ap (λ fields. get_or fields place []) cut.kept ∙ get_or-take 12 (cells_of line.bytes.now) place [] few

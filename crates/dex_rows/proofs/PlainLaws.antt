@@ -3,15 +3,16 @@ use Rattle.std.proofs.Common.{◌≡◌, ◌∙◌, ◌+◌, ◌<◌, ◌≤◌,
 use Rattle.std.specs.Prelude.{⊤}
 use Rattle.std.specs.List.{onto_first, slice_split}
 use Rattle.std.proofs.lemmas.Bool.Decides.{nat_tests}
-use Rattle.std.proofs.lemmas.List.{get_or-drop, length-drop, take-append-drop}
+use Rattle.std.proofs.lemmas.List.{get_or-drop, get_or_default, length-drop, take-append-drop}
 use Rattle.std.proofs.lemmas.List.Elements.{All-drop, All-head, All-nil, All-tail}
 use Rattle.std.proofs.lemmas.List.Splits.{length-slice_split}
 use Rattle.csv.specs.Machine.{Read, after_end, ends_at_end, next_record, step}
-use Rattle.csv.specs.Reading.{default_config}
+use Rattle.csv.specs.Reading.{default_config, is_bom, strip_bom}
 use Rattle.csv.specs.declared.parser.State.{State}
 use Rattle.csv.specs.declared.parser.State.TheVariants as st
 use Rattle.csv.specs.declared.parser.Terminator.TheVariants as term
 use Rattle.dex_rows.specs.Lines.{HasNoQuote, IsFront, behind_ends, cells_of, ends_row, rows_in}
+use Rattle.dex_rows.specs.Records.{rows_of}
 use Rattle.dex_rows.specs.RowReader.{rows_from}
 use Rattle.dex_rows.proofs.LineLemmas.{is_comma}
 use Rattle.dex_rows.proofs.RecordLemmas.{rows_at, rows_end}
@@ -189,6 +190,32 @@ first_row text line plain some front =
     let whole : line ++ tail ≡ here = ap (λ first. first ++ tail) (sym front.is) ∙ take-append-drop (length line) here in
     let at : length line + 0 ≡ length line = omega arith in
     let end : IsEnd tail = end_from tail (λ more.
-      ap ends_row (get_or-drop (length line) here 0 0 ∙ ap (λ n. get_or here n 0) at) ∙ front.ended (omega (arith, length-drop (length line) here, more))) in
+    ap ends_row (get_or-drop (length line) here 0 0 ∙ ap (λ n. get_or here n 0) at) ∙ front.ended (omega (arith, length-drop (length line) here, more))) in
     let read = row_read line tail (row_some here line some (first_other text some) front) front.whole (rw whole (plain_behind text plain)) end in
     rows_behind text ∙ ap rows_in (sym whole) ∙ ended_rows (cells_of line) (line ++ tail) tail read end
+
+absent : (byte : ℕ) (is : Bool) → (byte == 34) ≡ is → ¬ ((byte == 34) ≡ true) → (byte == 34) ≡ false
+absent byte true e h = absurd (h e)
+absent byte false e h = e
+
+-- where no place has a quote, none is there
+pub no_quote : (text : List ℕ) → ((k : ℕ) → 0 ≤ k → k < length text → ¬ ((get_or text k 0 == 34) ≡ true)) → HasNoQuote text
+no_quote text none = λ k d below. rw (get_or_default text k d 0 below) (absent (get_or text k 0) (get_or text k 0 == 34) refl (none k (omega arith) below))
+
+unmarked_at : (a b c : ℕ) (rest : List ℕ) (is : Bool) → is_bom a b c ≡ is → HasNoQuote (a ∷ b ∷ c ∷ rest) → HasNoQuote (strip_bom (a ∷ b ∷ c ∷ rest))
+unfolding strip_bom
+unmarked_at a b c rest true e none = rw e (All-drop (λ byte. (byte == 34) ≡ false) 3 (a ∷ b ∷ c ∷ rest) none)
+unmarked_at a b c rest false e none = rw e none
+
+-- nor behind a byte-order mark
+pub unmarked : (text : List ℕ) → HasNoQuote text → HasNoQuote (strip_bom text)
+unfolding strip_bom
+unmarked [] none = none
+unmarked (a ∷ []) none = none
+unmarked (a ∷ b ∷ []) none = none
+unmarked (a ∷ b ∷ c ∷ rest) none = unmarked_at a b c rest (is_bom a b c) refl none
+
+-- a text without its mark is read from its start
+pub plain_rows : (text left : List ℕ) → left ≡ strip_bom text → rows_in left ≡ rows_of text
+unfolding rows_from rows_of
+plain_rows text left e = rw e refl

@@ -10,12 +10,12 @@ use Rattle.dex_rows.specs.declared.records.Source.TheVariants as source
 -- the fields of a row
 abbrev pub fields_in : Row → List (List ℕ)
 fields_in (row.Plain line) = cells_of line.bytes.now
-fields_in (row.Quoted record) = fields_of record
+fields_in (row.Quoted quoted) = fields_of quoted
 
 -- a row that stands in a text is cut into its fields
 abbrev pub IsRow : Row → Type 0
 IsRow (row.Plain line) = IsCut line
-IsRow (row.Quoted record) = ⊤
+IsRow (row.Quoted quoted) = ⊤
 
 -- the rows of what is left of a text
 abbrev pub rows_behind : Source → List (List (List ℕ))

@@ -3,6 +3,7 @@ ghost use Rattle.std.specs.List.{list_all};
 ghost use Rattle.csv.specs.Records.{fields_of};
 ghost use Rattle.dex_rows.specs.Printable.{IsPrintable, is_printable, is_printable_byte, row_is_printable};
 
+use crate::quoted::field;
 use crate::records::{Fields, Row};
 use csv::ByteRecord;
 
@@ -40,8 +41,15 @@ pub fn row_is_printable(row: &Fields<'_>) -> bool
 {
     match &row.row {
         Row::Plain(line) => is_printable(line.bytes),
-        Row::Quoted(record) => is_printable(record.as_slice()) || fields_are_printable(record),
+        Row::Quoted(record) => record_is_printable(record),
     }
+}
+
+// Whether each byte of each field of a record is from 32 to 126.
+fn record_is_printable(row: &ByteRecord) -> bool
+    ensures { result ≡ row_is_printable (fields_of row.now) }
+{
+    is_printable(row.as_slice()) || fields_are_printable(row)
 }
 
 // The same, field by field: the record may have bytes that stand in no field.
@@ -49,7 +57,7 @@ fn fields_are_printable(row: &ByteRecord) -> bool
     ensures { result ≡ row_is_printable (fields_of row.now) }
 {
     'fields: for place in 0..row.len() {
-        if !is_printable(row.get(place).unwrap()) {
+        if !is_printable(field(row, place)) {
             return false;
         }
     }

@@ -1,6 +1,6 @@
 //! Rows of a text with quotes, read by `csv`.
 
-ghost use Rattle.std.specs.Prelude.{◌≡◌, [], ◌∷◌, IfOk, IsTrue, MatchOption, OnErr, false};
+ghost use Rattle.std.specs.Prelude.{◌≡◌, ◌<◌, [], ◌∷◌, IfOk, IsTrue, MatchOption, OnErr, false, length, slice_index_or};
 ghost use Rattle.csv.specs.Records.{fields_of};
 ghost use Rattle.dex_rows.specs.Records.{rows_of};
 ghost use Rattle.dex_rows.specs.RowReader.{GivesRows, rows_left};
@@ -74,4 +74,12 @@ fn read_row(reader: &mut Reader<&[u8]>, row: &mut ByteRecord) -> Result<bool, No
         return Err(NoMemory);
     };
     Ok(found)
+}
+
+/// The bytes of the field at a place of a record, counted from 0.
+pub(crate) fn field(record: &ByteRecord, place: usize) -> &[u8]
+    requires { place < length (fields_of record.now) }
+    ensures { result.now ≡ slice_index_or (fields_of record.now) place [] }
+{
+    record.get(place).unwrap()
 }

@@ -4,7 +4,7 @@ ghost use Rattle.std.specs.Prelude.{◌≡◌, ◌<◌, [], ◌∷◌, IfOk, Mat
 ghost use Rattle.dex_rows.specs.Records.{rows_of};
 
 use crate::lines::{Line, next_line, without_mark};
-use crate::quoted::QuotedRows;
+use crate::quoted::{self, QuotedRows};
 use csv::ByteRecord;
 use dex_types::NoMemory;
 use memchr::memchr;
@@ -115,6 +115,6 @@ pub fn field<'r>(row: &'r Fields<'_>, place: usize) -> &'r [u8]
 {
     match &row.row {
         Row::Plain(line) => line.fields[place],
-        Row::Quoted(record) => record.get(place).unwrap(),
+        Row::Quoted(record) => quoted::field(record, place),
     }
 }
