@@ -197,7 +197,8 @@ fn account_at(alloc: Global, row: &Fields<'_>, place: usize) -> Result<Named, Li
 }
 
 /// The field at a place of a row, counted from 0; no bytes behind the last.
-fn field_at(row: &Fields<'_>, place: usize) -> &[u8]
+fn field_at<'r>(row: &'r Fields<'_>, place: usize) -> &'r [u8]
+    requires { place < 12 }
     ensures { result.now ≡ field_at row.now place }
 {
     if place < field_count(row) {
