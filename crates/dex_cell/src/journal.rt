@@ -25,8 +25,13 @@ pub(crate) fn write_down(
     requires room { vec_len entries.old < vec_capacity entries.old }
     ensures entries { entries.new.items
         ≡ entries.old.items ++ entry_by (row_of row.entry.now) seen.now reply (transfers_of amounts.now) ∷ [] }
-    ensures calls { calls.new.items ≡ calls.old.items ++ (row.entry.now, record { seen = seen.now;
-        entry = entry_by (row_of row.entry.now) seen.now reply (transfers_of amounts.now) }) ∷ [] }
+    ensures calls { calls.new.items ≡ calls.old.items ++ (
+      row.entry.now,
+      record {
+        seen = seen.now;
+        entry = entry_by (row_of row.entry.now) seen.now reply (transfers_of amounts.now);
+      },
+    ) ∷ [] }
     ensures reserved { vec_capacity entries.old ≤ vec_capacity entries.new }
 {
     let entry = Entry {

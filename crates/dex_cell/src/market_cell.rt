@@ -1,6 +1,5 @@
 //! A market's cell.
 
-ghost use Rattle.std.specs.Borrow.{sem};
 ghost use Rattle.std.specs.Prelude.{◌≡◌, ◌<◌, ◌-◌, ◌++◌, ◌∷◌, [], IfOk, Ok, Err, List, false, length};
 ghost use Rattle.dex_ring.specs.PendingFills.{pending_fills_of};
 ghost use Rattle.dex_ring.specs.Ring.{IsEventQueue, ring_of};
@@ -73,7 +72,7 @@ fn pending_in(events: &[u8]) -> PendingFills
 }
 
 impl MarketCell {
-    ghost use Rattle.dex_types.specs.declared.replies.Reply.TheVariants.{Done, Refused};
+    ghost use Rattle.dex_types.specs.declared.replies.Reply.TheVariants.{Refused};
     ghost use Rattle.dex_types.specs.Accounts.{market_accounts_of};
     ghost use Rattle.dex_types.specs.Rows.{row_of};
     ghost use Rattle.dex_types.specs.Side.{Coin, Pc};
@@ -83,8 +82,7 @@ impl MarketCell {
     ghost use Rattle.dex_wallet.specs.TokenAmount.{held_in};
     ghost use Rattle.dex_cell.specs.CellState as cells;
     ghost use Rattle.dex_cell.specs.CellState.{CanHold, HasActed, HasHeld, HasSpare, HasTaken, IsFor, IsMarketCell};
-    ghost use Rattle.dex_cell.specs.CellState.{answer_on, entry_held, entry_on, market_at, step_on};
-    ghost use Rattle.dex_cell.specs.Lending.{Leaves};
+    ghost use Rattle.dex_cell.specs.CellState.{answer_on, market_at, step_on};
     ghost use Rattle.dex_cell.specs.Paying.{paid_in, paid_out};
 
     /// The cell of a market's accounts and of the parcels that its vaults are, with room for so many rows. Where there is no
@@ -179,35 +177,12 @@ impl MarketCell {
         ensures acted { HasActed row.entry.now seen.now self.old self.new }
         ensures cell { IsMarketCell self.new }
     {
-        let (entry, payouts) = self.apply_told(row, seen, &plan, coin, pc);
-        (entry.reply, payouts)
+        let payouts = self.carry_out(row, seen, &plan, coin, pc);
+        (self.last().reply, payouts)
     }
 
-    /// The same, and it answers the entry that it writes.
-    pub fn apply_told(
-        &mut self,
-        row: &Row,
-        seen: &Seen,
-        plan: &Plan,
-        coin: Option<Parcel>,
-        pc: Option<Parcel>,
-    ) -> (&Entry, Payouts)
-        requires row { IsFor row.now seen.now self.old }
-        requires decided { Ok plan.now ≡ answer_on row.now seen.now self.old }
-        requires coin { coin ≡ paid_in Coin plan.now (market_at self.old) }
-        requires pc { pc ≡ paid_in Pc plan.now (market_at self.old) }
-        requires spare { HasSpare self.old }
-        ensures entry { result.0.now ≡ entry_on row.entry.now seen.now self.old }
-        ensures done { is_refusal result.0.now.reply ≡ false }
-        ensures paid { result.1 ≡ paid_out (market_at self.old) (step_on row.entry.now seen.now self.old).transfers }
-        ensures* market { sem 𝓛 (Leaves self.entry (HasTaken row.entry.now seen.now self.old)) }
-    {
-        let payouts = self.act(row, seen, plan, coin, pc);
-        (self.last(), payouts)
-    }
-
-    /// Does a row as it was decided, and writes it down.
-    fn act(
+    /// The same with the plan lent; its reply is that of the last entry.
+    pub fn carry_out(
         &mut self,
         row: &Row,
         seen: &Seen,
@@ -222,8 +197,7 @@ impl MarketCell {
         requires spare { HasSpare self.old }
         ensures done { is_refusal (step_on row.entry.now seen.now self.old).reply ≡ false }
         ensures paid { result ≡ paid_out (market_at self.old) (step_on row.entry.now seen.now self.old).transfers }
-        ensures acted { HasActed row.entry.now seen.now self.old self.new }
-        ensures cell { IsMarketCell self.new }
+        ensures taken { HasTaken row.entry.now seen.now self.old self.new }
     {
         let amounts = amounts_of(plan);
         let reply = dex_step::apply(&mut self.accounts, row, seen, plan, &mut self.pending);
@@ -239,58 +213,54 @@ impl MarketCell {
         payouts
     }
 
-    /// Writes a row down that moves nothing.
+    /// Writes a row down that moves nothing, where the cell is one then.
     fn note(&mut self, row: &Row, seen: &Seen, reply: Reply)
         requires sees { Sees (asked_of (row_of row.now)) seen.now }
-        requires cell { IsMarketCell (cells.noted_on row.now seen.now reply self.old) }
-        ensures { self.new ≡ cells.noted_on row.entry.now seen.now reply self.old }
+        requires cell { IsMarketCell self.old → IsMarketCell (cells.noted_on row.now seen.now reply self.old) }
+        ensures noted { self.new ≡ cells.noted_on row.entry.now seen.now reply self.old }
+        ensures cell { IsMarketCell self.new }
     {
-        let nothing = Amounts::none();
         write_down(
             &mut self.calls,
             &mut self.entries,
             row,
             seen,
             reply,
-            &nothing,
+            &Amounts::none(),
         );
     }
 
-    /// The last entry of the journal.
-    fn last(&self) -> &Entry
+    /// Writes down that a row is refused, as it was decided: the journal has one entry more, and all accounts stay as they are,
+    /// byte by byte.
+    pub fn refuse(&mut self, row: &Row, seen: &Seen, refusal: Refusal)
+        requires row { IsFor row.now seen.now self.old }
+        requires decided { Err refusal ≡ answer_on row.now seen.now self.old }
+        requires spare { HasSpare self.old }
+        ensures refused { self.new ≡ cells.refused_on row.entry.now seen.now self.old }
+        ensures reply { (step_on row.entry.now seen.now self.old).reply ≡ Refused refusal }
+        ensures taken { HasTaken row.entry.now seen.now self.old self.new }
+    {
+        self.note(row, seen, Reply::Refused(refusal));
+    }
+
+    /// Writes down that a take is held back which would not be refused, for a row whose item is refused elsewhere: the journal has
+    /// one entry more, its reply is that it is done, and all accounts stay as they are, byte by byte.
+    pub fn idle(&mut self, row: &Row, seen: &Seen)
+        requires row { IsFor row.now seen.now self.old }
+        requires held { CanHold row.now seen.now self.old }
+        requires spare { HasSpare self.old }
+        ensures held { HasHeld row.entry.now seen.now self.old self.new }
+    {
+        self.note(row, seen, Reply::Done);
+    }
+
+    /// The entry of the last row.
+    pub fn last(&self) -> &Entry
         requires { 0 < length self.now.calls }
         ensures { (past : List Call) (call : Call) → self.now.calls ≡ past ++ call ∷ [] → result.now ≡ call.entry }
     {
         let entries = self.entries();
         &entries[entries.len() - 1]
-    }
-
-    /// Writes down that a row is refused, as it was decided: the journal has one entry more, which is answered, and all accounts
-    /// stay as they are, byte by byte.
-    pub fn refuse(&mut self, row: &Row, seen: &Seen, refusal: Refusal) -> &Entry
-        requires row { IsFor row.now seen.now self.old }
-        requires decided { Err refusal ≡ answer_on row.now seen.now self.old }
-        requires spare { HasSpare self.old }
-        ensures entry { result.now ≡ entry_on row.entry.now seen.now self.old }
-        ensures reply { (step_on row.entry.now seen.now self.old).reply ≡ Refused refusal }
-        ensures* market { sem 𝓛 (Leaves self.entry (HasTaken row.entry.now seen.now self.old)) }
-    {
-        self.note(row, seen, Reply::Refused(refusal));
-        self.last()
-    }
-
-    /// Writes down that a take is held back which would not be refused, for a row whose item is refused elsewhere: the journal has
-    /// one entry more, which is answered; its reply is that it is done, and all accounts stay as they are, byte by byte.
-    pub fn idle(&mut self, row: &Row, seen: &Seen) -> &Entry
-        requires row { IsFor row.now seen.now self.old }
-        requires held { CanHold row.now seen.now self.old }
-        requires spare { HasSpare self.old }
-        ensures entry { result.now ≡ entry_held row.entry.now seen.now self.old }
-        ensures reply { result.now.reply ≡ Done }
-        ensures* market { sem 𝓛 (Leaves self.entry (HasHeld row.entry.now seen.now self.old)) }
-    {
-        self.note(row, seen, Reply::Done);
-        self.last()
     }
 
     /// The accounts and the journal, as they are. Both parcels are given up.
