@@ -1,4 +1,4 @@
-use Rattle.std.proofs.Common.{◌≡◌, List, [], ◌∷◌, ◌++◌, map, refl, sym, ap, subst, ◌∙◌, arith}
+use Rattle.std.proofs.Common.{◌≡◌, List, map, refl, sym, ap, subst, ◌∙◌, arith}
 use Rattle.dex_types.specs.Transfers.{no_transfers}
 use Rattle.dex_movements.specs.Amounts.{transfers_of}
 use Rattle.dex_history.specs.Journal.{Call}
