@@ -257,7 +257,8 @@ impl MarketCell {
     /// The entry of the last row.
     pub fn last(&self) -> &Entry
         requires { 0 < length self.now.calls }
-        ensures { (past : List Call) (call : Call) → self.now.calls ≡ past ++ call ∷ [] → result.now ≡ call.entry }
+        ensures { (past : List Call) (call : Call) → self.now.calls ≡ past ++ call ∷ []
+            → result.now ≡ call.entry }
     {
         let entries = self.entries();
         &entries[entries.len() - 1]

@@ -102,7 +102,8 @@ pub fn is_moved(seen: &Seen, amounts: &Amounts, wallet: Address) -> bool
 
 /// Whether something is taken or brought under a role whose wallet is this one.
 fn is_moved_at(wallet: Address, role: &Option<WalletSeen>, taken: u64, brought: u64) -> bool
-    ensures { result ≡ not (wallets.amount_at wallet role.now taken == 0 && wallets.amount_at wallet role.now brought == 0) }
+    ensures { result ≡ not (wallets.amount_at wallet role.now taken == 0
+        && wallets.amount_at wallet role.now brought == 0) }
 {
     match role {
         Some(other) => (taken != 0 || brought != 0) && is_same(wallet, other.address),
