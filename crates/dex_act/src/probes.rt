@@ -1,0 +1,81 @@
+//! The cells of wallets that a row looks at.
+
+ghost use Rattle.std.specs.Prelude.{◌≡◌, ◌<◌, ◌||◌, true, length, map, slice_set};
+ghost use Rattle.std.specs.List.{All};
+ghost use Rattle.dex_types.specs.declared.movements.MoveKind.TheVariants.{Probe};
+ghost use Rattle.dex_types.specs.Rows.{row_of};
+ghost use Rattle.dex_types.specs.Wallets.{address_seen};
+ghost use Rattle.dex_movements.specs.Amounts.{transfers_of};
+ghost use Rattle.dex_wallet.specs.CellState.{HasSpare};
+ghost use Rattle.dex_act.specs.Wallets.{AreApart, AreSeenAt, AtPlace, IsRoleAt, cell_looked, cell_moved, looks_at};
+ghost use Rattle.dex_act.specs.Wallets.{role_looked, role_looks, roles_of};
+
+use crate::places::WalletPlaces;
+use crate::wallets::is_one;
+use dex_movements::{Amounts, is_moved};
+use dex_types::{Row, Seen, WalletSeen};
+use dex_wallet::WalletCell;
+
+/// A row looks at the cell at a place.
+fn probe_at(cells: &mut [WalletCell], place: usize, row: &Row)
+    requires within { place < length cells.old }
+    requires spare { AtPlace place cells.old HasSpare }
+    ensures { AtPlace place cells.old
+        (λ cell. cells.new ≡ slice_set cells.old place (cell_moved (row_of row.entry.now) Probe 0 cell)) }
+{
+    let cell = &mut cells[place];
+    cell.probe(row.market, row.lane, row.number);
+}
+
+/// A row looks at the wallet of a role, unless it moves it or has looked at it under an earlier role.
+fn probe(
+    cells: &mut [WalletCell],
+    row: &Row,
+    seen: &Seen,
+    amounts: &Amounts,
+    role: &Option<WalletSeen>,
+    place: usize,
+    again: bool,
+)
+    requires apart { AreApart cells.old }
+    requires here { IsRoleAt cells.old (address_seen role.now) place }
+    requires spare { All (λ cell. role_looks seen.now (transfers_of amounts.now) role.now again cell.address ≡ true
+        → HasSpare cell) cells.old }
+    ensures { cells.new
+        ≡ map (role_looked (row_of row.entry.now) seen.now (transfers_of amounts.now) role.entry.now again) cells.old }
+{
+    match role {
+        Some(wallet) => {
+            if !again && !is_moved(seen, amounts, wallet.address) {
+                probe_at(cells, place, row);
+            }
+        }
+        None => {}
+    }
+}
+
+/// A row looks at each wallet that it names and does not move, once.
+pub(crate) fn probes(
+    cells: &mut [WalletCell],
+    row: &Row,
+    seen: &Seen,
+    places: &WalletPlaces,
+    amounts: &Amounts,
+)
+    requires apart { AreApart cells.old }
+    requires places { AreSeenAt cells.old seen.now places.now }
+    requires spare { All (λ cell. looks_at seen.now (transfers_of amounts.now) (roles_of seen.now) cell.address ≡ true
+        → HasSpare cell) cells.old }
+    ensures { cells.new
+        ≡ map (cell_looked (row_of row.entry.now) seen.now (transfers_of amounts.now) (roles_of seen.now)) cells.old }
+{
+    let Seen { coin, pc, discount, referrer, .. } = seen;
+    let pc_again = is_one(coin, pc);
+    let discount_again = is_one(coin, discount) || is_one(pc, discount);
+    let referrer_again =
+        is_one(coin, referrer) || is_one(pc, referrer) || is_one(discount, referrer);
+    probe(cells, row, seen, amounts, coin, places.coin, false);
+    probe(cells, row, seen, amounts, pc, places.pc, pc_again);
+    probe(cells, row, seen, amounts, discount, places.discount, discount_again);
+    probe(cells, row, seen, amounts, referrer, places.referrer, referrer_again);
+}
