@@ -1,116 +1,169 @@
 -- Cells that a row looks at.
-use Rattle.std.proofs.Common.{◌≡◌, ℕ, zero, suc, ◌+◌, ◌<◌, ◌≤◌, ◌⊎◌, inl, inr, Bool, true, false, ◌&&◌, cond, List, [], ◌∷◌, length, map, set, get_or, drop, Option, Some, None, refl, sym, ap, ◌∙◌, subst, arith}
+use Rattle.std.proofs.Common.{◌≡◌, ℕ, ◌&&◌, ◌||◌, Bool, true, false, not, cond, List, [], ◌∷◌, map, set, get_or, Option, Some, None, refl, sym, ap, ◌∙◌, subst, arith, ⊎_elim}
 use Rattle.std.specs.List.{All}
-use Rattle.std.proofs.lemmas.List.Elements.{All-tail, All-map, All-weaker}
-use Rattle.std.proofs.lemmas.Bool.{cond-true, cond-false}
-use Rattle.dex_types.specs.declared.movements.MoveKind.{MoveKind}
-use Rattle.dex_types.specs.declared.movements.MoveKind.TheVariants.{Debit, Credit, Probe}
-use Rattle.dex_types.specs.declared.movements.Movement.{Movement}
+use Rattle.std.proofs.lemmas.List.Elements.{All-map, All-weaker}
+use Rattle.std.proofs.lemmas.Bool.{cases_Bool, cond-true, cond-false, false≢true}
+use Rattle.dex_types.specs.declared.addresses.Address.{Address}
+use Rattle.dex_types.specs.declared.movements.MoveKind.TheVariants.{Probe}
+use Rattle.dex_types.specs.declared.rows.Seen.{Seen}
+use Rattle.dex_types.specs.declared.rows.WalletSeen.{WalletSeen}
 use Rattle.dex_types.specs.Addresses.{is_same}
 use Rattle.dex_types.specs.Rows.{PlainRow}
-use Rattle.dex_history.specs.Journal.{front}
-use Rattle.dex_wallet.specs.CellState.{CellState}
-use Rattle.dex_act.specs.Wallets.{AreApart, AreMovedHere, CanLook, IsAt, cell_moved, is_among, is_probe, move_probed, moves_probed, probes}
-use Rattle.dex_act.proofs.CellLists.{AreApart-map, KeepsAddress, is_among-map, map-identity, map-map, map-one}
+use Rattle.dex_types.specs.Transfers.{Transfers}
+use Rattle.dex_types.specs.Wallets.{movement_of}
+use Rattle.dex_laws.proofs.TraderLaws.{is_same-true, is_same-sym}
+use Rattle.dex_fold.proofs.MappedLists.{map-map}
+use Rattle.dex_movements.specs.Amounts.{is_probe}
+use Rattle.dex_wallet.specs.CellState.{CellState, HasSpare}
+use Rattle.dex_act.specs.Wallets.{AreApart, IsAt, any_hit, cell_looked, cell_moved, hits, is_one, looks_at, role_looked, role_looks}
+use Rattle.dex_act.proofs.CellLists.{ChangesAt, KeepsAddress, map-identity, map-one, map-same}
 
--- ---- one movement
+-- a cell that is looked at, or not
+abbrev looked-if : PlainRow → Bool → CellState → CellState
+looked-if row looks cell = cond looks (cell_moved row Probe 0 cell) cell
 
-pub move_probed-address : (row : PlainRow) (move : Movement) → KeepsAddress (move_probed row move)
-move_probed-address row move cell = either (probes move cell)
-  where
-    either : (here : Bool) → (cond here (cell_moved row Probe 0 cell) cell).address ≡ cell.address
-    either true = refl
-    either false = refl
+module _ (row : PlainRow) (seen : Seen) (t : Transfers) where
+  -- the row does not move the wallet of an address
+  abbrev is_still : Address → Bool
+  is_still address = is_probe (movement_of seen t address).kind
 
-and-false : (a : Bool) → (a && false) ≡ false
-and-false true = refl
-and-false false = refl
+  pub looked-address : (roles : List (Option WalletSeen)) → KeepsAddress (cell_looked row seen t roles)
+  looked-address roles cell = either (looks_at seen t roles cell.address)
+    where
+      either : (looks : Bool) → (cond looks (cell_moved row Probe 0 cell) cell).address ≡ cell.address
+      either true = refl
+      either false = refl
 
-move_probed-others : (row : PlainRow) (move : Movement) (cell : CellState) → is_same move.wallet cell.address ≡ false → move_probed row move cell ≡ cell
-move_probed-others row move cell other =
-    cond-false (probes move cell) (cell_moved row Probe 0 cell) cell (ap (λ (b : Bool). is_probe move.kind && b) other ∙ and-false (is_probe move.kind))
+  -- ---- one role
 
-pub probes-own : (move : Movement) (cell : CellState) → move.kind ≡ Probe → is_same move.wallet cell.address ≡ true → probes move cell ≡ true
-probes-own move cell kind own = ap (λ (k : MoveKind). is_probe k && is_same move.wallet cell.address) kind ∙ own
+  -- a role's wallet is at the address
+  hit-own : (address : Address) (role : Option WalletSeen) (wallet : WalletSeen) → role ≡ Some wallet → hits address role ≡ true → address ≡ wallet.address
+  hit-own address role wallet is hit = is_same-true address wallet.address (ap (hits address) (sym is) ∙ hit)
 
-pub probed-here : (row : PlainRow) (move : Movement) (cells new : List CellState) (place : ℕ) → move.kind ≡ Probe → AreApart cells → IsAt move.wallet cells place
-    → ((default : CellState) → new ≡ set cells place (cell_moved row Probe 0 (get_or cells place default)))
-    → new ≡ map (move_probed row move) cells
-probed-here row move [] new place kind apart at moved = absurd (omega (arith, at.within))
-probed-here row move (first ∷ others) new place kind apart at moved =
-    let cells : List CellState = first ∷ others in
-    let here : CellState = get_or cells place first in
-    moved first
-    ∙ ap (set cells place) (sym (cond-true (probes move here) (cell_moved row Probe 0 here) here (probes-own move here kind (at.here first))))
-    ∙ map-one move.wallet (move_probed row move) cells place first apart at (move_probed-others row move)
+  looked-others : (wallet : WalletSeen) (again : Bool) → ChangesAt wallet.address (role_looked row seen t (Some wallet) again)
+  looked-others wallet again cell other =
+      cond-false _ _ _ (ap (λ (b : Bool). b && (not again && is_still cell.address)) (is_same-sym cell.address wallet.address ∙ other))
 
-pub probes-none : (row : PlainRow) (move : Movement) (cells : List CellState) → is_probe move.kind ≡ false → map (move_probed row move) cells ≡ cells
-probes-none row move cells none =
-    map-identity (move_probed row move) cells (λ cell.
-    cond-false (probes move cell) (cell_moved row Probe 0 cell) cell (ap (λ (b : Bool). b && is_same move.wallet cell.address) none))
+  -- the cell at the place of its wallet is looked at
+  pub looked-here : (role : Option WalletSeen) (wallet : WalletSeen) (again : Bool) (cells new : List CellState) (place : ℕ) → role ≡ Some wallet → again ≡ false
+      → is_still wallet.address ≡ true → AreApart cells → IsAt wallet.address cells place
+      → ((default : CellState) → new ≡ set cells place (cell_moved row Probe 0 (get_or cells place default))) → new ≡ map (role_looked row seen t role again) cells
+  looked-here role wallet again [] new place is first still apart at moved = absurd (omega (arith, at.within))
+  looked-here role wallet again (one ∷ others) new place is first still apart at moved =
+      let cells : List CellState = one ∷ others in
+      let here : CellState = get_or cells place one in
+      let own : is_same wallet.address here.address ≡ true = at.here one in
+      let looks : role_looks seen t (Some wallet) again here.address ≡ true =
+      ap (λ (b : Bool). b && (not again && is_still here.address)) (is_same-sym here.address wallet.address ∙ own)
+      ∙ ap (λ (b : Bool). not b && is_still here.address) first ∙ ap is_still (sym (is_same-true wallet.address here.address own)) ∙ still in
+      moved one
+      ∙ ap (set cells place) (sym (cond-true (role_looks seen t (Some wallet) again here.address) (cell_moved row Probe 0 here) here looks))
+      ∙ map-one wallet.address (role_looked row seen t (Some wallet) again) cells place one apart at (looked-others wallet again)
+      ∙ ap (λ (r : Option WalletSeen). map (role_looked row seen t r again) cells) (sym is)
 
--- a debit or a credit is none
-pub is_probe-none : (kind : MoveKind) → (kind ≡ Debit) ⊎ (kind ≡ Credit) → is_probe kind ≡ false
-is_probe-none kind (inl is) = ap is_probe is
-is_probe-none kind (inr is) = ap is_probe is
+  -- or none is
+  pub looked-none : (role : Option WalletSeen) (again : Bool) (cells : List CellState)
+      → ((address : Address) → hits address role ≡ true → (not again && is_still address) ≡ false) → map (role_looked row seen t role again) cells ≡ cells
+  looked-none role again cells none =
+      map-identity (role_looked row seen t role again) cells (λ cell. cond-false _ _ _
+      (⊎_elim (λ (hit : hits cell.address role ≡ true). ap (λ (b : Bool). b && (not again && is_still cell.address)) hit ∙ none cell.address hit)
+      (λ (no : hits cell.address role ≡ false). ap (λ (b : Bool). b && (not again && is_still cell.address)) no)
+      (cases_Bool (hits cell.address role))))
 
--- ---- several
+  -- where it was looked at before
+  pub looked-again : (role : Option WalletSeen) (again : Bool) (cells : List CellState) → again ≡ true → map (role_looked row seen t role again) cells ≡ cells
+  looked-again role again cells is = looked-none role again cells (λ address hit. ap (λ (b : Bool). not b && is_still address) is)
 
--- what is in front from a place on
-pub front-more : (moves : List (Option Movement)) (place : ℕ) (default : Option Movement) (move : Movement) → place < length moves → get_or moves place default ≡ Some move
-    → front (drop place moves) ≡ move ∷ front (drop (suc place) moves)
-front-more [] place default move within is = absurd (omega arith)
-front-more (first ∷ others) zero default move within is = ap (λ (m : Option Movement). front (m ∷ others)) is
-front-more (first ∷ others) (suc place) default move within is = front-more others place default move (omega arith) is
+  -- where it is moved
+  pub looked-moved : (role : Option WalletSeen) (wallet : WalletSeen) (again : Bool) (cells : List CellState) → role ≡ Some wallet → is_still wallet.address ≡ false
+      → map (role_looked row seen t role again) cells ≡ cells
+  looked-moved role wallet again cells is moved =
+      looked-none role again cells (λ address hit.
+      ap (λ (b : Bool). not again && b) (ap is_still (hit-own address role wallet is hit) ∙ moved) ∙ and-false (not again))
+    where
+      and-false : (b : Bool) → (b && false) ≡ false
+      and-false true = refl
+      and-false false = refl
 
-pub front-end : (moves : List (Option Movement)) (place : ℕ) (default : Option Movement) → place < length moves → get_or moves place default ≡ None → front (drop place moves) ≡ []
-front-end [] place default within is = absurd (omega arith)
-front-end (first ∷ others) zero default within is = ap (λ (m : Option Movement). front (m ∷ others)) is
-front-end (first ∷ others) (suc place) default within is = front-end others place default (omega arith) is
+  -- where the role names none
+  pub looked-no_one : (role : Option WalletSeen) (again : Bool) (cells : List CellState) → role ≡ None → map (role_looked row seen t role again) cells ≡ cells
+  looked-no_one role again cells is = looked-none role again cells (λ address hit. absurd (false≢true (ap (hits address) (sym is) ∙ hit)))
 
-pub front-next : (moves : List (Option Movement)) (place : ℕ) (default : Option Movement) (move : Movement) → place < length moves → get_or moves place default ≡ Some move
-    → front (drop place moves) ≡ move ∷ front (drop (place + 1) moves)
-front-next moves place default move within is =
-    let next : suc place ≡ place + 1 = omega arith in
-    front-more moves place default move within is ∙ ap (λ (n : ℕ). move ∷ front (drop n moves)) next
+  -- ---- one role after another, from the last
 
-pub front-past : (moves : List (Option Movement)) (place : ℕ) → length moves ≤ place → front (drop place moves) ≡ []
-front-past [] zero past = refl
-front-past [] (suc place) past = refl
-front-past (first ∷ others) zero past = absurd (omega arith)
-front-past (first ∷ others) (suc place) past = front-past others place (omega arith)
+  -- the role's wallet was looked at before where one of the later roles is its
+  abbrev pub IsAgain : Option WalletSeen → List (Option WalletSeen) → Bool → Type 0
+  IsAgain role later again = (address : Address) → hits address role ≡ true → again ≡ any_hit address later
 
--- the cells before the movements that are left
-pub record Probing (row : PlainRow) (moves : List Movement) (left : List Movement) (start cells : List CellState) : Type 0 where
-  pub apart : AreApart cells
-  pub home : AreMovedHere cells left
-  pub spare : All (CanLook row left) cells
-  pub whole : map (moves_probed row left) cells ≡ map (moves_probed row moves) start
+  looked-more : (role : Option WalletSeen) (later : List (Option WalletSeen)) (again : Bool) (cell : CellState) → IsAgain role later again
+      → role_looked row seen t role again (cell_looked row seen t later cell) ≡ cell_looked row seen t (role ∷ later) cell
+  looked-more role later again cell is =
+      ap (λ (a : Address). looked-if row (role_looks seen t role again a) (cell_looked row seen t later cell)) (looked-address later cell)
+      ∙ by_cases (hits cell.address role) again (any_hit cell.address later) (is_still cell.address) (is cell.address)
+    where
+      by_cases : (hit before any still : Bool) → (hit ≡ true → before ≡ any)
+          → looked-if row (hit && (not before && still)) (looked-if row (any && still) cell) ≡ looked-if row ((hit || any) && still) cell
+      by_cases false before any still right = refl
+      by_cases true before any still right = ap (λ (b : Bool). looked-if row (not b && still) (looked-if row (any && still) cell)) (right refl) ∙ whole any still
+        where
+          whole : (x y : Bool) → looked-if row (not x && y) (looked-if row (x && y) cell) ≡ looked-if row y cell
+          whole true y = refl
+          whole false y = refl
 
-pub probing-more : (row : PlainRow) (moves left : List Movement) (move : Movement) (start cells new : List CellState) → Probing row moves (move ∷ left) start cells
-    → new ≡ map (move_probed row move) cells → Probing row moves left start new
-probing-more row moves left move start cells new probing is =
-    let change : CellState → CellState = move_probed row move in
-    let keeps : KeepsAddress change = move_probed-address row move in
-    let InCells : List CellState → Movement → Type 0 = λ list m. is_among m.wallet list ≡ true in
-    record {
-      apart = subst AreApart (sym is) (AreApart-map change cells keeps probing.apart);
-      home = subst (λ (list : List CellState). All (InCells list) left) (sym is)
-          (All-weaker (InCells cells) (InCells (map change cells)) (λ m among. is_among-map m.wallet change cells keeps ∙ among) left
-          (All-tail (InCells cells) move left probing.home));
-      spare = subst (All (CanLook row left)) (sym is)
-          (All-map (CanLook row left) change cells
-          (All-weaker (CanLook row (move ∷ left)) (λ cell. CanLook row left (change cell)) (λ cell can. can.1) cells probing.spare));
-      whole = ap (map (moves_probed row left)) is ∙ map-map change (moves_probed row left) cells ∙ probing.whole;
-    }
+  -- the cells behind the later roles
+  abbrev pub AreLooked : List (Option WalletSeen) → List CellState → List CellState → Type 0
+  AreLooked roles start cells = cells ≡ map (cell_looked row seen t roles) start
 
-pub probing-end : (row : PlainRow) (moves left : List Movement) (start cells : List CellState) → Probing row moves left start cells → left ≡ [] → cells ≡ map (moves_probed row moves) start
-probing-end row moves left start cells probing none =
-    sym (ap (λ (l : List Movement). map (moves_probed row l) cells) none ∙ map-identity (moves_probed row []) cells (λ cell. refl)) ∙ probing.whole
+  pub looked-start : (cells : List CellState) → AreLooked [] cells cells
+  looked-start cells = sym (map-identity (cell_looked row seen t []) cells (λ cell. refl))
 
--- the movements that are left begin with the one at the place
-pub probing-next : (row : PlainRow) (moves : List Movement) (places : List (Option Movement)) (place : ℕ) (default : Option Movement) (move : Movement) (start cells : List CellState)
-    → place < length places → get_or places place default ≡ Some move → Probing row moves (front (drop place places)) start cells
-    → Probing row moves (move ∷ front (drop (place + 1) places)) start cells
-probing-next row moves places place default move start cells within is probing =
-    subst (λ (left : List Movement). Probing row moves left start cells) (front-next places place default move within is) probing
+  pub looked-next : (role : Option WalletSeen) (later : List (Option WalletSeen)) (again : Bool) (start cells new : List CellState) → IsAgain role later again
+      → AreLooked later start cells → new ≡ map (role_looked row seen t role again) cells → AreLooked (role ∷ later) start new
+  looked-next role later again start cells new is before after =
+      after ∙ ap (map (role_looked row seen t role again)) before
+      ∙ map-map (cell_looked row seen t later) (role_looked row seen t role again) start
+      ∙ map-same (λ cell. role_looked row seen t role again (cell_looked row seen t later cell)) (cell_looked row seen t (role ∷ later)) start
+      (λ cell. looked-more role later again cell is)
+
+  -- each cell that is looked at under these roles has room for an entry
+  abbrev pub CanLook : List (Option WalletSeen) → List CellState → Type 0
+  CanLook roles cells = All (λ (cell : CellState). looks_at seen t roles cell.address ≡ true → HasSpare cell) cells
+
+  pub look-later : (role : Option WalletSeen) (later : List (Option WalletSeen)) (cells : List CellState) → CanLook (role ∷ later) cells → CanLook later cells
+  look-later role later cells can =
+      All-weaker (λ (cell : CellState). looks_at seen t (role ∷ later) cell.address ≡ true → HasSpare cell)
+      (λ (cell : CellState). looks_at seen t later cell.address ≡ true → HasSpare cell)
+      (λ cell spare looks. spare (wider (hits cell.address role) (any_hit cell.address later) (is_still cell.address) looks)) cells can
+    where
+      wider : (hit any still : Bool) → (any && still) ≡ true → ((hit || any) && still) ≡ true
+      wider false any still is = is
+      wider true true still is = is
+      wider true false still is = absurd (false≢true is)
+
+  -- and has it still before its own role
+  pub look-role : (role : Option WalletSeen) (later : List (Option WalletSeen)) (again : Bool) (start cells : List CellState) → IsAgain role later again
+      → AreLooked later start cells → CanLook (role ∷ later) start
+      → All (λ (cell : CellState). role_looks seen t role again cell.address ≡ true → HasSpare cell) cells
+  look-role role later again start cells is before can =
+      let Can : CellState → Type 0 = λ cell. role_looks seen t role again cell.address ≡ true → HasSpare cell in
+      subst (All Can) (sym before)
+      (All-map Can (cell_looked row seen t later) start
+      (All-weaker (λ (cell : CellState). looks_at seen t (role ∷ later) cell.address ≡ true → HasSpare cell) (λ (cell : CellState). Can (cell_looked row seen t later cell))
+      (λ cell spare looks. own cell spare (ap (role_looks seen t role again) (sym (looked-address later cell)) ∙ looks)) start can))
+    where
+      own : (cell : CellState) → (looks_at seen t (role ∷ later) cell.address ≡ true → HasSpare cell) → role_looks seen t role again cell.address ≡ true
+          → HasSpare (cell_looked row seen t later cell)
+      own cell spare looks = by_cases (hits cell.address role) again (any_hit cell.address later) (is_still cell.address) (is cell.address) spare looks
+        where
+          by_cases : (hit before any still : Bool) → (hit ≡ true → before ≡ any) → (((hit || any) && still) ≡ true → HasSpare cell)
+              → (hit && (not before && still)) ≡ true → HasSpare (looked-if row (any && still) cell)
+          by_cases false before any still right can looks = absurd (false≢true looks)
+          by_cases true true any still right can looks = absurd (false≢true looks)
+          by_cases true false true still right can looks = absurd (false≢true (right refl))
+          by_cases true false false still right can looks = can looks
+
+-- a role's wallet is another's too
+pub one-hit : (address : Address) (role other : Option WalletSeen) → hits address role ≡ true → is_one role other ≡ hits address other
+one-hit address None other hit = absurd (false≢true hit)
+one-hit address (Some wallet) None hit = refl
+one-hit address (Some wallet) (Some other) hit = ap (λ (a : Address). is_same a other.address) (sym (is_same-true address wallet.address hit))

@@ -60,12 +60,13 @@ abbrev pub IsRoleAt : List CellState → Option Address → ℕ → Type 0
 IsRoleAt cells None place = Unit {0}
 IsRoleAt cells (Some address) place = IsAt address cells place
 
--- the wallets of four roles stand at these places
-pub record AreAt (cells : List CellState) (coin pc discount referrer : Option Address) (at : WalletPlaces) : Type 0 where
-  pub coin : IsRoleAt cells coin at.coin
-  pub pc : IsRoleAt cells pc at.pc
-  pub discount : IsRoleAt cells discount at.discount
-  pub referrer : IsRoleAt cells referrer at.referrer
+-- the wallets of the four roles of a row stand at these places
+pub record AreAt (cells : List CellState) (as_coin as_pc as_discount as_referrer : Option Address)
+    (places : WalletPlaces) : Type 0 where
+  pub coin : IsRoleAt cells as_coin places.coin
+  pub pc : IsRoleAt cells as_pc places.pc
+  pub discount : IsRoleAt cells as_discount places.discount
+  pub referrer : IsRoleAt cells as_referrer places.referrer
 
 -- the wallets that a row names stand among the cells at these places
 abbrev pub ArePlacesAmong : List CellState → PlainRow → WalletPlaces → Type 0

@@ -49,7 +49,7 @@ fn place_of(cells: &[WalletCell], address: Address) -> usize
 /// The place of the cell of a role's wallet among these; 0 for a role that names none.
 fn role_place(cells: &[WalletCell], role: &Option<Address>) -> usize
     requires { IsNamed cells.now role.now }
-    ensures { IsRoleAt cells.now role.now result }
+    ensures { IsRoleAt cells.entry.now role.entry.now result }
 {
     match role {
         Some(address) => place_of(cells, *address),
@@ -60,7 +60,7 @@ fn role_place(cells: &[WalletCell], role: &Option<Address>) -> usize
 /// Where the wallets that a row names stand among these.
 pub fn places_in(cells: &[WalletCell], row: &Row) -> WalletPlaces
     requires { All (λ (wallet : AddressOf). is_among wallet cells.now ≡ true) (row_wallets (row_of row.now)) }
-    ensures { ArePlacesAmong cells.now (row_of row.now) result }
+    ensures { ArePlacesAmong cells.entry.now (row_of row.entry.now) result }
 {
     WalletPlaces {
         coin: role_place(cells, &row.coin),

@@ -1,14 +1,15 @@
 //! The cells of wallets that a row looks at.
 
-ghost use Rattle.std.specs.Prelude.{◌≡◌, ◌<◌, ◌||◌, true, length, map, slice_set};
+ghost use Rattle.std.specs.Prelude.{◌≡◌, ◌<◌, ◌∷◌, [], true, length, map, slice_set};
 ghost use Rattle.std.specs.List.{All};
+ghost use Rattle.dex_types.specs.declared.addresses.Address.{Address as AddressOf};
 ghost use Rattle.dex_types.specs.declared.movements.MoveKind.TheVariants.{Probe};
 ghost use Rattle.dex_types.specs.Rows.{row_of};
 ghost use Rattle.dex_types.specs.Wallets.{address_seen};
 ghost use Rattle.dex_movements.specs.Amounts.{transfers_of};
 ghost use Rattle.dex_wallet.specs.CellState.{HasSpare};
-ghost use Rattle.dex_act.specs.Wallets.{AreApart, AreSeenAt, AtPlace, IsRoleAt, cell_looked, cell_moved, looks_at};
-ghost use Rattle.dex_act.specs.Wallets.{role_looked, role_looks, roles_of};
+ghost use Rattle.dex_act.specs.Wallets.{AreApart, AreSeenAt, AtPlace, IsRoleAt, any_hit, cell_looked, cell_moved};
+ghost use Rattle.dex_act.specs.Wallets.{hits, looks_at, role_looked, role_looks, roles_of};
 
 use crate::places::WalletPlaces;
 use crate::wallets::is_one;
@@ -54,6 +55,19 @@ fn probe(
     }
 }
 
+/// Whether a role's wallet is that of another role among three.
+fn is_again(
+    role: &Option<WalletSeen>,
+    first: &Option<WalletSeen>,
+    second: &Option<WalletSeen>,
+    third: &Option<WalletSeen>,
+) -> bool
+    ensures { (address : AddressOf) → hits address role.now ≡ true
+        → result ≡ any_hit address (first.now ∷ second.now ∷ third.now ∷ []) }
+{
+    is_one(role, first) || is_one(role, second) || is_one(role, third)
+}
+
 /// A row looks at each wallet that it names and does not move, once.
 pub(crate) fn probes(
     cells: &mut [WalletCell],
@@ -69,13 +83,26 @@ pub(crate) fn probes(
     ensures { cells.new
         ≡ map (cell_looked (row_of row.entry.now) seen.now (transfers_of amounts.now) (roles_of seen.now)) cells.old }
 {
-    let Seen { coin, pc, discount, referrer, .. } = seen;
-    let pc_again = is_one(coin, pc);
-    let discount_again = is_one(coin, discount) || is_one(pc, discount);
-    let referrer_again =
-        is_one(coin, referrer) || is_one(pc, referrer) || is_one(discount, referrer);
-    probe(cells, row, seen, amounts, coin, places.coin, false);
+    let Seen {
+        coin,
+        pc,
+        discount,
+        referrer,
+        ..
+    } = seen;
+    let coin_again = is_again(coin, pc, discount, referrer);
+    let pc_again = is_again(pc, discount, referrer, &None);
+    let discount_again = is_again(discount, referrer, &None, &None);
+    probe(cells, row, seen, amounts, referrer, places.referrer, false);
+    probe(
+        cells,
+        row,
+        seen,
+        amounts,
+        discount,
+        places.discount,
+        discount_again,
+    );
     probe(cells, row, seen, amounts, pc, places.pc, pc_again);
-    probe(cells, row, seen, amounts, discount, places.discount, discount_again);
-    probe(cells, row, seen, amounts, referrer, places.referrer, referrer_again);
+    probe(cells, row, seen, amounts, coin, places.coin, coin_again);
 }

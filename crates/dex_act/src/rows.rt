@@ -1,12 +1,12 @@
 //! One row, on its market's cell and on the cells of the wallets that it names.
 
-ghost use Rattle.std.specs.Prelude.{◌≡◌, Ok, false, map, true};
+ghost use Rattle.std.specs.Prelude.{◌≡◌, Ok, map, true};
 ghost use Rattle.std.specs.List.{All};
 ghost use Rattle.dex_types.specs.declared.replies.Reply.TheVariants.{Done};
 ghost use Rattle.dex_types.specs.Rows.{row_of};
 ghost use Rattle.dex_types.specs.Transfers.{no_transfers};
 ghost use Rattle.dex_history.specs.Journal.{is_refusal};
-ghost use Rattle.dex_cell.specs.CellState.{CanHold, HasActed, HasSpare, IsFor, IsMarketCell};
+ghost use Rattle.dex_cell.specs.CellState.{CanHold, HasActed, HasSpare, HasTaken, IsFor, IsMarketCell};
 ghost use Rattle.dex_cell.specs.CellState.{answer_on, held_on, refused_on, step_on};
 ghost use Rattle.dex_fold.specs.Fold.{wallet_acted};
 ghost use Rattle.dex_wallet.specs.CellState.{IsWalletCell};
@@ -30,25 +30,21 @@ fn accept(
     seen: &Seen,
     places: &WalletPlaces,
     plan: &Plan,
-) -> Reply
+)
     requires row { IsFor row.now seen.now market.old }
     requires market { IsMarketCell market.old }
     requires spare { HasSpare market.old }
     requires wallets { SeesCells seen.now wallets.old }
     requires places { AreSeenAt wallets.old seen.now places.now }
     requires decided { Ok plan.now ≡ answer_on row.now seen.now market.old }
-    ensures reply { result ≡ (step_on row.entry.now seen.now market.old).reply }
-    ensures done { is_refusal result ≡ false }
-    ensures acted { HasActed row.entry.now seen.now market.old market.new }
-    ensures cell { IsMarketCell market.new }
+    ensures taken { HasTaken row.entry.now seen.now market.old market.new }
     ensures wallets { wallets.new ≡ cells_acted row.entry.now seen.now market.old wallets.old }
 {
     let amounts = amounts_of(plan);
     let (coin, pc) = debits(wallets, row, seen, places, &amounts);
-    let (reply, payouts) = market.apply(row, seen, *plan, coin, pc);
+    let payouts = market.carry_out(row, seen, plan, coin, pc);
     credits(wallets, row, seen, places, payouts);
     probes(wallets, row, seen, places, &amounts);
-    reply
 }
 
 /// Decides a row, and does it or writes down that it is refused.
@@ -58,16 +54,13 @@ fn answer(
     row: &Row,
     seen: &Seen,
     places: &WalletPlaces,
-) -> Reply
+)
     requires row { IsFor row.now seen.now market.old }
     requires market { IsMarketCell market.old }
     requires spare { HasSpare market.old }
     requires wallets { SeesCells seen.now wallets.old }
     requires places { AreSeenAt wallets.old seen.now places.now }
-    ensures reply { result ≡ (step_on row.entry.now seen.now market.old).reply }
-    ensures acted { HasActed row.entry.now seen.now market.old market.new }
-    ensures refused { is_refusal result ≡ true → market.new ≡ refused_on row.entry.now seen.now market.old }
-    ensures cell { IsMarketCell market.new }
+    ensures taken { HasTaken row.entry.now seen.now market.old market.new }
     ensures wallets { wallets.new ≡ cells_acted row.entry.now seen.now market.old wallets.old }
 {
     match &market.decide(row, seen) {
@@ -75,7 +68,6 @@ fn answer(
         Err(refusal) => {
             market.refuse(row, seen, *refusal);
             probes(wallets, row, seen, places, &Amounts::none());
-            Reply::Refused(*refusal)
         }
     }
 }
@@ -107,7 +99,8 @@ pub fn act(
     ensures apart { AreApart wallets.new }
     ensures made { map made_of wallets.new ≡ map made_of wallets.old }
 {
-    answer(market, wallets, row, seen, places)
+    answer(market, wallets, row, seen, places);
+    market.last().reply
 }
 
 /// A take is held back, for a row whose item is refused elsewhere: its market writes down that nothing was to do, and it looks at the
@@ -134,7 +127,7 @@ pub fn hold(
     ensures apart { AreApart wallets.new }
     ensures made { map made_of wallets.new ≡ map made_of wallets.old }
 {
-    let reply = market.idle(row, seen);
+    market.idle(row, seen);
     probes(wallets, row, seen, places, &Amounts::none());
-    reply
+    Reply::Done
 }

@@ -81,15 +81,10 @@ fn debit(
         → result ≡ parcel_of mint amount }
     ensures moved { cells.new ≡ map (role_moved (row_of row.entry.now) Debit role.entry.now amount) cells.old }
 {
-    match role {
-        Some(_) => {
-            if amount == 0 {
-                None
-            } else {
-                Some(debit_at(cells, place, row, amount))
-            }
-        }
-        None => None,
+    if amount == 0 {
+        None
+    } else {
+        Some(debit_at(cells, place, row, amount))
     }
 }
 

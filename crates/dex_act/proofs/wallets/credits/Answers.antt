@@ -3,32 +3,37 @@ use Rattle.std.specs.List.{All}
 use Rattle.dex_types.specs.declared.movements.MoveKind.TheVariants.{Credit}
 use Rattle.dex_types.specs.Rows.{row_of}
 use Rattle.dex_wallet.specs.CellState.{CellState}
-use Rattle.dex_act.specs.Wallets.{AreApart, CanPut, IsHome, amount_in, got_at, pc_credited, role_moved}
-use Rattle.dex_act.proofs.CellLists.{AreApart-map, IsHome-map, KeepsAddress, role_moved-address}
+use Rattle.dex_act.specs.Wallets.{AreApart, AreSeenAt, CanPut, amount_in, got_at, pc_credited, role_moved}
+use Rattle.dex_act.proofs.CellLists.{AreApart-map, AreSeenAt-map, KeepsAddress, role_moved-address}
 use Rattle.dex_act.proofs.WalletMoves.{credited-together, pc-put}
 use Rattle.dex_act.proofs.wallets.credits.Goals as goal
 
-pub credit_pc-requires : goal.credit_pc-requires
-credit_pc-requires c =
+pub credit_pc-requires-clause-get : goal.credit_pc-requires-clause-get
+credit_pc-requires-clause-get c =
     let row = row_of c.args.row.now in
     let seen = c.args.seen.now in
     let amount = amount_in c.args.payouts.coin in
     let change = role_moved row Credit seen.coin amount in
     let keeps : KeepsAddress change = role_moved-address row Credit seen.coin amount in
     record {
-      mint = c.requires.pc_mint;
-      pc_is = c.requires.pc_is;
-      referrer_is = c.requires.referrer_is;
-      apart = subst AreApart (sym c.credit.ensures) (AreApart-map change c.args.cells.now keeps c.requires.apart);
-      pc_home = subst (λ (cells : List CellState). IsHome cells seen.pc) (sym c.credit.ensures) (IsHome-map change c.args.cells.now seen.pc keeps c.requires.pc_home);
-      referrer_home = subst (λ (cells : List CellState). IsHome cells seen.referrer) (sym c.credit.ensures)
-          (IsHome-map change c.args.cells.now seen.referrer keeps c.requires.referrer_home);
-      pc_named = c.requires.pc_named;
-      referrer_named = c.requires.referrer_named;
+      mint = c.requires.paid.pc_mint;
+      pc_is = c.requires.paid.pc_is;
+      referrer_is = c.requires.paid.referrer_is;
+      apart = subst AreApart (sym c.credit.ensures) (AreApart-map change c.args.cells.now keeps c.requires.paid.apart);
+      pc_named = c.requires.paid.pc_named;
+      referrer_named = c.requires.paid.referrer_named;
       each = subst
-          (All (λ (cell : CellState). CanPut c.requires.pc_mint (got_at seen (amount_in c.args.payouts.pc) (amount_in c.args.payouts.referrer) cell) cell)) (sym c.credit.ensures)
-          (pc-put row seen amount (amount_in c.args.payouts.pc) (amount_in c.args.payouts.referrer) c.requires.coin_mint c.requires.pc_mint c.args.cells.now c.requires.each);
+          (All (λ (cell : CellState). CanPut c.requires.paid.pc_mint (got_at seen (amount_in c.args.payouts.pc) (amount_in c.args.payouts.referrer) cell) cell)) (sym c.credit.ensures)
+          (pc-put row seen amount (amount_in c.args.payouts.pc) (amount_in c.args.payouts.referrer) c.requires.paid.coin_mint c.requires.paid.pc_mint c.args.cells.now c.requires.paid.each);
     }
+
+pub credit_pc-requires-clause-places : goal.credit_pc-requires-clause-places
+credit_pc-requires-clause-places c =
+    let row = row_of c.args.row.now in
+    let seen = c.args.seen.now in
+    let amount = amount_in c.args.payouts.coin in
+    subst (λ (cells : List CellState). AreSeenAt cells seen c.args.places.now) (sym c.credit.ensures)
+    (AreSeenAt-map (role_moved row Credit seen.coin amount) c.args.cells.now seen c.args.places.now (role_moved-address row Credit seen.coin amount) c.requires.places)
 
 pub returns : goal.returns
 returns c =
@@ -38,4 +43,4 @@ returns c =
     let referrer = amount_in c.args.payouts.referrer in
     c.credit_pc.ensures
     ∙ ap (λ (cells : List CellState). map (pc_credited row seen pc referrer) cells) c.credit.ensures
-    ∙ credited-together row seen (amount_in c.args.payouts.coin) pc referrer c.requires.coin_mint c.requires.pc_mint c.args.cells.now c.requires.each
+    ∙ credited-together row seen (amount_in c.args.payouts.coin) pc referrer c.requires.paid.coin_mint c.requires.paid.pc_mint c.args.cells.now c.requires.paid.each
