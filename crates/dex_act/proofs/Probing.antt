@@ -10,13 +10,14 @@ use Rattle.dex_types.specs.declared.rows.WalletSeen.{WalletSeen}
 use Rattle.dex_types.specs.Addresses.{is_same}
 use Rattle.dex_types.specs.Rows.{PlainRow}
 use Rattle.dex_types.specs.Transfers.{Transfers}
-use Rattle.dex_types.specs.Wallets.{movement_of}
+use Rattle.dex_types.specs.Wallets.{address_seen, movement_of}
 use Rattle.dex_laws.proofs.TraderLaws.{is_same-true, is_same-sym}
 use Rattle.dex_fold.proofs.MappedLists.{map-map}
 use Rattle.dex_movements.specs.Amounts.{is_probe}
 use Rattle.dex_wallet.specs.CellState.{CellState, HasSpare}
-use Rattle.dex_act.specs.Wallets.{AreApart, IsAt, any_hit, cell_looked, cell_moved, hits, is_one, looks_at, role_looked, role_looks}
-use Rattle.dex_act.proofs.CellLists.{ChangesAt, KeepsAddress, map-identity, map-one, map-same}
+use Rattle.dex_act.specs.declared.places.WalletPlaces.{WalletPlaces}
+use Rattle.dex_act.specs.Wallets.{AreApart, AreSeenAt, IsAt, IsRoleAt, any_hit, cell_looked, cell_moved, hits, looks_at, role_looked, role_looks, roles_of}
+use Rattle.dex_act.proofs.CellLists.{AreApart-map, AreSeenAt-map, ChangesAt, KeepsAddress, map-identity, map-one, map-same}
 
 -- a cell that is looked at, or not
 abbrev looked-if : PlainRow → Bool → CellState → CellState
@@ -46,20 +47,27 @@ module _ (row : PlainRow) (seen : Seen) (t : Transfers) where
 
   -- the cell at the place of its wallet is looked at
   pub looked-here : (role : Option WalletSeen) (wallet : WalletSeen) (again : Bool) (cells new : List CellState) (place : ℕ) → role ≡ Some wallet → again ≡ false
-      → is_still wallet.address ≡ true → AreApart cells → IsAt wallet.address cells place
+      → not (is_still wallet.address) ≡ false → AreApart cells → IsRoleAt cells (address_seen role) place
       → ((default : CellState) → new ≡ set cells place (cell_moved row Probe 0 (get_or cells place default))) → new ≡ map (role_looked row seen t role again) cells
-  looked-here role wallet again [] new place is first still apart at moved = absurd (omega (arith, at.within))
-  looked-here role wallet again (one ∷ others) new place is first still apart at moved =
-      let cells : List CellState = one ∷ others in
-      let here : CellState = get_or cells place one in
-      let own : is_same wallet.address here.address ≡ true = at.here one in
-      let looks : role_looks seen t (Some wallet) again here.address ≡ true =
-      ap (λ (b : Bool). b && (not again && is_still here.address)) (is_same-sym here.address wallet.address ∙ own)
-      ∙ ap (λ (b : Bool). not b && is_still here.address) first ∙ ap is_still (sym (is_same-true wallet.address here.address own)) ∙ still in
-      moved one
-      ∙ ap (set cells place) (sym (cond-true (role_looks seen t (Some wallet) again here.address) (cell_moved row Probe 0 here) here looks))
-      ∙ map-one wallet.address (role_looked row seen t (Some wallet) again) cells place one apart at (looked-others wallet again)
-      ∙ ap (λ (r : Option WalletSeen). map (role_looked row seen t r again) cells) (sym is)
+  looked-here role wallet again cells new place is first still apart at moved =
+      here cells (subst (λ (r : Option WalletSeen). IsRoleAt cells (address_seen r) place) is at) apart moved ∙ ap (λ (r : Option WalletSeen). map (role_looked row seen t r again) cells) (sym is)
+    where
+      not-false : (b : Bool) → not b ≡ false → b ≡ true
+      not-false true is = refl
+      not-false false is = sym is
+
+      here : (list : List CellState) → IsAt wallet.address list place → AreApart list
+          → ((default : CellState) → new ≡ set list place (cell_moved row Probe 0 (get_or list place default))) → new ≡ map (role_looked row seen t (Some wallet) again) list
+      here [] at apart moved = absurd (omega (arith, at.within))
+      here (one ∷ others) at apart moved =
+          let cell : CellState = get_or (one ∷ others) place one in
+          let own : is_same wallet.address cell.address ≡ true = at.here one in
+          let looks : role_looks seen t (Some wallet) again cell.address ≡ true =
+          ap (λ (b : Bool). b && (not again && is_still cell.address)) (is_same-sym cell.address wallet.address ∙ own)
+          ∙ ap (λ (b : Bool). not b && is_still cell.address) first ∙ ap is_still (sym (is_same-true wallet.address cell.address own)) ∙ not-false (is_still wallet.address) still in
+          moved one
+          ∙ ap (set (one ∷ others) place) (sym (cond-true (role_looks seen t (Some wallet) again cell.address) (cell_moved row Probe 0 cell) cell looks))
+          ∙ map-one wallet.address (role_looked row seen t (Some wallet) again) (one ∷ others) place one apart at (looked-others wallet again)
 
   -- or none is
   pub looked-none : (role : Option WalletSeen) (again : Bool) (cells : List CellState)
@@ -75,15 +83,19 @@ module _ (row : PlainRow) (seen : Seen) (t : Transfers) where
   looked-again role again cells is = looked-none role again cells (λ address hit. ap (λ (b : Bool). not b && is_still address) is)
 
   -- where it is moved
-  pub looked-moved : (role : Option WalletSeen) (wallet : WalletSeen) (again : Bool) (cells : List CellState) → role ≡ Some wallet → is_still wallet.address ≡ false
+  pub looked-moved : (role : Option WalletSeen) (wallet : WalletSeen) (again : Bool) (cells : List CellState) → role ≡ Some wallet → not (is_still wallet.address) ≡ true
       → map (role_looked row seen t role again) cells ≡ cells
   looked-moved role wallet again cells is moved =
       looked-none role again cells (λ address hit.
-      ap (λ (b : Bool). not again && b) (ap is_still (hit-own address role wallet is hit) ∙ moved) ∙ and-false (not again))
+      ap (λ (b : Bool). not again && b) (ap is_still (hit-own address role wallet is hit) ∙ not-true (is_still wallet.address) moved) ∙ and-false (not again))
     where
       and-false : (b : Bool) → (b && false) ≡ false
       and-false true = refl
       and-false false = refl
+
+      not-true : (b : Bool) → not b ≡ true → b ≡ false
+      not-true true is = sym is
+      not-true false is = refl
 
   -- where the role names none
   pub looked-no_one : (role : Option WalletSeen) (again : Bool) (cells : List CellState) → role ≡ None → map (role_looked row seen t role again) cells ≡ cells
@@ -162,8 +174,52 @@ module _ (row : PlainRow) (seen : Seen) (t : Transfers) where
           by_cases true false true still right can looks = absurd (false≢true (right refl))
           by_cases true false false still right can looks = can looks
 
--- a role's wallet is another's too
-pub one-hit : (address : Address) (role other : Option WalletSeen) → hits address role ≡ true → is_one role other ≡ hits address other
-one-hit address None other hit = absurd (false≢true hit)
-one-hit address (Some wallet) None hit = refl
-one-hit address (Some wallet) (Some other) hit = ap (λ (a : Address). is_same a other.address) (sym (is_same-true address wallet.address hit))
+  -- ---- all roles
+
+  module _ (places : WalletPlaces) (start : List CellState) (start_apart : AreApart start) (start_here : AreSeenAt start seen places) (can : CanLook (roles_of seen) start) where
+    -- the cells behind these roles
+    pub record Looking (later : List (Option WalletSeen)) (cells : List CellState) : Type 0 where
+      pub apart : AreApart cells
+      pub here : AreSeenAt cells seen places
+      pub looked : AreLooked later start cells
+
+    behind : (later : List (Option WalletSeen)) (cells : List CellState) → AreLooked later start cells → Looking later cells
+    behind later cells is = record {
+      apart = subst AreApart (sym is) (AreApart-map (cell_looked row seen t later) start (looked-address later) start_apart);
+      here = subst (λ (l : List CellState). AreSeenAt l seen places) (sym is) (AreSeenAt-map (cell_looked row seen t later) start seen places (looked-address later) start_here);
+      looked = is;
+    }
+
+    module _ (one : List CellState) (one_is : one ≡ map (role_looked row seen t seen.referrer false) start) where
+      pub behind-one : Looking (seen.referrer ∷ []) one
+      behind-one = behind (seen.referrer ∷ []) one (looked-next seen.referrer [] false start start one (λ address hit. refl) (looked-start start) one_is)
+
+      module _ (again : Bool) (again_is : IsAgain seen.discount (seen.referrer ∷ []) again) where
+        pub can-two : All (λ (cell : CellState). role_looks seen t seen.discount again cell.address ≡ true → HasSpare cell) one
+        can-two =
+            look-role seen.discount (seen.referrer ∷ []) again start one again_is behind-one.looked
+            (look-later seen.pc (seen.discount ∷ seen.referrer ∷ []) start (look-later seen.coin (seen.pc ∷ seen.discount ∷ seen.referrer ∷ []) start can))
+
+        module _ (two : List CellState) (two_is : two ≡ map (role_looked row seen t seen.discount again) one) where
+          pub behind-two : Looking (seen.discount ∷ seen.referrer ∷ []) two
+          behind-two = behind (seen.discount ∷ seen.referrer ∷ []) two (looked-next seen.discount (seen.referrer ∷ []) again start one two again_is behind-one.looked two_is)
+
+          module _ (pc_again : Bool) (pc_again_is : IsAgain seen.pc (seen.discount ∷ seen.referrer ∷ []) pc_again) where
+            pub can-three : All (λ (cell : CellState). role_looks seen t seen.pc pc_again cell.address ≡ true → HasSpare cell) two
+            can-three =
+                look-role seen.pc (seen.discount ∷ seen.referrer ∷ []) pc_again start two pc_again_is behind-two.looked
+                (look-later seen.coin (seen.pc ∷ seen.discount ∷ seen.referrer ∷ []) start can)
+
+            module _ (three : List CellState) (three_is : three ≡ map (role_looked row seen t seen.pc pc_again) two) where
+              pub behind-three : Looking (seen.pc ∷ seen.discount ∷ seen.referrer ∷ []) three
+              behind-three =
+                  behind (seen.pc ∷ seen.discount ∷ seen.referrer ∷ []) three
+                  (looked-next seen.pc (seen.discount ∷ seen.referrer ∷ []) pc_again start two three pc_again_is behind-two.looked three_is)
+
+              module _ (coin_again : Bool) (coin_again_is : IsAgain seen.coin (seen.pc ∷ seen.discount ∷ seen.referrer ∷ []) coin_again) where
+                pub can-four : All (λ (cell : CellState). role_looks seen t seen.coin coin_again cell.address ≡ true → HasSpare cell) three
+                can-four = look-role seen.coin (seen.pc ∷ seen.discount ∷ seen.referrer ∷ []) coin_again start three coin_again_is behind-three.looked can
+
+                pub behind-four : (new : List CellState) → new ≡ map (role_looked row seen t seen.coin coin_again) three → AreLooked (roles_of seen) start new
+                behind-four new is =
+                    looked-next seen.coin (seen.pc ∷ seen.discount ∷ seen.referrer ∷ []) coin_again start three new coin_again_is behind-three.looked is

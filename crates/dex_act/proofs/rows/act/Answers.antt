@@ -9,7 +9,7 @@ answer-requires-clause-places c =
     seen-at c.args.row.now c.args.seen.now c.args.market.now c.args.wallets.now c.args.places.now c.requires.row c.requires.places
 
 -- what wallets' cells are then
-have : (c : goal.After-last) → HaveActed (row_of c.args.row.now) c.args.seen.now (step_on c.args.row.now c.args.seen.now c.args.market.now).transfers c.args.wallets.now c.answer.new.wallets
+have : (c : goal.After-result-1) → HaveActed (row_of c.args.row.now) c.args.seen.now (step_on c.args.row.now c.args.seen.now c.args.market.now).transfers c.args.wallets.now c.answer.new.wallets
 have c =
     have-acted c.args.row.now c.args.seen.now c.args.market.now c.args.wallets.now c.answer.new.wallets c.requires.row c.requires.wallets
     (step_on c.args.row.now c.args.seen.now c.args.market.now).transfers
