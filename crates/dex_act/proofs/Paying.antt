@@ -20,13 +20,14 @@ use Rattle.dex_fold.specs.Fold.{wallet_acted}
 use Rattle.dex_fold.specs.World.{WalletState}
 use Rattle.dex_fold.proofs.MappedLists.{map-map}
 use Rattle.dex_wallet.specs.CellState.{CellState, HasSpare, IsWalletCell}
-use Rattle.dex_act.specs.Wallets.{CanBePaid, CanGet, CanPay, CanTake, IsOf, IsRight, NamesFor, SeesCells, amount_in, any_hit, cell_acted, cell_credited, cell_debited, cell_looked, cell_paid, got_at, looks_at, moved_some, paid_at, roles_of, wallet_state_of}
-use Rattle.dex_act.proofs.CellLists.{AreApart-map, KeepsAddress, all-both, map-identity, map-same, moved_some-address}
+use Rattle.dex_act.specs.declared.places.WalletPlaces.{WalletPlaces}
+use Rattle.dex_act.specs.Wallets.{AreSeenAt, CanBePaid, CanGet, CanLook, CanPay, CanTake, IsOf, IsRight, NamesFor, SeesCells, amount_in, any_hit, cell_acted, cell_credited, cell_debited, cell_looked, cell_paid, got_at, looks_at, moved_some, paid_at, roles_of, wallet_state_of}
+use Rattle.dex_act.proofs.CellLists.{AreApart-map, AreSeenAt-map, KeepsAddress, all-both, map-identity, map-same, moved_some-address}
 use Rattle.dex_act.proofs.WalletMoves.{amount_in-parcel_of}
 use Rattle.dex_history.proofs.StepMints.{row-of}
 use Rattle.dex_act.proofs.Sights.{named-hit}
 use Rattle.dex_act.proofs.Acting.{CellMoves, RowMoves, cell-moves, gets-after}
-use Rattle.dex_act.proofs.Acted.{acted-state, look-paid, probed-looked}
+use Rattle.dex_act.proofs.Acted.{acted-state, look-paid, paid-address, probed-looked}
 
 -- what a row moves on a sound market
 pub row-moves-of : (row : PlainRow) (seen : Seen) (m : Market) → IsSound m → Sees (asked_of row) seen → RowMoves seen m (row_step row seen m).transfers
@@ -75,9 +76,11 @@ named : (mint : Address) (role : Option WalletSeen) (amount : ℕ) → IsOfMint 
 named mint role amount (inl none) = inl none
 named mint role amount (inr is) = inr (is.0, is.1)
 
-pub can-pay : (seen : Seen) (m : Market) (t : Transfers) (cells : List CellState) → RowMoves seen m t → SeesCells seen cells → CanPay seen t.coin_in t.pc_in cells
-can-pay seen m t cells moves sees = record {
+pub can-pay : (seen : Seen) (m : Market) (t : Transfers) (cells : List CellState) (places : WalletPlaces) → RowMoves seen m t → SeesCells seen cells
+    → AreSeenAt cells seen places → CanPay seen places t.coin_in t.pc_in cells
+can-pay seen m t cells places moves sees at = record {
   apart = sees.apart;
+  at = at;
   coin_named = named m.listing.coin_mint seen.coin t.coin_in moves.mints.coin_in;
   pc_named = named m.listing.pc_mint seen.pc t.pc_in moves.mints.pc_in;
   one = moves.one_in;
@@ -117,9 +120,9 @@ paid-cells row seen m t cells moves sees a b c coin_is pc_is referrer_is =
     (subst (λ (y : ℕ). All (Gets t.coin_out y c) (map change cells)) (sym pc_is)
     (subst (λ (z : ℕ). All (Gets t.coin_out t.pc_out z) (map change cells)) (sym referrer_is) all))
 
-pub can-be-paid : (row : PlainRow) (seen : Seen) (m : Market) (t : Transfers) (cells : List CellState) → RowMoves seen m t → SeesCells seen cells
-    → let payouts = paid_out m t in CanBePaid seen payouts.coin payouts.pc payouts.referrer (map (cell_debited row seen t.coin_in t.pc_in) cells)
-can-be-paid row seen m t cells moves sees =
+pub can-be-paid : (row : PlainRow) (seen : Seen) (m : Market) (t : Transfers) (cells : List CellState) (places : WalletPlaces) → RowMoves seen m t → SeesCells seen cells
+    → AreSeenAt cells seen places → let payouts = paid_out m t in CanBePaid seen places payouts.coin payouts.pc payouts.referrer (map (cell_debited row seen t.coin_in t.pc_in) cells)
+can-be-paid row seen m t cells places moves sees at =
     let change : CellState → CellState = cell_debited row seen t.coin_in t.pc_in in
     let keeps : KeepsAddress change = debited-address row seen t.coin_in t.pc_in in
     let coin_is : amount_in (parcel_of m.listing.coin_mint t.coin_out) ≡ t.coin_out = amount_in-parcel_of m.listing.coin_mint t.coin_out in
@@ -132,6 +135,7 @@ can-be-paid row seen m t cells moves sees =
       pc_is = ap (parcel_of m.listing.pc_mint) (sym pc_is);
       referrer_is = ap (parcel_of m.listing.pc_mint) (sym referrer_is);
       apart = AreApart-map change cells keeps sees.apart;
+      at = AreSeenAt-map change cells seen places keeps at;
       coin_named = subst (λ (n : ℕ). NamesFor n seen.coin) (sym coin_is) (named m.listing.coin_mint seen.coin t.coin_out moves.mints.coin_out);
       pc_named = subst (λ (n : ℕ). NamesFor n seen.pc) (sym pc_is) (named m.listing.pc_mint seen.pc t.pc_out moves.mints.pc_out);
       referrer_named = subst (λ (n : ℕ). NamesFor n seen.referrer) (sym referrer_is) (named m.listing.pc_mint seen.referrer t.referrer_out moves.mints.referrer_out);
@@ -175,13 +179,17 @@ paid-nothing row seen t cells none =
 
 -- ---- looks behind that
 
-pub look-all : (row : PlainRow) (seen : Seen) (m : Market) (t : Transfers) (cells : List CellState) → RowMoves seen m t → SeesCells seen cells
-    → All (λ (cell : CellState). looks_at seen t (roles_of seen) cell.address ≡ true → HasSpare cell) (map (cell_paid row seen t) cells)
-look-all row seen m t cells moves sees =
+pub can-look : (row : PlainRow) (seen : Seen) (m : Market) (t : Transfers) (cells : List CellState) (places : WalletPlaces) → RowMoves seen m t → SeesCells seen cells
+    → AreSeenAt cells seen places → CanLook seen places t (map (cell_paid row seen t) cells)
+can-look row seen m t cells places moves sees at =
     let Can : CellState → Type 0 = λ cell. looks_at seen t (roles_of seen) cell.address ≡ true → HasSpare cell in
-    All-map Can (cell_paid row seen t) cells
-    (All-weaker (IsSeenRight seen) (λ (cell : CellState). Can (cell_paid row seen t cell))
-    (λ cell right. look-paid row seen m t cell (cell-moves seen m t cell moves right.0 right.1) right.0 right.1) cells (seen-right seen cells sees))
+    record {
+      apart = AreApart-map (cell_paid row seen t) cells (paid-address row seen t) sees.apart;
+      at = AreSeenAt-map (cell_paid row seen t) cells seen places (paid-address row seen t) at;
+      spare = All-map Can (cell_paid row seen t) cells
+          (All-weaker (IsSeenRight seen) (λ (cell : CellState). Can (cell_paid row seen t cell))
+          (λ cell right. look-paid row seen m t cell (cell-moves seen m t cell moves right.0 right.1) right.0 right.1) cells (seen-right seen cells sees));
+    }
 
 pub acted-all : (row : PlainRow) (seen : Seen) (t : Transfers) (cells : List CellState)
     → map (cell_looked row seen t (roles_of seen)) (map (cell_paid row seen t) cells) ≡ map (cell_acted row seen t) cells

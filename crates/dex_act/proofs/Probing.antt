@@ -16,7 +16,7 @@ use Rattle.dex_fold.proofs.MappedLists.{map-map}
 use Rattle.dex_movements.specs.Amounts.{is_probe}
 use Rattle.dex_wallet.specs.CellState.{CellState, HasSpare}
 use Rattle.dex_act.specs.declared.places.WalletPlaces.{WalletPlaces}
-use Rattle.dex_act.specs.Wallets.{AreApart, AreSeenAt, IsAt, IsRoleAt, any_hit, cell_looked, cell_moved, hits, looks_at, role_looked, role_looks, roles_of}
+use Rattle.dex_act.specs.Wallets.{AreApart, AreSeenAt, CanLook, IsAt, IsRoleAt, any_hit, cell_looked, cell_moved, hits, looks_at, role_looked, role_looks, roles_of}
 use Rattle.dex_act.proofs.CellLists.{AreApart-map, AreSeenAt-map, ChangesAt, KeepsAddress, map-identity, map-one, map-same}
 
 -- a cell that is looked at, or not
@@ -138,10 +138,10 @@ module _ (row : PlainRow) (seen : Seen) (t : Transfers) where
       (λ cell. looked-more role later again cell is)
 
   -- each cell that is looked at under these roles has room for an entry
-  abbrev pub CanLook : List (Option WalletSeen) → List CellState → Type 0
-  CanLook roles cells = All (λ (cell : CellState). looks_at seen t roles cell.address ≡ true → HasSpare cell) cells
+  abbrev HasRoom : List (Option WalletSeen) → List CellState → Type 0
+  HasRoom roles cells = All (λ (cell : CellState). looks_at seen t roles cell.address ≡ true → HasSpare cell) cells
 
-  pub look-later : (role : Option WalletSeen) (later : List (Option WalletSeen)) (cells : List CellState) → CanLook (role ∷ later) cells → CanLook later cells
+  pub look-later : (role : Option WalletSeen) (later : List (Option WalletSeen)) (cells : List CellState) → HasRoom (role ∷ later) cells → HasRoom later cells
   look-later role later cells can =
       All-weaker (λ (cell : CellState). looks_at seen t (role ∷ later) cell.address ≡ true → HasSpare cell)
       (λ (cell : CellState). looks_at seen t later cell.address ≡ true → HasSpare cell)
@@ -154,7 +154,7 @@ module _ (row : PlainRow) (seen : Seen) (t : Transfers) where
 
   -- and has it still before its own role
   pub look-role : (role : Option WalletSeen) (later : List (Option WalletSeen)) (again : Bool) (start cells : List CellState) → IsAgain role later again
-      → AreLooked later start cells → CanLook (role ∷ later) start
+      → AreLooked later start cells → HasRoom (role ∷ later) start
       → All (λ (cell : CellState). role_looks seen t role again cell.address ≡ true → HasSpare cell) cells
   look-role role later again start cells is before can =
       let Can : CellState → Type 0 = λ cell. role_looks seen t role again cell.address ≡ true → HasSpare cell in
@@ -176,7 +176,7 @@ module _ (row : PlainRow) (seen : Seen) (t : Transfers) where
 
   -- ---- all roles
 
-  module _ (places : WalletPlaces) (start : List CellState) (start_apart : AreApart start) (start_here : AreSeenAt start seen places) (can : CanLook (roles_of seen) start) where
+  module _ (places : WalletPlaces) (start : List CellState) (can : CanLook seen places t start) where
     -- the cells behind these roles
     pub record Looking (later : List (Option WalletSeen)) (cells : List CellState) : Type 0 where
       pub apart : AreApart cells
@@ -185,8 +185,8 @@ module _ (row : PlainRow) (seen : Seen) (t : Transfers) where
 
     behind : (later : List (Option WalletSeen)) (cells : List CellState) → AreLooked later start cells → Looking later cells
     behind later cells is = record {
-      apart = subst AreApart (sym is) (AreApart-map (cell_looked row seen t later) start (looked-address later) start_apart);
-      here = subst (λ (l : List CellState). AreSeenAt l seen places) (sym is) (AreSeenAt-map (cell_looked row seen t later) start seen places (looked-address later) start_here);
+      apart = subst AreApart (sym is) (AreApart-map (cell_looked row seen t later) start (looked-address later) can.apart);
+      here = subst (λ (l : List CellState). AreSeenAt l seen places) (sym is) (AreSeenAt-map (cell_looked row seen t later) start seen places (looked-address later) can.at);
       looked = is;
     }
 
@@ -198,7 +198,7 @@ module _ (row : PlainRow) (seen : Seen) (t : Transfers) where
         pub can-two : All (λ (cell : CellState). role_looks seen t seen.discount again cell.address ≡ true → HasSpare cell) one
         can-two =
             look-role seen.discount (seen.referrer ∷ []) again start one again_is behind-one.looked
-            (look-later seen.pc (seen.discount ∷ seen.referrer ∷ []) start (look-later seen.coin (seen.pc ∷ seen.discount ∷ seen.referrer ∷ []) start can))
+            (look-later seen.pc (seen.discount ∷ seen.referrer ∷ []) start (look-later seen.coin (seen.pc ∷ seen.discount ∷ seen.referrer ∷ []) start can.spare))
 
         module _ (two : List CellState) (two_is : two ≡ map (role_looked row seen t seen.discount again) one) where
           pub behind-two : Looking (seen.discount ∷ seen.referrer ∷ []) two
@@ -208,7 +208,7 @@ module _ (row : PlainRow) (seen : Seen) (t : Transfers) where
             pub can-three : All (λ (cell : CellState). role_looks seen t seen.pc pc_again cell.address ≡ true → HasSpare cell) two
             can-three =
                 look-role seen.pc (seen.discount ∷ seen.referrer ∷ []) pc_again start two pc_again_is behind-two.looked
-                (look-later seen.coin (seen.pc ∷ seen.discount ∷ seen.referrer ∷ []) start can)
+                (look-later seen.coin (seen.pc ∷ seen.discount ∷ seen.referrer ∷ []) start can.spare)
 
             module _ (three : List CellState) (three_is : three ≡ map (role_looked row seen t seen.pc pc_again) two) where
               pub behind-three : Looking (seen.pc ∷ seen.discount ∷ seen.referrer ∷ []) three
@@ -218,7 +218,7 @@ module _ (row : PlainRow) (seen : Seen) (t : Transfers) where
 
               module _ (coin_again : Bool) (coin_again_is : IsAgain seen.coin (seen.pc ∷ seen.discount ∷ seen.referrer ∷ []) coin_again) where
                 pub can-four : All (λ (cell : CellState). role_looks seen t seen.coin coin_again cell.address ≡ true → HasSpare cell) three
-                can-four = look-role seen.coin (seen.pc ∷ seen.discount ∷ seen.referrer ∷ []) coin_again start three coin_again_is behind-three.looked can
+                can-four = look-role seen.coin (seen.pc ∷ seen.discount ∷ seen.referrer ∷ []) coin_again start three coin_again_is behind-three.looked can.spare
 
                 pub behind-four : (new : List CellState) → new ≡ map (role_looked row seen t seen.coin coin_again) three → AreLooked (roles_of seen) start new
                 behind-four new is =

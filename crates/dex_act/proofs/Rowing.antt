@@ -1,6 +1,5 @@
 -- The steps of a row on cells, put together.
-use Rattle.std.proofs.Common.{◌≡◌, ℕ, true, List, map, Option, Ok, Err, refl, sym, ap, ◌∙◌, subst}
-use Rattle.std.specs.List.{All}
+use Rattle.std.proofs.Common.{◌≡◌, ℕ, List, map, Option, Ok, Err, refl, sym, ap, ◌∙◌, subst}
 use Rattle.dex_types.specs.declared.addresses.Address.{Address}
 use Rattle.dex_types.specs.declared.refusals.Refusal.{Refusal}
 use Rattle.dex_types.specs.declared.rows.Row.{Row}
@@ -20,16 +19,14 @@ use Rattle.dex_cell.specs.CellState.{IsFor, IsMarketCell, MarketCellState, answe
 use Rattle.dex_cell.specs.Paying.{paid_in, paid_out, parcel_of}
 use Rattle.dex_cell.specs.PlanAmounts.{plan_transfers}
 use Rattle.dex_cell.proofs.PlanLaws.{coin-enters, pc-enters, planned-moves, refused-step}
-use Rattle.dex_wallet.specs.CellState.{CellState, HasSpare}
+use Rattle.dex_wallet.specs.CellState.{CellState}
 use Rattle.dex_wallet.specs.TokenAmount.{TokenAmount}
 use Rattle.dex_act.specs.declared.places.WalletPlaces.{WalletPlaces}
 use Rattle.dex_act.specs.Acted.{HaveActed}
-use Rattle.dex_act.specs.Wallets.{AreApart, AreAt, AreOf, ArePlacesAmong, AreSeenAt, CanBePaid, CanPay, SeesCells, amount_in, cell_acted, cell_credited, cell_debited, cell_looked, cell_paid, looks_at, roles_of}
+use Rattle.dex_act.specs.Wallets.{AreAt, AreOf, ArePlacesAmong, AreSeenAt, CanBePaid, CanLook, CanPay, SeesCells, amount_in, cell_acted, cell_credited, cell_debited, cell_looked, cell_paid, roles_of}
 use Rattle.dex_act.proofs.Acting.{RowMoves}
-use Rattle.dex_act.proofs.Acted.{paid-address}
-use Rattle.dex_act.proofs.CellLists.{AreApart-map, AreSeenAt-map}
 use Rattle.dex_act.proofs.Made.{AreApart-acted, all-made}
-use Rattle.dex_act.proofs.Paying.{acted-all, can-be-paid, can-pay, coin-mints, debited-address, held-moves, look-all, paid-nothing, paid-whole, pc-mints, row-moves-of, states-acted}
+use Rattle.dex_act.proofs.Paying.{acted-all, can-be-paid, can-look, can-pay, coin-mints, held-moves, paid-nothing, paid-whole, pc-mints, row-moves-of, states-acted}
 
 -- what a row moves on its market's cell
 pub moves-of : (row : Row) (seen : Seen) (market : MarketCellState) → IsFor row seen market → IsMarketCell market → RowMoves seen (market_at market) (step_on row seen market).transfers
@@ -45,7 +42,7 @@ seen-at row seen market cells at for among =
     (subst (λ (r : Option Address). AreAt cells row.coin row.pc row.discount r at) (sym for.sees.referrer) among)))
 
 module _ (row : Row) (seen : Seen) (plan : Plan) (market : MarketCellState) (cells : List CellState) (for : IsFor row seen market) (cell : IsMarketCell market)
-    (sees : SeesCells seen cells) (decided : Ok plan ≡ answer_on row seen market) (amounts : Amounts) (told : transfers_of amounts ≡ plan_transfers plan) where
+    (sees : SeesCells seen cells) (places : WalletPlaces) (at : AreSeenAt cells seen places) (decided : Ok plan ≡ answer_on row seen market) (amounts : Amounts) (told : transfers_of amounts ≡ plan_transfers plan) where
   abbrev m : Market
   m = market_at market
 
@@ -59,8 +56,8 @@ module _ (row : Row) (seen : Seen) (plan : Plan) (market : MarketCellState) (cel
   pub told-step : transfers_of amounts ≡ t
   told-step = told ∙ planned-moves plan (request_of (row_of row)) seen m decided
 
-  pub pays : CanPay seen amounts.coin_in amounts.pc_in cells
-  pays = subst (λ (x : Transfers). CanPay seen x.coin_in x.pc_in cells) (sym told-step) (can-pay seen m t cells moves sees)
+  pub pays : CanPay seen places amounts.coin_in amounts.pc_in cells
+  pays = subst (λ (x : Transfers). CanPay seen places x.coin_in x.pc_in cells) (sym told-step) (can-pay seen m t cells places moves sees at)
 
   -- the parcels are the plan's deposit
   pub coin-paid : (parcel : Option TokenAmount)
@@ -81,15 +78,11 @@ module _ (row : Row) (seen : Seen) (plan : Plan) (market : MarketCellState) (cel
     behind : debited ≡ map (cell_debited (row_of row) seen t.coin_in t.pc_in) cells
     behind = debited_is ∙ ap (λ (x : Transfers). map (cell_debited (row_of row) seen x.coin_in x.pc_in) cells) told-step
 
-    pub gets : CanBePaid seen payouts.coin payouts.pc payouts.referrer debited
+    pub gets : CanBePaid seen places payouts.coin payouts.pc payouts.referrer debited
     gets =
-        subst (λ (p : Payouts). CanBePaid seen p.coin p.pc p.referrer debited) (sym paid)
-        (subst (CanBePaid seen (paid_out m t).coin (paid_out m t).pc (paid_out m t).referrer) (sym behind) (can-be-paid (row_of row) seen m t cells moves sees))
-
-    pub debited-at : (at : WalletPlaces) → AreSeenAt cells seen at → AreSeenAt debited seen at
-    debited-at at places =
-        subst (λ (l : List CellState). AreSeenAt l seen at) (sym debited_is)
-        (AreSeenAt-map (cell_debited (row_of row) seen amounts.coin_in amounts.pc_in) cells seen at (debited-address (row_of row) seen amounts.coin_in amounts.pc_in) places)
+        subst (λ (p : Payouts). CanBePaid seen places p.coin p.pc p.referrer debited) (sym paid)
+        (subst (CanBePaid seen places (paid_out m t).coin (paid_out m t).pc (paid_out m t).referrer) (sym behind)
+        (can-be-paid (row_of row) seen m t cells places moves sees at))
 
     pub behind-both : (new : List CellState)
         → new ≡ map (cell_credited (row_of row) seen (amount_in payouts.coin) (amount_in payouts.pc) (amount_in payouts.referrer)) debited
@@ -105,19 +98,10 @@ module _ (row : Row) (seen : Seen) (plan : Plan) (market : MarketCellState) (cel
 -- what the looks ask of the cells behind what was paid, and what they leave
 module _ (row : Row) (seen : Seen) (market : MarketCellState) (cells paid : List CellState) (sees : SeesCells seen cells) (amounts : Amounts) (t : Transfers)
     (told : transfers_of amounts ≡ t) (moves : RowMoves seen (market_at market) t) (paid_is : paid ≡ map (cell_paid (row_of row) seen t) cells) where
-  pub apart-behind : AreApart paid
-  apart-behind = subst AreApart (sym paid_is) (AreApart-map (cell_paid (row_of row) seen t) cells (paid-address (row_of row) seen t) sees.apart)
-
-  pub places-behind : (at : WalletPlaces) → AreSeenAt cells seen at → AreSeenAt paid seen at
-  places-behind at places =
-      subst (λ (l : List CellState). AreSeenAt l seen at) (sym paid_is)
-      (AreSeenAt-map (cell_paid (row_of row) seen t) cells seen at (paid-address (row_of row) seen t) places)
-
-  pub look-behind : All (λ (cell : CellState). looks_at seen (transfers_of amounts) (roles_of seen) cell.address ≡ true → HasSpare cell) paid
-  look-behind =
-      subst (λ (x : Transfers). All (λ (cell : CellState). looks_at seen x (roles_of seen) cell.address ≡ true → HasSpare cell) paid) (sym told)
-      (subst (All (λ (cell : CellState). looks_at seen t (roles_of seen) cell.address ≡ true → HasSpare cell)) (sym paid_is)
-      (look-all (row_of row) seen (market_at market) t cells moves sees))
+  pub look-behind : (places : WalletPlaces) → AreSeenAt cells seen places → CanLook seen places (transfers_of amounts) paid
+  look-behind places at =
+      subst (λ (x : Transfers). CanLook seen places x paid) (sym told)
+      (subst (CanLook seen places t) (sym paid_is) (can-look (row_of row) seen (market_at market) t cells places moves sees at))
 
   pub looked-behind : (new : List CellState) → new ≡ map (cell_looked (row_of row) seen (transfers_of amounts) (roles_of seen)) paid
       → new ≡ map (cell_acted (row_of row) seen t) cells

@@ -18,6 +18,7 @@ use Rattle.dex_wallet.specs.CellState.{CellState, HasSpare, balance_of}
 use Rattle.dex_wallet.specs.TokenAmount.{TokenAmount}
 use Rattle.dex_cell.specs.Paying.{parcel_of}
 use Rattle.dex_fold.proofs.MappedLists.{map-map}
+use Rattle.dex_act.specs.declared.places.WalletPlaces.{WalletPlaces}
 use Rattle.dex_act.specs.Wallets.{AreApart, CanCredit, CanGet, CanPay, CanPut, CanTake, IsAt, IsOf, IsRoleAt, NamesFor, amount_in, cell_credited, cell_debited, cell_moved, got_at, is_one, moved_some, paid_at, pc_credited, role_moved}
 use Rattle.dex_act.proofs.CellLists.{all-cells, amount_at-nothing, map-same, map-same_where, moved-here, role_moved-address, role_moved-nothing}
 
@@ -124,9 +125,9 @@ second-All row seen coin pc cells P (inr none) all otherwise = all-cells P (map 
 pub none-at : (address : Address) (role : Option WalletSeen) (amount : ℕ) → amount ≡ 0 → amount_at address role amount ≡ 0
 none-at address role amount none = ap (amount_at address role) none ∙ amount_at-nothing address role
 
-pub second-can : (row : PlainRow) (seen : Seen) (coin pc : ℕ) (cells : List CellState) → CanPay seen coin pc cells
+pub second-can : (row : PlainRow) (seen : Seen) (coin pc : ℕ) (cells : List CellState) (places : WalletPlaces) → CanPay seen places coin pc cells
     → All (λ (cell : CellState). CanTake (amount_at cell.address seen.pc pc) cell) (map (role_moved row Debit seen.coin coin) cells)
-second-can row seen coin pc cells can =
+second-can row seen coin pc cells places can =
     let P : CellState → Type 0 = λ cell. CanTake (amount_at cell.address seen.pc pc) cell in
     second-All row seen coin pc cells P can.one
     (All-weaker (λ (cell : CellState). CanTake (paid_at seen coin pc cell) cell) P

@@ -162,9 +162,10 @@ paid_at seen coin pc cell = amount_at cell.address seen.coin coin + amount_at ce
 abbrev pub cell_debited : PlainRow → Seen → ℕ → ℕ → CellState → CellState
 cell_debited row seen coin pc cell = moved_some row Debit (paid_at seen coin pc cell) cell
 
--- the wallets that a row sees can pay: of one token alone, and each has what it pays
-pub record CanPay (seen : Seen) (coin pc : ℕ) (cells : List CellState) : Type 0 where
+-- the wallets that a row sees stand at these places and can pay: of one token alone, and each has what it pays
+pub record CanPay (seen : Seen) (places : WalletPlaces) (coin pc : ℕ) (cells : List CellState) : Type 0 where
   pub apart : AreApart cells
+  pub at : AreSeenAt cells seen places
   pub coin_named : NamesFor coin seen.coin
   pub pc_named : NamesFor pc seen.pc
   pub one : (coin ≡ 0) ⊎ (pc ≡ 0)
@@ -198,11 +199,13 @@ cell_credited row seen coin pc referrer cell =
     moved_some row Credit (amount_at cell.address seen.coin coin + got_at seen pc referrer cell) cell
 
 -- the parcels of the quote token are of one mint, and each wallet that a row sees can take in what it gets of them
-pub record CanGetPc (seen : Seen) (pc referrer : Option TokenAmount) (cells : List CellState) : Type 0 where
+pub record CanGetPc (seen : Seen) (places : WalletPlaces) (pc referrer : Option TokenAmount) (cells : List CellState) : Type 0
+    where
   pub mint : Address
   pub pc_is : pc ≡ parcel_of mint (amount_in pc)
   pub referrer_is : referrer ≡ parcel_of mint (amount_in referrer)
   pub apart : AreApart cells
+  pub at : AreSeenAt cells seen places
   pub pc_named : NamesFor (amount_in pc) seen.pc
   pub referrer_named : NamesFor (amount_in referrer) seen.referrer
   pub each : All (λ (cell : CellState). CanPut mint (got_at seen (amount_in pc) (amount_in referrer) cell) cell) cells
@@ -212,13 +215,15 @@ abbrev pub CanGet : Address → Address → ℕ → ℕ → CellState → Type 0
 CanGet coin_mint pc_mint coin pc cell = ((coin ≡ 0) × CanPut pc_mint pc cell) ⊎ ((pc ≡ 0) × CanPut coin_mint coin cell)
 
 -- the parcels are of two mints, and each wallet that a row sees can take in what it gets of them
-pub record CanBePaid (seen : Seen) (coin pc referrer : Option TokenAmount) (cells : List CellState) : Type 0 where
+pub record CanBePaid (seen : Seen) (places : WalletPlaces) (coin pc referrer : Option TokenAmount)
+    (cells : List CellState) : Type 0 where
   pub coin_mint : Address
   pub pc_mint : Address
   pub coin_is : coin ≡ parcel_of coin_mint (amount_in coin)
   pub pc_is : pc ≡ parcel_of pc_mint (amount_in pc)
   pub referrer_is : referrer ≡ parcel_of pc_mint (amount_in referrer)
   pub apart : AreApart cells
+  pub at : AreSeenAt cells seen places
   pub coin_named : NamesFor (amount_in coin) seen.coin
   pub pc_named : NamesFor (amount_in pc) seen.pc
   pub referrer_named : NamesFor (amount_in referrer) seen.referrer
@@ -287,6 +292,12 @@ looks_at seen t roles address = any_hit address roles && is_probe (movement_of s
 -- a cell after a row looked at the wallets of these roles
 abbrev pub cell_looked : PlainRow → Seen → Transfers → List (Option WalletSeen) → CellState → CellState
 cell_looked row seen t roles cell = if looks_at seen t roles cell.address then cell_moved row Probe 0 cell else cell
+
+-- each cell at which a row looks has room for an entry
+pub record CanLook (seen : Seen) (places : WalletPlaces) (t : Transfers) (cells : List CellState) : Type 0 where
+  pub apart : AreApart cells
+  pub at : AreSeenAt cells seen places
+  pub spare : All (λ (cell : CellState). looks_at seen t (roles_of seen) cell.address ≡ true → HasSpare cell) cells
 
 -- a row looks at it under one role, unless it is an earlier one's too
 abbrev pub role_looks : Seen → Transfers → Option WalletSeen → Bool → Address → Bool

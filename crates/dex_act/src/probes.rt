@@ -8,8 +8,8 @@ ghost use Rattle.dex_types.specs.Rows.{row_of};
 ghost use Rattle.dex_types.specs.Wallets.{address_seen};
 ghost use Rattle.dex_movements.specs.Amounts.{transfers_of};
 ghost use Rattle.dex_wallet.specs.CellState.{HasSpare};
-ghost use Rattle.dex_act.specs.Wallets.{AreApart, AreSeenAt, AtPlace, IsRoleAt, any_hit, cell_looked, cell_moved};
-ghost use Rattle.dex_act.specs.Wallets.{hits, looks_at, role_looked, role_looks, roles_of};
+ghost use Rattle.dex_act.specs.Wallets.{AreApart, AtPlace, CanLook, IsRoleAt, any_hit, cell_looked, cell_moved};
+ghost use Rattle.dex_act.specs.Wallets.{hits, role_looked, role_looks, roles_of};
 
 use crate::places::WalletPlaces;
 use crate::wallets::is_one;
@@ -76,10 +76,7 @@ pub(crate) fn probes(
     places: &WalletPlaces,
     amounts: &Amounts,
 )
-    requires apart { AreApart cells.old }
-    requires places { AreSeenAt cells.old seen.now places.now }
-    requires spare { All (λ cell. looks_at seen.now (transfers_of amounts.now) (roles_of seen.now) cell.address ≡ true
-        → HasSpare cell) cells.old }
+    requires { CanLook seen.now places.now (transfers_of amounts.now) cells.old }
     ensures { cells.new
         ≡ map (cell_looked (row_of row.entry.now) seen.now (transfers_of amounts.now) (roles_of seen.now)) cells.old }
 {

@@ -11,7 +11,7 @@ ghost use Rattle.dex_wallet.specs.CellState.{HasSpare, balance_of};
 ghost use Rattle.dex_cell.specs.Paying.{parcel_of};
 ghost use Rattle.dex_fold.specs.World as world;
 ghost use Rattle.dex_act.specs.Wallets as wallets;
-ghost use Rattle.dex_act.specs.Wallets.{AreApart, AreOf, AreOfOneMint, AreSeenAt, AtPlace, CanBePaid, CanCredit};
+ghost use Rattle.dex_act.specs.Wallets.{AreApart, AreOf, AreOfOneMint, AtPlace, CanBePaid, CanCredit};
 ghost use Rattle.dex_act.specs.Wallets.{CanGetPc, CanPay, CanTake, Fits, IsRoleAt, NamesFor, amount_in};
 ghost use Rattle.dex_act.specs.Wallets.{cell_credited, cell_debited, cell_moved, pc_credited, role_moved};
 ghost use Rattle.dex_act.specs.Wallets.{wallet_state_of};
@@ -116,8 +116,7 @@ pub(crate) fn debits(
     places: &WalletPlaces,
     amounts: &Amounts,
 ) -> (Option<Parcel>, Option<Parcel>)
-    requires pay { CanPay seen.now amounts.now.coin_in amounts.now.pc_in cells.old }
-    requires places { AreSeenAt cells.old seen.now places.now }
+    requires { CanPay seen.now places.now amounts.now.coin_in amounts.now.pc_in cells.old }
     ensures coin { (mint : AddressOf) → AreOf mint seen.now.coin amounts.now.coin_in cells.old
         → result.0 ≡ parcel_of mint amounts.now.coin_in }
     ensures pc { (mint : AddressOf) → AreOf mint seen.now.pc amounts.now.pc_in cells.old
@@ -163,8 +162,7 @@ fn credit_pc(
     pc: Option<Parcel>,
     referrer: Option<Parcel>,
 )
-    requires get { CanGetPc seen.now pc referrer cells.old }
-    requires places { AreSeenAt cells.old seen.now places.now }
+    requires { CanGetPc seen.now places.now pc referrer cells.old }
     ensures { cells.new
         ≡ map (pc_credited (row_of row.entry.now) seen.now (amount_in pc) (amount_in referrer)) cells.old }
 {
@@ -185,8 +183,7 @@ pub(crate) fn credits(
     places: &WalletPlaces,
     payouts: Payouts,
 )
-    requires paid { CanBePaid seen.now payouts.coin payouts.pc payouts.referrer cells.old }
-    requires places { AreSeenAt cells.old seen.now places.now }
+    requires { CanBePaid seen.now places.now payouts.coin payouts.pc payouts.referrer cells.old }
     ensures { cells.new ≡ map (cell_credited (row_of row.entry.now) seen.now
         (amount_in payouts.coin) (amount_in payouts.pc) (amount_in payouts.referrer)) cells.old }
 {

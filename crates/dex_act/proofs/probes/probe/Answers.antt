@@ -1,7 +1,6 @@
 use Rattle.std.proofs.Common.{sym, ◌∙◌}
 use Rattle.dex_types.specs.Rows.{row_of}
 use Rattle.dex_movements.specs.Amounts.{transfers_of}
-use Rattle.dex_act.specs.Wallets.{IsRoleAt}
 use Rattle.dex_act.proofs.Probing.{looked-again, looked-here, looked-moved, looked-no_one}
 use Rattle.dex_act.proofs.probes.probe.Goals.{else-not-again-via-then-not-again+else-not-is_moved, else-not-again-via-else-not-again}
 use Rattle.dex_act.proofs.probes.probe.Goals as goal

@@ -6,15 +6,12 @@ use Rattle.dex_act.specs.Acted.{HaveActed}
 use Rattle.dex_act.proofs.Rowing.{have-acted, idle-moves, look-behind, looked-behind, nothing-paid, seen-at}
 use Rattle.dex_act.proofs.rows.hold.Goals as goal
 
-pub probes-requires-clause-places : goal.probes-requires-clause-places
-probes-requires-clause-places c =
-    seen-at c.args.row.now c.args.seen.now c.args.market.now c.args.wallets.now c.args.places.now c.requires.row c.requires.places
-
-pub probes-requires-clause-spare : goal.probes-requires-clause-spare
-probes-requires-clause-spare c =
+pub probes-requires : goal.probes-requires
+probes-requires c =
     look-behind c.args.row.now c.args.seen.now c.args.market.now c.args.wallets.now c.args.wallets.now c.requires.wallets c.none.result no_transfers
     (ap transfers_of c.none.ensures) (idle-moves c.args.row.now c.args.seen.now c.args.market.now c.args.wallets.now c.requires.row c.requires.market)
     (nothing-paid c.args.row.now c.args.seen.now c.args.market.now c.args.wallets.now c.requires.row c.requires.market)
+    c.args.places.now (seen-at c.args.row.now c.args.seen.now c.args.market.now c.args.wallets.now c.args.places.now c.requires.row c.requires.places)
 
 -- what wallets' cells are then
 have : (c : goal.After-wallets-1) → HaveActed (row_of c.args.row.now) c.args.seen.now no_transfers c.args.wallets.now c.probes.new.cells

@@ -8,32 +8,26 @@ use Rattle.dex_act.proofs.CellLists.{AreApart-map, AreSeenAt-map, KeepsAddress, 
 use Rattle.dex_act.proofs.WalletMoves.{credited-together, pc-put}
 use Rattle.dex_act.proofs.wallets.credits.Goals as goal
 
-pub credit_pc-requires-clause-get : goal.credit_pc-requires-clause-get
-credit_pc-requires-clause-get c =
+pub credit_pc-requires : goal.credit_pc-requires
+credit_pc-requires c =
     let row = row_of c.args.row.now in
     let seen = c.args.seen.now in
     let amount = amount_in c.args.payouts.coin in
     let change = role_moved row Credit seen.coin amount in
     let keeps : KeepsAddress change = role_moved-address row Credit seen.coin amount in
     record {
-      mint = c.requires.paid.pc_mint;
-      pc_is = c.requires.paid.pc_is;
-      referrer_is = c.requires.paid.referrer_is;
-      apart = subst AreApart (sym c.credit.ensures) (AreApart-map change c.args.cells.now keeps c.requires.paid.apart);
-      pc_named = c.requires.paid.pc_named;
-      referrer_named = c.requires.paid.referrer_named;
+      mint = c.requires.pc_mint;
+      pc_is = c.requires.pc_is;
+      referrer_is = c.requires.referrer_is;
+      apart = subst AreApart (sym c.credit.ensures) (AreApart-map change c.args.cells.now keeps c.requires.apart);
+      at = subst (λ (cells : List CellState). AreSeenAt cells seen c.args.places.now) (sym c.credit.ensures)
+          (AreSeenAt-map change c.args.cells.now seen c.args.places.now keeps c.requires.at);
+      pc_named = c.requires.pc_named;
+      referrer_named = c.requires.referrer_named;
       each = subst
-          (All (λ (cell : CellState). CanPut c.requires.paid.pc_mint (got_at seen (amount_in c.args.payouts.pc) (amount_in c.args.payouts.referrer) cell) cell)) (sym c.credit.ensures)
-          (pc-put row seen amount (amount_in c.args.payouts.pc) (amount_in c.args.payouts.referrer) c.requires.paid.coin_mint c.requires.paid.pc_mint c.args.cells.now c.requires.paid.each);
+          (All (λ (cell : CellState). CanPut c.requires.pc_mint (got_at seen (amount_in c.args.payouts.pc) (amount_in c.args.payouts.referrer) cell) cell)) (sym c.credit.ensures)
+          (pc-put row seen amount (amount_in c.args.payouts.pc) (amount_in c.args.payouts.referrer) c.requires.coin_mint c.requires.pc_mint c.args.cells.now c.requires.each);
     }
-
-pub credit_pc-requires-clause-places : goal.credit_pc-requires-clause-places
-credit_pc-requires-clause-places c =
-    let row = row_of c.args.row.now in
-    let seen = c.args.seen.now in
-    let amount = amount_in c.args.payouts.coin in
-    subst (λ (cells : List CellState). AreSeenAt cells seen c.args.places.now) (sym c.credit.ensures)
-    (AreSeenAt-map (role_moved row Credit seen.coin amount) c.args.cells.now seen c.args.places.now (role_moved-address row Credit seen.coin amount) c.requires.places)
 
 pub returns : goal.returns
 returns c =
@@ -43,4 +37,4 @@ returns c =
     let referrer = amount_in c.args.payouts.referrer in
     c.credit_pc.ensures
     ∙ ap (λ (cells : List CellState). map (pc_credited row seen pc referrer) cells) c.credit.ensures
-    ∙ credited-together row seen (amount_in c.args.payouts.coin) pc referrer c.requires.paid.coin_mint c.requires.paid.pc_mint c.args.cells.now c.requires.paid.each
+    ∙ credited-together row seen (amount_in c.args.payouts.coin) pc referrer c.requires.coin_mint c.requires.pc_mint c.args.cells.now c.requires.each
