@@ -1,7 +1,7 @@
 -- What a row does to cells is what it does to their wallets.
 use Rattle.std.proofs.Common.{◌≡◌, ℕ, zero, suc, ◌+◌, ◌<◌, ◌≤◌, ◌^◌, ◌⊎◌, inl, inr, Bool, true, false, ◌&&◌, ◌||◌, ltb, cond, List, [], ◌∷◌, map, refl, sym, ap, ◌∙◌, subst, arith, ⊎_elim}
 use Rattle.std.specs.List.{All, list_any}
-use Rattle.std.proofs.lemmas.Bool.{cases_Bool, cases_lt, cond-true, cond-false, cond_both, false≢true}
+use Rattle.std.proofs.lemmas.Bool.{cases_Bool, cases_lt, cond-true, cond-false, cond_both, false≢true, and_parts, and_right, or_parts}
 use Rattle.dex_types.specs.declared.addresses.Address.{Address}
 use Rattle.dex_types.specs.declared.movements.MoveKind.{MoveKind}
 use Rattle.dex_types.specs.declared.movements.MoveKind.TheVariants.{Debit, Credit, Probe}
@@ -24,14 +24,10 @@ use Rattle.dex_wallet.specs.CellState.{CellState, HasSpare, IsWalletCell, balanc
 use Rattle.dex_wallet.proofs.CellLaws.{IsWalletCell-with_entry}
 use Rattle.dex_act.specs.Wallets.{Fits, IsRight, any_hit, cell_acted, cell_debited, cell_looked, cell_moved, cell_paid, got_at, looks_at, move_probed, moved_some, moves_probed, paid_at, probes, roles_of, wallet_state_of}
 use Rattle.dex_act.proofs.Acting.{CellMoves, IsPossible, credits-as, debits-as, nothing-brought, nothing-taken, paid-debit, paid-not, probes-as, state-moved}
-use Rattle.dex_act.proofs.CellLists.{KeepsAddress, moved_some-address, neither}
+use Rattle.dex_act.proofs.CellLists.{KeepsAddress, moved_some-address}
 use Rattle.dex_act.proofs.Seeing.{any-seen, balance-fits, balance-hit}
 
 -- ---- probes, one after another
-
-and-false : (a : Bool) → (a && false) ≡ false
-and-false true = refl
-and-false false = refl
 
 -- a movement is a probe of a cell of its wallet alone
 probes-own : (move : Address → Movement) (first : Address) (cell : CellState) → ((address : Address) → (move address).wallet ≡ address)
@@ -48,8 +44,8 @@ not-probed : (row : PlainRow) (move : Address → Movement) (addresses : List Ad
     → list_any (is_same cell.address) addresses ≡ false → moves_probed row (map move addresses) cell ≡ cell
 not-probed row move [] cell wallet none = refl
 not-probed row move (first ∷ others) cell wallet none =
-    let each = neither (is_same cell.address first) (list_any (is_same cell.address) others) none in
-    let no : probes (move first) cell ≡ false = probes-own move first cell wallet ∙ ap (λ (b : Bool). is_probe (move first).kind && b) each.0 ∙ and-false (is_probe (move first).kind) in
+    let each = or_parts (is_same cell.address first) (list_any (is_same cell.address) others) none in
+    let no : probes (move first) cell ≡ false = probes-own move first cell wallet ∙ and_right (is_probe (move first).kind) (is_same cell.address first) each.0 in
     ap (moves_probed row (map move others)) (cond-false (probes (move first) cell) (cell_moved row Probe 0 cell) cell no) ∙ not-probed row move others cell wallet each.1
 
 probed-once : (row : PlainRow) (move : Address → Movement) (addresses : List Address) (cell : CellState) → ((address : Address) → (move address).wallet ≡ address)
@@ -69,7 +65,7 @@ probed-once row move (first ∷ others) cell wallet once =
     ∙ ap (λ (b : Bool). cond b (cell_moved row Probe 0 cell) cell) tested
     ∙ sym (ap (λ (b : Bool). cond ((b || list_any (is_same cell.address) others) && is_probe (move cell.address).kind) (cell_moved row Probe 0 cell) cell) own))
     (λ (apart : is_same cell.address first ≡ false).
-    let no : probes (move first) cell ≡ false = probes-own move first cell wallet ∙ ap (λ (b : Bool). is_probe (move first).kind && b) apart ∙ and-false (is_probe (move first).kind) in
+    let no : probes (move first) cell ≡ false = probes-own move first cell wallet ∙ and_right (is_probe (move first).kind) (is_same cell.address first) apart in
     let counted : ◌≡◌ {A = ℕ} (cond (is_same cell.address first) 1 0) 0 = ap (λ (b : Bool). cond b 1 0) apart in
     ap (moves_probed row (map move others)) (cond-false (probes (move first) cell) (cell_moved row Probe 0 cell) cell no)
     ∙ probed-once row move others cell wallet (omega (arith, once, counted))
@@ -187,7 +183,7 @@ module _ (row : PlainRow) (seen : Seen) (m : Market) (t : Transfers) (cell : Cel
       (λ (moved : IsMoved).
       let kind : is_probe move.kind ≡ false = ap (λ (x : Movement). is_probe x.kind) moved.is ∙ moved.other in
       ap (cell_looked row seen t (roles_of seen)) moved.paid
-      ∙ cond-false (is_hit && is_probe move.kind) _ _ (ap (λ (b : Bool). is_hit && b) kind ∙ and-false is_hit)
+      ∙ cond-false (is_hit && is_probe move.kind) _ _ (and_right is_hit (is_probe move.kind) kind)
       ∙ sym (ap (by_move move) moved.hit ∙ ap (λ (x : Movement). by_move x true) moved.is))
       (λ (still : IsStill).
       let kind : is_probe move.kind ≡ true = ap (λ (x : Movement). is_probe x.kind) still.is in
@@ -204,16 +200,11 @@ module _ (row : PlainRow) (seen : Seen) (m : Market) (t : Transfers) (cell : Cel
   -- where it is looked at behind that, there is room for the entry
   pub look-paid : looks_at seen t (roles_of seen) (cell_paid row seen t cell).address ≡ true → HasSpare (cell_paid row seen t cell)
   look-paid looks =
-      let both = each is_hit (is_probe move.kind) (ap (looks_at seen t (roles_of seen)) (sym (paid-address row seen t cell)) ∙ looks) in
+      let both = and_parts is_hit (is_probe move.kind) (ap (looks_at seen t (roles_of seen)) (sym (paid-address row seen t cell)) ∙ looks) in
       ⊎_elim
       (λ (moved : IsMoved). absurd (false≢true (sym moved.other ∙ sym (ap (λ (x : Movement). is_probe x.kind) moved.is) ∙ both.1)))
       (λ (still : IsStill). subst HasSpare (sym still.paid) (spare both.0))
       moved-or-still
-    where
-      each : (a b : Bool) → (a && b) ≡ true → (a ≡ true) × (b ≡ true)
-      each true true both = (refl, refl)
-      each true false both = absurd (false≢true both)
-      each false b both = absurd (false≢true both)
 
   -- the wallet that it is then, and it is kept
   pub acted-state : (hits_are : names row address ≡ any_hit address (roles_of seen)) → IsWalletCell cell → All Fits (roles_of seen) → IsPossible move

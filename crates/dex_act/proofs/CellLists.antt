@@ -3,7 +3,7 @@ use Rattle.std.proofs.Common.{◌≡◌, ℕ, zero, suc, ◌<◌, Bool, true, fa
 use Rattle.std.specs.List.{All, list_any}
 use Rattle.std.proofs.lemmas.List.{length-map}
 use Rattle.std.proofs.lemmas.List.Elements.{All-nil, All-cons, All-head, All-tail}
-use Rattle.std.proofs.lemmas.Bool.{cases_Bool, false≢true}
+use Rattle.std.proofs.lemmas.Bool.{cases_Bool, false≢true, or_parts, or_right}
 use Rattle.dex_types.specs.declared.addresses.Address.{Address}
 use Rattle.dex_types.specs.declared.movements.MoveKind.{MoveKind}
 use Rattle.dex_types.specs.declared.rows.Seen.{Seen}
@@ -16,11 +16,6 @@ use Rattle.dex_wallet.specs.CellState.{CellState}
 use Rattle.dex_act.specs.declared.places.WalletPlaces.{WalletPlaces}
 use Rattle.dex_act.specs.Wallets.{AreApart, AreAt, AreSeenAt, IsAt, IsRoleAt, cell_moved, is_among, moved_some, role_moved}
 
--- neither of two tests holds where one of them does not
-pub neither : (a b : Bool) → (a || b) ≡ false → (a ≡ false) × (b ≡ false)
-neither true b none = absurd (false≢true (sym none))
-neither false b none = (refl, none)
-
 -- ---- by address
 
 -- the address of a cell at a place is among theirs
@@ -28,11 +23,8 @@ is_among-at : (cells : List CellState) (place : ℕ) (default : CellState) → p
 is_among-at [] place default within = absurd (omega arith)
 is_among-at (first ∷ others) zero default within = rw (is_same-refl first.address) refl
 is_among-at (first ∷ others) (suc place) default within =
-    rw (is_among-at others place default (omega arith)) (either (is_same (get_or others place default).address first.address))
-  where
-    either : (a : Bool) → (a || true) ≡ true
-    either true = refl
-    either false = refl
+    or_right (is_same (get_or others place default).address first.address) (is_among (get_or others place default).address others)
+    (is_among-at others place default (omega arith))
 
 -- an address is among the cells' where one of their addresses is it
 pub is_among-any : (address : Address) (cells : List CellState) → is_among address cells ≡ list_any (is_same address) (map (λ (cell : CellState). cell.address) cells)
@@ -66,7 +58,7 @@ ChangesAt address change = (cell : CellState) → is_same address cell.address �
 pub map-none : (address : Address) (change : CellState → CellState) (cells : List CellState) → ChangesAt address change → is_among address cells ≡ false → map change cells ≡ cells
 map-none address change [] stays none = refl
 map-none address change (first ∷ others) stays none =
-    let each = neither (is_same address first.address) (is_among address others) none in
+    let each = or_parts (is_same address first.address) (is_among address others) none in
     ap (λ (cell : CellState). cell ∷ map change others) (stays first each.0)
     ∙ ap (λ (cells : List CellState). first ∷ cells) (map-none address change others stays each.1)
 
@@ -90,6 +82,15 @@ map-one address change (first ∷ others) (suc place) default apart at stays =
     ap (λ (cells : List CellState). first ∷ cells) (map-one address change others place default apart.1 there stays)
     ∙ ap (λ (cell : CellState). cell ∷ map change others) (sym (stays first other)))
     (cases_Bool (is_same address first.address))
+
+-- the cell of an address is changed at its place
+pub changed-here : (address : Address) (change moved : CellState → CellState) (cells new : List CellState) (place : ℕ) → AreApart cells → IsAt address cells place
+    → ChangesAt address change → ((cell : CellState) → is_same address cell.address ≡ true → change cell ≡ moved cell)
+    → ((default : CellState) → new ≡ set cells place (moved (get_or cells place default))) → new ≡ map change cells
+changed-here address change moved [] new place apart at stays own set_is = absurd (omega (arith, at.within))
+changed-here address change moved (first ∷ others) new place apart at stays own set_is =
+    set_is first ∙ ap (set (first ∷ others) place) (sym (own (get_or (first ∷ others) place first) (at.here first)))
+    ∙ map-one address change (first ∷ others) place first apart at stays
 
 -- ---- movements
 
@@ -203,11 +204,7 @@ role_moved-no_one row kind role amount cells none =
 pub moved-here : (row : PlainRow) (kind : MoveKind) (role : Option WalletSeen) (wallet : WalletSeen) (amount : ℕ) (cells new : List CellState) (place : ℕ) → role ≡ Some wallet
     → 0 < amount → AreApart cells → IsAt wallet.address cells place → ((default : CellState) → new ≡ set cells place (cell_moved row kind amount (get_or cells place default)))
     → new ≡ map (role_moved row kind role amount) cells
-moved-here row kind role wallet amount [] new place is some apart at moved = absurd (omega (arith, at.within))
-moved-here row kind role wallet amount (first ∷ others) new place is some apart at moved =
-    let cells : List CellState = first ∷ others in
-    let here : CellState = get_or cells place first in
-    moved first
-    ∙ ap (set cells place) (sym (role_moved-own row kind wallet amount here (at.here first) some))
-    ∙ map-one wallet.address (role_moved row kind (Some wallet) amount) cells place first apart at (role_moved-others row kind wallet amount)
+moved-here row kind role wallet amount cells new place is some apart at moved =
+    changed-here wallet.address (role_moved row kind (Some wallet) amount) (cell_moved row kind amount) cells new place apart at
+    (role_moved-others row kind wallet amount) (λ cell own. role_moved-own row kind wallet amount cell own some) moved
     ∙ ap (λ (r : Option WalletSeen). map (role_moved row kind r amount) cells) (sym is)

@@ -2,7 +2,7 @@
 use Rattle.std.proofs.Common.{◌≡◌, ℕ, ◌&&◌, ◌||◌, Bool, true, false, not, cond, List, [], ◌∷◌, map, set, get_or, Option, Some, None, refl, sym, ap, ◌∙◌, subst, arith, ⊎_elim}
 use Rattle.std.specs.List.{All}
 use Rattle.std.proofs.lemmas.List.Elements.{All-map, All-weaker}
-use Rattle.std.proofs.lemmas.Bool.{cases_Bool, cond-true, cond-false, false≢true}
+use Rattle.std.proofs.lemmas.Bool.{and_from, and_left, and_right, cases_Bool, cond-true, cond-false, false≢true, not_from_false}
 use Rattle.dex_types.specs.declared.addresses.Address.{Address}
 use Rattle.dex_types.specs.declared.movements.MoveKind.TheVariants.{Probe}
 use Rattle.dex_types.specs.declared.rows.Seen.{Seen}
@@ -17,7 +17,7 @@ use Rattle.dex_movements.specs.Amounts.{is_probe}
 use Rattle.dex_wallet.specs.CellState.{CellState, HasSpare}
 use Rattle.dex_act.specs.declared.places.WalletPlaces.{WalletPlaces}
 use Rattle.dex_act.specs.Wallets.{AreApart, AreSeenAt, CanLook, IsAt, IsRoleAt, any_hit, cell_looked, cell_moved, hits, looks_at, role_looked, role_looks, roles_of}
-use Rattle.dex_act.proofs.CellLists.{AreApart-map, AreSeenAt-map, ChangesAt, KeepsAddress, map-identity, map-one, map-same}
+use Rattle.dex_act.proofs.CellLists.{AreApart-map, AreSeenAt-map, ChangesAt, KeepsAddress, changed-here, map-identity, map-same}
 
 -- a cell that is looked at, or not
 abbrev looked-if : PlainRow → Bool → CellState → CellState
@@ -37,69 +37,45 @@ module _ (row : PlainRow) (seen : Seen) (t : Transfers) where
 
   -- ---- one role
 
-  -- a role's wallet is at the address
-  hit-own : (address : Address) (role : Option WalletSeen) (wallet : WalletSeen) → role ≡ Some wallet → hits address role ≡ true → address ≡ wallet.address
-  hit-own address role wallet is hit = is_same-true address wallet.address (ap (hits address) (sym is) ∙ hit)
-
   looked-others : (wallet : WalletSeen) (again : Bool) → ChangesAt wallet.address (role_looked row seen t (Some wallet) again)
   looked-others wallet again cell other =
-      cond-false _ _ _ (ap (λ (b : Bool). b && (not again && is_still cell.address)) (is_same-sym cell.address wallet.address ∙ other))
+      cond-false _ _ _ (and_left (is_same cell.address wallet.address) (not again && is_still cell.address) (is_same-sym cell.address wallet.address ∙ other))
 
   -- the cell at the place of its wallet is looked at
   pub looked-here : (role : Option WalletSeen) (wallet : WalletSeen) (again : Bool) (cells new : List CellState) (place : ℕ) → role ≡ Some wallet → again ≡ false
       → not (is_still wallet.address) ≡ false → AreApart cells → IsRoleAt cells (address_seen role) place
       → ((default : CellState) → new ≡ set cells place (cell_moved row Probe 0 (get_or cells place default))) → new ≡ map (role_looked row seen t role again) cells
   looked-here role wallet again cells new place is first still apart at moved =
-      here cells (subst (λ (r : Option WalletSeen). IsRoleAt cells (address_seen r) place) is at) apart moved ∙ ap (λ (r : Option WalletSeen). map (role_looked row seen t r again) cells) (sym is)
+      changed-here wallet.address (role_looked row seen t (Some wallet) again) (cell_moved row Probe 0) cells new place apart
+      (subst (λ (r : Option WalletSeen). IsRoleAt cells (address_seen r) place) is at) (looked-others wallet again)
+      (λ cell own.
+      cond-true _ _ _ (and_from (is_same cell.address wallet.address) (not again && is_still cell.address) (is_same-sym cell.address wallet.address ∙ own)
+      (and_from (not again) (is_still cell.address) (not_from_false again first)
+      (ap is_still (sym (is_same-true wallet.address cell.address own)) ∙ not-false (is_still wallet.address) still)))) moved
+      ∙ ap (λ (r : Option WalletSeen). map (role_looked row seen t r again) cells) (sym is)
     where
       not-false : (b : Bool) → not b ≡ false → b ≡ true
       not-false true is = refl
       not-false false is = sym is
 
-      here : (list : List CellState) → IsAt wallet.address list place → AreApart list
-          → ((default : CellState) → new ≡ set list place (cell_moved row Probe 0 (get_or list place default))) → new ≡ map (role_looked row seen t (Some wallet) again) list
-      here [] at apart moved = absurd (omega (arith, at.within))
-      here (one ∷ others) at apart moved =
-          let cell : CellState = get_or (one ∷ others) place one in
-          let own : is_same wallet.address cell.address ≡ true = at.here one in
-          let looks : role_looks seen t (Some wallet) again cell.address ≡ true =
-          ap (λ (b : Bool). b && (not again && is_still cell.address)) (is_same-sym cell.address wallet.address ∙ own)
-          ∙ ap (λ (b : Bool). not b && is_still cell.address) first ∙ ap is_still (sym (is_same-true wallet.address cell.address own)) ∙ not-false (is_still wallet.address) still in
-          moved one
-          ∙ ap (set (one ∷ others) place) (sym (cond-true (role_looks seen t (Some wallet) again cell.address) (cell_moved row Probe 0 cell) cell looks))
-          ∙ map-one wallet.address (role_looked row seen t (Some wallet) again) (one ∷ others) place one apart at (looked-others wallet again)
-
-  -- or none is
+  -- or none is: it was looked at before, or it is moved, or the role names none
   pub looked-none : (role : Option WalletSeen) (again : Bool) (cells : List CellState)
       → ((address : Address) → hits address role ≡ true → (not again && is_still address) ≡ false) → map (role_looked row seen t role again) cells ≡ cells
   looked-none role again cells none =
       map-identity (role_looked row seen t role again) cells (λ cell. cond-false _ _ _
-      (⊎_elim (λ (hit : hits cell.address role ≡ true). ap (λ (b : Bool). b && (not again && is_still cell.address)) hit ∙ none cell.address hit)
-      (λ (no : hits cell.address role ≡ false). ap (λ (b : Bool). b && (not again && is_still cell.address)) no)
+      (⊎_elim (λ (hit : hits cell.address role ≡ true). and_right (hits cell.address role) (not again && is_still cell.address) (none cell.address hit))
+      (λ (no : hits cell.address role ≡ false). and_left (hits cell.address role) (not again && is_still cell.address) no)
       (cases_Bool (hits cell.address role))))
 
-  -- where it was looked at before
-  pub looked-again : (role : Option WalletSeen) (again : Bool) (cells : List CellState) → again ≡ true → map (role_looked row seen t role again) cells ≡ cells
-  looked-again role again cells is = looked-none role again cells (λ address hit. ap (λ (b : Bool). not b && is_still address) is)
-
-  -- where it is moved
-  pub looked-moved : (role : Option WalletSeen) (wallet : WalletSeen) (again : Bool) (cells : List CellState) → role ≡ Some wallet → not (is_still wallet.address) ≡ true
-      → map (role_looked row seen t role again) cells ≡ cells
-  looked-moved role wallet again cells is moved =
-      looked-none role again cells (λ address hit.
-      ap (λ (b : Bool). not again && b) (ap is_still (hit-own address role wallet is hit) ∙ not-true (is_still wallet.address) moved) ∙ and-false (not again))
+  pub still-not : (role : Option WalletSeen) (wallet : WalletSeen) (again : Bool) → role ≡ Some wallet → not (is_still wallet.address) ≡ true
+      → (address : Address) → hits address role ≡ true → (not again && is_still address) ≡ false
+  still-not role wallet again is moved address hit =
+      and_right (not again) (is_still address)
+      (ap is_still (is_same-true address wallet.address (ap (hits address) (sym is) ∙ hit)) ∙ not-true (is_still wallet.address) moved)
     where
-      and-false : (b : Bool) → (b && false) ≡ false
-      and-false true = refl
-      and-false false = refl
-
       not-true : (b : Bool) → not b ≡ true → b ≡ false
       not-true true is = sym is
       not-true false is = refl
-
-  -- where the role names none
-  pub looked-no_one : (role : Option WalletSeen) (again : Bool) (cells : List CellState) → role ≡ None → map (role_looked row seen t role again) cells ≡ cells
-  looked-no_one role again cells is = looked-none role again cells (λ address hit. absurd (false≢true (ap (hits address) (sym is) ∙ hit)))
 
   -- ---- one role after another, from the last
 

@@ -1,7 +1,9 @@
-use Rattle.std.proofs.Common.{sym, ◌∙◌}
+use Rattle.std.proofs.Common.{not, sym, ap, ◌∙◌}
+use Rattle.std.proofs.lemmas.Bool.{and_left, false≢true, not_from_true}
 use Rattle.dex_types.specs.Rows.{row_of}
 use Rattle.dex_movements.specs.Amounts.{transfers_of}
-use Rattle.dex_act.proofs.Probing.{looked-again, looked-here, looked-moved, looked-no_one}
+use Rattle.dex_act.specs.Wallets.{hits}
+use Rattle.dex_act.proofs.Probing.{looked-here, looked-none, still-not}
 use Rattle.dex_act.proofs.probes.probe.Goals.{else-not-again-via-then-not-again+else-not-is_moved, else-not-again-via-else-not-again}
 use Rattle.dex_act.proofs.probes.probe.Goals as goal
 
@@ -12,11 +14,14 @@ returns-then-not-is_moved c =
 
 pub returns-else-not-again : goal.returns-else-not-again
 returns-else-not-again c =
+    sym (looked-none (row_of c.args.row.now) c.args.seen.now (transfers_of c.args.amounts.now) c.args.role.now c.args.again c.args.cells.now (λ address hit.
     elim c.else-not-again.branch [
-      else-not-again-via-then-not-again+else-not-is_moved w ↦ sym (looked-moved (row_of c.args.row.now) c.args.seen.now (transfers_of c.args.amounts.now) c.args.role.now c.in-Some.wallet c.args.again
-      c.args.cells.now c.in-Some.is (sym w.is_moved.ensures ∙ w.if-not-is_moved.false))
-    | else-not-again-via-else-not-again w ↦ sym (looked-again (row_of c.args.row.now) c.args.seen.now (transfers_of c.args.amounts.now) c.args.role.now c.args.again c.args.cells.now w.if-not-again.false)
-    ]
+      else-not-again-via-then-not-again+else-not-is_moved w ↦ still-not (row_of c.args.row.now) c.args.seen.now (transfers_of c.args.amounts.now) c.args.role.now c.in-Some.wallet c.args.again
+      c.in-Some.is (sym w.is_moved.ensures ∙ w.if-not-is_moved.false) address hit
+    | else-not-again-via-else-not-again w ↦ and_left (not c.args.again) _ (not_from_true c.args.again w.if-not-again.false)
+    ]))
 
 pub returns-in-None : goal.returns-in-None
-returns-in-None c = sym (looked-no_one (row_of c.args.row.now) c.args.seen.now (transfers_of c.args.amounts.now) c.args.role.now c.args.again c.args.cells.now c.in-None.is)
+returns-in-None c =
+    sym (looked-none (row_of c.args.row.now) c.args.seen.now (transfers_of c.args.amounts.now) c.args.role.now c.args.again c.args.cells.now
+    (λ address hit. absurd (false≢true (ap (hits address) (sym c.in-None.is) ∙ hit))))
