@@ -1,5 +1,5 @@
 -- Cells that a row looks at.
-use Rattle.std.proofs.Common.{◌≡◌, ℕ, ◌&&◌, ◌||◌, Bool, true, false, not, cond, List, [], ◌∷◌, map, set, get_or, Option, Some, None, refl, sym, ap, ◌∙◌, subst, arith, ⊎_elim}
+use Rattle.std.proofs.Common.{◌≡◌, ℕ, ◌&&◌, ◌||◌, Bool, true, false, not, cond, List, [], ◌∷◌, map, set, get_or, Option, Some, refl, sym, ap, ◌∙◌, subst, ⊎_elim}
 use Rattle.std.specs.List.{All}
 use Rattle.std.proofs.lemmas.List.Elements.{All-map, All-weaker}
 use Rattle.std.proofs.lemmas.Bool.{and_from, and_left, and_right, cases_Bool, cond-true, cond-false, false≢true, not_from_false}
@@ -16,7 +16,7 @@ use Rattle.dex_fold.proofs.MappedLists.{map-map}
 use Rattle.dex_movements.specs.Amounts.{is_probe}
 use Rattle.dex_wallet.specs.CellState.{CellState, HasSpare}
 use Rattle.dex_act.specs.declared.places.WalletPlaces.{WalletPlaces}
-use Rattle.dex_act.specs.Wallets.{AreApart, AreSeenAt, CanLook, IsAt, IsRoleAt, any_hit, cell_looked, cell_moved, hits, looks_at, role_looked, role_looks, roles_of}
+use Rattle.dex_act.specs.Wallets.{AreApart, AreSeenAt, CanLook, IsRoleAt, any_hit, cell_looked, cell_moved, hits, looks_at, role_looked, role_looks, roles_of}
 use Rattle.dex_act.proofs.CellLists.{AreApart-map, AreSeenAt-map, ChangesAt, KeepsAddress, changed-here, map-identity, map-same}
 
 -- a cell that is looked at, or not
