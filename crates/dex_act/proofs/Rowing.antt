@@ -41,6 +41,24 @@ seen-at row seen market cells at for among =
     (subst (λ (r : Option Address). AreAt cells row.coin row.pc r (address_seen seen.referrer) at) (sym for.sees.discount)
     (subst (λ (r : Option Address). AreAt cells row.coin row.pc row.discount r at) (sym for.sees.referrer) among)))
 
+-- ---- looks
+
+-- what the looks ask of the cells behind what was paid, and what they leave
+module _ (row : Row) (seen : Seen) (market : MarketCellState) (cells paid : List CellState) (sees : SeesCells seen cells) (amounts : Amounts) (t : Transfers)
+    (told : transfers_of amounts ≡ t) (moves : RowMoves seen (market_at market) t) (paid_is : paid ≡ map (cell_paid (row_of row) seen t) cells) where
+  pub look-behind : (places : WalletPlaces) → AreSeenAt cells seen places → CanLook seen places (transfers_of amounts) paid
+  look-behind places at =
+      subst (λ (x : Transfers). CanLook seen places x paid) (sym told)
+      (subst (CanLook seen places t) (sym paid_is) (can-look (row_of row) seen (market_at market) t cells places moves sees at))
+
+  pub looked-behind : (new : List CellState) → new ≡ map (cell_looked (row_of row) seen (transfers_of amounts) (roles_of seen)) paid
+      → new ≡ map (cell_acted (row_of row) seen t) cells
+  looked-behind new is =
+      is ∙ ap (λ (x : Transfers). map (cell_looked (row_of row) seen x (roles_of seen)) paid) told
+      ∙ ap (map (cell_looked (row_of row) seen t (roles_of seen))) paid_is ∙ acted-all (row_of row) seen t cells
+
+-- ---- a row that is done
+
 module _ (row : Row) (seen : Seen) (plan : Plan) (market : MarketCellState) (cells : List CellState) (for : IsFor row seen market) (cell : IsMarketCell market)
     (sees : SeesCells seen cells) (places : WalletPlaces) (at : AreSeenAt cells seen places) (decided : Ok plan ≡ answer_on row seen market) (amounts : Amounts) (told : transfers_of amounts ≡ plan_transfers plan) where
   abbrev m : Market
@@ -53,7 +71,7 @@ module _ (row : Row) (seen : Seen) (plan : Plan) (market : MarketCellState) (cel
   moves = moves-of row seen market for cell
 
   -- what the plan moves is what the step moves
-  pub told-step : transfers_of amounts ≡ t
+  told-step : transfers_of amounts ≡ t
   told-step = told ∙ planned-moves plan (request_of (row_of row)) seen m decided
 
   pub pays : CanPay seen places amounts.coin_in amounts.pc_in cells
@@ -84,30 +102,21 @@ module _ (row : Row) (seen : Seen) (plan : Plan) (market : MarketCellState) (cel
         (subst (CanBePaid seen places (paid_out m t).coin (paid_out m t).pc (paid_out m t).referrer) (sym behind)
         (can-be-paid (row_of row) seen m t cells places moves sees at))
 
-    pub behind-both : (new : List CellState)
-        → new ≡ map (cell_credited (row_of row) seen (amount_in payouts.coin) (amount_in payouts.pc) (amount_in payouts.referrer)) debited
-        → new ≡ map (cell_paid (row_of row) seen t) cells
-    behind-both new is_new =
-        is_new
-        ∙ ap (λ (p : Payouts). map (cell_credited (row_of row) seen (amount_in p.coin) (amount_in p.pc) (amount_in p.referrer)) debited) paid
-        ∙ ap (map (cell_credited (row_of row) seen (amount_in (paid_out m t).coin) (amount_in (paid_out m t).pc) (amount_in (paid_out m t).referrer))) behind
-        ∙ paid-whole (row_of row) seen m t cells
+    module _ (credited : List CellState)
+        (credited_is : credited ≡ map (cell_credited (row_of row) seen (amount_in payouts.coin) (amount_in payouts.pc) (amount_in payouts.referrer)) debited) where
+      behind-both : credited ≡ map (cell_paid (row_of row) seen t) cells
+      behind-both =
+          credited_is
+          ∙ ap (λ (p : Payouts). map (cell_credited (row_of row) seen (amount_in p.coin) (amount_in p.pc) (amount_in p.referrer)) debited) paid
+          ∙ ap (map (cell_credited (row_of row) seen (amount_in (paid_out m t).coin) (amount_in (paid_out m t).pc) (amount_in (paid_out m t).referrer))) behind
+          ∙ paid-whole (row_of row) seen m t cells
 
--- ---- looks
+      pub looks : CanLook seen places (transfers_of amounts) credited
+      looks = look-behind row seen market cells credited sees amounts t told-step moves behind-both places at
 
--- what the looks ask of the cells behind what was paid, and what they leave
-module _ (row : Row) (seen : Seen) (market : MarketCellState) (cells paid : List CellState) (sees : SeesCells seen cells) (amounts : Amounts) (t : Transfers)
-    (told : transfers_of amounts ≡ t) (moves : RowMoves seen (market_at market) t) (paid_is : paid ≡ map (cell_paid (row_of row) seen t) cells) where
-  pub look-behind : (places : WalletPlaces) → AreSeenAt cells seen places → CanLook seen places (transfers_of amounts) paid
-  look-behind places at =
-      subst (λ (x : Transfers). CanLook seen places x paid) (sym told)
-      (subst (CanLook seen places t) (sym paid_is) (can-look (row_of row) seen (market_at market) t cells places moves sees at))
-
-  pub looked-behind : (new : List CellState) → new ≡ map (cell_looked (row_of row) seen (transfers_of amounts) (roles_of seen)) paid
-      → new ≡ map (cell_acted (row_of row) seen t) cells
-  looked-behind new is =
-      is ∙ ap (λ (x : Transfers). map (cell_looked (row_of row) seen x (roles_of seen)) paid) told
-      ∙ ap (map (cell_looked (row_of row) seen t (roles_of seen))) paid_is ∙ acted-all (row_of row) seen t cells
+      pub done : (new : List CellState) → new ≡ map (cell_looked (row_of row) seen (transfers_of amounts) (roles_of seen)) credited
+          → new ≡ map (cell_acted (row_of row) seen t) cells
+      done = looked-behind row seen market cells credited sees amounts t told-step moves behind-both
 
 -- ---- rows that move nothing
 

@@ -1,5 +1,4 @@
-use Rattle.dex_cell.specs.CellState.{step_on}
-use Rattle.dex_act.proofs.Rowing.{behind-both, coin-paid, gets, look-behind, looked-behind, moves-of, pays, pc-paid, told-step}
+use Rattle.dex_act.proofs.Rowing.{coin-paid, done, gets, looks, pays, pc-paid}
 use Rattle.dex_act.proofs.rows.accept.Goals as goal
 
 pub debits-coin-requires : goal.debits-coin-requires
@@ -27,26 +26,14 @@ credits-requires c =
 
 pub probes-requires : goal.probes-requires
 probes-requires c =
-    look-behind c.args.row.now c.args.seen.now c.args.market.now c.args.wallets.now c.credits.new.cells c.requires.wallets c.amounts_of-amounts.result
-    (step_on c.args.row.now c.args.seen.now c.args.market.now).transfers
-    (told-step c.args.row.now c.args.seen.now c.args.plan.now c.args.market.now c.args.wallets.now c.requires.row c.requires.market c.requires.wallets
-    c.args.places.now c.requires.places c.requires.decided c.amounts_of-amounts.result c.amounts_of-amounts.ensures)
-    (moves-of c.args.row.now c.args.seen.now c.args.market.now c.requires.row c.requires.market)
-    (behind-both c.args.row.now c.args.seen.now c.args.plan.now c.args.market.now c.args.wallets.now c.requires.row c.requires.market c.requires.wallets
+    looks c.args.row.now c.args.seen.now c.args.plan.now c.args.market.now c.args.wallets.now c.requires.row c.requires.market c.requires.wallets
     c.args.places.now c.requires.places c.requires.decided c.amounts_of-amounts.result c.amounts_of-amounts.ensures
     c.debits-coin.new.cells c.debits-coin.ensures.moved c.carry_out-payouts.result c.carry_out-payouts.ensures.paid
-    c.credits.new.cells c.credits.ensures)
-    c.args.places.now c.requires.places
+    c.credits.new.cells c.credits.ensures
 
 pub returns-clause-wallets : goal.returns-clause-wallets
 returns-clause-wallets c =
-    looked-behind c.args.row.now c.args.seen.now c.args.market.now c.args.wallets.now c.credits.new.cells c.requires.wallets c.amounts_of-amounts.result
-    (step_on c.args.row.now c.args.seen.now c.args.market.now).transfers
-    (told-step c.args.row.now c.args.seen.now c.args.plan.now c.args.market.now c.args.wallets.now c.requires.row c.requires.market c.requires.wallets
-    c.args.places.now c.requires.places c.requires.decided c.amounts_of-amounts.result c.amounts_of-amounts.ensures)
-    (moves-of c.args.row.now c.args.seen.now c.args.market.now c.requires.row c.requires.market)
-    (behind-both c.args.row.now c.args.seen.now c.args.plan.now c.args.market.now c.args.wallets.now c.requires.row c.requires.market c.requires.wallets
+    done c.args.row.now c.args.seen.now c.args.plan.now c.args.market.now c.args.wallets.now c.requires.row c.requires.market c.requires.wallets
     c.args.places.now c.requires.places c.requires.decided c.amounts_of-amounts.result c.amounts_of-amounts.ensures
     c.debits-coin.new.cells c.debits-coin.ensures.moved c.carry_out-payouts.result c.carry_out-payouts.ensures.paid
-    c.credits.new.cells c.credits.ensures)
-    c.probes.new.cells c.probes.ensures
+    c.credits.new.cells c.credits.ensures c.probes.new.cells c.probes.ensures
