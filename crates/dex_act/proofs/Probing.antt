@@ -16,8 +16,8 @@ use Rattle.dex_fold.proofs.MappedLists.{map-map}
 use Rattle.dex_movements.specs.Amounts.{is_probe}
 use Rattle.dex_wallet.specs.CellState.{CellState, HasSpare}
 use Rattle.dex_act.specs.declared.places.WalletPlaces.{WalletPlaces}
-use Rattle.dex_act.specs.Wallets.{AreApart, AreSeenAt, CanLook, IsRoleAt, any_hit, cell_looked, cell_moved, hits, looks_at, role_looked, role_looks, roles_of}
-use Rattle.dex_act.proofs.CellLists.{AreApart-map, AreSeenAt-map, ChangesAt, KeepsAddress, changed-here, map-identity, map-same}
+use Rattle.dex_act.specs.Wallets.{AreApart, CanLook, CanLookAs, IsRoleAt, any_hit, cell_looked, cell_moved, hits, looks_at, role_looked, role_looks, roles_of}
+use Rattle.dex_act.proofs.CellLists.{AreApart-map, ChangesAt, IsRoleAt-map, KeepsAddress, changed-here, map-identity, map-same}
 
 -- a cell that is looked at, or not
 abbrev looked-if : PlainRow → Bool → CellState → CellState
@@ -102,10 +102,10 @@ module _ (row : PlainRow) (seen : Seen) (t : Transfers) where
   abbrev pub AreLooked : List (Option WalletSeen) → List CellState → List CellState → Type 0
   AreLooked roles start cells = cells ≡ map (cell_looked row seen t roles) start
 
-  pub looked-start : (cells : List CellState) → AreLooked [] cells cells
+  looked-start : (cells : List CellState) → AreLooked [] cells cells
   looked-start cells = sym (map-identity (cell_looked row seen t []) cells (λ cell. refl))
 
-  pub looked-next : (role : Option WalletSeen) (later : List (Option WalletSeen)) (again : Bool) (start cells new : List CellState) → IsAgain role later again
+  looked-next : (role : Option WalletSeen) (later : List (Option WalletSeen)) (again : Bool) (start cells new : List CellState) → IsAgain role later again
       → AreLooked later start cells → new ≡ map (role_looked row seen t role again) cells → AreLooked (role ∷ later) start new
   looked-next role later again start cells new is before after =
       after ∙ ap (map (role_looked row seen t role again)) before
@@ -117,7 +117,7 @@ module _ (row : PlainRow) (seen : Seen) (t : Transfers) where
   abbrev HasRoom : List (Option WalletSeen) → List CellState → Type 0
   HasRoom roles cells = All (λ (cell : CellState). looks_at seen t roles cell.address ≡ true → HasSpare cell) cells
 
-  pub look-later : (role : Option WalletSeen) (later : List (Option WalletSeen)) (cells : List CellState) → HasRoom (role ∷ later) cells → HasRoom later cells
+  look-later : (role : Option WalletSeen) (later : List (Option WalletSeen)) (cells : List CellState) → HasRoom (role ∷ later) cells → HasRoom later cells
   look-later role later cells can =
       All-weaker (λ (cell : CellState). looks_at seen t (role ∷ later) cell.address ≡ true → HasSpare cell)
       (λ (cell : CellState). looks_at seen t later cell.address ≡ true → HasSpare cell)
@@ -128,16 +128,21 @@ module _ (row : PlainRow) (seen : Seen) (t : Transfers) where
       wider true true still is = is
       wider true false still is = absurd (false≢true is)
 
-  -- and has it still before its own role
-  pub look-role : (role : Option WalletSeen) (later : List (Option WalletSeen)) (again : Bool) (start cells : List CellState) → IsAgain role later again
-      → AreLooked later start cells → HasRoom (role ∷ later) start
-      → All (λ (cell : CellState). role_looks seen t role again cell.address ≡ true → HasSpare cell) cells
-  look-role role later again start cells is before can =
+  -- and can be looked at as its own role's
+  look-role : (role : Option WalletSeen) (later : List (Option WalletSeen)) (again : Bool) (place : ℕ) (start cells : List CellState) → IsAgain role later again
+      → AreLooked later start cells → HasRoom (role ∷ later) start → AreApart start → IsRoleAt start (address_seen role) place
+      → CanLookAs seen t role place again cells
+  look-role role later again place start cells is before can apart here =
       let Can : CellState → Type 0 = λ cell. role_looks seen t role again cell.address ≡ true → HasSpare cell in
-      subst (All Can) (sym before)
-      (All-map Can (cell_looked row seen t later) start
-      (All-weaker (λ (cell : CellState). looks_at seen t (role ∷ later) cell.address ≡ true → HasSpare cell) (λ (cell : CellState). Can (cell_looked row seen t later cell))
-      (λ cell spare looks. own cell spare (ap (role_looks seen t role again) (sym (looked-address later cell)) ∙ looks)) start can))
+      let change : CellState → CellState = cell_looked row seen t later in
+      subst (CanLookAs seen t role place again) (sym before)
+      (record {
+        apart = AreApart-map change start (looked-address later) apart;
+        here = IsRoleAt-map change start (address_seen role) place (looked-address later) here;
+        spare = All-map Can change start
+            (All-weaker (λ (cell : CellState). looks_at seen t (role ∷ later) cell.address ≡ true → HasSpare cell) (λ (cell : CellState). Can (change cell))
+            (λ cell spare looks. own cell spare (ap (role_looks seen t role again) (sym (looked-address later cell)) ∙ looks)) start can);
+      })
     where
       own : (cell : CellState) → (looks_at seen t (role ∷ later) cell.address ≡ true → HasSpare cell) → role_looks seen t role again cell.address ≡ true
           → HasSpare (cell_looked row seen t later cell)
@@ -152,50 +157,35 @@ module _ (row : PlainRow) (seen : Seen) (t : Transfers) where
 
   -- ---- all roles
 
-  module _ (places : WalletPlaces) (start : List CellState) (can : CanLook seen places t start) where
-    -- the cells behind these roles
-    pub record Looking (later : List (Option WalletSeen)) (cells : List CellState) : Type 0 where
-      pub apart : AreApart cells
-      pub here : AreSeenAt cells seen places
-      pub looked : AreLooked later start cells
+  abbrev from_pc : List (Option WalletSeen)
+  from_pc = seen.pc ∷ seen.discount ∷ seen.referrer ∷ []
 
-    behind : (later : List (Option WalletSeen)) (cells : List CellState) → AreLooked later start cells → Looking later cells
-    behind later cells is = record {
-      apart = subst AreApart (sym is) (AreApart-map (cell_looked row seen t later) start (looked-address later) can.apart);
-      here = subst (λ (l : List CellState). AreSeenAt l seen places) (sym is) (AreSeenAt-map (cell_looked row seen t later) start seen places (looked-address later) can.at);
-      looked = is;
-    }
+  abbrev from_discount : List (Option WalletSeen)
+  from_discount = seen.discount ∷ seen.referrer ∷ []
 
-    module _ (one : List CellState) (one_is : one ≡ map (role_looked row seen t seen.referrer false) start) where
-      pub behind-one : Looking (seen.referrer ∷ []) one
-      behind-one = behind (seen.referrer ∷ []) one (looked-next seen.referrer [] false start start one (λ address hit. refl) (looked-start start) one_is)
+  module _ (at : WalletPlaces) (start one : List CellState) (can : CanLook seen at t start) (one_is : one ≡ map (role_looked row seen t seen.referrer false) start)
+      (again : Bool) (again_is : IsAgain seen.discount (seen.referrer ∷ []) again) where
+    behind-one : AreLooked (seen.referrer ∷ []) start one
+    behind-one = looked-next seen.referrer [] false start start one (λ address hit. refl) (looked-start start) one_is
 
-      module _ (again : Bool) (again_is : IsAgain seen.discount (seen.referrer ∷ []) again) where
-        pub can-two : All (λ (cell : CellState). role_looks seen t seen.discount again cell.address ≡ true → HasSpare cell) one
-        can-two =
-            look-role seen.discount (seen.referrer ∷ []) again start one again_is behind-one.looked
-            (look-later seen.pc (seen.discount ∷ seen.referrer ∷ []) start (look-later seen.coin (seen.pc ∷ seen.discount ∷ seen.referrer ∷ []) start can.spare))
+    pub can-two : CanLookAs seen t seen.discount at.discount again one
+    can-two =
+        look-role seen.discount (seen.referrer ∷ []) again at.discount start one again_is behind-one
+        (look-later seen.pc from_discount start (look-later seen.coin from_pc start can.spare)) can.apart can.at.discount
 
-        module _ (two : List CellState) (two_is : two ≡ map (role_looked row seen t seen.discount again) one) where
-          pub behind-two : Looking (seen.discount ∷ seen.referrer ∷ []) two
-          behind-two = behind (seen.discount ∷ seen.referrer ∷ []) two (looked-next seen.discount (seen.referrer ∷ []) again start one two again_is behind-one.looked two_is)
+    module _ (two : List CellState) (two_is : two ≡ map (role_looked row seen t seen.discount again) one) (pc_again : Bool) (pc_is : IsAgain seen.pc from_discount pc_again) where
+      behind-two : AreLooked from_discount start two
+      behind-two = looked-next seen.discount (seen.referrer ∷ []) again start one two again_is behind-one two_is
 
-          module _ (pc_again : Bool) (pc_again_is : IsAgain seen.pc (seen.discount ∷ seen.referrer ∷ []) pc_again) where
-            pub can-three : All (λ (cell : CellState). role_looks seen t seen.pc pc_again cell.address ≡ true → HasSpare cell) two
-            can-three =
-                look-role seen.pc (seen.discount ∷ seen.referrer ∷ []) pc_again start two pc_again_is behind-two.looked
-                (look-later seen.coin (seen.pc ∷ seen.discount ∷ seen.referrer ∷ []) start can.spare)
+      pub can-three : CanLookAs seen t seen.pc at.pc pc_again two
+      can-three = look-role seen.pc from_discount pc_again at.pc start two pc_is behind-two (look-later seen.coin from_pc start can.spare) can.apart can.at.pc
 
-            module _ (three : List CellState) (three_is : three ≡ map (role_looked row seen t seen.pc pc_again) two) where
-              pub behind-three : Looking (seen.pc ∷ seen.discount ∷ seen.referrer ∷ []) three
-              behind-three =
-                  behind (seen.pc ∷ seen.discount ∷ seen.referrer ∷ []) three
-                  (looked-next seen.pc (seen.discount ∷ seen.referrer ∷ []) pc_again start two three pc_again_is behind-two.looked three_is)
+      module _ (three : List CellState) (three_is : three ≡ map (role_looked row seen t seen.pc pc_again) two) (coin_again : Bool) (coin_is : IsAgain seen.coin from_pc coin_again) where
+        behind-three : AreLooked from_pc start three
+        behind-three = looked-next seen.pc from_discount pc_again start two three pc_is behind-two three_is
 
-              module _ (coin_again : Bool) (coin_again_is : IsAgain seen.coin (seen.pc ∷ seen.discount ∷ seen.referrer ∷ []) coin_again) where
-                pub can-four : All (λ (cell : CellState). role_looks seen t seen.coin coin_again cell.address ≡ true → HasSpare cell) three
-                can-four = look-role seen.coin (seen.pc ∷ seen.discount ∷ seen.referrer ∷ []) coin_again start three coin_again_is behind-three.looked can.spare
+        pub can-four : CanLookAs seen t seen.coin at.coin coin_again three
+        can-four = look-role seen.coin from_pc coin_again at.coin start three coin_is behind-three can.spare can.apart can.at.coin
 
-                pub behind-four : (new : List CellState) → new ≡ map (role_looked row seen t seen.coin coin_again) three → AreLooked (roles_of seen) start new
-                behind-four new is =
-                    looked-next seen.coin (seen.pc ∷ seen.discount ∷ seen.referrer ∷ []) coin_again start three new coin_again_is behind-three.looked is
+        pub behind-four : (new : List CellState) → new ≡ map (role_looked row seen t seen.coin coin_again) three → AreLooked (roles_of seen) start new
+        behind-four new is = looked-next seen.coin from_pc coin_again start three new coin_is behind-three is

@@ -304,6 +304,13 @@ abbrev pub role_looks : Seen → Transfers → Option WalletSeen → Bool → Ad
 role_looks seen t role again address =
     hits address role && (not again && is_probe (movement_of seen t address).kind)
 
+-- and can: its cell stands at this place, with room for an entry
+pub record CanLookAs (seen : Seen) (t : Transfers) (role : Option WalletSeen) (place : ℕ) (again : Bool)
+    (cells : List CellState) : Type 0 where
+  pub apart : AreApart cells
+  pub here : IsRoleAt cells (address_seen role) place
+  pub spare : All (λ (cell : CellState). role_looks seen t role again cell.address ≡ true → HasSpare cell) cells
+
 -- a cell after a row looked at the wallet of one role
 abbrev pub role_looked : PlainRow → Seen → Transfers → Option WalletSeen → Bool → CellState → CellState
 role_looked row seen t role again cell =

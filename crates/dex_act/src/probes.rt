@@ -1,15 +1,13 @@
 //! The cells of wallets that a row looks at.
 
 ghost use Rattle.std.specs.Prelude.{◌≡◌, ◌<◌, ◌∷◌, [], true, length, map, slice_set};
-ghost use Rattle.std.specs.List.{All};
 ghost use Rattle.dex_types.specs.declared.addresses.Address.{Address as AddressOf};
 ghost use Rattle.dex_types.specs.declared.movements.MoveKind.TheVariants.{Probe};
 ghost use Rattle.dex_types.specs.Rows.{row_of};
-ghost use Rattle.dex_types.specs.Wallets.{address_seen};
 ghost use Rattle.dex_movements.specs.Amounts.{transfers_of};
 ghost use Rattle.dex_wallet.specs.CellState.{HasSpare};
-ghost use Rattle.dex_act.specs.Wallets.{AreApart, AtPlace, CanLook, IsRoleAt, any_hit, cell_looked, cell_moved};
-ghost use Rattle.dex_act.specs.Wallets.{hits, role_looked, role_looks, roles_of};
+ghost use Rattle.dex_act.specs.Wallets.{AtPlace, CanLook, CanLookAs, any_hit, cell_looked, cell_moved, hits};
+ghost use Rattle.dex_act.specs.Wallets.{role_looked, roles_of};
 
 use crate::places::WalletPlaces;
 use crate::wallets::is_one;
@@ -38,10 +36,7 @@ fn probe(
     place: usize,
     again: bool,
 )
-    requires apart { AreApart cells.old }
-    requires here { IsRoleAt cells.old (address_seen role.now) place }
-    requires spare { All (λ cell. role_looks seen.now (transfers_of amounts.now) role.now again cell.address ≡ true
-        → HasSpare cell) cells.old }
+    requires { CanLookAs seen.now (transfers_of amounts.now) role.now place again cells.old }
     ensures { cells.new
         ≡ map (role_looked (row_of row.entry.now) seen.now (transfers_of amounts.now) role.entry.now again) cells.old }
 {
