@@ -5,7 +5,9 @@ pub mod Known
 pub mod Markets
 pub mod Mints
 pub mod Names
+pub mod Places
 pub mod Rows
 pub mod ScriptInside
 pub mod Scripts
+pub mod Starts
 pub mod Telling

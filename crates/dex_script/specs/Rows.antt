@@ -234,6 +234,13 @@ with_swap draft number words =
     unless (is_unknown start first.parties) UnknownLabel
     (unless (is_unknown start second.parties) UnknownLabel (with_legs draft number first second))
 
+-- a row declares accounts, or chooses the program
+abbrev pub IsSetup : Statement → Type 0
+IsSetup (row.Clock now) = ⊥
+IsSetup (row.Instruction words) = ⊥
+IsSetup (row.Swap words) = ⊥
+IsSetup _ = Unit {0}
+
 -- the script with what a row of this number states
 abbrev pub with_statement : PlainDraft → ℕ → Statement → Result PlainDraft FaultKind
 with_statement draft number (row.Program program) = with_program draft program
