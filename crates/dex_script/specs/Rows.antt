@@ -182,6 +182,10 @@ with_item draft rows lane = record draft {
   items = draft.items + 1;
 }
 
+-- the draft with one more row
+abbrev pub with_one : PlainDraft → PlainRow → PlainDraft
+with_one draft row = record draft { script = record draft.script { rows = draft.script.rows ++ row ∷ [] } }
+
 -- an instruction row of known names, with the clock of the last `clock` row before it
 unfoldable pub with_known : PlainDraft → ℕ → PlainInstruction → Result PlainDraft FaultKind
 with_known draft number words =

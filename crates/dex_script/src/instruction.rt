@@ -1,6 +1,6 @@
 //! Instruction rows, behind the rows before them.
 
-ghost use Rattle.std.specs.Prelude.{◌≡◌, [], ◌∷◌, ◌++◌, OnOk, map};
+ghost use Rattle.std.specs.Prelude.{◌≡◌, [], ◌∷◌, ◌++◌, true, IfErr, OnOk, map};
 ghost use Rattle.dex_types.specs.Accounts.{PlainAccounts};
 ghost use Rattle.dex_types.specs.Rows.{row_of};
 ghost use Rattle.dex_script.specs.Names.{IsReading, StandAt};
@@ -11,7 +11,7 @@ ghost use Rattle.dex_script.specs.Telling.{TellsIn, draft_of, start_of};
 use crate::draft::Draft;
 use crate::swap::is_bad_swap;
 use dex_statement::{FaultKind, InstructionWords, RowError};
-use dex_types::{NoMemory, Row, RowPlaces};
+use dex_types::{Row, RowPlaces};
 
 impl Draft {
     /// Whether no instruction row of this number finds room.
@@ -43,13 +43,7 @@ impl Draft {
         self.is_first = false;
         self.is_late = true;
         self.items += 1;
-        push(
-            &mut self.rows,
-            places,
-            instruction_row(number, self.clock, words),
-            at,
-        )?;
-        Ok(())
+        self.push_row(places, number, words, at)
     }
 
     /// Adds the two legs of a swap row of this number, whose markets and wallets stand at these places.
@@ -83,19 +77,33 @@ impl Draft {
         self.is_first = false;
         self.is_late = true;
         self.items += 1;
+        self.push_row(places, number, first, first_at)?;
+        self.push_row(places, number, second, second_at)
+    }
+
+    /// One more row of this number, at these places. Where memory is wanting the rows stay.
+    fn push_row(
+        &mut self,
+        places: &mut Vec<RowPlaces>,
+        number: u32,
+        words: InstructionWords,
+        at: RowPlaces,
+    ) -> Result<(), RowError>
+        requires reading { IsReading (draft_of self.old) places.old.items }
+        requires late { self.old.is_late ≡ true }
+        requires at { StandAt (start_of self.old.start) words.parties at }
+        ensures memory { IfErr result (λ error. error ≡ RowError.NoMemory) }
+        ensures row { OnOk result (draft_of self.new
+            ≡ spec.with_one (draft_of self.old) (spec.instruction_row number self.old.clock words)) }
+        ensures reading { IsReading (draft_of self.new) places.new.items }
+        ensures start { start_of self.new.start ≡ start_of self.old.start }
+    {
         push(
             &mut self.rows,
             places,
-            instruction_row(number, self.clock, first),
-            first_at,
-        )?;
-        push(
-            &mut self.rows,
-            places,
-            instruction_row(number, self.clock, second),
-            second_at,
-        )?;
-        Ok(())
+            instruction_row(number, self.clock, words),
+            at,
+        )
     }
 }
 
@@ -105,7 +113,8 @@ fn push(
     places: &mut Vec<RowPlaces>,
     row: Row,
     at: RowPlaces,
-) -> Result<(), NoMemory>
+) -> Result<(), RowError>
+    ensures memory { IfErr result (λ error. error ≡ RowError.NoMemory) }
     ensures row { OnOk result (map row_of rows.new.items ≡ map row_of rows.old.items ++ (row_of row ∷ [])) }
     ensures placed { (start : PlainAccounts) → IsPlaced start (row_of row) at
         → ArePlaced start (map row_of rows.old.items) places.old.items
