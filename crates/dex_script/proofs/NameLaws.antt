@@ -1,5 +1,5 @@
 -- The places that are kept for look-ups.
-use Rattle.std.proofs.Common.{◌≡◌, ◌∙◌, ◌+◌, ◌-◌, ◌<◌, ◌≤◌, ◌||◌, ℕ, ℤ, zero, suc, Bool, true, false, not, cond, List, [], ◌∷◌, ◌++◌, Option, Some, None, ap, append_assoc, arith, drop, get_or, length, map, refl, subst, sym}
+use Rattle.std.proofs.Common.{◌≡◌, ◌∙◌, ◌+◌, ◌-◌, ◌<◌, ◌≤◌, ◌||◌, ℕ, ℤ, zero, suc, Bool, true, false, not, cond, List, [], ◌∷◌, Option, Some, None, ap, arith, drop, get_or, length, map, refl, subst, sym}
 use Rattle.std.specs.List.{list_any, position, position_from}
 use Rattle.std.specs.Option.{is_some}
 use Rattle.std.proofs.lemmas.Iterator.Adapters.{position_from-zero}
@@ -8,7 +8,6 @@ use Rattle.dex_types.specs.declared.addresses.Address.{Address}
 use Rattle.dex_types.specs.declared.rows.RowPlaces.{RowPlaces}
 use Rattle.dex_types.specs.Accounts.{PlainAccount, PlainAccounts, PlainMarketAccounts}
 use Rattle.dex_types.specs.Addresses.{is_same}
-use Rattle.dex_types.specs.Rows.{PlainRow}
 use Rattle.dex_laws.proofs.TraderLaws.{is_same-sym}
 use Rattle.dex_statement.specs.Stated.{PlainInstruction, PlainParties}
 use Rattle.dex_script.specs.declared.names.Names.{Names}
@@ -183,9 +182,3 @@ pub row-placed : (start : PlainAccounts) (number : ℕ) (now : ℤ) (words : Pla
     → IsPlaced start (instruction_row number now words) places
 row-placed start number now words places at =
     record { market = at.market; coin = at.coin; pc = at.pc; discount = at.discount; referrer = at.referrer }
-
--- two rows behind others, one after the other
-pub two-rows : (rows with_one with_two : List PlainRow) (one two first second : PlainRow) → with_one ≡ rows ++ one ∷ [] → one ≡ first
-    → with_two ≡ with_one ++ two ∷ [] → two ≡ second → with_two ≡ rows ++ first ∷ second ∷ []
-two-rows rows with_one with_two one two first second pushed is pushed_too other =
-    pushed_too ∙ rw (pushed, is, other) (append_assoc rows (first ∷ []) (second ∷ []))
