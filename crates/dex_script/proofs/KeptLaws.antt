@@ -127,11 +127,3 @@ kept-reading before after places kept reading = record {
     placed_now false is =
         subst (λ (rows : List PlainRow). ArePlaced after.script.start rows places) (sym kept.rows)
         (none-placed before.script.start before.script.rows places after.script.start (reading.quiet is) reading.placed)
-
--- before the first row, and behind a dump
-pub no-reading : (batch : Bool) → IsReading (no_rows batch) []
-no-reading batch = record { placed = tt; quiet = λ _. refl; few = record { markets = omega arith; wallets = omega arith } }
-
-pub dump-reading : (batch : Bool) (accounts : PlainAccounts) → AreAccepted accounts → IsReading (behind_dump batch accounts) []
-dump-reading batch accounts accepted =
-    record { placed = tt; quiet = λ _. refl; few = record { markets = accepted.few_markets; wallets = accepted.few_wallets } }

@@ -21,5 +21,6 @@ pub mod Started
 pub mod StartSupplies
 pub mod StartOrders
 pub mod StartRows
+pub mod Roles
 pub mod StartLaws
 pub mod Apart

@@ -81,29 +81,6 @@ role-placed : (wallets : List PlainAccount) (role : Option Address) (place : ℕ
 role-placed wallets None place is = tt
 role-placed wallets (Some address) place is = is
 
--- ---- names of accounts
-
-same-role : (find other : Address → Option ℕ) → ((address : Address) → find address ≡ other address) → (role : Option Address)
-    → role_place find role ≡ role_place other role
-same-role find other same None = refl
-same-role find other same (Some address) = same address
-
--- names find what stands among the accounts
-pub places-same : (names : Names) (start : PlainAccounts) (parties : PlainParties) → AreNames names start
-    → places_in names parties ≡ places_of start parties
-places-same names start parties are =
-    rw (
-      are.markets parties.market,
-      same-role _ (λ address. wallet_place address start.wallets) are.wallets parties.coin,
-      same-role _ (λ address. wallet_place address start.wallets) are.wallets parties.pc,
-      same-role _ (λ address. wallet_place address start.wallets) are.wallets parties.discount,
-      same-role _ (λ address. wallet_place address start.wallets) are.wallets parties.referrer,
-    ) refl
-
--- names of accounts are names of the same accounts
-pub same-start : (names : Names) (before after : PlainAccounts) → after ≡ before → AreNames names before → AreNames names after
-same-start names before after same are = subst (AreNames names) (sym same) are
-
 -- ---- what is not found is unknown
 
 differ : (places : RowPlaces) → ◌≡◌ {A = Option RowPlaces} None (Some places) → ⊥
@@ -176,9 +153,3 @@ module _ (start : PlainAccounts) (parties : PlainParties) where
         discount = role-placed start.wallets parties.discount places.discount are.discount;
         referrer = role-placed start.wallets parties.referrer places.referrer are.referrer;
       }
-
--- the row of who stands there
-pub row-placed : (start : PlainAccounts) (number : ℕ) (now : ℤ) (words : PlainInstruction) (places : RowPlaces) → StandAt start words.parties places
-    → IsPlaced start (instruction_row number now words) places
-row-placed start number now words places at =
-    record { market = at.market; coin = at.coin; pc = at.pc; discount = at.discount; referrer = at.referrer }

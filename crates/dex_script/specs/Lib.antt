@@ -9,5 +9,6 @@ pub mod Places
 pub mod Rows
 pub mod ScriptInside
 pub mod Scripts
+pub mod Sight
 pub mod Starts
 pub mod Telling
