@@ -5,7 +5,7 @@ use Rattle.csv.specs.declared.reader.Reader.{Reader}
 use Rattle.std.specs.Borrow.{Bor}
 use Rattle.dex_rows.specs.RowReader.{GivesRows, text_left}
 use Rattle.dex_rows.proofs.RecordLemmas.{row_read, none_read}
-use Rattle.dex_rows.proofs.records.read_row.Goals as goal
+use Rattle.dex_rows.proofs.quoted.read_row.Goals as goal
 
 -- what a read says in terms of the bytes that are left
 told_read : (old new : Reader (Bor (List ℕ))) (found known : Bool) (fields : List (List ℕ)) → GivesRows old → found ≡ known
