@@ -1,6 +1,6 @@
 -- Cells of wallets, one of which changes.
 use Rattle.std.proofs.Common.{◌≡◌, ℕ, zero, suc, ◌<◌, Bool, true, false, ◌||◌, cond, List, [], ◌∷◌, length, map, set, get_or, Option, Some, None, refl, sym, ap, ◌∙◌, arith, ⊎_elim}
-use Rattle.std.specs.List.{All}
+use Rattle.std.specs.List.{All, list_any}
 use Rattle.std.proofs.lemmas.List.Elements.{All-nil, All-cons, All-head, All-tail}
 use Rattle.std.proofs.lemmas.Bool.{cases_Bool, false≢true}
 use Rattle.dex_types.specs.declared.addresses.Address.{Address}
@@ -30,6 +30,11 @@ is_among-at (first ∷ others) (suc place) default within =
     either : (a : Bool) → (a || true) ≡ true
     either true = refl
     either false = refl
+
+-- an address is among the cells' where one of their addresses is it
+pub is_among-any : (address : Address) (cells : List CellState) → is_among address cells ≡ list_any (is_same address) (map (λ (cell : CellState). cell.address) cells)
+is_among-any address [] = refl
+is_among-any address (cell ∷ cells) = ap (λ (b : Bool). is_same address cell.address || b) (is_among-any address cells)
 
 -- a change that keeps each address
 abbrev pub KeepsAddress : (CellState → CellState) → Type 0

@@ -17,7 +17,7 @@ use Rattle.dex_fold.specs.World.{MarketState, WalletState}
 use Rattle.dex_locks.specs.Places.{AreFree, StandInFront, front}
 use Rattle.dex_places.specs.Places.{IsPlace}
 use Rattle.dex_replay.proofs.MappedLists.{list_any-map}
-use Rattle.dex_replay.proofs.Roles.{roles-all}
+use Rattle.dex_script.proofs.Roles.{roles-all}
 use Rattle.dex_script.specs.Drafts.{PlainScript}
 use Rattle.dex_script.specs.Facts.{IsRowOf, IsScript}
 use Rattle.dex_replay.proofs.Apart.{markets-distinct, wallets-distinct}

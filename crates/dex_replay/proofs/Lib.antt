@@ -13,7 +13,6 @@ pub mod MappedLists
 mod Numbers
 pub mod Once
 pub mod Orders
-pub mod Roles
 pub mod Room
 mod ActedTo
 mod RunOf

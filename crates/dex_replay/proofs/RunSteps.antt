@@ -17,7 +17,7 @@ use Rattle.dex_replay.proofs.MappedLists.{Any-map, filter-push_no, filter-push_y
 use Rattle.dex_replay.proofs.Holdings.{CanMoveIt, markets-hold, wallets-hold}
 use Rattle.dex_replay.proofs.Runs.{AllStandIn, IsHistory, IsMoved, IsRun, StandIn, StandsIn, RowReply, naming, on, origin_of, row-sees, row-sight, said, said_of, still-there}
 use Rattle.dex_replay.proofs.Sights.{AreOnce, address_in, before-movement, sees-balances}
-use Rattle.dex_replay.proofs.Roles.{roles-all}
+use Rattle.dex_script.proofs.Roles.{roles-all}
 use Rattle.dex_replay.proofs.Doing.{Does, doing, made, sees-doing}
 use Rattle.dex_replay.proofs.Once.{market-once, wallet-once}
 

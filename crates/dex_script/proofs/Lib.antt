@@ -20,4 +20,5 @@ pub mod Started
 pub mod StartSupplies
 pub mod StartOrders
 pub mod StartRows
+pub mod Roles
 pub mod StartLaws

@@ -1,8 +1,10 @@
 -- A lane, and an item more of it.
 use Rattle.std.proofs.Common.{◌≡◌, ℕ, suc, ◌<◌, ◌+◌, false, eqb, List, [], ◌∷◌, ◌++◌, length, map, take, get_or, refl, sym, ap, ◌∙◌, subst, arith}
 use Rattle.dex_fold.proofs.Common.{All-append, All-cons, All-head, All-nil, All-tail, All-weaker, AllPairs, Asked, Call, Group, PlainRow, asked_of, eq-eqb, false≢true, grouped, length-map, rows_of_lane}
-use Rattle.dex_replay.proofs.Common.{IsSight, PlainScript}
-use Rattle.dex_order.proofs.Common.{AreAllOrNone, IsBefore, IsLane, MovesEach, Stamped, number_in}
+use Rattle.dex_script.specs.Drafts.{PlainScript}
+use Rattle.dex_script.specs.Sight.{IsSight}
+use Rattle.dex_stamps.specs.Stamped.{Stamped}
+use Rattle.dex_journals.specs.Lanes.{AreAllOrNone, IsBefore, IsLane, MovesEach, number_in}
 use Rattle.std.specs.List.{All}
 use Rattle.std.proofs.lemmas.List.{length-append, map-append, append_assoc, append-nil}
 use Rattle.std.proofs.Math.Seq.{take-append-add}
