@@ -1,1 +1,2 @@
 pub mod Wallets
+pub mod Opened

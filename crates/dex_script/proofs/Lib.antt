@@ -21,3 +21,4 @@ pub mod StartSupplies
 pub mod StartOrders
 pub mod StartRows
 pub mod StartLaws
+pub mod Apart
