@@ -6,7 +6,7 @@ ghost use Rattle.dex_types.specs.Accounts.{accounts_of};
 ghost use Rattle.dex_types.specs.Rows.{row_of};
 ghost use Rattle.dex_script.specs.Facts.{IsStart};
 ghost use Rattle.dex_script.specs.Places.{ArePlaced};
-ghost use Rattle.dex_bank.specs.Counts as counts;
+ghost use Rattle.dex_bank.specs.Counts as spec;
 ghost use Rattle.dex_bank.specs.Counts.{AreCounted, HaveSpare, IsWithin};
 ghost use Rattle.dex_bank.specs.Opened as first;
 
@@ -15,7 +15,7 @@ use std::alloc::Global;
 
 /// The place of a role's wallet, where the role names one.
 fn role_place(role: &Option<Address>, place: u16) -> Option<u16>
-    ensures { result ≡ counts.role_place role.now place }
+    ensures { result ≡ spec.role_place role.now place }
 {
     match role {
         Some(_) => Some(place),
@@ -25,14 +25,14 @@ fn role_place(role: &Option<Address>, place: u16) -> Option<u16>
 
 /// Whether the place is one of these.
 fn is_told(place: u16, told: &[Option<u16>]) -> bool
-    ensures { result ≡ counts.is_told place told.now }
+    ensures { result ≡ spec.is_told place told.now }
 {
     told.iter().any(|other| is_there(place, *other))
 }
 
 /// Whether this place is told.
 fn is_there(place: u16, told: Option<u16>) -> bool
-    ensures { result ≡ counts.is_there place told }
+    ensures { result ≡ spec.is_there place told }
 {
     match told {
         Some(other) => place == other,
@@ -44,7 +44,7 @@ fn is_there(place: u16, told: Option<u16>) -> bool
 fn count(counts: &mut [usize], told: Option<u16>, others: &[Option<u16>])
     requires within { IsWithin (length counts.old) told }
     requires spare { HaveSpare 1 counts.old }
-    ensures { AreCounted (λ (place : ℕ). not (counts.is_told place others.entry.now) && counts.is_there place told)
+    ensures { AreCounted (λ (place : ℕ). not (spec.is_told place others.entry.now) && spec.is_there place told)
         counts.old counts.new }
 {
     match told {
@@ -61,7 +61,7 @@ fn count(counts: &mut [usize], told: Option<u16>, others: &[Option<u16>])
 fn count_each(counts: &mut [usize], told: &[Option<u16>])
     requires within { All (IsWithin (length counts.old)) told.now }
     requires spare { HaveSpare 2 counts.old }
-    ensures { AreCounted (λ (place : ℕ). counts.is_told place told.entry.now) counts.old counts.new }
+    ensures { AreCounted (λ (place : ℕ). spec.is_told place told.entry.now) counts.old counts.new }
 {
     for i in 0..told.len() {
         count(counts, told[i], &told[..i]);
@@ -70,7 +70,7 @@ fn count_each(counts: &mut [usize], told: &[Option<u16>])
 
 /// The places of the wallets that a row names, role by role.
 fn wallets_told(row: &Row, places: &RowPlaces) -> [Option<u16>; 4]
-    ensures { result ≡ counts.wallets_told (row_of row.now) places.now }
+    ensures { result ≡ spec.wallets_told (row_of row.entry.now) places.entry.now }
 {
     [
         role_place(&row.coin, places.coin),
