@@ -3,7 +3,7 @@ pub mod OpenCells
 mod OpenCounts
 mod OpenLists
 mod OpenRooms
-pub mod Standing
+pub mod Stands
 pub mod StepMarkets
 pub mod StepCells
 pub mod StepWorld

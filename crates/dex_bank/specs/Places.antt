@@ -9,9 +9,9 @@ use Rattle.dex_bank.specs.Cells.{CellsState}
 use Rattle.dex_bank.specs.Stepping.{IsFirstAt}
 
 -- the market of the row stands at this place, and the wallets that it names at these
-pub record StandsAt (cells : CellsState) (row : PlainRow) (place : ℕ) (wallets : WalletPlaces) : Type 0 where
+pub record StandsAt (cells : CellsState) (row : PlainRow) (place : ℕ) (places : WalletPlaces) : Type 0 where
   pub market : IsFirstAt row.market cells.markets place
-  pub wallets : ArePlacesAmong cells.wallets row wallets
+  pub wallets : ArePlacesAmong cells.wallets row places
 
 -- the same of the places of a row
 abbrev pub ArePlacesIn : CellsState → PlainRow → RowPlaces → Type 0

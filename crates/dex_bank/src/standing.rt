@@ -13,6 +13,7 @@ use dex_cell::MarketCell;
 use dex_types::{Address, Row, RowPlaces, is_same};
 
 /// The place of the market of a row, and those of the wallets that it names.
+#[derive(Clone, Copy)]
 pub(crate) struct Standing {
     pub(crate) market: usize,
     pub(crate) wallets: WalletPlaces,

@@ -87,7 +87,7 @@ fn act_at(
         HaveActed (row_of row.entry.now) seen.now
         (step_on row.entry.now seen.now (slice_index_or markets.old place default)).transfers wallets.old wallets.new }
 {
-    act(&mut markets[place], wallets, row, seen, places).reply
+    act(&mut markets[place], wallets, row, seen, places)
 }
 
 /// A take is held back at the market at a place, and looks at the wallets that it names.
@@ -106,7 +106,7 @@ fn hold_at(
     ensures market { HasHeldAt row.entry.now seen.now place markets.old markets.new }
     ensures wallets { HaveActed (row_of row.entry.now) seen.now no_transfers wallets.old wallets.new }
 {
-    hold(&mut markets[place], wallets, row, seen, places).reply
+    hold(&mut markets[place], wallets, row, seen, places)
 }
 
 /// A row acts, or is held back, at the market at a place.

@@ -5,7 +5,7 @@ use Rattle.dex_replay.proofs.Common.{CellState, CellsState, MarketCellState, Pla
 use Rattle.std.specs.List.{All}
 use Rattle.dex_cell.specs.CellState as market
 use Rattle.dex_wallet.specs.CellState as wallet
-pub use Rattle.dex_bank.proofs.Standing.{HasItsAddress, its-address}
+pub use Rattle.dex_bank.proofs.Stands.{HasItsAddress, its-address}
 use Rattle.dex_replay.proofs.MappedLists.{All-across, map-agree, map-map}
 
 -- the wallet of a cell as it was when the cell was made
