@@ -33,7 +33,7 @@ impl Standing {
     /// Looked up among all cells.
     pub(crate) fn among(cells: &Cells, row: &Row) -> Standing
         requires { CanAct (row_of row.now) cells.now }
-        ensures { StandsAt cells.now (row_of row.now) result.market result.wallets }
+        ensures { StandsAt cells.now (row_of row.entry.now) result.market result.wallets }
     {
         Standing {
             market: place_of(&cells.markets, row.market),
