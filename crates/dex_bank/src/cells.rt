@@ -48,6 +48,7 @@ impl Cells {
     ghost use Rattle.dex_fold.specs.Items.{act_item, pair_of, why_in};
     ghost use Rattle.dex_report.specs.Outcomes.{outcome_of};
     ghost use Rattle.dex_script.specs.Facts.{IsScript};
+    ghost use Rattle.dex_script.specs.Places.{ArePlaced};
     ghost use Rattle.dex_bank.specs.Cells as spec;
     ghost use Rattle.dex_bank.specs.Cells.{AreCells, CanAct, CanActBoth};
     ghost use Rattle.dex_bank.specs.Closed as left;
@@ -72,6 +73,7 @@ impl Cells {
         ensures cells { IfOk result (λ made. made.0 ≡ first.opened script) }
         ensures rows { IfOk result (λ made. map row_of made.1.items ≡ script.rows) }
         ensures places { IfOk result (λ made. ArePlacedIn made.0 (map row_of made.1.items) made.2.items) }
+        ensures placed { IfOk result (λ made. ArePlaced script.start (map row_of made.1.items) made.2.items) }
         ensures script { IsScript script }
     {
         let Script {
