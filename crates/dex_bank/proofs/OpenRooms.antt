@@ -1,5 +1,5 @@
 -- How many rows name the market or the wallet at each place of a list.
-use Rattle.std.proofs.Common.{◌≡◌, ◌≢◌, ℕ, zero, suc, ◌+◌, ◌<◌, ◌≤◌, ◌^◌, Bool, true, false, ◌||◌, List, [], ◌∷◌, Option, None, Some, count_by, eqb, get_or, length, map, replicate, take, refl, sym, ap, subst, ◌∙◌, arith, ⊎_elim}
+use Rattle.std.proofs.Common.{◌≡◌, ◌≢◌, ℕ, suc, ◌+◌, ◌<◌, ◌≤◌, ◌^◌, Bool, true, false, ◌||◌, List, [], ◌∷◌, Option, None, Some, count_by, eqb, get_or, length, map, replicate, take, refl, sym, ap, subst, ◌∙◌, arith, ⊎_elim}
 use Rattle.dex_fold.proofs.Common.{Address, All-cons, All-nil, PlainAccount, PlainAccounts, PlainMarketAccounts, PlainRow, Row, is_role, is_same, is_same-sym, is_same-true, length-map, names, names-roles, row_of, sum_by-append, sum_by-cons, take_all, take_more}
 use Rattle.std.specs.List.{All, position}
 use Rattle.std.proofs.lemmas.Bool.{cases_lt}

@@ -1,6 +1,6 @@
-use Rattle.std.proofs.Common.{rules, ◌+◌, List, ℕ, [], ◌∷◌, ◌++◌, ap, arith, length, map, ◌∙◌}
+use Rattle.std.proofs.Common.{rules, [], ◌∷◌, ◌++◌, ap, arith, length, ◌∙◌}
 use Rattle.dex_fold.proofs.Common.{All-push, PlainAccount, YieldsList-from_vec, YieldsList-turn, named_of}
-use Rattle.dex_bank.proofs.Common.{CellState, IsWalletCell, wallet_opened, rows_naming}
+use Rattle.dex_bank.proofs.Common.{IsWalletCell, wallet_opened, rows_naming}
 use Rattle.std.proofs.lemmas.List.Elements.{All-same}
 use Rattle.std.proofs.lemmas.List.{length-append}
 use Rattle.dex_wallet.specs.CellState.{new_cell}

@@ -1,4 +1,4 @@
-use Rattle.std.proofs.Common.{◌≡◌, ◌||◌, ◌&&◌, Bool, true, false, not, is_some, List, [], ◌∷◌, Option, sym, ap, ◌∙◌, subst}
+use Rattle.std.proofs.Common.{◌≡◌, ◌||◌, ◌&&◌, Bool, true, not, is_some, List, [], ◌∷◌, Option, sym, ap, ◌∙◌, subst}
 use Rattle.dex_fold.proofs.Common.{AllZip, PlainRow, Refusal, act, fold, row_of, why_in}
 use Rattle.dex_bank.proofs.Common.{CellsState, IsReply, world_of}
 use Rattle.dex_bank.specs.Stepping.{doing}
