@@ -25,15 +25,14 @@ use Rattle.dex_wallet.specs.CellState as wallet
 use Rattle.dex_wallet.specs.CellState.{CellState, IsWalletCell, seen_of}
 use Rattle.dex_fold.specs.Fold.{acted, market_acted, markets_acted, names, wallet_acted}
 use Rattle.dex_fold.specs.World.{MarketState, WalletState, World, market_at, role_at, seen_by, wallet_at}
+use Rattle.dex_fold.specs.RowsOf.{rows_naming, rows_on}
+use Rattle.dex_act.specs.Opened.{market_state_of}
 use Rattle.dex_act.specs.Wallets.{AreApart, is_among, made_of, wallet_state_of}
-use Rattle.dex_bank.specs.Cells.{market_state_of}
-use Rattle.dex_bank.specs.Opened.{rows_naming, rows_on}
+use Rattle.dex_fold.proofs.MappedLists.{map-map}
 use Rattle.dex_script.specs.Drafts.{PlainScript}
 use Rattle.dex_script.specs.Facts.{IsScript}
-use Rattle.dex_replay.specs.Replays.{start_world}
-use Rattle.dex_replay.proofs.Counting.{HasFew, HasFewMoves}
-use Rattle.dex_replay.proofs.MappedLists.{map-map}
-use Rattle.dex_replay.proofs.Apart.{markets-distinct, wallets-distinct}
+use Rattle.dex_script.specs.Starts.{start_world}
+use Rattle.dex_script.proofs.Apart.{markets-distinct, wallets-distinct}
 use Rattle.dex_fold.proofs.OnceLaws.{AreOnce, once-head, once-tail}
 use Rattle.dex_stage.specs.Parts.{CanStep, HasStepped}
 use Rattle.dex_stage.specs.Stages.{AreDone, AreReady, AreWalletsOf, IsMarketAt, IsRowAt, IsWalletAt, world_at, world_with}
@@ -224,8 +223,8 @@ module _ (script : PlainScript) (count : ℕ) (row : PlainRow) (at : IsRowAt scr
   pub market-spare : (place : ℕ) (cell : MarketCellState) → IsMarketAt script count place cell → row.market ≡ cell.accounts.address → market.HasSpare cell
   market-spare place cell has on =
       let d : MarketState = market_state_of cell in
-      let few : HasFew (take count script.rows) (market_state_of cell) =
-      subst (λ (s : MarketState). HasFew (take count script.rows) s) (sym (has.state d))
+      let few : length (entries_of cell) ≤ rows_on (address_of_market (market_state_of cell)) (take count script.rows) =
+      subst (λ (s : MarketState). length s.entries ≤ rows_on (address_of_market s) (take count script.rows)) (sym (has.state d))
       (few-at script count place d has.within) in
       let calls = length-map cell.calls (λ (call : Call). call.entry) in
       let few_on : length (map (λ (call : Call). call.entry) cell.calls) ≤ rows_on cell.accounts.address (take count script.rows) =
@@ -242,8 +241,8 @@ module _ (script : PlainScript) (count : ℕ) (row : PlainRow) (at : IsRowAt scr
   pub wallet-spare : (place : ℕ) (cell : CellState) → IsWalletAt script count place cell → names row cell.address ≡ true → wallet.HasSpare cell
   wallet-spare place cell has named =
       let d : WalletState = wallet_state_of cell in
-      let few : HasFewMoves (take count script.rows) (wallet_state_of cell) =
-      subst (λ (s : WalletState). HasFewMoves (take count script.rows) s) (sym (has.state d))
+      let few : length (wallet_state_of cell).entries ≤ rows_naming cell.address (take count script.rows) =
+      subst (λ (s : WalletState). length s.entries ≤ rows_naming (address_of_wallet s) (take count script.rows)) (sym (has.state d))
       (few-moves-at script count place d has.within) in
       let e : PlainAccount = record { address = cell.address; bytes = [] } in
       let first : PlainAccount = get_or script.start.wallets place e in
