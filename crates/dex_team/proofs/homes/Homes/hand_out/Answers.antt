@@ -1,4 +1,4 @@
-use Rattle.std.proofs.Common.{length, ap, refl, arith}
+use Rattle.std.proofs.Common.{ap, refl, arith}
 use Rattle.std.proofs.lemmas.List.{length-map}
 use Rattle.dex_types.specs.Rows.{row_of}
 use Rattle.dex_script.proofs.PlacedLaws.{placed-long}

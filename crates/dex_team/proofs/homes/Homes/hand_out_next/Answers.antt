@@ -1,4 +1,4 @@
-use Rattle.std.proofs.Common.{length, sym, subst, arith}
+use Rattle.std.proofs.Common.{sym, subst, arith}
 use Rattle.dex_types.specs.Rows.{row_of}
 use Rattle.dex_team.specs.Slots.{IsHeld}
 use Rattle.dex_team.proofs.Handing.{held}

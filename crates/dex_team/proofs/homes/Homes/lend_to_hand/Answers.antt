@@ -1,4 +1,4 @@
-use Rattle.std.proofs.Common.{length, arith}
+use Rattle.std.proofs.Common.{arith}
 use Rattle.dex_team.proofs.Handing.{one-lent}
 use Rattle.dex_team.proofs.PlacesOf.{wallets-long}
 use Rattle.dex_team.proofs.homes.Homes.lend_to_hand.Goals as goal
