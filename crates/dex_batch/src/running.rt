@@ -89,7 +89,9 @@ fn batched<J: Naming + Send + Sync, R: Threads + Wait + Sync, P: Pace + Sync>(
         market_addresses: &market_addresses,
         wallet_addresses: &wallet_addresses,
     };
-    let (markets, wallets) = work_all::<J, R, P>(rt, alloc, lists, markets, wallets, helpers, pace)?;
+    let (markets, wallets) = work_all::<J, R, P>(
+        rt, alloc, lists, markets, wallets, helpers, pace,
+    )?;
     left_by::<J>(alloc, mints, terms, markets, wallets)
 }
 

@@ -28,6 +28,7 @@ use Rattle.dex_fold.specs.World.{MarketState, WalletState, World, market_at, rol
 use Rattle.dex_fold.specs.RowsOf.{rows_naming, rows_on}
 use Rattle.dex_act.specs.Opened.{market_state_of}
 use Rattle.dex_act.specs.Wallets.{AreApart, is_among, made_of, wallet_state_of}
+use Rattle.dex_act.proofs.CellLists.{is_among-any}
 use Rattle.dex_fold.proofs.MappedLists.{map-map}
 use Rattle.dex_script.specs.Drafts.{PlainScript}
 use Rattle.dex_script.specs.Facts.{IsScript}
@@ -177,14 +178,10 @@ role-parts cells (Some address) addresses all = all-parts (IsHere cells) address
 abbrev pub address_in : CellState → Address
 address_in cell = cell.address
 
-pub among-any : (address : Address) (cells : List CellState) → is_among address cells ≡ list_any (is_same address) (map address_in cells)
-among-any address [] = refl
-among-any address (cell ∷ cells) = ap (λ (b : Bool). is_same address cell.address || b) (among-any address cells)
-
 pub apart-cells : (cells : List CellState) → AreOnce (map address_in cells) → AreApart cells
 apart-cells [] once = tt
 apart-cells (cell ∷ cells) once = (
-  among-any cell.address cells ∙ once-head cell.address (map address_in cells) once,
+  is_among-any cell.address cells ∙ once-head cell.address (map address_in cells) once,
   apart-cells cells (once-tail cell.address (map address_in cells) once),
 )
 
@@ -194,6 +191,13 @@ each-any (first ∷ others) =
     All-cons (λ (address : Address). list_any (is_same address) (first ∷ others) ≡ true) first others (or_left (is_same first first) (list_any (is_same first) others) (is_same-refl first))
     (All-weaker (λ (address : Address). list_any (is_same address) others ≡ true) (λ (address : Address). list_any (is_same address) (first ∷ others) ≡ true)
     (λ address among. or_right (is_same address first) (list_any (is_same address) others) among) others (each-any others))
+
+-- cells of the wallets that a row names are here for each of them
+pub all-here : (row : PlainRow) (cells : List CellState) → map address_in cells ≡ row_wallets row → All (IsHere cells) (row_wallets row)
+all-here row cells are =
+    subst (All (IsHere cells)) are
+    (All-weaker (λ (address : Address). list_any (is_same address) (map address_in cells) ≡ true) (IsHere cells)
+    (λ address among. is_among-any address cells ∙ among) (map address_in cells) (each-any (map address_in cells)))
 
 -- ---- room
 
@@ -258,12 +262,6 @@ module _ (script : PlainScript) (is : IsScript script) (count : ℕ) (row : Plai
   now : World
   now = world_at script count
 
-  named-here : All (IsHere cells) (row_wallets row)
-  named-here =
-      subst (All (IsHere cells)) hand.are
-      (All-weaker (λ (address : Address). list_any (is_same address) (map address_in cells) ≡ true) (IsHere cells)
-      (λ address among. among-any address cells ∙ among) (map address_in cells) (each-any (map address_in cells)))
-
   role-same : (role : Option Address) → IsNamed cells role → role_at role (map wallet_state_of cells) ≡ role_at role (world_at script count).wallets
   role-same None named = refl
   role-same (Some address) named =
@@ -274,7 +272,7 @@ module _ (script : PlainScript) (is : IsScript script) (count : ℕ) (row : Plai
   -- it sees the wallets as they are when the rows before it have acted
   pub same-sight : seen_by row (world_with script cells) ≡ seen_by row (world_at script count)
   same-sight =
-      let one = role-parts cells row.coin (with_role row.pc (with_role row.discount (with_role row.referrer []))) named-here in
+      let one = role-parts cells row.coin (with_role row.pc (with_role row.discount (with_role row.referrer []))) (all-here row cells hand.are) in
       let two = role-parts cells row.pc (with_role row.discount (with_role row.referrer [])) one.1 in
       let three = role-parts cells row.discount (with_role row.referrer []) two.1 in
       let four = role-parts cells row.referrer [] three.1 in
