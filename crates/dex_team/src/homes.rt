@@ -438,9 +438,10 @@ impl<J: Naming> Homes<J> {
         ensures { IfOk result (λ _. self.new.next ≡ self.old.next + 1) }
     {
         let lists = &desk.lists;
+        let count = self.next;
         let next = Next {
-            row: &lists.rows[self.next],
-            places: &lists.places[self.next],
+            row: &lists.rows[count],
+            places: &lists.places[count],
         };
         self.hand_out_next(desk, next, ahead)
     }

@@ -6,8 +6,8 @@ use Rattle.dex_team.specs.Slots.{HomesState}
 use Rattle.dex_team.proofs.Handing.{next-row}
 use Rattle.dex_team.proofs.homes.Homes.hand_out.Goals as goal
 
-pub bounds-lists-self-inside-2 : goal.bounds-lists-self-inside-2
-bounds-lists-self-inside-2 g c =
+pub bounds-lists-count-2 : goal.bounds-lists-count-2
+bounds-lists-count-2 g c =
     let lists = c.args.desk.now.lists in
     omega (
       arith,
@@ -20,4 +20,4 @@ bounds-lists-self-inside-2 g c =
 pub hand_out_next-requires-clause-next : goal.hand_out_next-requires-clause-next
 hand_out_next-requires-clause-next g c =
     next-row g.J.Naming.script c.args.desk.now.lists c.requires.lists c.args.self.now.next c.self.inside.next (ap (λ (h : HomesState). h.next) c.self.view_is) c.requires.next
-    c.index-lists-self.result _ _ refl refl
+    c.index-lists-count.result _ _ refl refl
