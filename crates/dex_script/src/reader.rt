@@ -1,7 +1,6 @@
 //! A script as far as it is read, one row after the other.
 
 ghost use Rattle.std.specs.Prelude.{◌≡◌, IfOk, Result};
-ghost use Rattle.csv.specs.Records.{fields_of};
 ghost use Rattle.dex_statement.specs.declared.faults.FaultKind.{FaultKind};
 ghost use Rattle.dex_statement.specs.Telling.{TellsAs};
 ghost use Rattle.dex_script.specs.Drafts.{PlainDraft, no_rows};
@@ -12,7 +11,7 @@ ghost use Rattle.dex_script.specs.Telling.{TellsIn, draft_of};
 use crate::draft::Draft;
 use crate::names::Names;
 use crate::script::Script;
-use csv::ByteRecord;
+use dex_rows::records::Fields;
 use dex_statement::{
     FaultKind, InstructionWords, Parties, RowError, Statement, SwapWords, statement_of,
 };
@@ -70,9 +69,9 @@ impl Reader {
         &mut self,
         alloc: Global,
         number: u32,
-        row: &ByteRecord,
+        row: &Fields<'_>,
     ) -> Result<(), RowError>
-        ensures added { TellsIn result self.new (spec.with_row self.old number (fields_of row.now)) }
+        ensures added { TellsIn result self.new (spec.with_row self.old number row.now) }
     {
         match statement_of(alloc, row)? {
             Statement::Instruction(words) => self.add_instruction(alloc, number, words),
