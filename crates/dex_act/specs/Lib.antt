@@ -1,2 +1,1 @@
 pub mod Wallets
-pub mod Opened

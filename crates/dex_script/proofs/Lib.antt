@@ -21,4 +21,3 @@ pub mod StartSupplies
 pub mod StartOrders
 pub mod StartRows
 pub mod StartLaws
-pub mod Apart

@@ -8,5 +8,4 @@ pub mod Names
 pub mod Rows
 pub mod ScriptInside
 pub mod Scripts
-pub mod Starts
 pub mod Telling
