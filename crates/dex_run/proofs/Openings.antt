@@ -7,17 +7,6 @@ use Rattle.std.specs.List.{All}
 use Rattle.std.proofs.lemmas.List.{map-append}
 use Rattle.dex_gate.specs.PassView.{first_pass}
 
--- ---- lanes
-
-pub lanes_of-some : (rows : List PlainRow) → 1 ≤ lanes_of rows
-lanes_of-some [] = omega arith
-lanes_of-some (row ∷ rows) = omega (arith, lanes_of-some rows)
-
-pub lanes_of-few : (start : PlainAccounts) (rows : List PlainRow) → All (IsRowOf start) rows → lanes_of rows ≤ 16
-lanes_of-few start [] each = omega arith
-lanes_of-few start (row ∷ rows) each =
-    omega (arith, (All-head (IsRowOf start) row rows each).lane, lanes_of-few start rows (All-tail (IsRowOf start) row rows each))
-
 -- ---- two lists, place by place
 
 pub zip-push : {A B : Type 0} (R : A → B → Type 0) (xs : List A) (ys : List B) (x : A) (y : B) → AllZip R xs ys → R x y

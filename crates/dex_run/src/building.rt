@@ -12,9 +12,9 @@ ghost use Rattle.dex_stamps.specs.Stamped.{Stamped};
 ghost use Rattle.dex_wallet.specs.CellState as wallet;
 ghost use Rattle.dex_bank.specs.Opened.{opened, rows_naming, rows_on};
 ghost use Rattle.dex_journals.specs.Journals.{MarketOrigin, WalletOrigin};
-ghost use Rattle.dex_run.specs.Bank.{IsBank, IsMarketGate, IsWalletGate};
+ghost use Rattle.dex_turns.specs.Bank.{IsBank, IsMarketGate, IsWalletGate};
 ghost use Rattle.dex_run.specs.Opened.{first_passes, fresh_seat, seat_in, split_once};
-ghost use Rattle.dex_run.specs.Seats.{IsMarketPass, IsSeatOf, IsWalletPass, SeatState};
+ghost use Rattle.dex_turns.specs.Seats.{IsMarketPass, IsSeatOf, IsWalletPass, SeatState};
 
 use crate::bank::Bank;
 use crate::outline::Outline;

@@ -6,11 +6,11 @@ ghost use Rattle.dex_report.specs.Outcomes.{PlainOutcome, outcome_of};
 ghost use Rattle.dex_script.specs.Drafts.{PlainScript};
 ghost use Rattle.dex_replay.specs.Runs.{IsOneOrder, IsRunOf};
 ghost use Rattle.dex_journals.specs.Journals.{BankMarketState, BankWalletState, IsBankMarket, IsBankWallet};
-ghost use Rattle.dex_run.specs.Bank.{IsBank};
+ghost use Rattle.dex_turns.specs.Bank.{IsBank};
 ghost use Rattle.dex_run.specs.Closing.{AreMarketsClosed, AreWalletsClosed, ClosesAs, HasGateRoom, HasRoom};
 ghost use Rattle.dex_run.specs.Closing.{MarketColumns, WalletColumns};
 ghost use Rattle.dex_run.specs.Columns.{AreEmpty, CanClose, IsRoom};
-ghost use Rattle.dex_run.specs.Seats.{IsDone, IsSeat, IsSeatOf, SeatState};
+ghost use Rattle.dex_turns.specs.Seats.{IsDone, IsSeat, IsSeatOf, SeatState};
 
 use crate::bank::Bank;
 use crate::columns::{append, closed_gates, columns_for, hand_out};

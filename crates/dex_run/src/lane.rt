@@ -4,8 +4,8 @@ ghost use Rattle.std.specs.Prelude.{◌≡◌, ◌+◌, ◌∷◌, [], length};
 ghost use Rattle.dex_types.specs.Rows.{row_of};
 ghost use Rattle.dex_fold.specs.Items.{rows_of_lane};
 ghost use Rattle.dex_run.specs.Running.{CanRun, HasRun};
-ghost use Rattle.dex_run.specs.Seats.{IsSeatOf};
-ghost use Rattle.dex_run.specs.Submitted.{AreNext, IsNext};
+ghost use Rattle.dex_turns.specs.Seats.{IsSeatOf};
+ghost use Rattle.dex_turns.specs.Submitted.{AreNext, IsNext};
 
 use crate::bank::Bank;
 use crate::seat::LaneSeat;

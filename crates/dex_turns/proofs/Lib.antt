@@ -1,0 +1,19 @@
+pub mod Common
+mod FewLanes
+mod Counts
+mod Growing
+mod Distinct
+mod LeavingTurns
+mod InHand
+mod Acted
+mod Taking
+mod Entering
+mod SeatAfter
+mod RowMore
+mod LegHands
+mod LegNames
+mod LegReady
+mod LegReplies
+mod LegSeat
+mod LegTurns
+mod TwoPlaces
