@@ -1,13 +1,8 @@
 -- A bank's gates and the passes for them, when no row has acted.
 use Rattle.std.specs.Prelude.{ℕ, ◌+◌, List, [], Some, map}
-use Rattle.dex_types.specs.declared.movements.WalletEntry.{WalletEntry}
 use Rattle.dex_gate.specs.GateView.{GateView}
 use Rattle.dex_gate.specs.PassView.{PassView}
 use Rattle.dex_gate.specs.declared.stage.Stage.TheVariants.{Idle}
-use Rattle.dex_history.specs.Journal.{Call}
-use Rattle.dex_script.specs.Drafts.{PlainScript}
-use Rattle.dex_stamps.specs.Stamped.{Stamped}
-use Rattle.dex_journals.specs.Journals.{MarketOrigin, WalletOrigin}
 use Rattle.dex_turns.specs.Bank.{BankState}
 use Rattle.dex_turns.specs.Seats.{SeatState, fresh_seat}
 

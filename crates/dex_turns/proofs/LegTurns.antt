@@ -10,7 +10,7 @@ use Rattle.dex_turns.specs.Turns.{AreOutAt, HasSeenAt, IsAwayFor, IsHomeAt, IsMa
 use Rattle.dex_turns.proofs.Distinct.{markets-differ}
 use Rattle.dex_turns.proofs.Entering.{MarketPass, adds, called, may-call, still-from}
 use Rattle.dex_turns.proofs.LegSeat.{legs-grow}
-use Rattle.dex_turns.proofs.Taking.{same-get}
+use Rattle.dex_fold.proofs.MappedLists.{same-get}
 use Rattle.dex_turns.proofs.TwoPlaces.{get-first, get-second, set-both}
 
 abbrev MarketGate : Type 0

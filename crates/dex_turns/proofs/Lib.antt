@@ -6,7 +6,7 @@ mod Distinct
 mod LeavingTurns
 mod InHand
 mod Acted
-mod Taking
+pub mod Taking
 mod Entering
 mod SeatAfter
 mod RowMore

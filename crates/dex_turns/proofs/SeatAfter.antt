@@ -15,7 +15,8 @@ use Rattle.dex_journals.proofs.LaneGrowth.{lane-more}
 use Rattle.dex_turns.proofs.Growing.{Differ, WalletPass, gates-grown, passes-grown, set-three}
 use Rattle.dex_turns.proofs.LegNames.{row-names}
 use Rattle.dex_turns.proofs.RowMore.{row-more}
-use Rattle.dex_turns.proofs.Taking.{all-midst, same-get, zip-at}
+use Rattle.dex_fold.proofs.MappedLists.{same-get}
+use Rattle.dex_turns.proofs.Taking.{all-midst, zip-at}
 use Rattle.dex_turns.specs.Submitted.{written_by}
 
 -- ---- before

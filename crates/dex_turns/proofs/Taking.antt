@@ -1,6 +1,7 @@
 -- The turn of an item's next wallet: what is known when it is taken, and when it is left.
 use Rattle.std.proofs.Common.{◌≡◌, ℕ, zero, suc, ◌+◌, ◌-◌, ◌<◌, ◌==◌, true, false, List, [], ◌∷◌, ◌++◌, drop, length, map, set, take, get_or, Option, Some, None, refl, sym, ap, ◌∙◌, subst, arith}
 use Rattle.dex_fold.proofs.Common.{Address, All-head, All-push, All-tail, AllZip, AllZip-long, PlainAccount, WalletEntry, get_or-map, is_same, is_same-refl, length-map, list_any, or_left}
+use Rattle.dex_fold.proofs.MappedLists.{same-get}
 use Rattle.dex_turns.proofs.Common.{AllThree, AreInHand, AreReady, BankState, CellState, GateView, HasEntry, HasLeft, HaveGrown, Idle, IsBank, IsPlace, IsReady, IsWalletGate, MayDraw, MayLeave, OneGrows, PlainScript, Stamped, TrailState, WalletOrigin, added, entries_by, has_account, left_by, list_any-map, of_lane, rows_of_wallet, wallet_entries}
 use Rattle.std.specs.List.{All}
 use Rattle.std.proofs.Math.Seq.{take-length}
@@ -49,12 +50,6 @@ splits-at (x ∷ xs) zero d within = record { earlier = []; later = xs; is = ref
 splits-at {A} (x ∷ xs) (suc place) d within =
     let rest = splits-at xs place d (omega (arith, within)) in
     record { earlier = x ∷ rest.earlier; later = rest.later; is = ap (λ (l : List A). x ∷ l) rest.is }
-
--- whatever stands for what is not there
-pub same-get : {A : Type 0} (xs : List A) (place : ℕ) (d e : A) → place < length xs → get_or xs place d ≡ get_or xs place e
-same-get [] place d e within = absurd (omega (arith, within))
-same-get (x ∷ xs) zero d e within = refl
-same-get (x ∷ xs) (suc place) d e within = same-get xs place d e (omega (arith, within))
 
 -- what holds of all holds in the midst
 pub all-midst : {A : Type 0} (P : A → Type 0) (before : List A) (x : A) (behind : List A) → All P (before ++ x ∷ behind) → P x
