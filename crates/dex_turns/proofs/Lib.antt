@@ -1,5 +1,6 @@
 pub mod Common
 mod FewLanes
+mod Placed
 mod Counts
 mod Growing
 mod Distinct

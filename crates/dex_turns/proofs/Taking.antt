@@ -2,7 +2,8 @@
 use Rattle.std.proofs.Common.{◌≡◌, ℕ, zero, suc, ◌+◌, ◌-◌, ◌<◌, ◌==◌, true, false, List, [], ◌∷◌, ◌++◌, drop, length, map, set, take, get_or, Option, Some, None, refl, sym, ap, ◌∙◌, subst, arith}
 use Rattle.dex_fold.proofs.Common.{Address, All-head, All-push, All-tail, AllZip, AllZip-long, PlainAccount, WalletEntry, get_or-map, is_same, is_same-refl, length-map, list_any, or_left}
 use Rattle.dex_fold.proofs.MappedLists.{same-get}
-use Rattle.dex_turns.proofs.Common.{AllThree, AreInHand, AreReady, BankState, CellState, GateView, HasEntry, HasLeft, HaveGrown, Idle, IsBank, IsPlace, IsReady, IsWalletGate, MayDraw, MayLeave, OneGrows, PlainScript, Stamped, TrailState, WalletOrigin, added, entries_by, has_account, left_by, list_any-map, of_lane, rows_of_wallet, wallet_entries}
+use Rattle.dex_turns.proofs.InHand.{each-any}
+use Rattle.dex_turns.proofs.Common.{AllThree, AreInHand, AreReady, BankState, CellState, GateView, HasEntry, HasLeft, HaveGrown, Idle, IsBank, IsPlace, IsReady, IsWalletGate, MayDraw, MayLeave, OneGrows, PlainScript, Stamped, TrailState, WalletOrigin, added, entries_by, left_by, of_lane, rows_of_wallet, wallet_entries}
 use Rattle.std.specs.List.{All}
 use Rattle.std.proofs.Math.Seq.{take-length}
 use Rattle.dex_gate.specs.declared.stage.Stage.TheVariants.{Out}
@@ -72,12 +73,11 @@ module _ (bank : BankState) (named : List Address) (lane : ℕ) (address : Addre
   abbrev starts : List PlainAccount
   starts = bank.script.start.wallets
 
-  -- it is one of the start's
-  pub known : list_any (is_same address) (wallet_addresses bank.script) ≡ true
+  -- it is one of the item's
+  pub known : list_any (is_same address) named ≡ true
   known =
-      list_any-map (is_same address) (λ (account : PlainAccount). account.address) starts
-      ∙ all-midst (λ (a : Address). has_account a starts ≡ true) (map address_in hands) address others
-      (subst (All (λ (a : Address). has_account a starts ≡ true)) (sym hand.are) may.known)
+      all-midst (λ (a : Address). list_any (is_same a) named ≡ true) (map address_in hands) address others
+      (subst (All (λ (a : Address). list_any (is_same a) named ≡ true)) (sym hand.are) (each-any named))
 
   -- and none of those behind it
   pub none : list_any (is_same address) others ≡ false

@@ -4,6 +4,7 @@ use Rattle.std.specs.Prelude.{slice_index_or, slice_set}
 use Rattle.std.specs.List.{AllZip, list_any}
 use Rattle.dex_types.specs.declared.addresses.Address.{Address}
 use Rattle.dex_types.specs.declared.movements.WalletEntry.{WalletEntry}
+use Rattle.dex_types.specs.declared.rows.RowPlaces.{RowPlaces}
 use Rattle.dex_types.specs.declared.rows.Seen.{Seen}
 use Rattle.dex_types.specs.Accounts.{PlainAccount, PlainMarketAccounts}
 use Rattle.dex_types.specs.Addresses.{is_same}
@@ -24,6 +25,7 @@ use Rattle.dex_act.specs.Wallets.{made_of, wallet_state_of}
 use Rattle.dex_script.specs.Drafts.{PlainScript}
 use Rattle.dex_script.specs.Facts.{AreLegs}
 use Rattle.dex_script.specs.Known.{has_account}
+use Rattle.dex_script.specs.Places.{IsPlaced}
 use Rattle.dex_fold.specs.Items.{doing}
 use Rattle.dex_fold.specs.Lists.{AllThree}
 use Rattle.dex_fold.specs.RowsOf.{rows_of_market, rows_of_wallet}
@@ -152,6 +154,12 @@ pub record MayName (script : PlainScript) (named : List Address) : Type 0 where
 -- the wallets that two legs name as coin and as pc, by rising address, each once. They name no others
 abbrev pub leg_wallets : PlainRow → PlainRow → List Address
 leg_wallets first second = with_role first.coin (with_role first.pc (with_role second.coin (with_role second.pc [])))
+
+-- the markets and wallets of two legs stand at these places
+pub record AreLegsPlaced (script : PlainScript) (first second : PlainRow) (first_places second_places : RowPlaces) : Type 0 where
+  pub legs : AreLegs first second
+  pub first_is : IsPlaced script.start first first_places
+  pub second_is : IsPlaced script.start second second_places
 
 -- the first of those that are still to come
 abbrev pub first_in : List (Option Address) → Option Address

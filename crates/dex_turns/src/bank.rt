@@ -1,12 +1,10 @@
 //! A bank.
 
-ghost use Rattle.std.specs.Prelude.{◌≡◌, ◌<◌, length, map, slice_index_or, true};
-ghost use Rattle.std.specs.List.{AllZip, list_any};
+ghost use Rattle.std.specs.Prelude.{◌≡◌, ◌<◌, length, map, slice_index_or};
+ghost use Rattle.std.specs.List.{AllZip};
 ghost use Rattle.dex_types.specs.Accounts.{named_of};
-ghost use Rattle.dex_types.specs.Addresses.{is_same};
 ghost use Rattle.dex_gate.specs.GateView.{GateView};
-ghost use Rattle.dex_turns.specs.Bank.{IsBank, IsMarketGate, IsPlace, IsWalletGate};
-ghost use Rattle.dex_turns.specs.Bank.{wallet_addresses};
+ghost use Rattle.dex_turns.specs.Bank.{IsBank, IsMarketGate, IsWalletGate};
 ghost use Rattle.dex_turns.specs.Inside.{ArePartsOf};
 
 use crate::outline::Outline;
@@ -105,15 +103,6 @@ impl Bank {
             markets,
             wallets,
         }
-    }
-
-    /// The place of the wallet of an address.
-    pub(crate) fn wallet_place(&self, address: Address) -> usize
-        requires { list_any (is_same address) (wallet_addresses self.now.script) ≡ true }
-        ensures place { IsPlace address (wallet_addresses self.now.script) result }
-        ensures bank { IsBank self.now }
-    {
-        self.outline.wallet_place(address)
     }
 
     /// The gate of the market at a place.

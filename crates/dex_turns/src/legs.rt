@@ -3,16 +3,17 @@
 ghost use Rattle.std.specs.Prelude.{max};
 ghost use Rattle.dex_types.specs.Rows.{row_of};
 ghost use Rattle.dex_turns.specs.Legs.{legs_written, one_made, two_made};
-ghost use Rattle.dex_turns.specs.Turns.{HaveLegsActed, MayCallBoth, leg_wallets};
+ghost use Rattle.dex_turns.specs.Turns.{AreLegsPlaced, HaveLegsActed, MayCallBoth, leg_wallets};
 
 use crate::acts::Acts;
 use crate::bank::Bank;
+use crate::placing::place_in;
 use crate::stamped_record::StampedRecord;
 use crate::waiting::{act_or_wait, is_refused, waits};
 use dex_io::Pace;
 use dex_journals::BankMarket;
 use dex_stamps::Stamp;
-use dex_types::Row;
+use dex_types::{Address, Row, RowPlaces};
 use dex_wallet::WalletCell;
 
 /// The markets of the legs.
@@ -33,6 +34,8 @@ pub(crate) struct TwoRecords {
 pub(crate) struct SwapLegs<'a, P> {
     pub(crate) first: &'a Row,
     pub(crate) second: &'a Row,
+    pub(crate) first_places: &'a RowPlaces,
+    pub(crate) second_places: &'a RowPlaces,
     pub(crate) pace: &'a P,
 }
 
@@ -45,6 +48,9 @@ impl<'a, P: Pace> Acts for SwapLegs<'a, P> {
 
     ghost named = { λ it. leg_wallets (row_of it.first.now) (row_of it.second.now) };
 
+    ghost placed = { λ it script. AreLegsPlaced script (row_of it.first.now) (row_of it.second.now)
+        it.first_places.now it.second_places.now };
+
     ghost ready = { λ it markets. MayCallBoth (row_of it.first.now) (row_of it.second.now) markets };
 
     ghost last = { λ it markets. max markets.first.last markets.second.last };
@@ -53,6 +59,16 @@ impl<'a, P: Pace> Acts for SwapLegs<'a, P> {
 
     ghost did = { λ it script made before after.
         HaveLegsActed script (one_made it.first.now made) (two_made it.second.now made) before after };
+
+    fn place(&self, address: Address) -> usize {
+        match place_in(self.first, self.first_places, address) {
+            Some(place) => place,
+            None => match place_in(self.second, self.second_places, address) {
+                Some(place) => place,
+                None => unreachable!(),
+            },
+        }
+    }
 
     // Both legs are looked at, and decided, before either acts.
     fn act(

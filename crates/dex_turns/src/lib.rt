@@ -6,6 +6,7 @@ mod alone;
 mod bank;
 mod legs;
 mod outline;
+mod placing;
 mod seat;
 mod seeing;
 mod stamped_record;

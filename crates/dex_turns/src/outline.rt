@@ -1,14 +1,17 @@
 //! What a bank keeps of its script.
 
-ghost use Rattle.std.specs.Prelude.{◌≡◌, ◌≤◌, IfOk, map, true};
-ghost use Rattle.std.specs.List.{list_any};
+ghost use Rattle.std.specs.Prelude.{◌≡◌, ◌<◌, ◌≤◌, IfOk, IfSome, Some, length, map, true};
+ghost use Rattle.std.specs.List.{list_any, position};
 ghost use Rattle.dex_types.specs.Accounts.{PlainAccount, PlainMarketAccounts, market_accounts_of, named_of};
 ghost use Rattle.dex_types.specs.Addresses.{is_same};
-ghost use Rattle.dex_turns.specs.Bank.{IsPlace, market_addresses, wallet_addresses};
+ghost use Rattle.dex_types.specs.Rows.{row_of};
+ghost use Rattle.dex_script.specs.Facts.{IsRowOf};
+ghost use Rattle.dex_script.specs.Known.{has_market, is_known_role};
+ghost use Rattle.dex_script.specs.Places.{IsPlaced, IsRolePlaced, market_place};
 
 use dex_script::Script;
 use dex_stamps::Kept;
-use dex_types::{Address, MarketAccounts, Named, NoMemory, Program, is_same};
+use dex_types::{Address, MarketAccounts, Named, NoMemory, Program, Row, RowPlaces, is_same};
 use std::alloc::Global;
 use std::marker::Model;
 
@@ -70,20 +73,37 @@ impl Outline {
         self.script.same()
     }
 
-    /// The place of the market of an address.
-    pub(crate) fn market_place(&self, address: Address) -> usize
-        requires { list_any (is_same address) (market_addresses self.now) ≡ true }
-        ensures { IsPlace address (market_addresses self.now) result }
+    /// The places of a row's market and wallets among those of the script.
+    pub(crate) fn places_of(&self, row: &Row) -> RowPlaces
+        requires { IsRowOf self.now.start (row_of row.now) }
+        ensures { IsPlaced self.now.start (row_of row.entry.now) result }
+    {
+        RowPlaces {
+            market: self.market_of(row.market),
+            coin: self.wallet_of(row.coin),
+            pc: self.wallet_of(row.pc),
+            discount: self.wallet_of(row.discount),
+            referrer: self.wallet_of(row.referrer),
+        }
+    }
+
+    // The place of the market of an address.
+    fn market_of(&self, address: Address) -> u16
+        requires { has_market address self.now.start.markets ≡ true }
+        ensures { market_place address self.now.start.markets ≡ Some result }
     {
         place_among(&self.markets, address)
     }
 
-    /// The place of the wallet of an address.
-    pub(crate) fn wallet_place(&self, address: Address) -> usize
-        requires { list_any (is_same address) (wallet_addresses self.now) ≡ true }
-        ensures { IsPlace address (wallet_addresses self.now) result }
+    // The place of the wallet of a role, if it names one.
+    fn wallet_of(&self, role: Option<Address>) -> u16
+        requires { is_known_role self.now.start.wallets role ≡ true }
+        ensures { IsRolePlaced self.now.start.wallets role result }
     {
-        place_among(&self.wallets, address)
+        match role {
+            Some(address) => place_among(&self.wallets, address),
+            None => 0,
+        }
     }
 }
 
@@ -118,14 +138,21 @@ fn addresses_of_wallets(alloc: Global, wallets: &[Named]) -> Result<Vec<Address>
 }
 
 /// The place of an address that is among these.
-fn place_among(addresses: &[Address], address: Address) -> usize
-    requires { list_any (is_same address) addresses.now ≡ true }
-    ensures { IsPlace address addresses.now result }
+fn place_among(addresses: &[Address], address: Address) -> u16
+    requires known { list_any (is_same address) addresses.now ≡ true }
+    requires few { length addresses.now ≤ 256 }
+    ensures { position (is_same address) addresses.now ≡ Some result }
 {
-    for place in 0..addresses.len() {
-        if is_same(address, addresses[place]) {
-            return place;
-        }
+    match find(addresses, address) {
+        Some(place) => place as u16,
+        None => unreachable!(),
     }
-    unreachable!()
+}
+
+/// The place of an address among these.
+fn find(addresses: &[Address], address: Address) -> Option<usize>
+    ensures within { IfSome result (λ place. place < length addresses.now) }
+    ensures place { result ≡ position (is_same address) addresses.now }
+{
+    addresses.iter().position(|other| is_same(address, *other))
 }

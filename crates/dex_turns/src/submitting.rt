@@ -5,6 +5,7 @@ ghost use Rattle.std.specs.List.{All, AllZip};
 ghost use Rattle.dex_types.specs.Rows.{row_of};
 ghost use Rattle.dex_types.specs.Wallets.{row_wallets};
 ghost use Rattle.dex_script.specs.Facts.{AreLegs};
+ghost use Rattle.dex_script.specs.Places.{IsPlaced};
 ghost use Rattle.dex_locks.specs.Places.{front};
 ghost use Rattle.dex_fold.specs.World as world;
 ghost use Rattle.dex_act.specs.Wallets.{Fits, roles_of};
@@ -16,7 +17,7 @@ ghost use Rattle.dex_turns.specs.Inside.{call_made, written_of};
 ghost use Rattle.dex_turns.specs.Legs.{legs_written, one_made, two_made};
 ghost use Rattle.dex_turns.specs.Seats.{IsSeat, IsSeatOf};
 ghost use Rattle.dex_turns.specs.Submitted.{AreNext, HasCalled, HasSubmitted, HaveSubmitted, IsNext, LegMarketGrows};
-ghost use Rattle.dex_turns.specs.Turns.{AreInHand, AreReady, HasEntry, HaveGrown, IsTold, IsWritten};
+ghost use Rattle.dex_turns.specs.Turns.{AreInHand, AreLegsPlaced, AreReady, HasEntry, HaveGrown, IsTold, IsWritten};
 ghost use Rattle.dex_turns.specs.Turns.{HaveLegsTold, MayEnter, MayEnterAt, MayName, leg_wallets, world_in};
 
 use crate::acts::Acts;
@@ -33,7 +34,7 @@ use dex_io::Pace;
 use dex_journals::{BankMarket, BankWallet};
 use dex_locks::{by_address, plan_locks, plan_wallets};
 use dex_stamps::Stamp;
-use dex_types::{Address, Reply, Row, Seen, is_same};
+use dex_types::{Address, Reply, Row, RowPlaces, Seen, is_same};
 use dex_wallet::WalletCell;
 use std::sync::Wait;
 
@@ -54,8 +55,29 @@ impl Bank {
         ensures bank { IsSeatOf self.now seat.new }
         ensures kept { IsSeat seat.new }
     {
+        let places = self.outline.places_of(row);
+        self.submit_at(rt, seat, row, &places, pace)
+    }
+
+    /// The same, where the places of the row's market and wallets are at hand.
+    pub fn submit_at<R: Wait, P: Pace>(
+        &self,
+        rt: &R,
+        seat: &mut LaneSeat,
+        row: &Row,
+        places: &RowPlaces,
+        pace: &P,
+    ) -> Reply
+        requires seat { IsSeatOf self.now seat.old }
+        requires row { IsNext (row_of row.now) seat.old }
+        requires places { IsPlaced self.now.script.start (row_of row.now) places.now }
+        ensures submitted { HasSubmitted (row_of row.entry.now) result seat.old seat.new }
+        ensures bank { IsSeatOf self.now seat.new }
+        ensures kept { IsSeat seat.new }
+    {
+        let _outline = &self.outline;
         let plan = plan_locks(row);
-        let place = self.outline.market_place(row.market);
+        let place = places.market as usize;
         let made = self.in_market(
             rt,
             self.market_gate(place),
@@ -65,6 +87,7 @@ impl Bank {
             &mut seat.hands,
             &seat.last,
             row,
+            places,
             pace,
         );
         seat.calls = seat.calls.and(row, &made);
@@ -95,9 +118,34 @@ impl Bank {
         ensures bank { IsSeatOf self.now seat.new }
         ensures kept { IsSeat seat.new }
     {
+        let first_places = self.outline.places_of(first);
+        let second_places = self.outline.places_of(second);
+        self.submit_two_at(rt, seat, first, second, &first_places, &second_places, pace)
+    }
+
+    /// The same, where the places of the legs' markets and wallets are at hand.
+    pub fn submit_two_at<R: Wait, P: Pace>(
+        &self,
+        rt: &R,
+        seat: &mut LaneSeat,
+        first: &Row,
+        second: &Row,
+        first_places: &RowPlaces,
+        second_places: &RowPlaces,
+        pace: &P,
+    ) -> (Reply, Reply)
+        requires seat { IsSeatOf self.now seat.old }
+        requires legs { AreNext (row_of first.now) (row_of second.now) seat.old }
+        requires first { IsPlaced self.now.script.start (row_of first.now) first_places.now }
+        requires second { IsPlaced self.now.script.start (row_of second.now) second_places.now }
+        ensures submitted { HaveSubmitted (row_of first.entry.now) (row_of second.entry.now) result seat.old seat.new }
+        ensures bank { IsSeatOf self.now seat.new }
+        ensures kept { IsSeat seat.new }
+    {
+        let _outline = &self.outline;
         let wallets = plan_wallets(&first.coin, &first.pc, &second.coin, &second.pc);
-        let place = self.outline.market_place(first.market);
-        let next = self.outline.market_place(second.market);
+        let place = first_places.market as usize;
+        let next = second_places.market as usize;
         let made = self.in_markets(
             rt,
             place,
@@ -109,6 +157,8 @@ impl Bank {
             &seat.last,
             first,
             second,
+            first_places,
+            second_places,
             pace,
         );
         let TwoRecords {
@@ -136,8 +186,11 @@ impl Bank {
         hands: &mut Vec<WalletCell>,
         last: &Stamp,
         row: &Row,
+        places: &RowPlaces,
         pace: &P,
     ) -> StampedRecord
+        requires bank { IsBank self.now }
+        requires places { IsPlaced self.now.script.start (row_of row.now) places.now }
         requires market { MayEnter self.now.script (row_of row.now) gate.now pass.old }
         requires wallets { front wallets.now ≡ row_wallets (row_of row.now) }
         requires named { MayName self.now.script (row_wallets (row_of row.now)) }
@@ -154,7 +207,7 @@ impl Bank {
         ensures room { vec_capacity hands.old ≤ vec_capacity hands.new }
     {
         let (mut market, away, stamp) = take_market(rt, gate, pass, last);
-        let item = RowAlone { row, pace };
+        let item = RowAlone { row, places, pace };
         let made = self.with_wallets(rt, wallets, &item, &mut market, passes, hands, &stamp);
         gate.leave(pass, away.put(market));
         made
@@ -173,8 +226,12 @@ impl Bank {
         last: &Stamp,
         first: &Row,
         second: &Row,
+        first_places: &RowPlaces,
+        second_places: &RowPlaces,
         pace: &P,
     ) -> TwoRecords
+        requires placed { AreLegsPlaced self.now.script (row_of first.now) (row_of second.now) first_places.now
+            second_places.now }
         requires bank { IsBank self.now }
         requires legs { AreLegs (row_of first.now) (row_of second.now) }
         requires first { MayEnterAt self.now (row_of first.now) markets.old.items place }
@@ -218,6 +275,8 @@ impl Bank {
         let item = SwapLegs {
             first,
             second,
+            first_places,
+            second_places,
             pace,
         };
         let made = self.with_wallets(rt, wallets, &item, &mut taken, passes, hands, &stamp);
@@ -241,6 +300,8 @@ impl Bank {
         hands: &mut Vec<WalletCell>,
         stamp: &Stamp,
     ) -> A::Made
+        requires bank { IsBank self.now }
+        requires placed { A.placed item.now self.now.script }
         requires named { MayName self.now.script (A.named item.now) }
         requires ready { A.ready item.now markets.old }
         requires below { A.last item.now markets.old ≤ stamp.now.number }
@@ -256,7 +317,7 @@ impl Bank {
     {
         match first_of(others) {
             Some(address) => {
-                let place = self.wallet_place(address);
+                let place = item.place(address);
                 let gate = self.wallet_gate(place);
                 let (cell, trail, away) = take_wallet(rt, gate, &mut passes[place]);
                 let later = trail.later(stamp);

@@ -13,7 +13,6 @@ ghost use Rattle.dex_journals.specs.Journals.{calls_by};
 ghost use Rattle.dex_turns.specs.Inside.{call_made};
 ghost use Rattle.dex_turns.specs.Turns.{HasCall, made_by};
 
-use crate::seeing::last_entry;
 use crate::stamped_record::StampedRecord;
 use dex_journals::BankMarket;
 use dex_stamps::Stamp;
@@ -89,6 +88,6 @@ pub(crate) fn act_or_wait(
     ensures room { vec_capacity hands.old ≤ vec_capacity hands.new }
 {
     act_or_hold(market, hands, row, &seen, waits, &stamp);
-    let entry = last_entry(market.cell());
+    let entry = *market.cell().last();
     StampedRecord { seen, entry, stamp }
 }

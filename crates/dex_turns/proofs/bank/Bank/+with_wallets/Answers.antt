@@ -7,14 +7,15 @@ use Rattle.dex_locks.specs.Places.{front}
 use Rattle.dex_fold.proofs.MappedLists.{AllZip-last}
 use Rattle.dex_turns.proofs.Growing.{WalletPass}
 use Rattle.dex_turns.proofs.Taking.{Facts, facts-grown, facts-hand, facts-leave, facts-mid, facts-number, facts-ready, front-none, front-some, grown-none, rest-long, rest_of}
+use Rattle.dex_turns.proofs.Placed.{wallet-placed}
 use Rattle.dex_turns.proofs.Taking as taking
 use Rattle.dex_turns.specs.Submitted.{Written}
 use Rattle.dex_turns.proofs.bank.Bank.+with_wallets.Goals as goal
 
 -- ---- before the turn
 
-pub wallet_place-place-requires : goal.wallet_place-place-requires
-wallet_place-place-requires g t c =
+pub place-place-requires-clause-named : goal.place-place-requires-clause-named
+place-place-requires-clause-named g t c =
     taking.known c.args.self.now (g.A.Acts.named c.args.item.now) (g.A.Acts.lane c.args.item.now) c.in-Some.address (front (rest_of c.args.others.now)) c.args.hands.now.items c.args.passes.now.items c.requires.named
     (subst (λ (l : List Address). AreInHand c.args.self.now.script (g.A.Acts.named c.args.item.now) l c.args.hands.now.items) (front-some c.args.others.now c.in-Some.address (sym c.first_of.ensures ∙ c.in-Some.is)) c.requires.hands)
     (subst (λ (l : List Address). AreReady c.args.self.now (g.A.Acts.lane c.args.item.now) l c.args.passes.now.items) (front-some c.args.others.now c.in-Some.address (sym c.first_of.ensures ∙ c.in-Some.is)) c.requires.passes)
@@ -24,7 +25,7 @@ wallet_gate-gate-requires g t c =
     taking.within-gates c.args.self.now (g.A.Acts.named c.args.item.now) (g.A.Acts.lane c.args.item.now) c.in-Some.address (front (rest_of c.args.others.now)) c.args.hands.now.items c.args.passes.now.items c.requires.named
     (subst (λ (l : List Address). AreInHand c.args.self.now.script (g.A.Acts.named c.args.item.now) l c.args.hands.now.items) (front-some c.args.others.now c.in-Some.address (sym c.first_of.ensures ∙ c.in-Some.is)) c.requires.hands)
     (subst (λ (l : List Address). AreReady c.args.self.now (g.A.Acts.lane c.args.item.now) l c.args.passes.now.items) (front-some c.args.others.now c.in-Some.address (sym c.first_of.ensures ∙ c.in-Some.is)) c.requires.passes)
-    c.wallet_place-place.ensures.bank c.wallet_place-place.result c.wallet_place-place.ensures.place
+    c.requires.bank c.place-place.result (wallet-placed c.args.self.now.script c.in-Some.address c.place-place.result (c.place-place.ensures c.args.self.now.script c.requires.placed))
 
 pub index_mut-requires : goal.index_mut-requires
 index_mut-requires g t c =
@@ -33,7 +34,7 @@ index_mut-requires g t c =
       (taking.within-passes c.args.self.now (g.A.Acts.named c.args.item.now) (g.A.Acts.lane c.args.item.now) c.in-Some.address (front (rest_of c.args.others.now)) c.args.hands.now.items c.args.passes.now.items c.requires.named
           (subst (λ (l : List Address). AreInHand c.args.self.now.script (g.A.Acts.named c.args.item.now) l c.args.hands.now.items) (front-some c.args.others.now c.in-Some.address (sym c.first_of.ensures ∙ c.in-Some.is)) c.requires.hands)
           (subst (λ (l : List Address). AreReady c.args.self.now (g.A.Acts.lane c.args.item.now) l c.args.passes.now.items) (front-some c.args.others.now c.in-Some.address (sym c.first_of.ensures ∙ c.in-Some.is)) c.requires.passes)
-          c.wallet_place-place.ensures.bank c.wallet_place-place.result c.wallet_place-place.ensures.place),
+          c.requires.bank c.place-place.result (wallet-placed c.args.self.now.script c.in-Some.address c.place-place.result (c.place-place.ensures c.args.self.now.script c.requires.placed))),
     )
 
 pub take_wallet-cell-requires-clause-gate : goal.take_wallet-cell-requires-clause-gate
@@ -42,7 +43,7 @@ take_wallet-cell-requires-clause-gate g t c =
     ∙ taking.gate-at c.args.self.now (g.A.Acts.named c.args.item.now) (g.A.Acts.lane c.args.item.now) c.in-Some.address (front (rest_of c.args.others.now)) c.args.hands.now.items c.args.passes.now.items c.requires.named
     (subst (λ (l : List Address). AreInHand c.args.self.now.script (g.A.Acts.named c.args.item.now) l c.args.hands.now.items) (front-some c.args.others.now c.in-Some.address (sym c.first_of.ensures ∙ c.in-Some.is)) c.requires.hands)
     (subst (λ (l : List Address). AreReady c.args.self.now (g.A.Acts.lane c.args.item.now) l c.args.passes.now.items) (front-some c.args.others.now c.in-Some.address (sym c.first_of.ensures ∙ c.in-Some.is)) c.requires.passes)
-    c.wallet_place-place.ensures.bank c.wallet_place-place.result c.wallet_place-place.ensures.place c.wallet_gate-gate.result.now c.index_mut.result.now
+    c.requires.bank c.place-place.result (wallet-placed c.args.self.now.script c.in-Some.address c.place-place.result (c.place-place.ensures c.args.self.now.script c.requires.placed)) c.wallet_gate-gate.result.now c.index_mut.result.now
     ∙ ap (λ (x : _). Some x) (sym (c.wallet_gate-gate.ensures c.wallet_gate-gate.result.now))
 
 pub take_wallet-cell-requires-clause-idle : goal.take_wallet-cell-requires-clause-idle
@@ -51,7 +52,7 @@ take_wallet-cell-requires-clause-idle g t c =
     ∙ taking.idle-at c.args.self.now (g.A.Acts.named c.args.item.now) (g.A.Acts.lane c.args.item.now) c.in-Some.address (front (rest_of c.args.others.now)) c.args.hands.now.items c.args.passes.now.items c.requires.named
     (subst (λ (l : List Address). AreInHand c.args.self.now.script (g.A.Acts.named c.args.item.now) l c.args.hands.now.items) (front-some c.args.others.now c.in-Some.address (sym c.first_of.ensures ∙ c.in-Some.is)) c.requires.hands)
     (subst (λ (l : List Address). AreReady c.args.self.now (g.A.Acts.lane c.args.item.now) l c.args.passes.now.items) (front-some c.args.others.now c.in-Some.address (sym c.first_of.ensures ∙ c.in-Some.is)) c.requires.passes)
-    c.wallet_place-place.ensures.bank c.wallet_place-place.result c.wallet_place-place.ensures.place (record { address = c.in-Some.address; bytes = [] }) c.index_mut.result.now
+    c.requires.bank c.place-place.result (wallet-placed c.args.self.now.script c.in-Some.address c.place-place.result (c.place-place.ensures c.args.self.now.script c.requires.placed)) (record { address = c.in-Some.address; bytes = [] }) c.index_mut.result.now
 
 pub put_in_hand-requires : goal.put_in_hand-requires
 put_in_hand-requires g t c =
@@ -62,13 +63,13 @@ put_in_hand-requires g t c =
 
 pub with_wallets-made-requires : goal.with_wallets-made-requires
 with_wallets-made-requires g t c κs within =
-    let facts : Facts c.args.self.now (g.A.Acts.named c.args.item.now) (g.A.Acts.lane c.args.item.now) c.in-Some.address (front (rest_of c.args.others.now)) c.args.hands.now.items c.args.passes.now.items c.wallet_place-place.result c.wallet_gate-gate.result.now
+    let facts : Facts c.args.self.now (g.A.Acts.named c.args.item.now) (g.A.Acts.lane c.args.item.now) c.in-Some.address (front (rest_of c.args.others.now)) c.args.hands.now.items c.args.passes.now.items c.place-place.result c.wallet_gate-gate.result.now
     c.index_mut.result.now c.take_wallet-cell.new.pass c.take_wallet-cell.result.1 = record {
       may = c.requires.named;
       hand = subst (λ (l : List Address). AreInHand c.args.self.now.script (g.A.Acts.named c.args.item.now) l c.args.hands.now.items) (front-some c.args.others.now c.in-Some.address (sym c.first_of.ensures ∙ c.in-Some.is)) c.requires.hands;
       ready = subst (λ (l : List Address). AreReady c.args.self.now (g.A.Acts.lane c.args.item.now) l c.args.passes.now.items) (front-some c.args.others.now c.in-Some.address (sym c.first_of.ensures ∙ c.in-Some.is)) c.requires.passes;
-      kept = c.wallet_place-place.ensures.bank;
-      at = c.wallet_place-place.ensures.place;
+      kept = c.requires.bank;
+      at = (wallet-placed c.args.self.now.script c.in-Some.address c.place-place.result (c.place-place.ensures c.args.self.now.script c.requires.placed));
       gate_is = c.wallet_gate-gate.ensures c.wallet_gate-gate.result.now;
       before_is = c.index_mut.ensures.value;
       is_out = c.take_wallet-cell.ensures.out;
@@ -86,6 +87,10 @@ with_wallets-made-requires g t c κs within =
             (
               within.1.1.1,
               (
+                c.requires.bank,
+                (
+                c.requires.placed,
+                (
                 c.requires.named,
                 (
                   c.requires.ready,
@@ -94,15 +99,17 @@ with_wallets-made-requires g t c κs within =
                     (
                       subst (AreInHand c.args.self.now.script (g.A.Acts.named c.args.item.now) (front (rest_of c.args.others.now)))
                           (sym (c.put_in_hand.ensures.items ∙ ap (λ (x : CellState). c.args.hands.now.items ++ x ∷ []) c.take_wallet-cell.ensures.cell))
-                          (facts-hand c.args.self.now (g.A.Acts.named c.args.item.now) (g.A.Acts.lane c.args.item.now) c.in-Some.address (front (rest_of c.args.others.now)) c.args.hands.now.items c.args.passes.now.items c.wallet_place-place.result c.wallet_gate-gate.result.now
+                          (facts-hand c.args.self.now (g.A.Acts.named c.args.item.now) (g.A.Acts.lane c.args.item.now) c.in-Some.address (front (rest_of c.args.others.now)) c.args.hands.now.items c.args.passes.now.items c.place-place.result c.wallet_gate-gate.result.now
                           c.index_mut.result.now c.take_wallet-cell.new.pass c.take_wallet-cell.result.1 facts),
                       (
-                        facts-ready c.args.self.now (g.A.Acts.named c.args.item.now) (g.A.Acts.lane c.args.item.now) c.in-Some.address (front (rest_of c.args.others.now)) c.args.hands.now.items c.args.passes.now.items c.wallet_place-place.result c.wallet_gate-gate.result.now
+                        facts-ready c.args.self.now (g.A.Acts.named c.args.item.now) (g.A.Acts.lane c.args.item.now) c.in-Some.address (front (rest_of c.args.others.now)) c.args.hands.now.items c.args.passes.now.items c.place-place.result c.wallet_gate-gate.result.now
                             c.index_mut.result.now c.take_wallet-cell.new.pass c.take_wallet-cell.result.1 facts,
                         omega (arith, long, hands_long, c.requires.room, c.put_in_hand.ensures.room),
                       ),
                     ),
                   ),
+                ),
+                ),
                 ),
               ),
             ),
@@ -121,33 +128,33 @@ take_from_hand-cell-requires g t c =
 
 pub index_mut-requires-in-Some : goal.index_mut-requires-in-Some
 index_mut-requires-in-Some g t c =
-    let facts : Facts c.args.self.now (g.A.Acts.named c.args.item.now) (g.A.Acts.lane c.args.item.now) c.in-Some.address (front (rest_of c.args.others.now)) c.args.hands.now.items c.args.passes.now.items c.wallet_place-place.result c.wallet_gate-gate.result.now
+    let facts : Facts c.args.self.now (g.A.Acts.named c.args.item.now) (g.A.Acts.lane c.args.item.now) c.in-Some.address (front (rest_of c.args.others.now)) c.args.hands.now.items c.args.passes.now.items c.place-place.result c.wallet_gate-gate.result.now
     c.index_mut.result.now c.take_wallet-cell.new.pass c.take_wallet-cell.result.1 = record {
       may = c.requires.named;
       hand = subst (λ (l : List Address). AreInHand c.args.self.now.script (g.A.Acts.named c.args.item.now) l c.args.hands.now.items) (front-some c.args.others.now c.in-Some.address (sym c.first_of.ensures ∙ c.in-Some.is)) c.requires.hands;
       ready = subst (λ (l : List Address). AreReady c.args.self.now (g.A.Acts.lane c.args.item.now) l c.args.passes.now.items) (front-some c.args.others.now c.in-Some.address (sym c.first_of.ensures ∙ c.in-Some.is)) c.requires.passes;
-      kept = c.wallet_place-place.ensures.bank;
-      at = c.wallet_place-place.ensures.place;
+      kept = c.requires.bank;
+      at = (wallet-placed c.args.self.now.script c.in-Some.address c.place-place.result (c.place-place.ensures c.args.self.now.script c.requires.placed));
       gate_is = c.wallet_gate-gate.ensures c.wallet_gate-gate.result.now;
       before_is = c.index_mut.ensures.value;
       is_out = c.take_wallet-cell.ensures.out;
     } in
     omega (
       arith,
-      (facts-mid c.args.self.now (g.A.Acts.named c.args.item.now) (g.A.Acts.lane c.args.item.now) c.in-Some.address (front (rest_of c.args.others.now)) c.args.hands.now.items c.args.passes.now.items c.wallet_place-place.result c.wallet_gate-gate.result.now
+      (facts-mid c.args.self.now (g.A.Acts.named c.args.item.now) (g.A.Acts.lane c.args.item.now) c.in-Some.address (front (rest_of c.args.others.now)) c.args.hands.now.items c.args.passes.now.items c.place-place.result c.wallet_gate-gate.result.now
           c.index_mut.result.now c.take_wallet-cell.new.pass c.take_wallet-cell.result.1 facts
           (g.A.Acts.written c.args.item.now c.with_wallets-made.result) c.with_wallets-made.new.passes.items c.with_wallets-made.ensures.written.of_lane c.with_wallets-made.ensures.passes),
     )
 
 pub leave_wallet-requires-clause-entry : goal.leave_wallet-requires-clause-entry
 leave_wallet-requires-clause-entry g t c =
-    let facts : Facts c.args.self.now (g.A.Acts.named c.args.item.now) (g.A.Acts.lane c.args.item.now) c.in-Some.address (front (rest_of c.args.others.now)) c.args.hands.now.items c.args.passes.now.items c.wallet_place-place.result c.wallet_gate-gate.result.now
+    let facts : Facts c.args.self.now (g.A.Acts.named c.args.item.now) (g.A.Acts.lane c.args.item.now) c.in-Some.address (front (rest_of c.args.others.now)) c.args.hands.now.items c.args.passes.now.items c.place-place.result c.wallet_gate-gate.result.now
     c.index_mut.result.now c.take_wallet-cell.new.pass c.take_wallet-cell.result.1 = record {
       may = c.requires.named;
       hand = subst (λ (l : List Address). AreInHand c.args.self.now.script (g.A.Acts.named c.args.item.now) l c.args.hands.now.items) (front-some c.args.others.now c.in-Some.address (sym c.first_of.ensures ∙ c.in-Some.is)) c.requires.hands;
       ready = subst (λ (l : List Address). AreReady c.args.self.now (g.A.Acts.lane c.args.item.now) l c.args.passes.now.items) (front-some c.args.others.now c.in-Some.address (sym c.first_of.ensures ∙ c.in-Some.is)) c.requires.passes;
-      kept = c.wallet_place-place.ensures.bank;
-      at = c.wallet_place-place.ensures.place;
+      kept = c.requires.bank;
+      at = (wallet-placed c.args.self.now.script c.in-Some.address c.place-place.result (c.place-place.ensures c.args.self.now.script c.requires.placed));
       gate_is = c.wallet_gate-gate.ensures c.wallet_gate-gate.result.now;
       before_is = c.index_mut.ensures.value;
       is_out = c.take_wallet-cell.ensures.out;
@@ -157,7 +164,7 @@ leave_wallet-requires-clause-entry g t c =
     (subst (AllZip (HasEntry (g.A.Acts.written c.args.item.now c.with_wallets-made.result)) c.put_in_hand.new.hands.items) c.take_from_hand-cell.ensures.items c.with_wallets-made.ensures.hands)) in (
       g.A.Acts.written c.args.item.now c.with_wallets-made.result,
       sym c.stamp-own.ensures,
-      facts-leave c.args.self.now (g.A.Acts.named c.args.item.now) (g.A.Acts.lane c.args.item.now) c.in-Some.address (front (rest_of c.args.others.now)) c.args.hands.now.items c.args.passes.now.items c.wallet_place-place.result c.wallet_gate-gate.result.now
+      facts-leave c.args.self.now (g.A.Acts.named c.args.item.now) (g.A.Acts.lane c.args.item.now) c.in-Some.address (front (rest_of c.args.others.now)) c.args.hands.now.items c.args.passes.now.items c.place-place.result c.wallet_gate-gate.result.now
           c.index_mut.result.now c.take_wallet-cell.new.pass c.take_wallet-cell.result.1 facts
           (g.A.Acts.written c.args.item.now c.with_wallets-made.result) c.with_wallets-made.new.passes.items c.with_wallets-made.ensures.written.of_lane c.with_wallets-made.ensures.passes c.index_mut-in-Some.result.now c.index_mut-in-Some.ensures.value c.take_from_hand-cell.result
           (subst (λ (x : CellState). HasEntry (g.A.Acts.written c.args.item.now c.with_wallets-made.result) x c.take_from_hand-cell.result) c.take_wallet-cell.ensures.cell entry.1)
@@ -166,18 +173,18 @@ leave_wallet-requires-clause-entry g t c =
 
 pub leave_wallet-requires-clause-away : goal.leave_wallet-requires-clause-away
 leave_wallet-requires-clause-away g t c =
-    let facts : Facts c.args.self.now (g.A.Acts.named c.args.item.now) (g.A.Acts.lane c.args.item.now) c.in-Some.address (front (rest_of c.args.others.now)) c.args.hands.now.items c.args.passes.now.items c.wallet_place-place.result c.wallet_gate-gate.result.now
+    let facts : Facts c.args.self.now (g.A.Acts.named c.args.item.now) (g.A.Acts.lane c.args.item.now) c.in-Some.address (front (rest_of c.args.others.now)) c.args.hands.now.items c.args.passes.now.items c.place-place.result c.wallet_gate-gate.result.now
     c.index_mut.result.now c.take_wallet-cell.new.pass c.take_wallet-cell.result.1 = record {
       may = c.requires.named;
       hand = subst (λ (l : List Address). AreInHand c.args.self.now.script (g.A.Acts.named c.args.item.now) l c.args.hands.now.items) (front-some c.args.others.now c.in-Some.address (sym c.first_of.ensures ∙ c.in-Some.is)) c.requires.hands;
       ready = subst (λ (l : List Address). AreReady c.args.self.now (g.A.Acts.lane c.args.item.now) l c.args.passes.now.items) (front-some c.args.others.now c.in-Some.address (sym c.first_of.ensures ∙ c.in-Some.is)) c.requires.passes;
-      kept = c.wallet_place-place.ensures.bank;
-      at = c.wallet_place-place.ensures.place;
+      kept = c.requires.bank;
+      at = (wallet-placed c.args.self.now.script c.in-Some.address c.place-place.result (c.place-place.ensures c.args.self.now.script c.requires.placed));
       gate_is = c.wallet_gate-gate.ensures c.wallet_gate-gate.result.now;
       before_is = c.index_mut.ensures.value;
       is_out = c.take_wallet-cell.ensures.out;
     } in
-    let number = facts-number c.args.self.now (g.A.Acts.named c.args.item.now) (g.A.Acts.lane c.args.item.now) c.in-Some.address (front (rest_of c.args.others.now)) c.args.hands.now.items c.args.passes.now.items c.wallet_place-place.result c.wallet_gate-gate.result.now
+    let number = facts-number c.args.self.now (g.A.Acts.named c.args.item.now) (g.A.Acts.lane c.args.item.now) c.in-Some.address (front (rest_of c.args.others.now)) c.args.hands.now.items c.args.passes.now.items c.place-place.result c.wallet_gate-gate.result.now
     c.index_mut.result.now c.take_wallet-cell.new.pass c.take_wallet-cell.result.1 facts
     (g.A.Acts.written c.args.item.now c.with_wallets-made.result) c.with_wallets-made.new.passes.items c.with_wallets-made.ensures.written.of_lane c.with_wallets-made.ensures.passes c.index_mut-in-Some.result.now c.index_mut-in-Some.ensures.value in
     c.take_wallet-cell.ensures.away
@@ -185,13 +192,13 @@ leave_wallet-requires-clause-away g t c =
 
 pub returns-in-Some-clause-passes : goal.returns-in-Some-clause-passes
 returns-in-Some-clause-passes g t c =
-    let facts : Facts c.args.self.now (g.A.Acts.named c.args.item.now) (g.A.Acts.lane c.args.item.now) c.in-Some.address (front (rest_of c.args.others.now)) c.args.hands.now.items c.args.passes.now.items c.wallet_place-place.result c.wallet_gate-gate.result.now
+    let facts : Facts c.args.self.now (g.A.Acts.named c.args.item.now) (g.A.Acts.lane c.args.item.now) c.in-Some.address (front (rest_of c.args.others.now)) c.args.hands.now.items c.args.passes.now.items c.place-place.result c.wallet_gate-gate.result.now
     c.index_mut.result.now c.take_wallet-cell.new.pass c.take_wallet-cell.result.1 = record {
       may = c.requires.named;
       hand = subst (λ (l : List Address). AreInHand c.args.self.now.script (g.A.Acts.named c.args.item.now) l c.args.hands.now.items) (front-some c.args.others.now c.in-Some.address (sym c.first_of.ensures ∙ c.in-Some.is)) c.requires.hands;
       ready = subst (λ (l : List Address). AreReady c.args.self.now (g.A.Acts.lane c.args.item.now) l c.args.passes.now.items) (front-some c.args.others.now c.in-Some.address (sym c.first_of.ensures ∙ c.in-Some.is)) c.requires.passes;
-      kept = c.wallet_place-place.ensures.bank;
-      at = c.wallet_place-place.ensures.place;
+      kept = c.requires.bank;
+      at = (wallet-placed c.args.self.now.script c.in-Some.address c.place-place.result (c.place-place.ensures c.args.self.now.script c.requires.placed));
       gate_is = c.wallet_gate-gate.ensures c.wallet_gate-gate.result.now;
       before_is = c.index_mut.ensures.value;
       is_out = c.take_wallet-cell.ensures.out;
@@ -200,12 +207,12 @@ returns-in-Some-clause-passes g t c =
     (subst (λ (l : List CellState). AllZip (HasEntry (g.A.Acts.written c.args.item.now c.with_wallets-made.result)) l (c.take_from_hand-cell.new.hands.items ++ c.take_from_hand-cell.result ∷ [])) c.put_in_hand.ensures.items
     (subst (AllZip (HasEntry (g.A.Acts.written c.args.item.now c.with_wallets-made.result)) c.put_in_hand.new.hands.items) c.take_from_hand-cell.ensures.items c.with_wallets-made.ensures.hands)) in
     subst (λ (l : List Address). HaveGrown c.args.self.now l (g.A.Acts.written c.args.item.now c.with_wallets-made.result) c.args.passes.now.items
-    (set c.with_wallets-made.new.passes.items c.wallet_place-place.result c.leave_wallet.new.pass)) (sym (front-some c.args.others.now c.in-Some.address (sym c.first_of.ensures ∙ c.in-Some.is)))
-    (facts-grown c.args.self.now (g.A.Acts.named c.args.item.now) (g.A.Acts.lane c.args.item.now) c.in-Some.address (front (rest_of c.args.others.now)) c.args.hands.now.items c.args.passes.now.items c.wallet_place-place.result c.wallet_gate-gate.result.now
+    (set c.with_wallets-made.new.passes.items c.place-place.result c.leave_wallet.new.pass)) (sym (front-some c.args.others.now c.in-Some.address (sym c.first_of.ensures ∙ c.in-Some.is)))
+    (facts-grown c.args.self.now (g.A.Acts.named c.args.item.now) (g.A.Acts.lane c.args.item.now) c.in-Some.address (front (rest_of c.args.others.now)) c.args.hands.now.items c.args.passes.now.items c.place-place.result c.wallet_gate-gate.result.now
     c.index_mut.result.now c.take_wallet-cell.new.pass c.take_wallet-cell.result.1 facts
     (g.A.Acts.written c.args.item.now c.with_wallets-made.result) c.with_wallets-made.new.passes.items c.with_wallets-made.ensures.written.of_lane c.with_wallets-made.ensures.passes c.index_mut-in-Some.result.now c.index_mut-in-Some.ensures.value c.leave_wallet.new.pass
     (c.leave_wallet.ensures (g.A.Acts.written c.args.item.now c.with_wallets-made.result) (sym c.stamp-own.ensures)
-    (facts-leave c.args.self.now (g.A.Acts.named c.args.item.now) (g.A.Acts.lane c.args.item.now) c.in-Some.address (front (rest_of c.args.others.now)) c.args.hands.now.items c.args.passes.now.items c.wallet_place-place.result c.wallet_gate-gate.result.now
+    (facts-leave c.args.self.now (g.A.Acts.named c.args.item.now) (g.A.Acts.lane c.args.item.now) c.in-Some.address (front (rest_of c.args.others.now)) c.args.hands.now.items c.args.passes.now.items c.place-place.result c.wallet_gate-gate.result.now
     c.index_mut.result.now c.take_wallet-cell.new.pass c.take_wallet-cell.result.1 facts
     (g.A.Acts.written c.args.item.now c.with_wallets-made.result) c.with_wallets-made.new.passes.items c.with_wallets-made.ensures.written.of_lane c.with_wallets-made.ensures.passes c.index_mut-in-Some.result.now c.index_mut-in-Some.ensures.value c.take_from_hand-cell.result
     (subst (λ (x : CellState). HasEntry (g.A.Acts.written c.args.item.now c.with_wallets-made.result) x c.take_from_hand-cell.result) c.take_wallet-cell.ensures.cell entry.1)

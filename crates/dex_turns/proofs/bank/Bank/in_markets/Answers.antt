@@ -1,4 +1,4 @@
-use Rattle.std.proofs.Common.{◌≡◌, refl}
+use Rattle.std.proofs.Common.{refl}
 use Rattle.dex_fold.proofs.Common.{row_of}
 use Rattle.dex_turns.specs.Legs.{one_made, two_made}
 use Rattle.dex_turns.proofs.LegTurns.{first-leave, home-at, markets-grown, may-call-both, places-differ, second-leave}

@@ -1,119 +1,19 @@
-use Rattle.std.proofs.Common.{◌≡◌, true, [], ◌∷◌, ◌++◌, List, map, refl, sym, ap, ◌∙◌, subst, arith}
-use Rattle.dex_fold.proofs.Common.{Reply, Address, AllZip-long, Call, is_same, list_any, row_of}
-use Rattle.dex_turns.proofs.Common.{AreNext, BankState, HaveSubmitted, IsBank, IsMarketPass, IsPlace, IsSeat, IsSeatOf, SeatState, Stamped, call_made}
-use Rattle.std.proofs.lemmas.List.{append_assoc, map-append}
-use Rattle.dex_turns.specs.Bank.{market_addresses}
-use Rattle.dex_turns.specs.Inside.{seat_inside}
-use Rattle.dex_turns.specs.Legs.{one_made, two_made}
-use Rattle.dex_turns.proofs.LegSeat as legs
-use Rattle.dex_turns.proofs.LegNames.{legs-name}
-use Rattle.dex_turns.proofs.LegReady.{legs-ready}
-use Rattle.dex_turns.proofs.SeatAfter.{enters-at, first-ahead, market-known, passes-kept, row-fits, second-ahead}
+use Rattle.std.proofs.Common.{sym, subst}
+use Rattle.dex_fold.proofs.Common.{row_of}
+use Rattle.dex_turns.proofs.Common.{BankState, IsBank, IsRowOf}
+use Rattle.dex_turns.proofs.SeatAfter.{first-ahead, row-fits, second-ahead}
 use Rattle.dex_turns.proofs.bank.Bank.submit_two.Goals as goal
 
-pub market_place-place-requires : goal.market_place-place-requires
-market_place-place-requires g c =
-    subst (λ (l : List Address). list_any (is_same c.args.first.now.market) l ≡ true)
-    (sym (ap (λ (b : BankState). market_addresses b.script) c.self.view_is))
-    (market-known c.args.self.now (row_of c.args.first.now) c.args.seat.now (first-ahead (row_of c.args.first.now) (row_of c.args.second.now) c.args.seat.now c.requires.legs) (subst IsBank c.self.view_is c.self.invariant.bank) c.requires.seat)
+pub places_of-first_places-requires : goal.places_of-first_places-requires
+places_of-first_places-requires g c =
+    let first = row_of c.args.first.now in
+    subst (λ (bank : BankState). IsRowOf bank.script.start first) (sym c.self.view_is)
+    (row-fits c.args.self.now first c.args.seat.now (first-ahead first (row_of c.args.second.now) c.args.seat.now c.requires.legs)
+    (subst IsBank c.self.view_is c.self.invariant.bank) c.requires.seat)
 
-pub market_place-next-requires : goal.market_place-next-requires
-market_place-next-requires g c =
-    subst (λ (l : List Address). list_any (is_same c.args.second.now.market) l ≡ true)
-    (sym (ap (λ (b : BankState). market_addresses b.script) c.self.view_is))
-    (market-known c.args.self.now (row_of c.args.second.now) c.args.seat.now (second-ahead (row_of c.args.first.now) (row_of c.args.second.now) c.args.seat.now c.requires.legs) (subst IsBank c.self.view_is c.self.invariant.bank) c.requires.seat)
-
-pub in_markets-made-requires-clause-first : goal.in_markets-made-requires-clause-first
-in_markets-made-requires-clause-first g c =
-    enters-at c.args.self.now (row_of c.args.first.now) (seat_inside c.seat.inside) (first-ahead (row_of c.args.first.now) (row_of c.args.second.now) (seat_inside c.seat.inside) (subst (AreNext (row_of c.args.first.now) (row_of c.args.second.now)) (sym c.seat.view_is) c.requires.legs)) (subst IsBank c.self.view_is c.self.invariant.bank) (subst (IsSeatOf c.args.self.now) (sym c.seat.view_is) c.requires.seat) c.seat.invariant.seat c.market_place-place.result
-    (subst (λ (l : List Address). IsPlace c.args.first.now.market l c.market_place-place.result) (ap (λ (b : BankState). market_addresses b.script) c.self.view_is) c.market_place-place.ensures)
-
-pub in_markets-made-requires-clause-second : goal.in_markets-made-requires-clause-second
-in_markets-made-requires-clause-second g c =
-    enters-at c.args.self.now (row_of c.args.second.now) (seat_inside c.seat.inside) (second-ahead (row_of c.args.first.now) (row_of c.args.second.now) (seat_inside c.seat.inside) (subst (AreNext (row_of c.args.first.now) (row_of c.args.second.now)) (sym c.seat.view_is) c.requires.legs)) (subst IsBank c.self.view_is c.self.invariant.bank) (subst (IsSeatOf c.args.self.now) (sym c.seat.view_is) c.requires.seat) c.seat.invariant.seat c.market_place-next.result
-    (subst (λ (l : List Address). IsPlace c.args.second.now.market l c.market_place-next.result) (ap (λ (b : BankState). market_addresses b.script) c.self.view_is) c.market_place-next.ensures)
-
-pub in_markets-made-requires-clause-markets : goal.in_markets-made-requires-clause-markets
-in_markets-made-requires-clause-markets g c =
-    AllZip-long (IsMarketPass c.seat.inside.lane (map call_made c.seat.inside.calls.items)) c.args.self.now.script.start.markets c.seat.inside.markets.items
-    (passes-kept c.args.self.now (row_of c.args.first.now) (seat_inside c.seat.inside) (first-ahead (row_of c.args.first.now) (row_of c.args.second.now) (seat_inside c.seat.inside) (subst (AreNext (row_of c.args.first.now) (row_of c.args.second.now)) (sym c.seat.view_is) c.requires.legs)) (subst IsBank c.self.view_is c.self.invariant.bank) (subst (IsSeatOf c.args.self.now) (sym c.seat.view_is) c.requires.seat) c.seat.invariant.seat c.market_place-place.result
-    (subst (λ (l : List Address). IsPlace c.args.first.now.market l c.market_place-place.result) (ap (λ (b : BankState). market_addresses b.script) c.self.view_is) c.market_place-place.ensures))
-
-pub in_markets-made-requires-clause-named : goal.in_markets-made-requires-clause-named
-in_markets-made-requires-clause-named g c =
-    legs-name (row_of c.args.first.now) (row_of c.args.second.now) c.requires.legs.legs c.args.self.now.script
-    (row-fits c.args.self.now (row_of c.args.first.now) (seat_inside c.seat.inside) (first-ahead (row_of c.args.first.now) (row_of c.args.second.now) (seat_inside c.seat.inside) (subst (AreNext (row_of c.args.first.now) (row_of c.args.second.now)) (sym c.seat.view_is) c.requires.legs)) (subst IsBank c.self.view_is c.self.invariant.bank) (subst (IsSeatOf c.args.self.now) (sym c.seat.view_is) c.requires.seat))
-    (row-fits c.args.self.now (row_of c.args.second.now) (seat_inside c.seat.inside) (second-ahead (row_of c.args.first.now) (row_of c.args.second.now) (seat_inside c.seat.inside) (subst (AreNext (row_of c.args.first.now) (row_of c.args.second.now)) (sym c.seat.view_is) c.requires.legs)) (subst IsBank c.self.view_is c.self.invariant.bank) (subst (IsSeatOf c.args.self.now) (sym c.seat.view_is) c.requires.seat))
-
-pub in_markets-made-requires-clause-passes : goal.in_markets-made-requires-clause-passes
-in_markets-made-requires-clause-passes g c =
-    legs-ready c.args.self.now (row_of c.args.first.now) (row_of c.args.second.now) (seat_inside c.seat.inside) (subst (AreNext (row_of c.args.first.now) (row_of c.args.second.now)) (sym c.seat.view_is) c.requires.legs) (subst IsBank c.self.view_is c.self.invariant.bank) (subst (IsSeatOf c.args.self.now) (sym c.seat.view_is) c.requires.seat) c.seat.invariant.seat
-
--- ---- the seat behind them
-
-pub invariant_of-seat : goal.invariant_of-seat
-invariant_of-seat g c =
-    let seat_with : List (Stamped Call) → SeatState = λ l. record {
-      lane = c.seat.inside.lane;
-      script = c.seat.inside.script.value;
-      calls = l;
-      last = c.in_markets-made.result.first.stamp.number;
-      markets = c.in_markets-made.new.markets.items;
-      wallets = c.in_markets-made.new.passes.items;
-    } in
-    let calls = (ap (map call_made) (c.and-seat-inside.ensures ∙ ap (λ (l : List _). l ++ (c.args.second.now, c.in_markets-made.result.second) ∷ []) c.and.ensures ∙ append_assoc c.seat.inside.calls.items _ _) ∙ map-append call_made c.seat.inside.calls.items ((c.args.first.now, c.in_markets-made.result.first) ∷ (c.args.second.now, c.in_markets-made.result.second) ∷ [])) in
-    record {
-      seat = subst IsSeat (sym (ap seat_with calls)) (legs.seat-kept c.args.self.now (row_of c.args.first.now) (row_of c.args.second.now) (seat_inside c.seat.inside) (subst (AreNext (row_of c.args.first.now) (row_of c.args.second.now)) (sym c.seat.view_is) c.requires.legs) (subst (IsSeatOf c.args.self.now) (sym c.seat.view_is) c.requires.seat) c.seat.invariant.seat
-          (one_made c.args.first.now c.in_markets-made.result) (two_made c.args.second.now c.in_markets-made.result) (refl, refl) c.in_markets-made.ensures.told c.in_markets-made.new.markets.items
-          c.in_markets-made.ensures.markets c.in_markets-made.new.passes.items c.in_markets-made.ensures.passes);
-      hands = c.in_markets-made.ensures.hands;
-      room = omega (arith, c.seat.invariant.room, c.in_markets-made.ensures.room);
-    }
-
-pub returns-clause-submitted : goal.returns-clause-submitted
-returns-clause-submitted g c =
-    let seat_with : List (Stamped Call) → SeatState = λ l. record {
-      lane = c.seat.inside.lane;
-      script = c.seat.inside.script.value;
-      calls = l;
-      last = c.in_markets-made.result.first.stamp.number;
-      markets = c.in_markets-made.new.markets.items;
-      wallets = c.in_markets-made.new.passes.items;
-    } in
-    let calls = (ap (map call_made) (c.and-seat-inside.ensures ∙ ap (λ (l : List _). l ++ (c.args.second.now, c.in_markets-made.result.second) ∷ []) c.and.ensures ∙ append_assoc c.seat.inside.calls.items _ _) ∙ map-append call_made c.seat.inside.calls.items ((c.args.first.now, c.in_markets-made.result.first) ∷ (c.args.second.now, c.in_markets-made.result.second) ∷ [])) in
-    let replies : Reply × Reply = (c.in_markets-made.result.first.entry.reply, c.in_markets-made.result.second.entry.reply) in
-    subst (λ (s : SeatState). HaveSubmitted (row_of c.args.first.now) (row_of c.args.second.now) replies s (seat_with (map call_made c.and-seat-inside.result.items))) c.seat.view_is
-    (subst (HaveSubmitted (row_of c.args.first.now) (row_of c.args.second.now) replies (seat_inside c.seat.inside)) (sym (ap seat_with calls))
-    (legs.seat-submitted c.args.self.now (row_of c.args.first.now) (row_of c.args.second.now) (seat_inside c.seat.inside) (subst (AreNext (row_of c.args.first.now) (row_of c.args.second.now)) (sym c.seat.view_is) c.requires.legs) (subst (IsSeatOf c.args.self.now) (sym c.seat.view_is) c.requires.seat) c.seat.invariant.seat
-    (one_made c.args.first.now c.in_markets-made.result) (two_made c.args.second.now c.in_markets-made.result) (refl, refl) c.in_markets-made.ensures.told c.in_markets-made.new.markets.items
-    c.in_markets-made.ensures.markets c.in_markets-made.new.passes.items c.in_markets-made.ensures.passes))
-
-pub returns-clause-bank : goal.returns-clause-bank
-returns-clause-bank g c =
-    let seat_with : List (Stamped Call) → SeatState = λ l. record {
-      lane = c.seat.inside.lane;
-      script = c.seat.inside.script.value;
-      calls = l;
-      last = c.in_markets-made.result.first.stamp.number;
-      markets = c.in_markets-made.new.markets.items;
-      wallets = c.in_markets-made.new.passes.items;
-    } in
-    let calls = (ap (map call_made) (c.and-seat-inside.ensures ∙ ap (λ (l : List _). l ++ (c.args.second.now, c.in_markets-made.result.second) ∷ []) c.and.ensures ∙ append_assoc c.seat.inside.calls.items _ _) ∙ map-append call_made c.seat.inside.calls.items ((c.args.first.now, c.in_markets-made.result.first) ∷ (c.args.second.now, c.in_markets-made.result.second) ∷ [])) in
-    subst (IsSeatOf c.args.self.now) (sym (ap seat_with calls)) (legs.seat-of c.args.self.now (row_of c.args.first.now) (row_of c.args.second.now) (seat_inside c.seat.inside) (subst (AreNext (row_of c.args.first.now) (row_of c.args.second.now)) (sym c.seat.view_is) c.requires.legs) (subst (IsSeatOf c.args.self.now) (sym c.seat.view_is) c.requires.seat) c.seat.invariant.seat
-    (one_made c.args.first.now c.in_markets-made.result) (two_made c.args.second.now c.in_markets-made.result) (refl, refl) c.in_markets-made.ensures.told c.in_markets-made.new.markets.items
-    c.in_markets-made.ensures.markets c.in_markets-made.new.passes.items c.in_markets-made.ensures.passes)
-
-pub returns-clause-kept : goal.returns-clause-kept
-returns-clause-kept g c =
-    let seat_with : List (Stamped Call) → SeatState = λ l. record {
-      lane = c.seat.inside.lane;
-      script = c.seat.inside.script.value;
-      calls = l;
-      last = c.in_markets-made.result.first.stamp.number;
-      markets = c.in_markets-made.new.markets.items;
-      wallets = c.in_markets-made.new.passes.items;
-    } in
-    let calls = (ap (map call_made) (c.and-seat-inside.ensures ∙ ap (λ (l : List _). l ++ (c.args.second.now, c.in_markets-made.result.second) ∷ []) c.and.ensures ∙ append_assoc c.seat.inside.calls.items _ _) ∙ map-append call_made c.seat.inside.calls.items ((c.args.first.now, c.in_markets-made.result.first) ∷ (c.args.second.now, c.in_markets-made.result.second) ∷ [])) in
-    subst IsSeat (sym (ap seat_with calls)) (legs.seat-kept c.args.self.now (row_of c.args.first.now) (row_of c.args.second.now) (seat_inside c.seat.inside) (subst (AreNext (row_of c.args.first.now) (row_of c.args.second.now)) (sym c.seat.view_is) c.requires.legs) (subst (IsSeatOf c.args.self.now) (sym c.seat.view_is) c.requires.seat) c.seat.invariant.seat
-    (one_made c.args.first.now c.in_markets-made.result) (two_made c.args.second.now c.in_markets-made.result) (refl, refl) c.in_markets-made.ensures.told c.in_markets-made.new.markets.items
-    c.in_markets-made.ensures.markets c.in_markets-made.new.passes.items c.in_markets-made.ensures.passes)
+pub places_of-second_places-requires : goal.places_of-second_places-requires
+places_of-second_places-requires g c =
+    let second = row_of c.args.second.now in
+    subst (λ (bank : BankState). IsRowOf bank.script.start second) (sym c.self.view_is)
+    (row-fits c.args.self.now second c.args.seat.now (second-ahead (row_of c.args.first.now) second c.args.seat.now c.requires.legs)
+    (subst IsBank c.self.view_is c.self.invariant.bank) c.requires.seat)
