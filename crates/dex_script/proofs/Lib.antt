@@ -22,3 +22,4 @@ pub mod StartOrders
 pub mod StartRows
 pub mod Roles
 pub mod StartLaws
+pub mod Apart

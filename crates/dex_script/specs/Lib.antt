@@ -9,4 +9,5 @@ pub mod Rows
 pub mod ScriptInside
 pub mod Scripts
 pub mod Sight
+pub mod Starts
 pub mod Telling
