@@ -1,6 +1,6 @@
 //! A script.
 
-use dex_types::{Accounts, Program, Row};
+use dex_types::{Accounts, Program, Row, RowPlaces};
 use std::marker::Model;
 
 /// A script: the accounts with which it starts, its instruction rows in their order, how many lanes it has (the highest
@@ -10,6 +10,8 @@ use std::marker::Model;
 pub struct Script {
     pub start: Accounts,
     pub rows: Vec<Row>,
+    /// Of each row, where its market and its wallets stand among those of `start`.
+    pub places: Vec<RowPlaces>,
     pub lanes: u32,
     pub program: Program,
 }
