@@ -1,8 +1,8 @@
 -- Cells that a row looks at.
-use Rattle.std.proofs.Common.{◌≡◌, ℕ, ◌&&◌, ◌||◌, Bool, true, false, not, cond, List, [], ◌∷◌, map, set, get_or, Option, Some, refl, sym, ap, ◌∙◌, subst, ⊎_elim}
+use Rattle.std.proofs.Common.{◌≡◌, ℕ, ◌&&◌, ◌||◌, Bool, true, false, not, cond, List, [], ◌∷◌, map, set, get_or, Option, Some, None, refl, sym, ap, ◌∙◌, subst, ⊎_elim}
 use Rattle.std.specs.List.{All}
 use Rattle.std.proofs.lemmas.List.Elements.{All-map, All-weaker}
-use Rattle.std.proofs.lemmas.Bool.{and_from, and_left, and_right, cases_Bool, cond-true, cond-false, false≢true, not_from_false}
+use Rattle.std.proofs.lemmas.Bool.{and_from, and_left, and_right, cases_Bool, cond-true, cond-false, false≢true, not-false, not_from_false}
 use Rattle.dex_types.specs.declared.addresses.Address.{Address}
 use Rattle.dex_types.specs.declared.movements.MoveKind.TheVariants.{Probe}
 use Rattle.dex_types.specs.declared.rows.Seen.{Seen}
@@ -37,66 +37,56 @@ module _ (row : PlainRow) (seen : Seen) (t : Transfers) where
 
   -- ---- one role
 
-  looked-others : (wallet : WalletSeen) (again : Bool) → ChangesAt wallet.address (role_looked row seen t (Some wallet) again)
-  looked-others wallet again cell other =
-      cond-false _ _ _ (and_left (is_same cell.address wallet.address) (not again && is_still cell.address) (is_same-sym cell.address wallet.address ∙ other))
+  looked-others : (wallet : WalletSeen) (later : List (Option WalletSeen)) → ChangesAt wallet.address (role_looked row seen t (Some wallet) later)
+  looked-others wallet later cell other =
+      cond-false _ _ _ (and_left (is_same cell.address wallet.address) (is_still cell.address && not (any_hit cell.address later)) (is_same-sym cell.address wallet.address ∙ other))
 
   -- the cell at the place of its wallet is looked at
-  pub looked-here : (role : Option WalletSeen) (wallet : WalletSeen) (again : Bool) (cells new : List CellState) (place : ℕ) → role ≡ Some wallet → again ≡ false
-      → not (is_still wallet.address) ≡ false → AreApart cells → IsRoleAt cells (address_seen role) place
-      → ((default : CellState) → new ≡ set cells place (cell_moved row Probe 0 (get_or cells place default))) → new ≡ map (role_looked row seen t role again) cells
-  looked-here role wallet again cells new place is first still apart at moved =
-      changed-here wallet.address (role_looked row seen t (Some wallet) again) (cell_moved row Probe 0) cells new place apart
-      (subst (λ (r : Option WalletSeen). IsRoleAt cells (address_seen r) place) is at) (looked-others wallet again)
+  pub looked-here : (role : Option WalletSeen) (wallet : WalletSeen) (later : List (Option WalletSeen)) (cells new : List CellState) (place : ℕ) → role ≡ Some wallet
+      → not (is_still wallet.address) ≡ false → any_hit wallet.address later ≡ false → AreApart cells → IsRoleAt cells (address_seen role) place
+      → ((default : CellState) → new ≡ set cells place (cell_moved row Probe 0 (get_or cells place default))) → new ≡ map (role_looked row seen t role later) cells
+  looked-here role wallet later cells new place is still first apart at moved =
+      changed-here wallet.address (role_looked row seen t (Some wallet) later) (cell_moved row Probe 0) cells new place apart
+      (subst (λ (r : Option WalletSeen). IsRoleAt cells (address_seen r) place) is at) (looked-others wallet later)
       (λ cell own.
-      cond-true _ _ _ (and_from (is_same cell.address wallet.address) (not again && is_still cell.address) (is_same-sym cell.address wallet.address ∙ own)
-      (and_from (not again) (is_still cell.address) (not_from_false again first)
-      (ap is_still (sym (is_same-true wallet.address cell.address own)) ∙ not-false (is_still wallet.address) still)))) moved
-      ∙ ap (λ (r : Option WalletSeen). map (role_looked row seen t r again) cells) (sym is)
-    where
-      not-false : (b : Bool) → not b ≡ false → b ≡ true
-      not-false true is = refl
-      not-false false is = sym is
+      let looks : Address → Bool = λ a. is_still a && not (any_hit a later) in
+      cond-true _ _ _ (and_from (is_same cell.address wallet.address) (looks cell.address) (is_same-sym cell.address wallet.address ∙ own)
+      (ap looks (sym (is_same-true wallet.address cell.address own))
+      ∙ and_from (is_still wallet.address) (not (any_hit wallet.address later)) (not-false (is_still wallet.address) still) (not_from_false (any_hit wallet.address later) first)))) moved
+      ∙ ap (λ (r : Option WalletSeen). map (role_looked row seen t r later) cells) (sym is)
 
-  -- or none is: it was looked at before, or it is moved, or the role names none
-  pub looked-none : (role : Option WalletSeen) (again : Bool) (cells : List CellState)
-      → ((address : Address) → hits address role ≡ true → (not again && is_still address) ≡ false) → map (role_looked row seen t role again) cells ≡ cells
-  looked-none role again cells none =
-      map-identity (role_looked row seen t role again) cells (λ cell. cond-false _ _ _
-      (⊎_elim (λ (hit : hits cell.address role ≡ true). and_right (hits cell.address role) (not again && is_still cell.address) (none cell.address hit))
-      (λ (no : hits cell.address role ≡ false). and_left (hits cell.address role) (not again && is_still cell.address) no)
-      (cases_Bool (hits cell.address role))))
+  -- or none is: it is moved, or was looked at before
+  pub looked-none : (role : Option WalletSeen) (wallet : WalletSeen) (later : List (Option WalletSeen)) (cells : List CellState) → role ≡ Some wallet
+      → (is_still wallet.address && not (any_hit wallet.address later)) ≡ false → map (role_looked row seen t role later) cells ≡ cells
+  looked-none role wallet later cells is none =
+      ap (λ (r : Option WalletSeen). map (role_looked row seen t r later) cells) is
+      ∙ map-identity (role_looked row seen t (Some wallet) later) cells (λ cell.
+      ⊎_elim
+      (λ (own : is_same cell.address wallet.address ≡ true).
+      cond-false _ _ _ (and_right (is_same cell.address wallet.address) (is_still cell.address && not (any_hit cell.address later))
+      (ap (λ (a : Address). is_still a && not (any_hit a later)) (is_same-true cell.address wallet.address own) ∙ none)))
+      (λ (other : is_same cell.address wallet.address ≡ false). looked-others wallet later cell (is_same-sym wallet.address cell.address ∙ other))
+      (cases_Bool (is_same cell.address wallet.address)))
 
-  pub still-not : (role : Option WalletSeen) (wallet : WalletSeen) (again : Bool) → role ≡ Some wallet → not (is_still wallet.address) ≡ true
-      → (address : Address) → hits address role ≡ true → (not again && is_still address) ≡ false
-  still-not role wallet again is moved address hit =
-      and_right (not again) (is_still address)
-      (ap is_still (is_same-true address wallet.address (ap (hits address) (sym is) ∙ hit)) ∙ not-true (is_still wallet.address) moved)
-    where
-      not-true : (b : Bool) → not b ≡ true → b ≡ false
-      not-true true is = sym is
-      not-true false is = refl
+  -- or the role names none
+  pub looked-no_one : (role : Option WalletSeen) (later : List (Option WalletSeen)) (cells : List CellState) → role ≡ None → map (role_looked row seen t role later) cells ≡ cells
+  looked-no_one role later cells is =
+      map-identity (role_looked row seen t role later) cells (λ cell. ap (λ (r : Option WalletSeen). role_looked row seen t r later cell) is)
 
   -- ---- one role after another, from the last
 
-  -- the role's wallet was looked at before where one of the later roles is its
-  abbrev pub IsAgain : Option WalletSeen → List (Option WalletSeen) → Bool → Type 0
-  IsAgain role later again = (address : Address) → hits address role ≡ true → again ≡ any_hit address later
-
-  looked-more : (role : Option WalletSeen) (later : List (Option WalletSeen)) (again : Bool) (cell : CellState) → IsAgain role later again
-      → role_looked row seen t role again (cell_looked row seen t later cell) ≡ cell_looked row seen t (role ∷ later) cell
-  looked-more role later again cell is =
-      ap (λ (a : Address). looked-if row (role_looks seen t role again a) (cell_looked row seen t later cell)) (looked-address later cell)
-      ∙ by_cases (hits cell.address role) again (any_hit cell.address later) (is_still cell.address) (is cell.address)
+  looked-more : (role : Option WalletSeen) (later : List (Option WalletSeen)) (cell : CellState)
+      → role_looked row seen t role later (cell_looked row seen t later cell) ≡ cell_looked row seen t (role ∷ later) cell
+  looked-more role later cell =
+      ap (λ (a : Address). looked-if row (role_looks seen t role later a) (cell_looked row seen t later cell)) (looked-address later cell)
+      ∙ by_cases (hits cell.address role) (any_hit cell.address later) (is_still cell.address)
     where
-      by_cases : (hit before any still : Bool) → (hit ≡ true → before ≡ any)
-          → looked-if row (hit && (not before && still)) (looked-if row (any && still) cell) ≡ looked-if row ((hit || any) && still) cell
-      by_cases false before any still right = refl
-      by_cases true before any still right = ap (λ (b : Bool). looked-if row (not b && still) (looked-if row (any && still) cell)) (right refl) ∙ whole any still
-        where
-          whole : (x y : Bool) → looked-if row (not x && y) (looked-if row (x && y) cell) ≡ looked-if row y cell
-          whole true y = refl
-          whole false y = refl
+      by_cases : (hit any still : Bool) → looked-if row (hit && (still && not any)) (looked-if row (any && still) cell) ≡ looked-if row ((hit || any) && still) cell
+      by_cases false any still = refl
+      by_cases true true true = refl
+      by_cases true true false = refl
+      by_cases true false true = refl
+      by_cases true false false = refl
 
   -- the cells behind the later roles
   abbrev pub AreLooked : List (Option WalletSeen) → List CellState → List CellState → Type 0
@@ -105,13 +95,12 @@ module _ (row : PlainRow) (seen : Seen) (t : Transfers) where
   looked-start : (cells : List CellState) → AreLooked [] cells cells
   looked-start cells = sym (map-identity (cell_looked row seen t []) cells (λ cell. refl))
 
-  looked-next : (role : Option WalletSeen) (later : List (Option WalletSeen)) (again : Bool) (start cells new : List CellState) → IsAgain role later again
-      → AreLooked later start cells → new ≡ map (role_looked row seen t role again) cells → AreLooked (role ∷ later) start new
-  looked-next role later again start cells new is before after =
-      after ∙ ap (map (role_looked row seen t role again)) before
-      ∙ map-map (cell_looked row seen t later) (role_looked row seen t role again) start
-      ∙ map-same (λ cell. role_looked row seen t role again (cell_looked row seen t later cell)) (cell_looked row seen t (role ∷ later)) start
-      (λ cell. looked-more role later again cell is)
+  looked-next : (role : Option WalletSeen) (later : List (Option WalletSeen)) (start cells new : List CellState)
+      → AreLooked later start cells → new ≡ map (role_looked row seen t role later) cells → AreLooked (role ∷ later) start new
+  looked-next role later start cells new before after =
+      after ∙ ap (map (role_looked row seen t role later)) before
+      ∙ map-map (cell_looked row seen t later) (role_looked row seen t role later) start
+      ∙ map-same (λ cell. role_looked row seen t role later (cell_looked row seen t later cell)) (cell_looked row seen t (role ∷ later)) start (looked-more role later)
 
   -- each cell that is looked at under these roles has room for an entry
   abbrev HasRoom : List (Option WalletSeen) → List CellState → Type 0
@@ -129,31 +118,30 @@ module _ (row : PlainRow) (seen : Seen) (t : Transfers) where
       wider true false still is = absurd (false≢true is)
 
   -- and can be looked at as its own role's
-  look-role : (role : Option WalletSeen) (later : List (Option WalletSeen)) (again : Bool) (place : ℕ) (start cells : List CellState) → IsAgain role later again
+  look-role : (role : Option WalletSeen) (later : List (Option WalletSeen)) (place : ℕ) (start cells : List CellState)
       → AreLooked later start cells → HasRoom (role ∷ later) start → AreApart start → IsRoleAt start (address_seen role) place
-      → CanLookAs seen t role place again cells
-  look-role role later again place start cells is before can apart here =
-      let Can : CellState → Type 0 = λ cell. role_looks seen t role again cell.address ≡ true → HasSpare cell in
+      → CanLookAs seen t role later place cells
+  look-role role later place start cells before can apart here =
+      let Can : CellState → Type 0 = λ cell. role_looks seen t role later cell.address ≡ true → HasSpare cell in
       let change : CellState → CellState = cell_looked row seen t later in
-      subst (CanLookAs seen t role place again) (sym before)
+      subst (CanLookAs seen t role later place) (sym before)
       (record {
         apart = AreApart-map change start (looked-address later) apart;
         here = IsRoleAt-map change start (address_seen role) place (looked-address later) here;
         spare = All-map Can change start
             (All-weaker (λ (cell : CellState). looks_at seen t (role ∷ later) cell.address ≡ true → HasSpare cell) (λ (cell : CellState). Can (change cell))
-            (λ cell spare looks. own cell spare (ap (role_looks seen t role again) (sym (looked-address later cell)) ∙ looks)) start can);
+            (λ cell spare looks.
+            by_cases cell (hits cell.address role) (any_hit cell.address later) (is_still cell.address) spare
+            (ap (role_looks seen t role later) (sym (looked-address later cell)) ∙ looks)) start can);
       })
     where
-      own : (cell : CellState) → (looks_at seen t (role ∷ later) cell.address ≡ true → HasSpare cell) → role_looks seen t role again cell.address ≡ true
-          → HasSpare (cell_looked row seen t later cell)
-      own cell spare looks = by_cases (hits cell.address role) again (any_hit cell.address later) (is_still cell.address) (is cell.address) spare looks
-        where
-          by_cases : (hit before any still : Bool) → (hit ≡ true → before ≡ any) → (((hit || any) && still) ≡ true → HasSpare cell)
-              → (hit && (not before && still)) ≡ true → HasSpare (looked-if row (any && still) cell)
-          by_cases false before any still right can looks = absurd (false≢true looks)
-          by_cases true true any still right can looks = absurd (false≢true looks)
-          by_cases true false true still right can looks = absurd (false≢true (right refl))
-          by_cases true false false still right can looks = can looks
+      by_cases : (cell : CellState) (hit any still : Bool) → (((hit || any) && still) ≡ true → HasSpare cell)
+          → (hit && (still && not any)) ≡ true → HasSpare (looked-if row (any && still) cell)
+      by_cases cell false any still can looks = absurd (false≢true looks)
+      by_cases cell true true true can looks = absurd (false≢true looks)
+      by_cases cell true true false can looks = absurd (false≢true looks)
+      by_cases cell true false true can looks = can refl
+      by_cases cell true false false can looks = absurd (false≢true looks)
 
   -- ---- all roles
 
@@ -161,31 +149,36 @@ module _ (row : PlainRow) (seen : Seen) (t : Transfers) where
   from_pc = seen.pc ∷ seen.discount ∷ seen.referrer ∷ []
 
   abbrev from_discount : List (Option WalletSeen)
-  from_discount = seen.discount ∷ seen.referrer ∷ []
+  from_discount = seen.discount ∷ seen.referrer ∷ None ∷ []
 
-  module _ (at : WalletPlaces) (start one : List CellState) (can : CanLook seen at t start) (one_is : one ≡ map (role_looked row seen t seen.referrer false) start)
-      (again : Bool) (again_is : IsAgain seen.discount (seen.referrer ∷ []) again) where
-    behind-one : AreLooked (seen.referrer ∷ []) start one
-    behind-one = looked-next seen.referrer [] false start start one (λ address hit. refl) (looked-start start) one_is
+  abbrev from_referrer : List (Option WalletSeen)
+  from_referrer = seen.referrer ∷ None ∷ None ∷ []
 
-    pub can-two : CanLookAs seen t seen.discount at.discount again one
+  abbrev no_roles : List (Option WalletSeen)
+  no_roles = None ∷ None ∷ None ∷ []
+
+  module _ (at : WalletPlaces) (start one : List CellState) (can : CanLook seen at t start) (one_is : one ≡ map (role_looked row seen t seen.referrer no_roles) start) where
+    behind-one : AreLooked from_referrer start one
+    behind-one = looked-next seen.referrer no_roles start start one (looked-start start) one_is
+
+    pub can-two : CanLookAs seen t seen.discount from_referrer at.discount one
     can-two =
-        look-role seen.discount (seen.referrer ∷ []) again at.discount start one again_is behind-one
+        look-role seen.discount from_referrer at.discount start one behind-one
         (look-later seen.pc from_discount start (look-later seen.coin from_pc start can.spare)) can.apart can.at.discount
 
-    module _ (two : List CellState) (two_is : two ≡ map (role_looked row seen t seen.discount again) one) (pc_again : Bool) (pc_is : IsAgain seen.pc from_discount pc_again) where
+    module _ (two : List CellState) (two_is : two ≡ map (role_looked row seen t seen.discount from_referrer) one) where
       behind-two : AreLooked from_discount start two
-      behind-two = looked-next seen.discount (seen.referrer ∷ []) again start one two again_is behind-one two_is
+      behind-two = looked-next seen.discount from_referrer start one two behind-one two_is
 
-      pub can-three : CanLookAs seen t seen.pc at.pc pc_again two
-      can-three = look-role seen.pc from_discount pc_again at.pc start two pc_is behind-two (look-later seen.coin from_pc start can.spare) can.apart can.at.pc
+      pub can-three : CanLookAs seen t seen.pc from_discount at.pc two
+      can-three = look-role seen.pc from_discount at.pc start two behind-two (look-later seen.coin from_pc start can.spare) can.apart can.at.pc
 
-      module _ (three : List CellState) (three_is : three ≡ map (role_looked row seen t seen.pc pc_again) two) (coin_again : Bool) (coin_is : IsAgain seen.coin from_pc coin_again) where
+      module _ (three : List CellState) (three_is : three ≡ map (role_looked row seen t seen.pc from_discount) two) where
         behind-three : AreLooked from_pc start three
-        behind-three = looked-next seen.pc from_discount pc_again start two three pc_is behind-two three_is
+        behind-three = looked-next seen.pc from_discount start two three behind-two three_is
 
-        pub can-four : CanLookAs seen t seen.coin at.coin coin_again three
-        can-four = look-role seen.coin from_pc coin_again at.coin start three coin_is behind-three can.spare can.apart can.at.coin
+        pub can-four : CanLookAs seen t seen.coin from_pc at.coin three
+        can-four = look-role seen.coin from_pc at.coin start three behind-three can.spare can.apart can.at.coin
 
-        pub behind-four : (new : List CellState) → new ≡ map (role_looked row seen t seen.coin coin_again) three → AreLooked (roles_of seen) start new
-        behind-four new is = looked-next seen.coin from_pc coin_again start three new coin_is behind-three is
+        pub behind-four : (new : List CellState) → new ≡ map (role_looked row seen t seen.coin from_pc) three → AreLooked (roles_of seen) start new
+        behind-four new is = looked-next seen.coin from_pc start three new behind-three is

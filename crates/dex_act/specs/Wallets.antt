@@ -200,15 +200,15 @@ cell_credited row seen coin pc referrer cell =
 
 -- the parcels of the quote token are of one mint, and each wallet that a row sees can take in what it gets of them
 pub record CanGetPc (seen : Seen) (places : WalletPlaces) (pc referrer : Option TokenAmount) (cells : List CellState) : Type 0
-    where
-  pub mint : Address
-  pub pc_is : pc ≡ parcel_of mint (amount_in pc)
-  pub referrer_is : referrer ≡ parcel_of mint (amount_in referrer)
-  pub apart : AreApart cells
-  pub at : AreSeenAt cells seen places
-  pub pc_named : NamesFor (amount_in pc) seen.pc
-  pub referrer_named : NamesFor (amount_in referrer) seen.referrer
-  pub each : All (λ (cell : CellState). CanPut mint (got_at seen (amount_in pc) (amount_in referrer) cell) cell) cells
+  where
+    pub mint : Address
+    pub pc_is : pc ≡ parcel_of mint (amount_in pc)
+    pub referrer_is : referrer ≡ parcel_of mint (amount_in referrer)
+    pub apart : AreApart cells
+    pub at : AreSeenAt cells seen places
+    pub pc_named : NamesFor (amount_in pc) seen.pc
+    pub referrer_named : NamesFor (amount_in referrer) seen.referrer
+    pub each : All (λ (cell : CellState). CanPut mint (got_at seen (amount_in pc) (amount_in referrer) cell) cell) cells
 
 -- a cell gets of one token alone, and can take it in
 abbrev pub CanGet : Address → Address → ℕ → ℕ → CellState → Type 0
@@ -299,22 +299,22 @@ pub record CanLook (seen : Seen) (places : WalletPlaces) (t : Transfers) (cells 
   pub at : AreSeenAt cells seen places
   pub spare : All (λ (cell : CellState). looks_at seen t (roles_of seen) cell.address ≡ true → HasSpare cell) cells
 
--- a row looks at it under one role, unless it is an earlier one's too
-abbrev pub role_looks : Seen → Transfers → Option WalletSeen → Bool → Address → Bool
-role_looks seen t role again address =
-    hits address role && (not again && is_probe (movement_of seen t address).kind)
+-- a row looks at it under one role, unless it is one of these later roles' too
+abbrev pub role_looks : Seen → Transfers → Option WalletSeen → List (Option WalletSeen) → Address → Bool
+role_looks seen t role later address =
+    hits address role && (is_probe (movement_of seen t address).kind && not (any_hit address later))
 
 -- and can: its cell stands at this place, with room for an entry
-pub record CanLookAs (seen : Seen) (t : Transfers) (role : Option WalletSeen) (place : ℕ) (again : Bool)
-    (cells : List CellState) : Type 0 where
+pub record CanLookAs (seen : Seen) (t : Transfers) (role : Option WalletSeen) (later : List (Option WalletSeen))
+    (place : ℕ) (cells : List CellState) : Type 0 where
   pub apart : AreApart cells
   pub here : IsRoleAt cells (address_seen role) place
-  pub spare : All (λ (cell : CellState). role_looks seen t role again cell.address ≡ true → HasSpare cell) cells
+  pub spare : All (λ (cell : CellState). role_looks seen t role later cell.address ≡ true → HasSpare cell) cells
 
 -- a cell after a row looked at the wallet of one role
-abbrev pub role_looked : PlainRow → Seen → Transfers → Option WalletSeen → Bool → CellState → CellState
-role_looked row seen t role again cell =
-    if role_looks seen t role again cell.address then cell_moved row Probe 0 cell else cell
+abbrev pub role_looked : PlainRow → Seen → Transfers → Option WalletSeen → List (Option WalletSeen) → CellState → CellState
+role_looked row seen t role later cell =
+    if role_looks seen t role later cell.address then cell_moved row Probe 0 cell else cell
 
 -- what is seen under a role at a cell's address is the cell
 abbrev pub IsRight : CellState → Option WalletSeen → Type 0

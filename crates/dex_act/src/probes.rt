@@ -1,7 +1,6 @@
 //! The cells of wallets that a row looks at.
 
-ghost use Rattle.std.specs.Prelude.{◌≡◌, ◌<◌, ◌∷◌, [], true, length, map, slice_set};
-ghost use Rattle.dex_types.specs.declared.addresses.Address.{Address as AddressOf};
+ghost use Rattle.std.specs.Prelude.{◌≡◌, ◌<◌, ◌∷◌, [], length, map, slice_set};
 ghost use Rattle.dex_types.specs.declared.movements.MoveKind.TheVariants.{Probe};
 ghost use Rattle.dex_types.specs.Rows.{row_of};
 ghost use Rattle.dex_movements.specs.Amounts.{transfers_of};
@@ -10,9 +9,8 @@ ghost use Rattle.dex_act.specs.Wallets.{AtPlace, CanLook, CanLookAs, any_hit, ce
 ghost use Rattle.dex_act.specs.Wallets.{role_looked, roles_of};
 
 use crate::places::WalletPlaces;
-use crate::wallets::is_one;
 use dex_movements::{Amounts, is_moved};
-use dex_types::{Row, Seen, WalletSeen};
+use dex_types::{Address, Row, Seen, WalletSeen, is_same};
 use dex_wallet::WalletCell;
 
 /// A row looks at the cell at a place.
@@ -26,7 +24,29 @@ fn probe_at(cells: &mut [WalletCell], place: usize, row: &Row)
     cell.probe(row.market, row.lane, row.number);
 }
 
-/// A row looks at the wallet of a role, unless it moves it or has looked at it under an earlier role.
+/// Whether a role's wallet is at the address.
+fn is_hit(address: Address, role: &Option<WalletSeen>) -> bool
+    ensures { result ≡ hits address role.now }
+{
+    match role {
+        Some(wallet) => is_same(address, wallet.address),
+        None => false,
+    }
+}
+
+/// Whether one of three roles' wallets is.
+fn is_any_hit(
+    address: Address,
+    first: &Option<WalletSeen>,
+    second: &Option<WalletSeen>,
+    third: &Option<WalletSeen>,
+) -> bool
+    ensures { result ≡ any_hit address (first.now ∷ second.now ∷ third.now ∷ []) }
+{
+    is_hit(address, first) || is_hit(address, second) || is_hit(address, third)
+}
+
+/// A row looks at the wallet of a role, unless it moves it or has looked at it under one of three later roles.
 fn probe(
     cells: &mut [WalletCell],
     row: &Row,
@@ -34,33 +54,24 @@ fn probe(
     amounts: &Amounts,
     role: &Option<WalletSeen>,
     place: usize,
-    again: bool,
+    first: &Option<WalletSeen>,
+    second: &Option<WalletSeen>,
+    third: &Option<WalletSeen>,
 )
-    requires { CanLookAs seen.now (transfers_of amounts.now) role.now place again cells.old }
-    ensures { cells.new
-        ≡ map (role_looked (row_of row.entry.now) seen.now (transfers_of amounts.now) role.entry.now again) cells.old }
+    requires { CanLookAs seen.now (transfers_of amounts.now) role.now (first.now ∷ second.now ∷ third.now ∷ []) place
+        cells.old }
+    ensures { cells.new ≡ map (role_looked (row_of row.entry.now) seen.now (transfers_of amounts.now) role.entry.now
+        (first.entry.now ∷ second.entry.now ∷ third.entry.now ∷ [])) cells.old }
 {
     match role {
         Some(wallet) => {
-            if !again && !is_moved(seen, amounts, wallet.address) {
+            let address = wallet.address;
+            if !is_moved(seen, amounts, address) && !is_any_hit(address, first, second, third) {
                 probe_at(cells, place, row);
             }
         }
         None => {}
     }
-}
-
-/// Whether a role's wallet is that of another role among three.
-fn is_again(
-    role: &Option<WalletSeen>,
-    first: &Option<WalletSeen>,
-    second: &Option<WalletSeen>,
-    third: &Option<WalletSeen>,
-) -> bool
-    ensures { (address : AddressOf) → hits address role.now ≡ true
-        → result ≡ any_hit address (first.now ∷ second.now ∷ third.now ∷ []) }
-{
-    is_one(role, first) || is_one(role, second) || is_one(role, third)
 }
 
 /// A row looks at each wallet that it names and does not move, once.
@@ -82,10 +93,17 @@ pub(crate) fn probes(
         referrer,
         ..
     } = seen;
-    let coin_again = is_again(coin, pc, discount, referrer);
-    let pc_again = is_again(pc, discount, referrer, &None);
-    let discount_again = is_again(discount, referrer, &None, &None);
-    probe(cells, row, seen, amounts, referrer, places.referrer, false);
+    probe(
+        cells,
+        row,
+        seen,
+        amounts,
+        referrer,
+        places.referrer,
+        &None,
+        &None,
+        &None,
+    );
     probe(
         cells,
         row,
@@ -93,8 +111,22 @@ pub(crate) fn probes(
         amounts,
         discount,
         places.discount,
-        discount_again,
+        referrer,
+        &None,
+        &None,
     );
-    probe(cells, row, seen, amounts, pc, places.pc, pc_again);
-    probe(cells, row, seen, amounts, coin, places.coin, coin_again);
+    probe(
+        cells, row, seen, amounts, pc, places.pc, discount, referrer, &None,
+    );
+    probe(
+        cells,
+        row,
+        seen,
+        amounts,
+        coin,
+        places.coin,
+        pc,
+        discount,
+        referrer,
+    );
 }

@@ -130,7 +130,7 @@ pub(crate) fn debits(
 }
 
 /// Whether the wallets of two roles are one.
-pub(crate) fn is_one(first: &Option<WalletSeen>, second: &Option<WalletSeen>) -> bool
+fn is_one(first: &Option<WalletSeen>, second: &Option<WalletSeen>) -> bool
     ensures { result ≡ wallets.is_one first.now second.now }
 {
     match (first, second) {

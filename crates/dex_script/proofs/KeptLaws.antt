@@ -5,7 +5,6 @@ use Rattle.dex_types.specs.declared.terms.Program.{Program}
 use Rattle.dex_types.specs.declared.rows.RowPlaces.{RowPlaces}
 use Rattle.dex_types.specs.Accounts.{PlainAccount, PlainAccounts}
 use Rattle.dex_types.specs.Rows.{PlainRow}
-use Rattle.dex_dump.specs.Accepted.{AreAccepted}
 use Rattle.dex_make.specs.Blanks.{blank_account}
 use Rattle.dex_make.specs.MarketBytes.{made_accounts}
 use Rattle.dex_make.specs.TokenBytes.{wallet_bytes}
@@ -15,7 +14,7 @@ use Rattle.dex_statement.specs.declared.faults.SetupCode.TheVariants as code
 use Rattle.dex_statement.specs.declared.statement.Statement.{Statement}
 use Rattle.dex_statement.specs.declared.statement.Statement.TheVariants as row
 use Rattle.dex_statement.specs.Stated.{PlainMarketWords}
-use Rattle.dex_script.specs.Drafts.{PlainDraft, behind_dump, no_rows}
+use Rattle.dex_script.specs.Drafts.{PlainDraft}
 use Rattle.dex_script.specs.Names.{AreFew, IsReading}
 use Rattle.dex_script.specs.Places.{ArePlaced}
 use Rattle.dex_script.specs.Rows.{IsSetup, with_clock, with_market, with_mint, with_msrm, with_orders_row, with_program, with_srm, with_statement, with_wallet}

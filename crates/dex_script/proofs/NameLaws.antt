@@ -1,5 +1,5 @@
 -- The places that are kept for look-ups.
-use Rattle.std.proofs.Common.{◌≡◌, ◌∙◌, ◌+◌, ◌-◌, ◌<◌, ◌≤◌, ◌||◌, ℕ, ℤ, zero, suc, Bool, true, false, not, cond, List, [], ◌∷◌, Option, Some, None, ap, arith, drop, get_or, length, map, refl, subst, sym}
+use Rattle.std.proofs.Common.{◌≡◌, ◌∙◌, ◌+◌, ◌-◌, ◌<◌, ◌≤◌, ◌||◌, ℕ, zero, suc, Bool, true, false, not, cond, List, [], ◌∷◌, Option, Some, None, ap, arith, drop, get_or, length, map, refl, subst, sym}
 use Rattle.std.specs.List.{list_any, position, position_from}
 use Rattle.std.specs.Option.{is_some}
 use Rattle.std.proofs.lemmas.Iterator.Adapters.{position_from-zero}
@@ -9,12 +9,11 @@ use Rattle.dex_types.specs.declared.rows.RowPlaces.{RowPlaces}
 use Rattle.dex_types.specs.Accounts.{PlainAccount, PlainAccounts, PlainMarketAccounts}
 use Rattle.dex_types.specs.Addresses.{is_same}
 use Rattle.dex_laws.proofs.TraderLaws.{is_same-sym}
-use Rattle.dex_statement.specs.Stated.{PlainInstruction, PlainParties}
-use Rattle.dex_script.specs.declared.names.Names.{Names}
-use Rattle.dex_script.specs.Known.{has_account, has_market, is_known_role}
-use Rattle.dex_script.specs.Names.{AreNames, StandAt, all_places, places_in, places_of, role_place}
-use Rattle.dex_script.specs.Places.{IsPlaced, IsRolePlaced, market_place, wallet_place}
-use Rattle.dex_script.specs.Rows.{instruction_row, is_unknown}
+use Rattle.dex_statement.specs.Stated.{PlainParties}
+use Rattle.dex_script.specs.Known.{has_market, is_known_role}
+use Rattle.dex_script.specs.Names.{StandAt, all_places, places_of, role_place}
+use Rattle.dex_script.specs.Places.{IsRolePlaced, market_place, wallet_place}
+use Rattle.dex_script.specs.Rows.{is_unknown}
 
 -- ---- the first place, from the last item to the first
 

@@ -1,11 +1,10 @@
-use Rattle.std.proofs.Common.{◌≡◌, ◌∙◌, Some, None, ap, refl, subst, sym}
-use Rattle.dex_types.specs.Accounts.{PlainAccounts}
-use Rattle.dex_statement.specs.Stated.{PlainInstruction, PlainSwap, leg_words}
+use Rattle.std.proofs.Common.{◌≡◌, ◌∙◌, Some, None, ap, refl, sym}
+use Rattle.dex_statement.specs.Stated.{PlainInstruction}
 use Rattle.dex_script.specs.Drafts.{PlainDraft}
-use Rattle.dex_script.specs.Names.{StandAt, places_of}
+use Rattle.dex_script.specs.Names.{places_of}
 use Rattle.dex_script.specs.Rows.{with_swap}
-use Rattle.dex_script.specs.Telling.{draft_of, start_of}
-use Rattle.dex_script.proofs.NameLaws.{known, stand, unknown}
+use Rattle.dex_script.specs.Telling.{draft_of}
+use Rattle.dex_script.proofs.NameLaws.{known, unknown}
 use Rattle.dex_script.proofs.ItemRows.{first_leg, second_leg}
 use Rattle.dex_script.proofs.reader.Reader.add_swap.Goals as goal
 
@@ -50,5 +49,7 @@ returns c =
     rw (
       known start (first_leg c.args.words).parties c.in-Some.first_at first,
       known start (second_leg c.args.words).parties c.in-Some-2.second_at second,
-      sym both, sym one, sym two,
+      sym both,
+      sym one,
+      sym two,
     ) c.add_legs.ensures.row
