@@ -1,7 +1,7 @@
 -- What a row does to cells is what it does to their wallets.
-use Rattle.std.proofs.Common.{◌≡◌, ℕ, zero, suc, ◌<◌, ◌≤◌, ◌^◌, Bool, true, false, ◌&&◌, ◌||◌, ltb, cond, List, [], ◌∷◌, map, refl, sym, ap, ◌∙◌, subst, arith, ⊎_elim}
+use Rattle.std.proofs.Common.{◌≡◌, ℕ, zero, suc, ◌+◌, ◌<◌, ◌≤◌, ◌^◌, ◌⊎◌, inl, inr, Bool, true, false, ◌&&◌, ◌||◌, ltb, cond, List, [], ◌∷◌, map, refl, sym, ap, ◌∙◌, subst, arith, ⊎_elim}
 use Rattle.std.specs.List.{All, list_any}
-use Rattle.std.proofs.lemmas.Bool.{cases_Bool, cases_lt, cond-true, cond-false, cond_both, false≢true}
+use Rattle.std.proofs.lemmas.Bool.{cases_Bool, cases_lt, cond-true, cond-false, cond_both, false≢true, and_parts, and_right, or_parts}
 use Rattle.dex_types.specs.declared.addresses.Address.{Address}
 use Rattle.dex_types.specs.declared.movements.MoveKind.{MoveKind}
 use Rattle.dex_types.specs.declared.movements.MoveKind.TheVariants.{Debit, Credit, Probe}
@@ -11,7 +11,7 @@ use Rattle.dex_types.specs.Addresses.{is_same}
 use Rattle.dex_types.specs.Market.{Market}
 use Rattle.dex_types.specs.Rows.{PlainRow}
 use Rattle.dex_types.specs.Transfers.{Transfers}
-use Rattle.dex_types.specs.Wallets.{address_seen, balance_seen, brought_to, movement_by, movement_of, movements, seen_wallets, taken_from}
+use Rattle.dex_types.specs.Wallets.{address_seen, amount_at, balance_seen, brought_to, movement_by, movement_of, movements, seen_wallets, taken_from}
 use Rattle.dex_types.specs.WalletJournal.{CanMove}
 use Rattle.dex_laws.proofs.TraderLaws.{is_same-true, is_same-sym}
 use Rattle.dex_history.specs.Journal.{front, places}
@@ -19,93 +19,81 @@ use Rattle.dex_history.proofs.AddressOrder.{times}
 use Rattle.dex_history.proofs.WalletLaws.{places-movements, wallet-movement_by}
 use Rattle.dex_fold.specs.Fold.{names, wallet_acted, wallet_moved}
 use Rattle.dex_fold.proofs.OnceLaws.{none-any, roles-once}
+use Rattle.dex_movements.specs.Amounts.{is_probe}
 use Rattle.dex_wallet.specs.CellState.{CellState, HasSpare, IsWalletCell, balance_of}
 use Rattle.dex_wallet.proofs.CellLaws.{IsWalletCell-with_entry}
-use Rattle.dex_act.specs.Wallets.{CanLook, Fits, IsRight, any_hit, cell_acted, cell_moved, cell_paid, is_probe, move_probed, moved_some, moves_probed, probes, roles_of, wallet_state_of}
+use Rattle.dex_act.specs.Wallets.{Fits, IsRight, any_hit, cell_acted, cell_debited, cell_looked, cell_moved, cell_paid, got_at, looks_at, move_probed, moved_some, moves_probed, paid_at, probes, roles_of, wallet_state_of}
 use Rattle.dex_act.proofs.Acting.{CellMoves, IsPossible, credits-as, debits-as, nothing-brought, nothing-taken, paid-debit, paid-not, probes-as, state-moved}
-use Rattle.dex_act.proofs.Probing.{move_probed-address}
+use Rattle.dex_act.proofs.CellLists.{KeepsAddress, moved_some-address}
 use Rattle.dex_act.proofs.Seeing.{any-seen, balance-fits, balance-hit}
 
 -- ---- probes, one after another
 
--- the movements of these wallets
-abbrev moves_at : (Address → Movement) → List Address → List Movement
-moves_at move addresses = map move addresses
-
--- a cell of another address is not probed
-not-probed : (row : PlainRow) (move : Address → Movement) (addresses : List Address) (cell : CellState) → ((address : Address) → (move address).wallet ≡ address)
-    → list_any (is_same cell.address) addresses ≡ false
-    → (moves_probed row (moves_at move addresses) cell ≡ cell) × CanLook row (moves_at move addresses) cell
-not-probed row move [] cell wallet none = (refl, tt)
-not-probed row move (first ∷ others) cell wallet none =
-    let each = both (is_same cell.address first) (list_any (is_same cell.address) others) none in
-    let apart : is_same (move first).wallet cell.address ≡ false = ap (λ (a : Address). is_same a cell.address) (wallet first) ∙ is_same-sym first cell.address ∙ each.0 in
-    let no : probes (move first) cell ≡ false = ap (λ (b : Bool). is_probe (move first).kind && b) apart ∙ and-false (is_probe (move first).kind) in
-    let stays : move_probed row (move first) cell ≡ cell = cond-false (probes (move first) cell) (cell_moved row Probe 0 cell) cell no in
-    let later = not-probed row move others cell wallet each.1 in (
-      ap (moves_probed row (moves_at move others)) stays ∙ later.0,
-      ((λ (hit : probes (move first) cell ≡ true). absurd (false≢true (sym no ∙ hit))), subst (CanLook row (moves_at move others)) (sym stays) later.1),
-    )
-  where
-    both : (a b : Bool) → (a || b) ≡ false → (a ≡ false) × (b ≡ false)
-    both true b none = absurd (false≢true (sym none))
-    both false b none = (refl, none)
-
-    and-false : (a : Bool) → (a && false) ≡ false
-    and-false true = refl
-    and-false false = refl
+-- a movement is a probe of a cell of its wallet alone
+probes-own : (move : Address → Movement) (first : Address) (cell : CellState) → ((address : Address) → (move address).wallet ≡ address)
+    → probes (move first) cell ≡ (is_probe (move first).kind && is_same cell.address first)
+probes-own move first cell wallet = ap (λ (a : Address). is_probe (move first).kind && is_same a cell.address) (wallet first) ∙ ap (λ (b : Bool). is_probe (move first).kind && b) (is_same-sym first cell.address)
 
 -- a cell is probed once where its wallet stands there and its movement is a probe
-abbrev pub probed_once : PlainRow → (Address → Movement) → List Address → CellState → CellState
+abbrev probed_once : PlainRow → (Address → Movement) → List Address → CellState → CellState
 probed_once row move addresses cell =
     cond (list_any (is_same cell.address) addresses && is_probe (move cell.address).kind) (cell_moved row Probe 0 cell) cell
 
-pub probed-once : (row : PlainRow) (move : Address → Movement) (addresses : List Address) (cell : CellState) → ((address : Address) → (move address).wallet ≡ address)
-    → times cell.address addresses ≤ 1
-    → (list_any (is_same cell.address) addresses ≡ true → is_probe (move cell.address).kind ≡ true → HasSpare cell)
-    → (moves_probed row (moves_at move addresses) cell ≡ probed_once row move addresses cell) × CanLook row (moves_at move addresses) cell
-probed-once row move [] cell wallet once spare = (refl, tt)
-probed-once row move (first ∷ others) cell wallet once spare =
+-- a cell of another address is not probed
+not-probed : (row : PlainRow) (move : Address → Movement) (addresses : List Address) (cell : CellState) → ((address : Address) → (move address).wallet ≡ address)
+    → list_any (is_same cell.address) addresses ≡ false → moves_probed row (map move addresses) cell ≡ cell
+not-probed row move [] cell wallet none = refl
+not-probed row move (first ∷ others) cell wallet none =
+    let each = or_parts (is_same cell.address first) (list_any (is_same cell.address) others) none in
+    let no : probes (move first) cell ≡ false = probes-own move first cell wallet ∙ and_right (is_probe (move first).kind) (is_same cell.address first) each.0 in
+    ap (moves_probed row (map move others)) (cond-false (probes (move first) cell) (cell_moved row Probe 0 cell) cell no) ∙ not-probed row move others cell wallet each.1
+
+probed-once : (row : PlainRow) (move : Address → Movement) (addresses : List Address) (cell : CellState) → ((address : Address) → (move address).wallet ≡ address)
+    → times cell.address addresses ≤ 1 → moves_probed row (map move addresses) cell ≡ probed_once row move addresses cell
+probed-once row move [] cell wallet once = refl
+probed-once row move (first ∷ others) cell wallet once =
     ⊎_elim
     (λ (own : is_same cell.address first ≡ true).
-    let is : cell.address ≡ first = is_same-true cell.address first own in
     let counted : ◌≡◌ {A = ℕ} (cond (is_same cell.address first) 1 0) 1 = ap (λ (b : Bool). cond b 1 0) own in
     let none : list_any (is_same cell.address) others ≡ false = none-any cell.address others (omega (arith, once, counted)) in
-    let here : is_same (move first).wallet cell.address ≡ true = ap (λ (a : Address). is_same a cell.address) (wallet first) ∙ is_same-sym first cell.address ∙ own in
-    let any : list_any (is_same cell.address) (first ∷ others) ≡ true = ap (λ (b : Bool). b || list_any (is_same cell.address) others) own in
-    let kinds : is_probe (move first).kind ≡ is_probe (move cell.address).kind = ap (λ (a : Address). is_probe (move a).kind) (sym is) in
+    let kinds : is_probe (move first).kind ≡ is_probe (move cell.address).kind = ap (λ (a : Address). is_probe (move a).kind) (sym (is_same-true cell.address first own)) in
     let tested : probes (move first) cell ≡ is_probe (move cell.address).kind =
-    ap (λ (b : Bool). is_probe (move first).kind && b) here ∙ and-true (is_probe (move first).kind) ∙ kinds in
+    probes-own move first cell wallet ∙ ap (λ (b : Bool). is_probe (move first).kind && b) own ∙ and-true (is_probe (move first).kind) ∙ kinds in
     let after : CellState = move_probed row (move first) cell in
-    let stays : after.address ≡ cell.address = move_probed-address row (move first) cell in
-    let later = not-probed row move others after wallet (ap (λ (a : Address). list_any (is_same a) others) stays ∙ none) in (
-      later.0
-          ∙ ap (λ (b : Bool). cond b (cell_moved row Probe 0 cell) cell) tested
-          ∙ sym (ap (λ (b : Bool). cond (b && is_probe (move cell.address).kind) (cell_moved row Probe 0 cell) cell) any),
-      ((λ (hit : probes (move first) cell ≡ true). spare any (sym tested ∙ hit)), later.1),
-    ))
+    let stays : after.address ≡ cell.address = cond_both (probes (move first) cell) (cell_moved row Probe 0 cell) cell (λ (x : CellState). x.address ≡ cell.address) (λ hit. refl) (λ no. refl) in
+    not-probed row move others after wallet (ap (λ (a : Address). list_any (is_same a) others) stays ∙ none)
+    ∙ ap (λ (b : Bool). cond b (cell_moved row Probe 0 cell) cell) tested
+    ∙ sym (ap (λ (b : Bool). cond ((b || list_any (is_same cell.address) others) && is_probe (move cell.address).kind) (cell_moved row Probe 0 cell) cell) own))
     (λ (apart : is_same cell.address first ≡ false).
-    let other : is_same (move first).wallet cell.address ≡ false = ap (λ (a : Address). is_same a cell.address) (wallet first) ∙ is_same-sym first cell.address ∙ apart in
-    let no : probes (move first) cell ≡ false = ap (λ (b : Bool). is_probe (move first).kind && b) other ∙ and-false (is_probe (move first).kind) in
-    let same : move_probed row (move first) cell ≡ cell = cond-false (probes (move first) cell) (cell_moved row Probe 0 cell) cell no in
+    let no : probes (move first) cell ≡ false = probes-own move first cell wallet ∙ and_right (is_probe (move first).kind) (is_same cell.address first) apart in
     let counted : ◌≡◌ {A = ℕ} (cond (is_same cell.address first) 1 0) 0 = ap (λ (b : Bool). cond b 1 0) apart in
-    let any : list_any (is_same cell.address) (first ∷ others) ≡ list_any (is_same cell.address) others = ap (λ (b : Bool). b || list_any (is_same cell.address) others) apart in
-    let later = probed-once row move others cell wallet (omega (arith, once, counted)) (λ hit probe. spare (any ∙ hit) probe) in (
-      ap (moves_probed row (moves_at move others)) same ∙ later.0
-          ∙ sym (ap (λ (b : Bool). cond (b && is_probe (move cell.address).kind) (cell_moved row Probe 0 cell) cell) any),
-      ((λ (hit : probes (move first) cell ≡ true). absurd (false≢true (sym no ∙ hit))), subst (CanLook row (moves_at move others)) (sym same) later.1),
-    ))
+    ap (moves_probed row (map move others)) (cond-false (probes (move first) cell) (cell_moved row Probe 0 cell) cell no)
+    ∙ probed-once row move others cell wallet (omega (arith, once, counted))
+    ∙ sym (ap (λ (b : Bool). cond ((b || list_any (is_same cell.address) others) && is_probe (move cell.address).kind) (cell_moved row Probe 0 cell) cell) apart))
     (cases_Bool (is_same cell.address first))
   where
-    and-false : (a : Bool) → (a && false) ≡ false
-    and-false true = refl
-    and-false false = refl
-
     and-true : (a : Bool) → (a && true) ≡ a
     and-true true = refl
     and-true false = refl
 
+-- the probes of a row's movements are its looks at the wallets of its roles
+pub probed-looked : (row : PlainRow) (seen : Seen) (t : Transfers) (cell : CellState)
+    → moves_probed row (front (places (movements seen t))) cell ≡ cell_looked row seen t (roles_of seen) cell
+probed-looked row seen t cell =
+    ap (λ (l : List Movement). moves_probed row l cell) (places-movements seen t)
+    ∙ probed-once row (movement_of seen t) (seen_wallets seen) cell
+    (λ a. wallet-movement_by a (balance_seen seen a) (taken_from seen t a) (brought_to seen t a))
+    (roles-once (address_seen seen.coin) (address_seen seen.pc) (address_seen seen.discount) (address_seen seen.referrer) cell.address)
+    ∙ ap (λ (b : Bool). cond (b && is_probe (movement_of seen t cell.address).kind) (cell_moved row Probe 0 cell) cell) (any-seen cell.address seen)
+
 -- ---- a cell after a row
+
+-- a cell's addresses behind what is taken and brought
+pub paid-address : (row : PlainRow) (seen : Seen) (t : Transfers) → KeepsAddress (cell_paid row seen t)
+paid-address row seen t cell =
+    let paid : CellState = cell_debited row seen t.coin_in t.pc_in cell in
+    moved_some-address row Credit (amount_at paid.address seen.coin t.coin_out + got_at seen t.pc_out t.referrer_out paid) paid
+    ∙ moved_some-address row Debit (paid_at seen t.coin_in t.pc_in cell) cell
 
 -- the movement of a wallet, by what is taken and brought
 module _ (row : PlainRow) (seen : Seen) (m : Market) (t : Transfers) (cell : CellState) (moves : CellMoves seen m t cell) (right : All (IsRight cell) (roles_of seen))
@@ -125,102 +113,98 @@ module _ (row : PlainRow) (seen : Seen) (m : Market) (t : Transfers) (cell : Cel
   abbrev before : ℕ
   before = balance_seen seen address
 
-  wallets : (a : Address) → (movement_of seen t a).wallet ≡ a
-  wallets a = wallet-movement_by a (balance_seen seen a) (taken_from seen t a) (brought_to seen t a)
+  abbrev is_hit : Bool
+  is_hit = any_hit address (roles_of seen)
+
+  -- it is seen, and moved
+  record IsMoved : Type 0 where
+    kind : MoveKind
+    amount : ℕ
+    is : move ≡ record { wallet = address; kind = kind; amount = amount; before = before }
+    other : is_probe kind ≡ false
+    hit : is_hit ≡ true
+    paid : cell_paid row seen t cell ≡ cell_moved row kind amount cell
+
+  -- or it is not moved
+  record IsStill : Type 0 where
+    is : move ≡ record { wallet = address; kind = Probe; amount = 0; before = before }
+    paid : cell_paid row seen t cell ≡ cell
 
   -- a wallet that is moved is seen
-  hit-taken : 0 < taken → any_hit address (roles_of seen) ≡ true
-  hit-taken some =
-      ⊎_elim (λ (hit : any_hit address (roles_of seen) ≡ true). hit)
-      (λ (none : any_hit address (roles_of seen) ≡ false). absurd (omega (arith, some, nothing-taken address seen t none)))
-      (cases_Bool (any_hit address (roles_of seen)))
+  hit-by : (amount : ℕ) → 0 < amount → (is_hit ≡ false → amount ≡ 0) → is_hit ≡ true
+  hit-by amount some nothing =
+      ⊎_elim (λ (hit : is_hit ≡ true). hit) (λ (none : is_hit ≡ false). absurd (omega (arith, some, nothing none))) (cases_Bool is_hit)
 
-  hit-brought : 0 < brought → any_hit address (roles_of seen) ≡ true
-  hit-brought some =
-      ⊎_elim (λ (hit : any_hit address (roles_of seen) ≡ true). hit)
-      (λ (none : any_hit address (roles_of seen) ≡ false). absurd (omega (arith, some, nothing-brought address seen t none)))
-      (cases_Bool (any_hit address (roles_of seen)))
-
-  -- the cell after the probes, by what it is before them
-  abbrev probed : CellState → CellState
-  probed c = moves_probed row (front (places (movements seen t))) c
-
-  probed-is : (c : CellState) → c.address ≡ address → (any_hit address (roles_of seen) ≡ true → is_probe move.kind ≡ true → HasSpare c)
-      → (probed c ≡ cond (any_hit address (roles_of seen) && is_probe move.kind) (cell_moved row Probe 0 c) c) × CanLook row (front (places (movements seen t))) c
-  probed-is c at spare_of =
-      let Once : CellState → Address → Type 0 = λ x a.
-      (moves_probed row (movements seen t) x
-      ≡ cond (list_any (is_same a) (seen_wallets seen) && is_probe (movement_of seen t a).kind) (cell_moved row Probe 0 x) x)
-      × CanLook row (movements seen t) x in
-      let seen_here : list_any (is_same address) (seen_wallets seen) ≡ any_hit address (roles_of seen) = any-seen address seen in
-      let once : Once c address = subst (Once c) at
-      (probed-once row (movement_of seen t) (seen_wallets seen) c wallets (roles-once (address_seen seen.coin) (address_seen seen.pc) (address_seen seen.discount) (address_seen seen.referrer) c.address)
-      (λ hit probe.
-      spare_of (sym seen_here ∙ ap (λ (a : Address). list_any (is_same a) (seen_wallets seen)) (sym at) ∙ hit)
-      (ap (λ (a : Address). is_probe (movement_of seen t a).kind) (sym at) ∙ probe))) in (
-        ap (λ (l : List Movement). moves_probed row l c) (places-movements seen t) ∙ once.0
-            ∙ ap (λ (b : Bool). cond (b && is_probe move.kind) (cell_moved row Probe 0 c) c) seen_here,
-        subst (λ (l : List Movement). CanLook row l c) (sym (places-movements seen t)) once.1,
-      )
-
-  -- all of it
-  abbrev Whole : Type 0
-  Whole = (cell_acted row seen t cell ≡ cond (any_hit address (roles_of seen)) (cell_moved row move.kind move.amount cell) cell)
-      × CanLook row (front (places (movements seen t))) (cell_paid row seen t cell)
-
-  abbrev by_move : Movement → Bool → CellState
-  by_move x hit = cond hit (cell_moved row x.kind x.amount cell) cell
-
-  whole-of : (k : MoveKind) (n : ℕ) → move ≡ record { wallet = address; kind = k; amount = n; before = before } → is_probe k ≡ false
-      → any_hit address (roles_of seen) ≡ true → cell_paid row seen t cell ≡ cell_moved row k n cell → Whole
-  whole-of k n is other hit paid =
-      let kind : is_probe move.kind ≡ false = ap (λ (x : Movement). is_probe x.kind) is ∙ other in
-      let look = probed-is (cell_moved row k n cell) refl (λ h probe. absurd (false≢true (sym kind ∙ probe))) in (
-        ap probed paid ∙ look.0
-            ∙ ap (λ (b : Bool). cond (any_hit address (roles_of seen) && b) (cell_moved row Probe 0 (cell_moved row k n cell)) (cell_moved row k n cell)) kind
-            ∙ and-none (any_hit address (roles_of seen)) (cell_moved row Probe 0 (cell_moved row k n cell)) (cell_moved row k n cell)
-            ∙ sym (ap (λ (b : Bool). by_move move b) hit ∙ ap (λ (x : Movement). by_move x true) is),
-        subst (CanLook row (front (places (movements seen t)))) (sym paid) look.1,
-      )
-    where
-      and-none : (a : Bool) (x y : CellState) → cond (a && false) x y ≡ y
-      and-none true x y = refl
-      and-none false x y = refl
-
-  pub acted-whole : Whole
-  acted-whole =
+  moved-or-still : IsMoved ⊎ IsStill
+  moved-or-still =
       ⊎_elim
       (λ (some : 0 < taken).
       let none : brought ≡ 0 = ⊎_elim (λ (no : taken ≡ 0). absurd (omega (arith, no, some))) (λ (no : brought ≡ 0). no) moves.one_way in
-      whole-of Debit taken (debits-as address before taken brought some) refl (hit-taken some) (paid-debit row seen t cell some none))
+      inl (record {
+        kind = Debit;
+        amount = taken;
+        is = debits-as address before taken brought some;
+        other = refl;
+        hit = hit-by taken some (nothing-taken address seen t);
+        paid = paid-debit row seen t cell some none;
+      }))
       (λ (le : taken ≤ 0).
       let none : taken ≡ 0 = omega (arith, le) in
       ⊎_elim
-      (λ (some : 0 < brought).
-      whole-of Credit brought (credits-as address before taken brought none some) refl (hit-brought some)
-      (paid-not row seen t cell none ∙ credited brought some))
+      (λ (some : 0 < brought). inl (record {
+        kind = Credit;
+        amount = brought;
+        is = credits-as address before taken brought none some;
+        other = refl;
+        hit = hit-by brought some (nothing-brought address seen t);
+        paid = paid-not row seen t cell none ∙ credited brought some;
+      }))
       (λ (le_too : brought ≤ 0).
       let nothing : brought ≡ 0 = omega (arith, le_too) in
-      let is : move ≡ record { wallet = address; kind = Probe; amount = 0; before = before } = probes-as address before taken brought none nothing in
-      let kind : is_probe move.kind ≡ true = ap (λ (x : Movement). is_probe x.kind) is in
-      let paid : cell_paid row seen t cell ≡ cell = paid-not row seen t cell none ∙ ap (λ (n : ℕ). moved_some row Credit n cell) nothing in
-      let look = probed-is cell refl (λ hit probe. spare hit) in (
-        ap probed paid ∙ look.0
-            ∙ ap (λ (b : Bool). cond (any_hit address (roles_of seen) && b) (cell_moved row Probe 0 cell) cell) kind
-            ∙ and-some (any_hit address (roles_of seen)) (cell_moved row Probe 0 cell)
-            ∙ sym (ap (λ (x : Movement). by_move x (any_hit address (roles_of seen))) is),
-        subst (CanLook row (front (places (movements seen t)))) (sym paid) look.1,
-      ))
+      inr (record {
+        is = probes-as address before taken brought none nothing;
+        paid = paid-not row seen t cell none ∙ ap (λ (n : ℕ). moved_some row Credit n cell) nothing;
+      }))
       (cases_lt 0 brought))
       (cases_lt 0 taken)
     where
-      and-some : (a : Bool) (x : CellState) → cond (a && true) x cell ≡ cond a x cell
-      and-some true x = refl
-      and-some false x = refl
-
       credited : (n : ℕ) → 0 < n → moved_some row Credit n cell ≡ cell_moved row Credit n cell
       credited zero some = absurd (omega arith)
       credited (suc n) some = refl
+
+  -- all of it
+  abbrev by_move : Movement → Bool → CellState
+  by_move x hit = cond hit (cell_moved row x.kind x.amount cell) cell
+
+  pub acted-whole : cell_acted row seen t cell ≡ by_move move is_hit
+  acted-whole =
+      probed-looked row seen t (cell_paid row seen t cell)
+      ∙ ⊎_elim
+      (λ (moved : IsMoved).
+      let kind : is_probe move.kind ≡ false = ap (λ (x : Movement). is_probe x.kind) moved.is ∙ moved.other in
+      ap (cell_looked row seen t (roles_of seen)) moved.paid
+      ∙ cond-false (is_hit && is_probe move.kind) _ _ (and_right is_hit (is_probe move.kind) kind)
+      ∙ sym (ap (by_move move) moved.hit ∙ ap (λ (x : Movement). by_move x true) moved.is))
+      (λ (still : IsStill).
+      let kind : is_probe move.kind ≡ true = ap (λ (x : Movement). is_probe x.kind) still.is in
+      ap (cell_looked row seen t (roles_of seen)) still.paid
+      ∙ ap (λ (b : Bool). cond (is_hit && b) (cell_moved row Probe 0 cell) cell) kind
+      ∙ and-some is_hit
+      ∙ sym (ap (λ (x : Movement). by_move x is_hit) still.is))
+      moved-or-still
+    where
+      and-some : (a : Bool) → cond (a && true) (cell_moved row Probe 0 cell) cell ≡ cond a (cell_moved row Probe 0 cell) cell
+      and-some true = refl
+      and-some false = refl
+
+  -- where it is looked at behind that, there is room for the entry
+  pub look-paid : looks_at seen t (roles_of seen) (cell_paid row seen t cell).address ≡ true → HasSpare (cell_paid row seen t cell)
+  look-paid looks =
+      let both = and_parts is_hit (is_probe move.kind) (ap (looks_at seen t (roles_of seen)) (sym (paid-address row seen t cell)) ∙ looks) in
+      ⊎_elim
+      (λ (moved : IsMoved). absurd (false≢true (sym moved.other ∙ sym (ap (λ (x : Movement). is_probe x.kind) moved.is) ∙ both.1)))
+      (λ (still : IsStill). subst HasSpare (sym still.paid) (spare both.0))
+      moved-or-still
 
   -- the wallet that it is then, and it is kept
   pub acted-state : (hits_are : names row address ≡ any_hit address (roles_of seen)) → IsWalletCell cell → All Fits (roles_of seen) → IsPossible move
@@ -228,7 +212,7 @@ module _ (row : PlainRow) (seen : Seen) (m : Market) (t : Transfers) (cell : Cel
   acted-state hits_are kept fits possible =
       ⊎_elim
       (λ (hit : any_hit address (roles_of seen) ≡ true).
-      let is : cell_acted row seen t cell ≡ cell_moved row move.kind move.amount cell = acted-whole.0 ∙ ap (by_move move) hit in
+      let is : cell_acted row seen t cell ≡ cell_moved row move.kind move.amount cell = acted-whole ∙ ap (by_move move) hit in
       let own : before ≡ balance_of cell.bytes = balance-hit cell (roles_of seen) right hit in
       let stated : move.before ≡ balance_of cell.bytes = before-by ∙ own in
       let small : balance_of cell.bytes < 2 ^ 64 = balance-fits cell (roles_of seen) right fits hit in
@@ -240,7 +224,7 @@ module _ (row : PlainRow) (seen : Seen) (m : Market) (t : Transfers) (cell : Cel
             kept small refl can (spare hit)),
       ))
       (λ (none : any_hit address (roles_of seen) ≡ false).
-      let is : cell_acted row seen t cell ≡ cell = acted-whole.0 ∙ ap (by_move move) none in (
+      let is : cell_acted row seen t cell ≡ cell = acted-whole ∙ ap (by_move move) none in (
         ap wallet_state_of is ∙ sym (cond-false (names row address) (wallet_moved row move (wallet_state_of cell)) (wallet_state_of cell) (hits_are ∙ none)),
         subst IsWalletCell (sym is) kept,
       ))

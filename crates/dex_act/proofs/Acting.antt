@@ -2,7 +2,7 @@
 use Rattle.std.proofs.Common.{◌≡◌, ℕ, zero, suc, ◌+◌, ◌<◌, ◌≤◌, ◌^◌, ◌⊎◌, inl, inr, true, false, List, [], ◌∷◌, ◌++◌, Option, refl, sym, ap, ◌∙◌, subst, arith, ⊎_elim}
 use Rattle.std.specs.List.{All}
 use Rattle.std.proofs.lemmas.List.Elements.{All-head, All-tail}
-use Rattle.std.proofs.lemmas.Bool.{cases_Bool, cases_lt, cond-true, cond-false, false≢true, lt-ltb, le-ltb}
+use Rattle.std.proofs.lemmas.Bool.{cases_Bool, cases_lt, cond-true, cond-false, false≢true, lt-ltb, le-ltb, or_parts}
 use Rattle.dex_types.specs.declared.addresses.Address.{Address}
 use Rattle.dex_types.specs.declared.movements.MoveKind.TheVariants.{Debit, Credit, Probe}
 use Rattle.dex_types.specs.declared.movements.Movement.{Movement}
@@ -24,7 +24,7 @@ use Rattle.dex_types.specs.declared.movements.WalletEntry.{WalletEntry}
 use Rattle.dex_fold.specs.Fold.{wallet_moved}
 use Rattle.dex_fold.specs.World.{WalletState}
 use Rattle.dex_act.specs.Wallets.{CanGet, CanTake, IsOf, IsRight, any_hit, cell_credited, cell_debited, cell_moved, cell_paid, got_at, hits, moved_some, paid_at, roles_of, wallet_state_of}
-use Rattle.dex_act.proofs.CellLists.{moved_some-address, neither}
+use Rattle.dex_act.proofs.CellLists.{moved_some-address}
 use Rattle.dex_act.proofs.Seeing.{balance-hit, no-hit}
 use Rattle.dex_act.proofs.WalletMoves.{none-at}
 
@@ -100,10 +100,10 @@ record NoHits (address : Address) (seen : Seen) : Type 0 where
 
 no-hits : (address : Address) (seen : Seen) → any_hit address (roles_of seen) ≡ false → NoHits address seen
 no-hits address seen none =
-    let first = neither (hits address seen.coin) (any_hit address (seen.pc ∷ seen.discount ∷ seen.referrer ∷ [])) none in
-    let second = neither (hits address seen.pc) (any_hit address (seen.discount ∷ seen.referrer ∷ [])) first.1 in
-    let third = neither (hits address seen.discount) (any_hit address (seen.referrer ∷ [])) second.1 in
-    let fourth = neither (hits address seen.referrer) false third.1 in
+    let first = or_parts (hits address seen.coin) (any_hit address (seen.pc ∷ seen.discount ∷ seen.referrer ∷ [])) none in
+    let second = or_parts (hits address seen.pc) (any_hit address (seen.discount ∷ seen.referrer ∷ [])) first.1 in
+    let third = or_parts (hits address seen.discount) (any_hit address (seen.referrer ∷ [])) second.1 in
+    let fourth = or_parts (hits address seen.referrer) false third.1 in
     record { coin = first.0; pc = second.0; referrer = fourth.0 }
 
 pub nothing-taken : (address : Address) (seen : Seen) (t : Transfers) → any_hit address (roles_of seen) ≡ false → taken_from seen t address ≡ 0

@@ -1,22 +1,20 @@
 -- Cells of wallets, one of which changes.
-use Rattle.std.proofs.Common.{◌≡◌, ℕ, zero, suc, ◌<◌, Bool, true, false, ◌||◌, cond, List, [], ◌∷◌, length, map, set, get_or, Option, Some, None, refl, sym, ap, ◌∙◌, arith, ⊎_elim}
-use Rattle.std.specs.List.{All}
+use Rattle.std.proofs.Common.{◌≡◌, ℕ, zero, suc, ◌<◌, Bool, true, false, ◌||◌, cond, List, [], ◌∷◌, length, map, set, get_or, Option, Some, None, refl, sym, ap, ◌∙◌, subst, arith, ⊎_elim}
+use Rattle.std.specs.List.{All, list_any}
+use Rattle.std.proofs.lemmas.List.{length-map}
 use Rattle.std.proofs.lemmas.List.Elements.{All-nil, All-cons, All-head, All-tail}
-use Rattle.std.proofs.lemmas.Bool.{cases_Bool, false≢true}
+use Rattle.std.proofs.lemmas.Bool.{cases_Bool, false≢true, or_parts, or_right}
 use Rattle.dex_types.specs.declared.addresses.Address.{Address}
 use Rattle.dex_types.specs.declared.movements.MoveKind.{MoveKind}
+use Rattle.dex_types.specs.declared.rows.Seen.{Seen}
 use Rattle.dex_types.specs.declared.rows.WalletSeen.{WalletSeen}
 use Rattle.dex_types.specs.Addresses.{is_same}
 use Rattle.dex_types.specs.Rows.{PlainRow}
-use Rattle.dex_types.specs.Wallets.{amount_at}
+use Rattle.dex_types.specs.Wallets.{address_seen, amount_at}
 use Rattle.dex_laws.proofs.TraderLaws.{is_same-true, is_same-refl, is_same-sym}
 use Rattle.dex_wallet.specs.CellState.{CellState}
-use Rattle.dex_act.specs.Wallets.{AreApart, IsAt, IsHome, cell_moved, is_among, moved_some, role_moved}
-
--- neither of two tests holds where one of them does not
-pub neither : (a b : Bool) → (a || b) ≡ false → (a ≡ false) × (b ≡ false)
-neither true b none = absurd (false≢true (sym none))
-neither false b none = (refl, none)
+use Rattle.dex_act.specs.declared.places.WalletPlaces.{WalletPlaces}
+use Rattle.dex_act.specs.Wallets.{AreApart, AreAt, AreSeenAt, IsAt, IsRoleAt, cell_moved, is_among, moved_some, role_moved}
 
 -- ---- by address
 
@@ -25,11 +23,13 @@ is_among-at : (cells : List CellState) (place : ℕ) (default : CellState) → p
 is_among-at [] place default within = absurd (omega arith)
 is_among-at (first ∷ others) zero default within = rw (is_same-refl first.address) refl
 is_among-at (first ∷ others) (suc place) default within =
-    rw (is_among-at others place default (omega arith)) (either (is_same (get_or others place default).address first.address))
-  where
-    either : (a : Bool) → (a || true) ≡ true
-    either true = refl
-    either false = refl
+    or_right (is_same (get_or others place default).address first.address) (is_among (get_or others place default).address others)
+    (is_among-at others place default (omega arith))
+
+-- an address is among the cells' where one of their addresses is it
+pub is_among-any : (address : Address) (cells : List CellState) → is_among address cells ≡ list_any (is_same address) (map (λ (cell : CellState). cell.address) cells)
+is_among-any address [] = refl
+is_among-any address (cell ∷ cells) = ap (λ (b : Bool). is_same address cell.address || b) (is_among-any address cells)
 
 -- a change that keeps each address
 abbrev pub KeepsAddress : (CellState → CellState) → Type 0
@@ -58,7 +58,7 @@ ChangesAt address change = (cell : CellState) → is_same address cell.address �
 pub map-none : (address : Address) (change : CellState → CellState) (cells : List CellState) → ChangesAt address change → is_among address cells ≡ false → map change cells ≡ cells
 map-none address change [] stays none = refl
 map-none address change (first ∷ others) stays none =
-    let each = neither (is_same address first.address) (is_among address others) none in
+    let each = or_parts (is_same address first.address) (is_among address others) none in
     ap (λ (cell : CellState). cell ∷ map change others) (stays first each.0)
     ∙ ap (λ (cells : List CellState). first ∷ cells) (map-none address change others stays each.1)
 
@@ -82,6 +82,15 @@ map-one address change (first ∷ others) (suc place) default apart at stays =
     ap (λ (cells : List CellState). first ∷ cells) (map-one address change others place default apart.1 there stays)
     ∙ ap (λ (cell : CellState). cell ∷ map change others) (sym (stays first other)))
     (cases_Bool (is_same address first.address))
+
+-- the cell of an address is changed at its place
+pub changed-here : (address : Address) (change moved : CellState → CellState) (cells new : List CellState) (place : ℕ) → AreApart cells → IsAt address cells place
+    → ChangesAt address change → ((cell : CellState) → is_same address cell.address ≡ true → change cell ≡ moved cell)
+    → ((default : CellState) → new ≡ set cells place (moved (get_or cells place default))) → new ≡ map change cells
+changed-here address change moved [] new place apart at stays own set_is = absurd (omega (arith, at.within))
+changed-here address change moved (first ∷ others) new place apart at stays own set_is =
+    set_is first ∙ ap (set (first ∷ others) place) (sym (own (get_or (first ∷ others) place first) (at.here first)))
+    ∙ map-one address change (first ∷ others) place first apart at stays
 
 -- ---- movements
 
@@ -148,25 +157,35 @@ all-both P Q (first ∷ others) one two =
     All-cons (λ (cell : CellState). P cell × Q cell) first others (All-head P first others one, All-head Q first others two)
     (all-both P Q others (All-tail P first others one) (All-tail Q first others two))
 
--- one of the cells has an address that is among theirs
-pub among-All : (P : CellState → Type 0) (address : Address) (cells : List CellState) → is_among address cells ≡ true → All P cells
-    → (cell : CellState) × (is_same address cell.address ≡ true) × P cell
-among-All P address [] among all = absurd (false≢true among)
-among-All P address (first ∷ others) among all =
-    ⊎_elim
-    (λ (same : is_same address first.address ≡ true). (first, same, All-head P first others all))
-    (λ (other : is_same address first.address ≡ false).
-    among-All P address others (sym (ap (λ (b : Bool). b || is_among address others) other) ∙ among) (All-tail P first others all))
-    (cases_Bool (is_same address first.address))
+-- a cell keeps its address where all do
+address-map : (change : CellState → CellState) (cells : List CellState) (place : ℕ) (default : CellState) → KeepsAddress change
+    → (get_or (map change cells) place default).address ≡ (get_or cells place default).address
+address-map change [] place default keeps = refl
+address-map change (first ∷ others) zero default keeps = keeps first
+address-map change (first ∷ others) (suc place) default keeps = address-map change others place default keeps
 
--- a role's wallet stays at home
-pub IsHome-map : (change : CellState → CellState) (cells : List CellState) (role : Option WalletSeen) → KeepsAddress change → IsHome cells role → IsHome (map change cells) role
-IsHome-map change cells None keeps home = tt
-IsHome-map change cells (Some wallet) keeps home = is_among-map wallet.address change cells keeps ∙ home
+-- so the wallets of roles stand where they stood
+pub IsRoleAt-map : (change : CellState → CellState) (cells : List CellState) (role : Option Address) (place : ℕ) → KeepsAddress change
+    → IsRoleAt cells role place → IsRoleAt (map change cells) role place
+IsRoleAt-map change cells None place keeps at = tt
+IsRoleAt-map change cells (Some address) place keeps at = record {
+  within = subst (λ (n : ℕ). place < n) (sym (length-map cells change)) at.within;
+  here = λ default. ap (is_same address) (address-map change cells place default keeps) ∙ at.here default;
+}
 
-pub map-map : (change later : CellState → CellState) (cells : List CellState) → map later (map change cells) ≡ map (λ cell. later (change cell)) cells
-map-map change later [] = refl
-map-map change later (first ∷ others) = ap (λ (cells : List CellState). later (change first) ∷ cells) (map-map change later others)
+AreAt-map : (change : CellState → CellState) (cells : List CellState) (coin pc discount referrer : Option Address) (places : WalletPlaces) → KeepsAddress change
+    → AreAt cells coin pc discount referrer places → AreAt (map change cells) coin pc discount referrer places
+AreAt-map change cells coin pc discount referrer places keeps at = record {
+  coin = IsRoleAt-map change cells coin places.coin keeps at.coin;
+  pc = IsRoleAt-map change cells pc places.pc keeps at.pc;
+  discount = IsRoleAt-map change cells discount places.discount keeps at.discount;
+  referrer = IsRoleAt-map change cells referrer places.referrer keeps at.referrer;
+}
+
+pub AreSeenAt-map : (change : CellState → CellState) (cells : List CellState) (seen : Seen) (places : WalletPlaces) → KeepsAddress change
+    → AreSeenAt cells seen places → AreSeenAt (map change cells) seen places
+AreSeenAt-map change cells seen places keeps at =
+    AreAt-map change cells (address_seen seen.coin) (address_seen seen.pc) (address_seen seen.discount) (address_seen seen.referrer) places keeps at
 
 -- nothing moves no cell
 pub role_moved-nothing : (row : PlainRow) (kind : MoveKind) (role : Option WalletSeen) (amount : ℕ) (cells : List CellState) → amount ≡ 0
@@ -185,11 +204,7 @@ role_moved-no_one row kind role amount cells none =
 pub moved-here : (row : PlainRow) (kind : MoveKind) (role : Option WalletSeen) (wallet : WalletSeen) (amount : ℕ) (cells new : List CellState) (place : ℕ) → role ≡ Some wallet
     → 0 < amount → AreApart cells → IsAt wallet.address cells place → ((default : CellState) → new ≡ set cells place (cell_moved row kind amount (get_or cells place default)))
     → new ≡ map (role_moved row kind role amount) cells
-moved-here row kind role wallet amount [] new place is some apart at moved = absurd (omega (arith, at.within))
-moved-here row kind role wallet amount (first ∷ others) new place is some apart at moved =
-    let cells : List CellState = first ∷ others in
-    let here : CellState = get_or cells place first in
-    moved first
-    ∙ ap (set cells place) (sym (role_moved-own row kind wallet amount here (at.here first) some))
-    ∙ map-one wallet.address (role_moved row kind (Some wallet) amount) cells place first apart at (role_moved-others row kind wallet amount)
+moved-here row kind role wallet amount cells new place is some apart at moved =
+    changed-here wallet.address (role_moved row kind (Some wallet) amount) (cell_moved row kind amount) cells new place apart at
+    (role_moved-others row kind wallet amount) (λ cell own. role_moved-own row kind wallet amount cell own some) moved
     ∙ ap (λ (r : Option WalletSeen). map (role_moved row kind r amount) cells) (sym is)

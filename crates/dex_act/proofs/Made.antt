@@ -10,8 +10,9 @@ use Rattle.dex_types.specs.Transfers.{Transfers}
 use Rattle.dex_types.specs.Wallets.{amount_at, movements}
 use Rattle.dex_history.specs.Journal.{front, places}
 use Rattle.dex_wallet.specs.CellState.{CellState}
+use Rattle.dex_fold.proofs.MappedLists.{map-map}
 use Rattle.dex_act.specs.Wallets.{AreApart, cell_acted, cell_debited, cell_moved, cell_paid, got_at, made_of, move_probed, moved_some, moves_probed, paid_at, probes}
-use Rattle.dex_act.proofs.CellLists.{AreApart-map, KeepsAddress, map-map, map-same}
+use Rattle.dex_act.proofs.CellLists.{AreApart-map, KeepsAddress, map-same}
 
 made-moved : (row : PlainRow) (kind : MoveKind) (amount : ℕ) (cell : CellState) → made_of (moved_some row kind amount cell) ≡ made_of cell
 made-moved row kind zero cell = refl

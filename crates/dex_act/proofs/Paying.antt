@@ -3,7 +3,6 @@ use Rattle.std.proofs.Common.{◌≡◌, ℕ, ◌+◌, inl, inr, Bool, true, fal
 use Rattle.std.specs.List.{All}
 use Rattle.std.proofs.lemmas.List.Elements.{All-nil, All-cons, All-head, All-tail, All-map, All-weaker}
 use Rattle.dex_types.specs.declared.addresses.Address.{Address}
-use Rattle.dex_types.specs.declared.movements.Movement.{Movement}
 use Rattle.dex_types.specs.declared.rows.Seen.{Seen}
 use Rattle.dex_types.specs.declared.rows.WalletSeen.{WalletSeen}
 use Rattle.dex_types.specs.Addresses.{is_same}
@@ -12,23 +11,23 @@ use Rattle.dex_types.specs.Rows.{PlainRow}
 use Rattle.dex_types.specs.Soundness.{IsSound}
 use Rattle.dex_types.specs.Transfers.{Transfers, no_transfers}
 use Rattle.dex_types.specs.declared.movements.MoveKind.TheVariants.{Debit, Credit}
-use Rattle.dex_types.specs.Wallets.{amount_at, balance_seen, brought_to, movement_of, movements, seen_wallets, taken_from}
-use Rattle.dex_history.specs.Journal.{Sees, asked_of, idle, front, places, row_step}
+use Rattle.dex_types.specs.Wallets.{amount_at}
+use Rattle.dex_history.specs.Journal.{Sees, asked_of, idle, row_step}
 use Rattle.dex_history.proofs.MintLaws.{IsOfMint}
 use Rattle.dex_history.proofs.StepMoves.{row-can, row-moves}
-use Rattle.dex_history.proofs.WalletLaws.{places-movements, wallet-movement_by}
 use Rattle.dex_cell.specs.Paying.{paid_out, parcel_of}
 use Rattle.dex_fold.specs.Fold.{wallet_acted}
 use Rattle.dex_fold.specs.World.{WalletState}
+use Rattle.dex_fold.proofs.MappedLists.{map-map}
 use Rattle.dex_wallet.specs.CellState.{CellState, HasSpare, IsWalletCell}
-use Rattle.dex_act.specs.Wallets.{AreMovedHere, CanBePaid, CanGet, CanLook, CanPay, CanTake, IsHome, IsOf, IsRight, NamesFor, SeesCells, amount_in, any_hit, cell_acted, cell_credited, cell_debited, cell_paid, got_at, is_among, moved_some, moves_probed, paid_at, roles_of, wallet_state_of}
-use Rattle.dex_act.proofs.CellLists.{AreApart-map, IsHome-map, KeepsAddress, all-both, is_among-map, map-identity, map-map, moved_some-address}
+use Rattle.dex_act.specs.declared.places.WalletPlaces.{WalletPlaces}
+use Rattle.dex_act.specs.Wallets.{AreSeenAt, CanBePaid, CanGet, CanLook, CanPay, CanTake, IsOf, IsRight, NamesFor, SeesCells, amount_in, any_hit, cell_acted, cell_credited, cell_debited, cell_looked, cell_paid, got_at, looks_at, moved_some, paid_at, roles_of, wallet_state_of}
+use Rattle.dex_act.proofs.CellLists.{AreApart-map, AreSeenAt-map, KeepsAddress, all-both, map-identity, map-same, moved_some-address}
 use Rattle.dex_act.proofs.WalletMoves.{amount_in-parcel_of}
 use Rattle.dex_history.proofs.StepMints.{row-of}
-use Rattle.dex_act.proofs.Seeing.{seen-home}
 use Rattle.dex_act.proofs.Sights.{named-hit}
 use Rattle.dex_act.proofs.Acting.{CellMoves, RowMoves, cell-moves, gets-after}
-use Rattle.dex_act.proofs.Acted.{acted-state, acted-whole}
+use Rattle.dex_act.proofs.Acted.{acted-state, look-paid, paid-address, probed-looked}
 
 -- what a row moves on a sound market
 pub row-moves-of : (row : PlainRow) (seen : Seen) (m : Market) → IsSound m → Sees (asked_of row) seen → RowMoves seen m (row_step row seen m).transfers
@@ -77,36 +76,17 @@ named : (mint : Address) (role : Option WalletSeen) (amount : ℕ) → IsOfMint 
 named mint role amount (inl none) = inl none
 named mint role amount (inr is) = inr (is.0, is.1)
 
--- the homes of the roles
-record Homes (seen : Seen) (cells : List CellState) : Type 0 where
-  coin : IsHome cells seen.coin
-  pc : IsHome cells seen.pc
-  referrer : IsHome cells seen.referrer
-
-homes : (seen : Seen) (cells : List CellState) → SeesCells seen cells → Homes seen cells
-homes seen cells sees =
-    let H : Option WalletSeen → Type 0 = IsHome cells in
-    let past = All-tail H seen.coin (seen.pc ∷ seen.discount ∷ seen.referrer ∷ []) sees.home in
-    let later = All-tail H seen.pc (seen.discount ∷ seen.referrer ∷ []) past in
-    record {
-      coin = All-head H seen.coin (seen.pc ∷ seen.discount ∷ seen.referrer ∷ []) sees.home;
-      pc = All-head H seen.pc (seen.discount ∷ seen.referrer ∷ []) past;
-      referrer = All-head H seen.referrer [] (All-tail H seen.discount (seen.referrer ∷ []) later);
-    }
-
-pub can-pay : (seen : Seen) (m : Market) (t : Transfers) (cells : List CellState) → RowMoves seen m t → SeesCells seen cells → CanPay seen t.coin_in t.pc_in cells
-can-pay seen m t cells moves sees =
-    let home = homes seen cells sees in
-    record {
-      apart = sees.apart;
-      coin_home = home.coin;
-      pc_home = home.pc;
-      coin_named = named m.listing.coin_mint seen.coin t.coin_in moves.mints.coin_in;
-      pc_named = named m.listing.pc_mint seen.pc t.pc_in moves.mints.pc_in;
-      one = moves.one_in;
-      each = All-weaker (CellMoves seen m t) (λ (cell : CellState). CanTake (paid_at seen t.coin_in t.pc_in cell) cell) (λ cell known. known.takes) cells
-          (all-moves seen m t cells moves sees);
-    }
+pub can-pay : (seen : Seen) (m : Market) (t : Transfers) (cells : List CellState) (places : WalletPlaces) → RowMoves seen m t → SeesCells seen cells
+    → AreSeenAt cells seen places → CanPay seen places t.coin_in t.pc_in cells
+can-pay seen m t cells places moves sees at = record {
+  apart = sees.apart;
+  at = at;
+  coin_named = named m.listing.coin_mint seen.coin t.coin_in moves.mints.coin_in;
+  pc_named = named m.listing.pc_mint seen.pc t.pc_in moves.mints.pc_in;
+  one = moves.one_in;
+  each = All-weaker (CellMoves seen m t) (λ (cell : CellState). CanTake (paid_at seen t.coin_in t.pc_in cell) cell) (λ cell known. known.takes) cells
+      (all-moves seen m t cells moves sees);
+}
 
 pub coin-mints : (seen : Seen) (m : Market) (t : Transfers) (cells : List CellState) → RowMoves seen m t → SeesCells seen cells
     → All (λ (cell : CellState). IsOf m.listing.coin_mint (amount_at cell.address seen.coin t.coin_in) cell) cells
@@ -140,10 +120,9 @@ paid-cells row seen m t cells moves sees a b c coin_is pc_is referrer_is =
     (subst (λ (y : ℕ). All (Gets t.coin_out y c) (map change cells)) (sym pc_is)
     (subst (λ (z : ℕ). All (Gets t.coin_out t.pc_out z) (map change cells)) (sym referrer_is) all))
 
-pub can-be-paid : (row : PlainRow) (seen : Seen) (m : Market) (t : Transfers) (cells : List CellState) → RowMoves seen m t → SeesCells seen cells
-    → let payouts = paid_out m t in CanBePaid seen payouts.coin payouts.pc payouts.referrer (map (cell_debited row seen t.coin_in t.pc_in) cells)
-can-be-paid row seen m t cells moves sees =
-    let home = homes seen cells sees in
+pub can-be-paid : (row : PlainRow) (seen : Seen) (m : Market) (t : Transfers) (cells : List CellState) (places : WalletPlaces) → RowMoves seen m t → SeesCells seen cells
+    → AreSeenAt cells seen places → let payouts = paid_out m t in CanBePaid seen places payouts.coin payouts.pc payouts.referrer (map (cell_debited row seen t.coin_in t.pc_in) cells)
+can-be-paid row seen m t cells places moves sees at =
     let change : CellState → CellState = cell_debited row seen t.coin_in t.pc_in in
     let keeps : KeepsAddress change = debited-address row seen t.coin_in t.pc_in in
     let coin_is : amount_in (parcel_of m.listing.coin_mint t.coin_out) ≡ t.coin_out = amount_in-parcel_of m.listing.coin_mint t.coin_out in
@@ -156,9 +135,7 @@ can-be-paid row seen m t cells moves sees =
       pc_is = ap (parcel_of m.listing.pc_mint) (sym pc_is);
       referrer_is = ap (parcel_of m.listing.pc_mint) (sym referrer_is);
       apart = AreApart-map change cells keeps sees.apart;
-      coin_home = IsHome-map change cells seen.coin keeps home.coin;
-      pc_home = IsHome-map change cells seen.pc keeps home.pc;
-      referrer_home = IsHome-map change cells seen.referrer keeps home.referrer;
+      at = AreSeenAt-map change cells seen places keeps at;
       coin_named = subst (λ (n : ℕ). NamesFor n seen.coin) (sym coin_is) (named m.listing.coin_mint seen.coin t.coin_out moves.mints.coin_out);
       pc_named = subst (λ (n : ℕ). NamesFor n seen.pc) (sym pc_is) (named m.listing.pc_mint seen.pc t.pc_out moves.mints.pc_out);
       referrer_named = subst (λ (n : ℕ). NamesFor n seen.referrer) (sym referrer_is) (named m.listing.pc_mint seen.referrer t.referrer_out moves.mints.referrer_out);
@@ -178,11 +155,6 @@ paid-whole row seen m t cells =
     ∙ ap (λ (y : ℕ). Credited t.coin_out y (amount_in (parcel_of m.listing.pc_mint t.referrer_out))) (amount_in-parcel_of m.listing.pc_mint t.pc_out)
     ∙ ap (λ (z : ℕ). Credited t.coin_out t.pc_out z) (amount_in-parcel_of m.listing.pc_mint t.referrer_out)
     ∙ map-map (cell_debited row seen t.coin_in t.pc_in) (cell_credited row seen t.coin_out t.pc_out t.referrer_out) cells
-
-pub paid-address : (row : PlainRow) (seen : Seen) (t : Transfers) → KeepsAddress (cell_paid row seen t)
-paid-address row seen t cell =
-    let paid : CellState = cell_debited row seen t.coin_in t.pc_in cell in
-    moved_some-address row Credit (amount_at paid.address seen.coin t.coin_out + got_at seen t.pc_out t.referrer_out paid) paid ∙ debited-address row seen t.coin_in t.pc_in cell
 
 -- where nothing moves all stay
 pub paid-nothing : (row : PlainRow) (seen : Seen) (t : Transfers) (cells : List CellState) → t ≡ no_transfers → map (cell_paid row seen t) cells ≡ cells
@@ -205,31 +177,26 @@ paid-nothing row seen t cells none =
         omega (arith, zero-at cell.address seen.coin, zero-at cell.address seen.pc, zero-at cell.address seen.referrer) in
         ap (cell_credited row seen 0 0 0) same ∙ ap (λ (n : ℕ). moved_some row Credit n cell) got
 
--- ---- probes behind that
+-- ---- looks behind that
 
-pub moved-here-all : (row : PlainRow) (seen : Seen) (t : Transfers) (cells : List CellState) → SeesCells seen cells
-    → AreMovedHere (map (cell_paid row seen t) cells) (front (places (movements seen t)))
-moved-here-all row seen t cells sees =
-    let Among : List CellState → Address → Type 0 = λ list a. is_among a list ≡ true in
-    let paid : List CellState = map (cell_paid row seen t) cells in
-    subst (AreMovedHere paid) (sym (places-movements seen t))
-    (All-map (λ (move : Movement). Among paid move.wallet) (movement_of seen t) (seen_wallets seen)
-    (All-weaker (Among cells) (λ (a : Address). Among paid (movement_of seen t a).wallet)
-    (λ a among.
-    ap (λ (x : Address). is_among x paid) (wallet-movement_by a (balance_seen seen a) (taken_from seen t a) (brought_to seen t a)) ∙ is_among-map a (cell_paid row seen t) cells (paid-address row seen t) ∙ among)
-    (seen_wallets seen) (seen-home cells seen sees.home)))
-
-pub look-all : (row : PlainRow) (seen : Seen) (m : Market) (t : Transfers) (cells : List CellState) → RowMoves seen m t → SeesCells seen cells
-    → All (CanLook row (front (places (movements seen t)))) (map (cell_paid row seen t) cells)
-look-all row seen m t cells moves sees =
-    All-map (CanLook row (front (places (movements seen t)))) (cell_paid row seen t) cells
-    (All-weaker (IsSeenRight seen) (λ (cell : CellState). CanLook row (front (places (movements seen t))) (cell_paid row seen t cell))
-    (λ cell right. (acted-whole row seen m t cell (cell-moves seen m t cell moves right.0 right.1) right.0 right.1).1)
-    cells (seen-right seen cells sees))
+pub can-look : (row : PlainRow) (seen : Seen) (m : Market) (t : Transfers) (cells : List CellState) (places : WalletPlaces) → RowMoves seen m t → SeesCells seen cells
+    → AreSeenAt cells seen places → CanLook seen places t (map (cell_paid row seen t) cells)
+can-look row seen m t cells places moves sees at =
+    let Can : CellState → Type 0 = λ cell. looks_at seen t (roles_of seen) cell.address ≡ true → HasSpare cell in
+    record {
+      apart = AreApart-map (cell_paid row seen t) cells (paid-address row seen t) sees.apart;
+      at = AreSeenAt-map (cell_paid row seen t) cells seen places (paid-address row seen t) at;
+      spare = All-map Can (cell_paid row seen t) cells
+          (All-weaker (IsSeenRight seen) (λ (cell : CellState). Can (cell_paid row seen t cell))
+          (λ cell right. look-paid row seen m t cell (cell-moves seen m t cell moves right.0 right.1) right.0 right.1) cells (seen-right seen cells sees));
+    }
 
 pub acted-all : (row : PlainRow) (seen : Seen) (t : Transfers) (cells : List CellState)
-    → map (moves_probed row (front (places (movements seen t)))) (map (cell_paid row seen t) cells) ≡ map (cell_acted row seen t) cells
-acted-all row seen t cells = map-map (cell_paid row seen t) (moves_probed row (front (places (movements seen t)))) cells
+    → map (cell_looked row seen t (roles_of seen)) (map (cell_paid row seen t) cells) ≡ map (cell_acted row seen t) cells
+acted-all row seen t cells =
+    map-map (cell_paid row seen t) (cell_looked row seen t (roles_of seen)) cells
+    ∙ map-same (λ cell. cell_looked row seen t (roles_of seen) (cell_paid row seen t cell)) (cell_acted row seen t) cells
+    (λ cell. sym (probed-looked row seen t (cell_paid row seen t cell)))
 
 -- ---- what it is to the wallets
 

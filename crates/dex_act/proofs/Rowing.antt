@@ -1,8 +1,6 @@
 -- The steps of a row on cells, put together.
 use Rattle.std.proofs.Common.{◌≡◌, ℕ, List, map, Option, Ok, Err, refl, sym, ap, ◌∙◌, subst}
-use Rattle.std.specs.List.{All}
 use Rattle.dex_types.specs.declared.addresses.Address.{Address}
-use Rattle.dex_types.specs.declared.movements.Movement.{Movement}
 use Rattle.dex_types.specs.declared.refusals.Refusal.{Refusal}
 use Rattle.dex_types.specs.declared.rows.Row.{Row}
 use Rattle.dex_types.specs.declared.rows.Seen.{Seen}
@@ -11,37 +9,58 @@ use Rattle.dex_types.specs.Rows.{row_of}
 use Rattle.dex_types.specs.Side.{Coin, Pc}
 use Rattle.dex_types.specs.Steps.{Step}
 use Rattle.dex_types.specs.Transfers.{Transfers, no_transfers}
-use Rattle.dex_types.specs.Wallets.{amount_at, movements}
-use Rattle.dex_history.specs.Journal.{front, places, request_of}
-use Rattle.dex_plan.specs.declared.plan.Deposit.{Deposit}
+use Rattle.dex_types.specs.Wallets.{address_seen}
+use Rattle.dex_history.specs.Journal.{request_of}
 use Rattle.dex_plan.specs.declared.plan.Plan.{Plan}
-use Rattle.dex_plan.specs.Owing.{deposit_of}
+use Rattle.dex_movements.specs.declared.amounts.Amounts.{Amounts}
+use Rattle.dex_movements.specs.Amounts.{transfers_of}
 use Rattle.dex_cell.specs.declared.payouts.Payouts.{Payouts}
 use Rattle.dex_cell.specs.CellState.{IsFor, IsMarketCell, MarketCellState, answer_on, market_at, step_on}
 use Rattle.dex_cell.specs.Paying.{paid_in, paid_out, parcel_of}
+use Rattle.dex_cell.specs.PlanAmounts.{plan_transfers}
 use Rattle.dex_cell.proofs.PlanLaws.{coin-enters, pc-enters, planned-moves, refused-step}
-use Rattle.dex_fold.specs.Fold.{wallet_acted}
-use Rattle.dex_wallet.specs.CellState.{CellState, IsWalletCell}
+use Rattle.dex_wallet.specs.CellState.{CellState}
 use Rattle.dex_wallet.specs.TokenAmount.{TokenAmount}
-use Rattle.dex_act.specs.Wallets.{AreApart, AreMovedHere, CanBePaid, CanLook, CanPay, IsOf, SeesCells, amount_in, cell_acted, cell_credited, cell_debited, cell_paid, moves_probed, wallet_state_of}
+use Rattle.dex_act.specs.declared.places.WalletPlaces.{WalletPlaces}
+use Rattle.dex_act.specs.Acted.{HaveActed}
+use Rattle.dex_act.specs.Wallets.{AreAt, AreOf, ArePlacesAmong, AreSeenAt, CanBePaid, CanLook, CanPay, SeesCells, amount_in, cell_acted, cell_credited, cell_debited, cell_looked, cell_paid, roles_of}
 use Rattle.dex_act.proofs.Acting.{RowMoves}
-use Rattle.dex_act.proofs.CellLists.{AreApart-map}
-use Rattle.dex_act.proofs.Paying.{acted-all, can-be-paid, can-pay, coin-mints, held-moves, look-all, moved-here-all, paid-address, paid-nothing, paid-whole, pc-mints, row-moves-of, states-acted}
+use Rattle.dex_act.proofs.Made.{AreApart-acted, all-made}
+use Rattle.dex_act.proofs.Paying.{acted-all, can-be-paid, can-look, can-pay, coin-mints, held-moves, paid-nothing, paid-whole, pc-mints, row-moves-of, states-acted}
 
 -- what a row moves on its market's cell
 pub moves-of : (row : Row) (seen : Seen) (market : MarketCellState) → IsFor row seen market → IsMarketCell market → RowMoves seen (market_at market) (step_on row seen market).transfers
 moves-of row seen market for cell = row-moves-of (row_of row) seen (market_at market) cell.sound.sound for.sees
 
-coin-deposit : (row : Row) (seen : Seen) (plan : Plan) (market : MarketCellState) → Ok plan ≡ answer_on row seen market → (deposit_of plan).coin ≡ (step_on row seen market).transfers.coin_in
-coin-deposit row seen plan market decided =
-    sym (coin-enters plan) ∙ ap (λ (t : Transfers). t.coin_in) (planned-moves plan (request_of (row_of row)) seen (market_at market) decided)
+-- the wallets of its roles stand where those that it names do
+pub seen-at : (row : Row) (seen : Seen) (market : MarketCellState) (cells : List CellState) (at : WalletPlaces) → IsFor row seen market
+    → ArePlacesAmong cells (row_of row) at → AreSeenAt cells seen at
+seen-at row seen market cells at for among =
+    subst (λ (r : Option Address). AreAt cells r (address_seen seen.pc) (address_seen seen.discount) (address_seen seen.referrer) at) (sym for.sees.coin)
+    (subst (λ (r : Option Address). AreAt cells row.coin r (address_seen seen.discount) (address_seen seen.referrer) at) (sym for.sees.pc)
+    (subst (λ (r : Option Address). AreAt cells row.coin row.pc r (address_seen seen.referrer) at) (sym for.sees.discount)
+    (subst (λ (r : Option Address). AreAt cells row.coin row.pc row.discount r at) (sym for.sees.referrer) among)))
 
-pc-deposit : (row : Row) (seen : Seen) (plan : Plan) (market : MarketCellState) → Ok plan ≡ answer_on row seen market → (deposit_of plan).pc ≡ (step_on row seen market).transfers.pc_in
-pc-deposit row seen plan market decided =
-    sym (pc-enters plan) ∙ ap (λ (t : Transfers). t.pc_in) (planned-moves plan (request_of (row_of row)) seen (market_at market) decided)
+-- ---- looks
+
+-- what the looks ask of the cells behind what was paid, and what they leave
+module _ (row : Row) (seen : Seen) (market : MarketCellState) (cells paid : List CellState) (sees : SeesCells seen cells) (amounts : Amounts) (t : Transfers)
+    (told : transfers_of amounts ≡ t) (moves : RowMoves seen (market_at market) t) (paid_is : paid ≡ map (cell_paid (row_of row) seen t) cells) where
+  pub look-behind : (places : WalletPlaces) → AreSeenAt cells seen places → CanLook seen places (transfers_of amounts) paid
+  look-behind places at =
+      subst (λ (x : Transfers). CanLook seen places x paid) (sym told)
+      (subst (CanLook seen places t) (sym paid_is) (can-look (row_of row) seen (market_at market) t cells places moves sees at))
+
+  pub looked-behind : (new : List CellState) → new ≡ map (cell_looked (row_of row) seen (transfers_of amounts) (roles_of seen)) paid
+      → new ≡ map (cell_acted (row_of row) seen t) cells
+  looked-behind new is =
+      is ∙ ap (λ (x : Transfers). map (cell_looked (row_of row) seen x (roles_of seen)) paid) told
+      ∙ ap (map (cell_looked (row_of row) seen t (roles_of seen))) paid_is ∙ acted-all (row_of row) seen t cells
+
+-- ---- a row that is done
 
 module _ (row : Row) (seen : Seen) (plan : Plan) (market : MarketCellState) (cells : List CellState) (for : IsFor row seen market) (cell : IsMarketCell market)
-    (sees : SeesCells seen cells) (decided : Ok plan ≡ answer_on row seen market) (d : Deposit) (d_is : d ≡ deposit_of plan) where
+    (sees : SeesCells seen cells) (places : WalletPlaces) (at : AreSeenAt cells seen places) (decided : Ok plan ≡ answer_on row seen market) (amounts : Amounts) (told : transfers_of amounts ≡ plan_transfers plan) where
   abbrev m : Market
   m = market_at market
 
@@ -51,121 +70,88 @@ module _ (row : Row) (seen : Seen) (plan : Plan) (market : MarketCellState) (cel
   moves : RowMoves seen m t
   moves = moves-of row seen market for cell
 
-  coin_is : d.coin ≡ t.coin_in
-  coin_is = ap (λ (x : Deposit). x.coin) d_is ∙ coin-deposit row seen plan market decided
+  -- what the plan moves is what the step moves
+  told-step : transfers_of amounts ≡ t
+  told-step = told ∙ planned-moves plan (request_of (row_of row)) seen m decided
 
-  pc_is : d.pc ≡ t.pc_in
-  pc_is = ap (λ (x : Deposit). x.pc) d_is ∙ pc-deposit row seen plan market decided
-
-  pub pays : CanPay seen d.coin d.pc cells
-  pays =
-      subst (λ (x : ℕ). CanPay seen x d.pc cells) (sym coin_is)
-      (subst (λ (y : ℕ). CanPay seen t.coin_in y cells) (sym pc_is) (can-pay seen m t cells moves sees))
+  pub pays : CanPay seen places amounts.coin_in amounts.pc_in cells
+  pays = subst (λ (x : Transfers). CanPay seen places x.coin_in x.pc_in cells) (sym told-step) (can-pay seen m t cells places moves sees at)
 
   -- the parcels are the plan's deposit
   pub coin-paid : (parcel : Option TokenAmount)
-      → ((mint : Address) → All (λ (cell : CellState). IsOf mint (amount_at cell.address seen.coin d.coin) cell) cells → parcel ≡ parcel_of mint d.coin)
-      → parcel ≡ paid_in Coin plan m
+      → ((mint : Address) → AreOf mint seen.coin amounts.coin_in cells → parcel ≡ parcel_of mint amounts.coin_in) → parcel ≡ paid_in Coin plan m
   coin-paid parcel made =
-      made m.listing.coin_mint
-      (subst (λ (x : ℕ). All (λ (cell : CellState). IsOf m.listing.coin_mint (amount_at cell.address seen.coin x) cell) cells) (sym coin_is)
-      (coin-mints seen m t cells moves sees))
-      ∙ ap (λ (x : Deposit). parcel_of m.listing.coin_mint x.coin) d_is
+      made m.listing.coin_mint (subst (λ (x : Transfers). AreOf m.listing.coin_mint seen.coin x.coin_in cells) (sym told-step) (coin-mints seen m t cells moves sees))
+      ∙ ap (λ (x : ℕ). parcel_of m.listing.coin_mint x) (ap (λ (x : Transfers). x.coin_in) told ∙ coin-enters plan)
 
   pub pc-paid : (parcel : Option TokenAmount)
-      → ((mint : Address) → All (λ (cell : CellState). IsOf mint (amount_at cell.address seen.pc d.pc) cell) cells → parcel ≡ parcel_of mint d.pc)
-      → parcel ≡ paid_in Pc plan m
+      → ((mint : Address) → AreOf mint seen.pc amounts.pc_in cells → parcel ≡ parcel_of mint amounts.pc_in) → parcel ≡ paid_in Pc plan m
   pc-paid parcel made =
-      made m.listing.pc_mint
-      (subst (λ (x : ℕ). All (λ (cell : CellState). IsOf m.listing.pc_mint (amount_at cell.address seen.pc x) cell) cells) (sym pc_is)
-      (pc-mints seen m t cells moves sees))
-      ∙ ap (λ (x : Deposit). parcel_of m.listing.pc_mint x.pc) d_is
+      made m.listing.pc_mint (subst (λ (x : Transfers). AreOf m.listing.pc_mint seen.pc x.pc_in cells) (sym told-step) (pc-mints seen m t cells moves sees))
+      ∙ ap (λ (x : ℕ). parcel_of m.listing.pc_mint x) (ap (λ (x : Transfers). x.pc_in) told ∙ pc-enters plan)
 
   -- the cells behind the deposits, and the payouts
-  module _ (debited : List CellState) (debited_is : debited ≡ map (cell_debited (row_of row) seen d.coin d.pc) cells) (payouts : Payouts) (paid : payouts ≡ paid_out m t) where
+  module _ (debited : List CellState) (debited_is : debited ≡ map (cell_debited (row_of row) seen amounts.coin_in amounts.pc_in) cells)
+      (payouts : Payouts) (paid : payouts ≡ paid_out m t) where
     behind : debited ≡ map (cell_debited (row_of row) seen t.coin_in t.pc_in) cells
-    behind =
-        debited_is
-        ∙ ap (λ (x : ℕ). map (cell_debited (row_of row) seen x d.pc) cells) coin_is
-        ∙ ap (λ (y : ℕ). map (cell_debited (row_of row) seen t.coin_in y) cells) pc_is
+    behind = debited_is ∙ ap (λ (x : Transfers). map (cell_debited (row_of row) seen x.coin_in x.pc_in) cells) told-step
 
-    pub gets : CanBePaid seen payouts.coin payouts.pc payouts.referrer debited
+    pub gets : CanBePaid seen places payouts.coin payouts.pc payouts.referrer debited
     gets =
-        subst (λ (p : Payouts). CanBePaid seen p.coin p.pc p.referrer debited) (sym paid)
-        (subst (CanBePaid seen (paid_out m t).coin (paid_out m t).pc (paid_out m t).referrer) (sym behind) (can-be-paid (row_of row) seen m t cells moves sees))
+        subst (λ (p : Payouts). CanBePaid seen places p.coin p.pc p.referrer debited) (sym paid)
+        (subst (CanBePaid seen places (paid_out m t).coin (paid_out m t).pc (paid_out m t).referrer) (sym behind)
+        (can-be-paid (row_of row) seen m t cells places moves sees at))
 
-    pub behind-both : (new : List CellState)
-        → new ≡ map (cell_credited (row_of row) seen (amount_in payouts.coin) (amount_in payouts.pc) (amount_in payouts.referrer)) debited
-        → new ≡ map (cell_paid (row_of row) seen t) cells
-    behind-both new is_new =
-        is_new
-        ∙ ap (λ (p : Payouts). map (cell_credited (row_of row) seen (amount_in p.coin) (amount_in p.pc) (amount_in p.referrer)) debited) paid
-        ∙ ap (map (cell_credited (row_of row) seen (amount_in (paid_out m t).coin) (amount_in (paid_out m t).pc) (amount_in (paid_out m t).referrer))) behind
-        ∙ paid-whole (row_of row) seen m t cells
+    module _ (credited : List CellState)
+        (credited_is : credited ≡ map (cell_credited (row_of row) seen (amount_in payouts.coin) (amount_in payouts.pc) (amount_in payouts.referrer)) debited) where
+      behind-both : credited ≡ map (cell_paid (row_of row) seen t) cells
+      behind-both =
+          credited_is
+          ∙ ap (λ (p : Payouts). map (cell_credited (row_of row) seen (amount_in p.coin) (amount_in p.pc) (amount_in p.referrer)) debited) paid
+          ∙ ap (map (cell_credited (row_of row) seen (amount_in (paid_out m t).coin) (amount_in (paid_out m t).pc) (amount_in (paid_out m t).referrer))) behind
+          ∙ paid-whole (row_of row) seen m t cells
 
--- a refused row moves nothing
+      pub looks : CanLook seen places (transfers_of amounts) credited
+      looks = look-behind row seen market cells credited sees amounts t told-step moves behind-both places at
+
+      pub done : (new : List CellState) → new ≡ map (cell_looked (row_of row) seen (transfers_of amounts) (roles_of seen)) credited
+          → new ≡ map (cell_acted (row_of row) seen t) cells
+      done = looked-behind row seen market cells credited sees amounts t told-step moves behind-both
+
+-- ---- rows that move nothing
+
+-- a refused row
+pub refused-nothing : (row : Row) (seen : Seen) (refusal : Refusal) (market : MarketCellState) → Err refusal ≡ answer_on row seen market
+    → no_transfers ≡ (step_on row seen market).transfers
+refused-nothing row seen refusal market decided =
+    sym (ap (λ (s : Step). s.transfers) (refused-step refusal (request_of (row_of row)) seen (market_at market) decided))
+
+-- its wallets stay
 pub refused-moves : (row : Row) (seen : Seen) (refusal : Refusal) (market : MarketCellState) (cells : List CellState) → Err refusal ≡ answer_on row seen market
     → cells ≡ map (cell_paid (row_of row) seen (step_on row seen market).transfers) cells
 refused-moves row seen refusal market cells decided =
-    sym (paid-nothing (row_of row) seen (step_on row seen market).transfers cells
-    (ap (λ (s : Step). s.transfers) (refused-step refusal (request_of (row_of row)) seen (market_at market) decided)))
+    sym (paid-nothing (row_of row) seen (step_on row seen market).transfers cells (sym (refused-nothing row seen refusal market decided)))
 
--- what the probes ask of the cells behind that
-module _ (row : Row) (seen : Seen) (market : MarketCellState) (cells paid : List CellState) (for : IsFor row seen market) (cell : IsMarketCell market) (sees : SeesCells seen cells)
-    (paid_is : paid ≡ map (cell_paid (row_of row) seen (step_on row seen market).transfers) cells) where
-  pub apart-behind : AreApart paid
-  apart-behind =
-      let t : Transfers = (step_on row seen market).transfers in
-      subst AreApart (sym paid_is) (AreApart-map (cell_paid (row_of row) seen t) cells (paid-address (row_of row) seen t) sees.apart)
-
-  pub home-behind : (told : List (Option Movement)) → told ≡ places (movements seen (step_on row seen market).transfers) → AreMovedHere paid (front told)
-  home-behind told is =
-      let t : Transfers = (step_on row seen market).transfers in
-      subst (λ (l : List (Option Movement)). AreMovedHere paid (front l)) (sym is)
-      (subst (λ (l : List CellState). AreMovedHere l (front (places (movements seen t)))) (sym paid_is) (moved-here-all (row_of row) seen t cells sees))
-
-  pub look-behind : (told : List (Option Movement)) → told ≡ places (movements seen (step_on row seen market).transfers) → All (CanLook (row_of row) (front told)) paid
-  look-behind told is =
-      let t : Transfers = (step_on row seen market).transfers in
-      subst (λ (l : List (Option Movement)). All (CanLook (row_of row) (front l)) paid) (sym is)
-      (subst (All (CanLook (row_of row) (front (places (movements seen t))))) (sym paid_is)
-      (look-all (row_of row) seen (market_at market) t cells (moves-of row seen market for cell) sees))
-
--- the movements of the last entry
-pub probed-whole : (row : Row) (seen : Seen) (t : Transfers) (moves : List (Option Movement)) (cells paid new : List CellState) → moves ≡ places (movements seen t)
-    → paid ≡ map (cell_paid (row_of row) seen t) cells → new ≡ map (moves_probed (row_of row) (front moves)) paid → new ≡ map (cell_acted (row_of row) seen t) cells
-probed-whole row seen t moves cells paid new told behind probed =
-    probed
-    ∙ ap (λ (l : List CellState). map (moves_probed (row_of row) (front moves)) l) behind
-    ∙ ap (λ (l : List (Option Movement)). map (moves_probed (row_of row) (front l)) (map (cell_paid (row_of row) seen t) cells)) told
-    ∙ acted-all (row_of row) seen t cells
-
--- ---- a row that is held back
-
-module _ (row : Row) (seen : Seen) (market : MarketCellState) (cells : List CellState) (for : IsFor row seen market) (cell : IsMarketCell market) (sees : SeesCells seen cells) where
-  idle-moves : RowMoves seen (market_at market) no_transfers
+-- a row that is held back
+module _ (row : Row) (seen : Seen) (market : MarketCellState) (cells : List CellState) (for : IsFor row seen market) (cell : IsMarketCell market) where
+  pub idle-moves : RowMoves seen (market_at market) no_transfers
   idle-moves = held-moves (row_of row) seen (market_at market) cell.sound.sound for.sees
 
-  nothing-paid : map (cell_paid (row_of row) seen no_transfers) cells ≡ cells
-  nothing-paid = paid-nothing (row_of row) seen no_transfers cells refl
+  pub nothing-paid : cells ≡ map (cell_paid (row_of row) seen no_transfers) cells
+  nothing-paid = sym (paid-nothing (row_of row) seen no_transfers cells refl)
 
-  pub home-idle : (told : List (Option Movement)) → told ≡ places (movements seen no_transfers) → AreMovedHere cells (front told)
-  home-idle told is =
-      subst (λ (l : List (Option Movement)). AreMovedHere cells (front l)) (sym is)
-      (subst (λ (l : List CellState). AreMovedHere l (front (places (movements seen no_transfers)))) nothing-paid (moved-here-all (row_of row) seen no_transfers cells sees))
+-- ---- what it is to wallets
 
-  pub look-idle : (told : List (Option Movement)) → told ≡ places (movements seen no_transfers) → All (CanLook (row_of row) (front told)) cells
-  look-idle told is =
-      subst (λ (l : List (Option Movement)). All (CanLook (row_of row) (front l)) cells) (sym is)
-      (subst (All (CanLook (row_of row) (front (places (movements seen no_transfers))))) nothing-paid
-      (look-all (row_of row) seen (market_at market) no_transfers cells idle-moves sees))
-
-  module _ (told : List (Option Movement)) (new : List CellState) (is : told ≡ places (movements seen no_transfers))
-      (probed : new ≡ map (moves_probed (row_of row) (front told)) cells) where
-    pub idle-acted : new ≡ map (cell_acted (row_of row) seen no_transfers) cells
-    idle-acted = probed-whole row seen no_transfers told cells cells new is (sym nothing-paid) probed
-
-    pub idle-states : (map wallet_state_of new ≡ map (wallet_acted (row_of row) seen no_transfers) (map wallet_state_of cells)) × All IsWalletCell new
-    idle-states =
-        subst (λ (l : List CellState). (map wallet_state_of l ≡ map (wallet_acted (row_of row) seen no_transfers) (map wallet_state_of cells)) × All IsWalletCell l)
-        (sym idle-acted) (states-acted (row_of row) seen (market_at market) no_transfers cells idle-moves for.sees sees)
+-- what always holds of wallets' cells holds behind a row, and their wallets are as the fold says
+module _ (row : Row) (seen : Seen) (market : MarketCellState) (cells new : List CellState) (for : IsFor row seen market) (sees : SeesCells seen cells)
+    (t : Transfers) (moves : RowMoves seen (market_at market) t) (acted : new ≡ map (cell_acted (row_of row) seen t) cells) where
+  pub have-acted : HaveActed (row_of row) seen t cells new
+  have-acted =
+      let both = states-acted (row_of row) seen (market_at market) t cells moves for.sees sees in
+      subst (HaveActed (row_of row) seen t cells) (sym acted)
+      (record {
+        states = both.0;
+        kept = both.1;
+        apart = AreApart-acted (row_of row) seen t cells sees.apart;
+        made = all-made (row_of row) seen t cells;
+      })

@@ -2,7 +2,7 @@
 use Rattle.std.proofs.Common.{◌≡◌, ℕ, ◌<◌, ◌^◌, Bool, true, false, ◌||◌, List, [], ◌∷◌, map, Option, Some, None, refl, sym, ap, ◌∙◌, subst, ⊎_elim}
 use Rattle.std.specs.List.{All, list_any}
 use Rattle.std.proofs.lemmas.List.Elements.{All-nil, All-cons, All-head, All-tail, All-weaker}
-use Rattle.std.proofs.lemmas.Bool.{cases_Bool, cond-true, cond-false, false≢true}
+use Rattle.std.proofs.lemmas.Bool.{cases_Bool, cond-true, cond-false, false≢true, or_parts}
 use Rattle.dex_types.specs.declared.addresses.Address.{Address}
 use Rattle.dex_types.specs.declared.rows.Seen.{Seen}
 use Rattle.dex_types.specs.declared.rows.WalletSeen.{WalletSeen}
@@ -14,7 +14,6 @@ use Rattle.dex_fold.specs.World.{role_at, wallet_at}
 use Rattle.dex_fold.proofs.NameLaws.{any-with_address}
 use Rattle.dex_fold.proofs.OnceLaws.{with_address-all}
 use Rattle.dex_act.specs.Wallets.{AreApart, Fits, IsHome, IsRight, any_hit, hits, is_among, roles_of, wallet_state_of}
-use Rattle.dex_act.proofs.CellLists.{neither}
 
 -- ---- one role
 
@@ -33,7 +32,7 @@ wallet_at-address address (first ∷ others) wallet found =
 none-among : (address : Address) (cells : List CellState) → is_among address cells ≡ false → All (λ (cell : CellState). is_same address cell.address ≡ false) cells
 none-among address [] none = All-nil _
 none-among address (first ∷ others) none =
-    let each = neither (is_same address first.address) (is_among address others) none in
+    let each = or_parts (is_same address first.address) (is_among address others) none in
     All-cons (λ (cell : CellState). is_same address cell.address ≡ false) first others each.0 (none-among address others each.1)
 
 wallet_at-right : (address : Address) (cells : List CellState) → AreApart cells → All (λ (cell : CellState). IsRight cell (wallet_at address (map wallet_state_of cells))) cells

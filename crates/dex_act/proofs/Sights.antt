@@ -15,9 +15,9 @@ use Rattle.dex_movements.proofs.PlaceLaws.{seen-wallets}
 use Rattle.dex_fold.specs.Fold.{names}
 use Rattle.dex_fold.specs.World.{WalletState, World, role_at, seen_by, wallet_at}
 use Rattle.dex_wallet.specs.CellState.{CellState, HasSpare, IsWalletCell, seen_of}
-use Rattle.dex_act.specs.Wallets.{AreApart, Fits, IsHome, IsRight, SeesCells, any_hit, is_among, roles_of, wallet_state_of}
+use Rattle.dex_act.specs.Wallets.{AreApart, Fits, IsHome, IsNamed, IsRight, SeesCells, any_hit, is_among, roles_of, wallet_state_of}
 use Rattle.dex_act.proofs.CellLists.{all-both, all-cells}
-use Rattle.dex_act.proofs.Seeing.{any-seen, role_at-home, role_at-right, wallet_at-address}
+use Rattle.dex_act.proofs.Seeing.{any-seen, seen-home, role_at-home, role_at-right, wallet_at-address}
 
 -- ---- one role
 
@@ -32,11 +32,6 @@ found-at address (first ∷ others) among =
     let rest = found-at address others (sym (ap (λ (b : Bool). b || is_among address others) other) ∙ among) in
     (rest.0, cond-false _ _ _ other ∙ rest.1))
     (cases_Bool (is_same address first.address))
-
--- the wallet that a role names is among the cells
-abbrev IsNamed : List CellState → Option Address → Type 0
-IsNamed cells None = Unit {0}
-IsNamed cells (Some address) = is_among address cells ≡ true
 
 role-seen : (role : Option Address) (cells : List CellState) → IsNamed cells role → address_seen (role_at role (map wallet_state_of cells)) ≡ role
 role-seen None cells named = refl
@@ -91,6 +86,20 @@ role-parts : (cells : List CellState) (role : Option Address) (addresses : List 
 role-parts cells None addresses all = (tt, all)
 role-parts cells (Some address) addresses all = all-parts (IsHere cells) address addresses all
 
+-- the wallets that a row names are among the cells
+pub record AreNamed (cells : List CellState) (row : PlainRow) : Type 0 where
+  pub coin : IsNamed cells row.coin
+  pub pc : IsNamed cells row.pc
+  pub discount : IsNamed cells row.discount
+  pub referrer : IsNamed cells row.referrer
+
+pub row-named : (cells : List CellState) (row : PlainRow) → All (λ (address : Address). is_among address cells ≡ true) (row_wallets row) → AreNamed cells row
+row-named cells row named =
+    let one = role-parts cells row.coin (with_role row.pc (with_role row.discount (with_role row.referrer []))) named in
+    let two = role-parts cells row.pc (with_role row.discount (with_role row.referrer [])) one.1 in
+    let three = role-parts cells row.discount (with_role row.referrer []) two.1 in
+    record { coin = one.0; pc = two.0; discount = three.0; referrer = (role-parts cells row.referrer [] three.1).0 }
+
 -- what a row sees of these wallets
 abbrev sight : PlainRow → World → List WalletState → Seen
 sight row world wallets = record {
@@ -107,15 +116,12 @@ sight row world wallets = record {
 pub row-sees : (row : PlainRow) (world : World) (cells : List CellState) → world.wallets ≡ map wallet_state_of cells
     → All (λ (address : Address). is_among address cells ≡ true) (row_wallets row) → Sees (asked_of row) (seen_by row world)
 row-sees row world cells are named =
-    let one = role-parts cells row.coin (with_role row.pc (with_role row.discount (with_role row.referrer []))) named in
-    let two = role-parts cells row.pc (with_role row.discount (with_role row.referrer [])) one.1 in
-    let three = role-parts cells row.discount (with_role row.referrer []) two.1 in
-    let four = role-parts cells row.referrer [] three.1 in
+    let each = row-named cells row named in
     let sees : Sees (asked_of row) (sight row world (map wallet_state_of cells)) = record {
-      coin = role-seen row.coin cells one.0;
-      pc = role-seen row.pc cells two.0;
-      discount = role-seen row.discount cells three.0;
-      referrer = role-seen row.referrer cells four.0;
+      coin = role-seen row.coin cells each.coin;
+      pc = role-seen row.pc cells each.pc;
+      discount = role-seen row.discount cells each.discount;
+      referrer = role-seen row.referrer cells each.referrer;
       coin_pc = roles-agree row.coin row.pc cells;
       coin_discount = roles-agree row.coin row.discount cells;
       coin_referrer = roles-agree row.coin row.referrer cells;
@@ -128,6 +134,12 @@ row-sees row world cells are named =
 -- the wallets that a row names are those that one of its roles sees
 pub named-hit : (row : PlainRow) (seen : Seen) (address : Address) → Sees (asked_of row) seen → names row address ≡ any_hit address (roles_of seen)
 named-hit row seen address sees = ap (list_any (is_same address)) (sym (seen-wallets row seen sees)) ∙ any-seen address seen
+
+-- and those that it names are among the cells that it sees
+pub sees-named : (row : PlainRow) (seen : Seen) (cells : List CellState) → Sees (asked_of row) seen → SeesCells seen cells
+    → All (λ (address : Address). is_among address cells ≡ true) (row_wallets row)
+sees-named row seen cells sees sees_cells =
+    subst (All (λ (address : Address). is_among address cells ≡ true)) (seen-wallets row seen sees) (seen-home cells seen sees_cells.home)
 
 -- ---- the cells
 

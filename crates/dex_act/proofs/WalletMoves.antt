@@ -11,14 +11,16 @@ use Rattle.dex_types.specs.declared.rows.Seen.{Seen}
 use Rattle.dex_types.specs.declared.rows.WalletSeen.{WalletSeen}
 use Rattle.dex_types.specs.Addresses.{is_same}
 use Rattle.dex_types.specs.Rows.{PlainRow}
-use Rattle.dex_types.specs.Wallets.{amount_at}
+use Rattle.dex_types.specs.Wallets.{address_seen, amount_at}
 use Rattle.dex_token.specs.TokenAccount.{wallet_words}
 use Rattle.dex_laws.proofs.TraderLaws.{is_same-true, is_same-sym}
 use Rattle.dex_wallet.specs.CellState.{CellState, HasSpare, balance_of}
 use Rattle.dex_wallet.specs.TokenAmount.{TokenAmount}
 use Rattle.dex_cell.specs.Paying.{parcel_of}
-use Rattle.dex_act.specs.Wallets.{AreApart, CanCredit, CanGet, CanPay, CanPut, CanTake, IsAt, IsHome, IsOf, NamesFor, amount_in, cell_credited, cell_debited, cell_moved, got_at, is_one, moved_some, paid_at, pc_credited, role_moved}
-use Rattle.dex_act.proofs.CellLists.{all-cells, among-All, amount_at-nothing, map-map, map-same, map-same_where, moved-here, role_moved-address, role_moved-nothing}
+use Rattle.dex_fold.proofs.MappedLists.{map-map}
+use Rattle.dex_act.specs.declared.places.WalletPlaces.{WalletPlaces}
+use Rattle.dex_act.specs.Wallets.{AreApart, CanCredit, CanGet, CanPay, CanPut, CanTake, IsAt, IsOf, IsRoleAt, NamesFor, amount_in, cell_credited, cell_debited, cell_moved, got_at, is_one, moved_some, paid_at, pc_credited, role_moved}
+use Rattle.dex_act.proofs.CellLists.{all-cells, amount_at-nothing, map-same, map-same_where, moved-here, role_moved-address, role_moved-nothing}
 
 -- ---- parcels
 
@@ -36,6 +38,18 @@ pub amount-own : (address : Address) (role : Option WalletSeen) (wallet : Wallet
 amount-own address role wallet amount is own =
     ap (λ (r : Option WalletSeen). amount_at address r amount) is
     ∙ cond-true (is_same address wallet.address) amount 0 (is_same-sym address wallet.address ∙ own)
+
+-- a role under which something moves names a wallet, which stands at its place
+pub record RoleAt (role : Option WalletSeen) (cells : List CellState) (place : ℕ) : Type 0 where
+  pub wallet : WalletSeen
+  pub is : role ≡ Some wallet
+  pub at : IsAt wallet.address cells place
+
+pub role-at : (role : Option WalletSeen) (amount : ℕ) (cells : List CellState) (place : ℕ) → 0 < amount → NamesFor amount role
+    → IsRoleAt cells (address_seen role) place → RoleAt role cells place
+role-at role amount cells place some (inl none) at = absurd (omega (arith, some, none))
+role-at role amount cells place some (inr named) at =
+    record { wallet = named.0; is = named.1; at = subst (λ (r : Option WalletSeen). IsRoleAt cells (address_seen r) place) named.1 at }
 
 -- what was taken from it is a parcel of its mint
 pub parcel-here : (mint : Address) (role : Option WalletSeen) (wallet : WalletSeen) (amount : ℕ) (cells : List CellState) (place : ℕ) (parcel : TokenAmount) → role ≡ Some wallet
@@ -56,13 +70,14 @@ parcel-here mint role wallet amount (first ∷ others) place parcel is some at t
     ap (λ (p : TokenAmount). Some p) (taken first) ∙ ap of_mint (sym right) ∙ sym (parcel_of-some mint amount some)
 
 -- the cell of a role's wallet, with a parcel more
-pub credited-here : (row : PlainRow) (role : Option WalletSeen) (wallet : WalletSeen) (given : Option TokenAmount) (parcel : TokenAmount) (cells new : List CellState) (place : ℕ)
-    → given ≡ Some parcel → role ≡ Some wallet → AreApart cells → CanCredit role given cells → IsAt wallet.address cells place
+pub credited-here : (row : PlainRow) (role : Option WalletSeen) (given : Option TokenAmount) (parcel : TokenAmount) (cells new : List CellState) (place : ℕ)
+    → given ≡ Some parcel → AreApart cells → CanCredit role given cells → IsRoleAt cells (address_seen role) place
     → ((default : CellState) → new ≡ set cells place (cell_moved row Credit parcel.amount (get_or cells place default)))
     → new ≡ map (role_moved row Credit role (amount_in given)) cells
-credited-here row role wallet given parcel cells new place is role_is apart can at moved =
+credited-here row role given parcel cells new place is apart can at moved =
     let may : CanCredit role (Some parcel) cells = subst (λ (p : Option TokenAmount). CanCredit role p cells) is can in
-    moved-here row Credit role wallet parcel.amount cells new place role_is may.0 apart at moved
+    let here = role-at role parcel.amount cells place may.0 may.1 at in
+    moved-here row Credit role here.wallet parcel.amount cells new place here.is may.0 apart here.at moved
     ∙ ap (λ (p : Option TokenAmount). map (role_moved row Credit role (amount_in p)) cells) (sym is)
 
 -- a parcel that is put in is one that can be
@@ -110,9 +125,9 @@ second-All row seen coin pc cells P (inr none) all otherwise = all-cells P (map 
 pub none-at : (address : Address) (role : Option WalletSeen) (amount : ℕ) → amount ≡ 0 → amount_at address role amount ≡ 0
 none-at address role amount none = ap (amount_at address role) none ∙ amount_at-nothing address role
 
-pub second-can : (row : PlainRow) (seen : Seen) (coin pc : ℕ) (cells : List CellState) → CanPay seen coin pc cells
+pub second-can : (row : PlainRow) (seen : Seen) (coin pc : ℕ) (cells : List CellState) (places : WalletPlaces) → CanPay seen places coin pc cells
     → All (λ (cell : CellState). CanTake (amount_at cell.address seen.pc pc) cell) (map (role_moved row Debit seen.coin coin) cells)
-second-can row seen coin pc cells can =
+second-can row seen coin pc cells places can =
     let P : CellState → Type 0 = λ cell. CanTake (amount_at cell.address seen.pc pc) cell in
     second-All row seen coin pc cells P can.one
     (All-weaker (λ (cell : CellState). CanTake (paid_at seen coin pc cell) cell) P
@@ -159,19 +174,21 @@ apart-amounts address (Some wallet) (Some other) a b apart =
     (cases_Bool (is_same address wallet.address))
 
 -- what two roles of one wallet get fits together
-pub fits-together : (first second : Option WalletSeen) (a b : ℕ) (mint : Address) (cells : List CellState) → is_one first second ≡ true → IsHome cells first
+pub fits-together : (first second : Option WalletSeen) (a b : ℕ) (mint : Address) (cells : List CellState) (place : ℕ) → is_one first second ≡ true
+    → IsRoleAt cells (address_seen first) place
     → All (λ (cell : CellState). CanPut mint (amount_at cell.address first a + amount_at cell.address second b) cell) cells → a + b < 2 ^ 64
-fits-together None second a b mint cells one home each = absurd (false≢true one)
-fits-together (Some wallet) second a b mint cells one home each =
+fits-together None second a b mint cells place one at each = absurd (false≢true one)
+fits-together (Some wallet) second a b mint [] place one at each = absurd (omega (arith, at.within))
+fits-together (Some wallet) second a b mint (start ∷ others) place one at each =
+    let cells : List CellState = start ∷ others in
     let P : CellState → Type 0 = λ cell. CanPut mint (amount_at cell.address (Some wallet) a + amount_at cell.address second b) cell in
-    let found = among-All P wallet.address cells home each in
-    let cell : CellState = found.0 in
-    let whole : amount_at cell.address (Some wallet) (a + b) ≡ a + b = amount-own cell.address (Some wallet) wallet (a + b) refl found.1 in
+    let cell : CellState = get_or cells place start in
+    let whole : amount_at cell.address (Some wallet) (a + b) ≡ a + b = amount-own cell.address (Some wallet) wallet (a + b) refl (at.here start) in
     let split : amount_at cell.address (Some wallet) (a + b) ≡ amount_at cell.address (Some wallet) a + amount_at cell.address second b =
     one-amount cell.address (Some wallet) second a b one in
     ⊎_elim (λ (none : amount_at cell.address (Some wallet) a + amount_at cell.address second b ≡ 0). omega (arith, whole, split, none))
     (λ (some : HasSpare cell × (mint ≡ (wallet_words cell.bytes).mint) × (balance_of cell.bytes + (amount_at cell.address (Some wallet) a + amount_at cell.address second b) < 2 ^ 64)). omega (arith, whole, split, some.2))
-    found.2
+    (All-get_or P cells place start at.within each)
 
 pub credited-one : (row : PlainRow) (seen : Seen) (a b n : ℕ) (cells : List CellState) → is_one seen.pc seen.referrer ≡ true → n ≡ a + b
     → map (role_moved row Credit seen.pc n) cells ≡ map (pc_credited row seen a b) cells

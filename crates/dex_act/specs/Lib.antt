@@ -1,1 +1,3 @@
 pub mod Wallets
+pub mod Acted
+pub mod Opened

@@ -1,5 +1,5 @@
 -- What a row does to the cells of wallets.
-use Rattle.std.specs.Prelude.{◌&&◌, ◌≡◌, ℕ, zero, suc, ◌+◌, ◌<◌, ◌≤◌, ◌^◌, ◌⊎◌, Bool, true, false, ◌||◌}
+use Rattle.std.specs.Prelude.{◌&&◌, not, ◌≡◌, ℕ, zero, suc, ◌+◌, ◌<◌, ◌≤◌, ◌^◌, ◌⊎◌, Bool, true, false, ◌||◌}
 use Rattle.std.specs.Prelude.{List, [], ◌∷◌, Option, Some, None, if◌then◌else◌, slice_index_or, length, map}
 use Rattle.std.specs.List.{All}
 use Rattle.dex_types.specs.declared.addresses.Address.{Address}
@@ -7,20 +7,23 @@ use Rattle.dex_types.specs.declared.movements.MoveKind.{MoveKind}
 use Rattle.dex_types.specs.declared.movements.MoveKind.TheVariants.{Debit, Credit, Probe}
 use Rattle.dex_types.specs.declared.movements.Movement.{Movement}
 use Rattle.dex_types.specs.declared.rows.Row.{Row}
+use Rattle.dex_types.specs.declared.rows.RowPlaces.{RowPlaces}
 use Rattle.dex_types.specs.declared.rows.Seen.{Seen}
 use Rattle.dex_types.specs.declared.rows.WalletSeen.{WalletSeen}
 use Rattle.dex_types.specs.Addresses.{is_same}
 use Rattle.dex_types.specs.Rows.{PlainRow, row_of}
 use Rattle.dex_types.specs.Transfers.{Transfers}
-use Rattle.dex_types.specs.Wallets.{amount_at, movements}
+use Rattle.dex_types.specs.Wallets.{address_seen, amount_at, movement_of, movements}
 use Rattle.dex_history.specs.Journal.{front, places}
 use Rattle.dex_token.specs.TokenAccount.{wallet_words}
+use Rattle.dex_movements.specs.Amounts.{is_probe}
 use Rattle.dex_wallet.specs.CellState.{CellState, HasSpare, IsWalletCell, balance_of, new_cell, seen_of, with_entry}
 use Rattle.dex_wallet.specs.TokenAmount.{TokenAmount}
 use Rattle.dex_cell.specs.CellState.{MarketCellState, step_on}
 use Rattle.dex_cell.specs.Paying.{parcel_of}
 use Rattle.dex_fold.specs.Fold.{wallet_acted}
 use Rattle.dex_fold.specs.World.{WalletState}
+use Rattle.dex_act.specs.declared.places.WalletPlaces.{WalletPlaces}
 
 -- the wallet of a cell, with its journal
 abbrev pub wallet_state_of : CellState → WalletState
@@ -46,6 +49,43 @@ AreApart (cell ∷ cells) = (is_among cell.address cells ≡ false) × AreApart 
 pub record IsAt (address : Address) (cells : List CellState) (place : ℕ) : Type 0 where
   pub within : place < length cells
   pub here : (default : CellState) → is_same address (slice_index_or cells place default).address ≡ true
+
+-- the wallet that a role names is among the cells
+abbrev pub IsNamed : List CellState → Option Address → Type 0
+IsNamed cells None = Unit {0}
+IsNamed cells (Some address) = is_among address cells ≡ true
+
+-- a cell of it stands at this place
+abbrev pub IsRoleAt : List CellState → Option Address → ℕ → Type 0
+IsRoleAt cells None place = Unit {0}
+IsRoleAt cells (Some address) place = IsAt address cells place
+
+-- the wallets of the four roles of a row stand at these places
+pub record AreAt (cells : List CellState) (as_coin as_pc as_discount as_referrer : Option Address)
+    (places : WalletPlaces) : Type 0 where
+  pub coin : IsRoleAt cells as_coin places.coin
+  pub pc : IsRoleAt cells as_pc places.pc
+  pub discount : IsRoleAt cells as_discount places.discount
+  pub referrer : IsRoleAt cells as_referrer places.referrer
+
+-- the wallets that a row names stand among the cells at these places
+abbrev pub ArePlacesAmong : List CellState → PlainRow → WalletPlaces → Type 0
+ArePlacesAmong cells row places = AreAt cells row.coin row.pc row.discount row.referrer places
+
+-- and those that it sees
+abbrev pub AreSeenAt : List CellState → Seen → WalletPlaces → Type 0
+AreSeenAt cells seen places =
+    AreAt cells (address_seen seen.coin) (address_seen seen.pc) (address_seen seen.discount)
+    (address_seen seen.referrer) places
+
+-- those among the places of a row
+abbrev pub wallet_places : RowPlaces → WalletPlaces
+wallet_places places = record {
+  coin = places.coin;
+  pc = places.pc;
+  discount = places.discount;
+  referrer = places.referrer;
+}
 
 -- what holds of the cell at a place
 abbrev pub AtPlace : ℕ → List CellState → (CellState → Type 0) → Type 0
@@ -122,11 +162,10 @@ paid_at seen coin pc cell = amount_at cell.address seen.coin coin + amount_at ce
 abbrev pub cell_debited : PlainRow → Seen → ℕ → ℕ → CellState → CellState
 cell_debited row seen coin pc cell = moved_some row Debit (paid_at seen coin pc cell) cell
 
--- the wallets that a row sees can pay: of one token alone, and each has what it pays
-pub record CanPay (seen : Seen) (coin pc : ℕ) (cells : List CellState) : Type 0 where
+-- the wallets that a row sees stand at these places and can pay: of one token alone, and each has what it pays
+pub record CanPay (seen : Seen) (places : WalletPlaces) (coin pc : ℕ) (cells : List CellState) : Type 0 where
   pub apart : AreApart cells
-  pub coin_home : IsHome cells seen.coin
-  pub pc_home : IsHome cells seen.pc
+  pub at : AreSeenAt cells seen places
   pub coin_named : NamesFor coin seen.coin
   pub pc_named : NamesFor pc seen.pc
   pub one : (coin ≡ 0) ⊎ (pc ≡ 0)
@@ -160,32 +199,31 @@ cell_credited row seen coin pc referrer cell =
     moved_some row Credit (amount_at cell.address seen.coin coin + got_at seen pc referrer cell) cell
 
 -- the parcels of the quote token are of one mint, and each wallet that a row sees can take in what it gets of them
-pub record CanGetPc (seen : Seen) (pc referrer : Option TokenAmount) (cells : List CellState) : Type 0 where
-  pub mint : Address
-  pub pc_is : pc ≡ parcel_of mint (amount_in pc)
-  pub referrer_is : referrer ≡ parcel_of mint (amount_in referrer)
-  pub apart : AreApart cells
-  pub pc_home : IsHome cells seen.pc
-  pub referrer_home : IsHome cells seen.referrer
-  pub pc_named : NamesFor (amount_in pc) seen.pc
-  pub referrer_named : NamesFor (amount_in referrer) seen.referrer
-  pub each : All (λ (cell : CellState). CanPut mint (got_at seen (amount_in pc) (amount_in referrer) cell) cell) cells
+pub record CanGetPc (seen : Seen) (places : WalletPlaces) (pc referrer : Option TokenAmount) (cells : List CellState) : Type 0
+  where
+    pub mint : Address
+    pub pc_is : pc ≡ parcel_of mint (amount_in pc)
+    pub referrer_is : referrer ≡ parcel_of mint (amount_in referrer)
+    pub apart : AreApart cells
+    pub at : AreSeenAt cells seen places
+    pub pc_named : NamesFor (amount_in pc) seen.pc
+    pub referrer_named : NamesFor (amount_in referrer) seen.referrer
+    pub each : All (λ (cell : CellState). CanPut mint (got_at seen (amount_in pc) (amount_in referrer) cell) cell) cells
 
 -- a cell gets of one token alone, and can take it in
 abbrev pub CanGet : Address → Address → ℕ → ℕ → CellState → Type 0
 CanGet coin_mint pc_mint coin pc cell = ((coin ≡ 0) × CanPut pc_mint pc cell) ⊎ ((pc ≡ 0) × CanPut coin_mint coin cell)
 
 -- the parcels are of two mints, and each wallet that a row sees can take in what it gets of them
-pub record CanBePaid (seen : Seen) (coin pc referrer : Option TokenAmount) (cells : List CellState) : Type 0 where
+pub record CanBePaid (seen : Seen) (places : WalletPlaces) (coin pc referrer : Option TokenAmount)
+    (cells : List CellState) : Type 0 where
   pub coin_mint : Address
   pub pc_mint : Address
   pub coin_is : coin ≡ parcel_of coin_mint (amount_in coin)
   pub pc_is : pc ≡ parcel_of pc_mint (amount_in pc)
   pub referrer_is : referrer ≡ parcel_of pc_mint (amount_in referrer)
   pub apart : AreApart cells
-  pub coin_home : IsHome cells seen.coin
-  pub pc_home : IsHome cells seen.pc
-  pub referrer_home : IsHome cells seen.referrer
+  pub at : AreSeenAt cells seen places
   pub coin_named : NamesFor (amount_in coin) seen.coin
   pub pc_named : NamesFor (amount_in pc) seen.pc
   pub referrer_named : NamesFor (amount_in referrer) seen.referrer
@@ -194,11 +232,6 @@ pub record CanBePaid (seen : Seen) (coin pc referrer : Option TokenAmount) (cell
       (got_at seen (amount_in pc) (amount_in referrer) cell) cell) cells
 
 -- ---- what they are asked
-
--- a movement of nothing
-abbrev pub is_probe : MoveKind → Bool
-is_probe Probe = true
-is_probe _ = false
 
 -- a movement is a probe of this cell
 abbrev pub probes : Movement → CellState → Bool
@@ -212,16 +245,6 @@ move_probed row move cell = if probes move cell then cell_moved row Probe 0 cell
 abbrev pub moves_probed : PlainRow → List Movement → CellState → CellState
 moves_probed row [] cell = cell
 moves_probed row (move ∷ moves) cell = moves_probed row moves (move_probed row move cell)
-
--- it has room for the entries of those that probe it
-abbrev pub CanLook : PlainRow → List Movement → CellState → Type 0
-CanLook row [] cell = Unit {0}
-CanLook row (move ∷ moves) cell =
-    (probes move cell ≡ true → HasSpare cell) × CanLook row moves (move_probed row move cell)
-
--- each movement is one of these cells
-abbrev pub AreMovedHere : List CellState → List Movement → Type 0
-AreMovedHere cells moves = All (λ (move : Movement). is_among move.wallet cells ≡ true) moves
 
 -- ---- all of it
 
@@ -261,6 +284,37 @@ any_hit address (role ∷ roles) = hits address role || any_hit address roles
 -- the wallets that a row sees, role by role
 abbrev pub roles_of : Seen → List (Option WalletSeen)
 roles_of seen = seen.coin ∷ seen.pc ∷ seen.discount ∷ seen.referrer ∷ []
+
+-- a row looks at the wallet of an address: it is one of these roles', and the row does not move it
+abbrev pub looks_at : Seen → Transfers → List (Option WalletSeen) → Address → Bool
+looks_at seen t roles address = any_hit address roles && is_probe (movement_of seen t address).kind
+
+-- a cell after a row looked at the wallets of these roles
+abbrev pub cell_looked : PlainRow → Seen → Transfers → List (Option WalletSeen) → CellState → CellState
+cell_looked row seen t roles cell = if looks_at seen t roles cell.address then cell_moved row Probe 0 cell else cell
+
+-- each cell at which a row looks has room for an entry
+pub record CanLook (seen : Seen) (places : WalletPlaces) (t : Transfers) (cells : List CellState) : Type 0 where
+  pub apart : AreApart cells
+  pub at : AreSeenAt cells seen places
+  pub spare : All (λ (cell : CellState). looks_at seen t (roles_of seen) cell.address ≡ true → HasSpare cell) cells
+
+-- a row looks at it under one role, unless it is one of these later roles' too
+abbrev pub role_looks : Seen → Transfers → Option WalletSeen → List (Option WalletSeen) → Address → Bool
+role_looks seen t role later address =
+    hits address role && (is_probe (movement_of seen t address).kind && not (any_hit address later))
+
+-- and can: its cell stands at this place, with room for an entry
+pub record CanLookAs (seen : Seen) (t : Transfers) (role : Option WalletSeen) (later : List (Option WalletSeen))
+    (place : ℕ) (cells : List CellState) : Type 0 where
+  pub apart : AreApart cells
+  pub here : IsRoleAt cells (address_seen role) place
+  pub spare : All (λ (cell : CellState). role_looks seen t role later cell.address ≡ true → HasSpare cell) cells
+
+-- a cell after a row looked at the wallet of one role
+abbrev pub role_looked : PlainRow → Seen → Transfers → Option WalletSeen → List (Option WalletSeen) → CellState → CellState
+role_looked row seen t role later cell =
+    if role_looks seen t role later cell.address then cell_moved row Probe 0 cell else cell
 
 -- what is seen under a role at a cell's address is the cell
 abbrev pub IsRight : CellState → Option WalletSeen → Type 0

@@ -1,8 +1,11 @@
 //! One row, on its market's cell and on the cells of the wallets that it names.
 #![tactic(auto)]
 
+mod places;
+mod probes;
 mod rows;
 mod wallets;
 
+pub use places::{WalletPlaces, places_in};
 pub use rows::{act, hold};
 pub use wallets::wallet_at;

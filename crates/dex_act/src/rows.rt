@@ -1,20 +1,24 @@
 //! One row, on its market's cell and on the cells of the wallets that it names.
 
-ghost use Rattle.std.specs.Prelude.{◌≡◌, ◌<◌, ◌++◌, ◌∷◌, [], List, Ok, false, length, map, true};
+ghost use Rattle.std.specs.Prelude.{◌≡◌, Ok, map, true};
 ghost use Rattle.std.specs.List.{All};
 ghost use Rattle.dex_types.specs.declared.replies.Reply.TheVariants.{Done};
 ghost use Rattle.dex_types.specs.Rows.{row_of};
 ghost use Rattle.dex_types.specs.Transfers.{no_transfers};
-ghost use Rattle.dex_history.specs.Journal.{Call, is_refusal};
-ghost use Rattle.dex_cell.specs.CellState.{CanHold, HasActed, HasSpare, IsFor, IsMarketCell};
+ghost use Rattle.dex_history.specs.Journal.{is_refusal};
+ghost use Rattle.dex_cell.specs.CellState.{CanHold, HasActed, HasSpare, HasTaken, IsFor, IsMarketCell};
 ghost use Rattle.dex_cell.specs.CellState.{answer_on, held_on, refused_on, step_on};
 ghost use Rattle.dex_fold.specs.Fold.{wallet_acted};
 ghost use Rattle.dex_wallet.specs.CellState.{IsWalletCell};
-ghost use Rattle.dex_act.specs.Wallets.{AreApart, SeesCells, cells_acted, cells_paid, made_of, states_acted, wallet_state_of};
+ghost use Rattle.dex_act.specs.Wallets.{AreApart, ArePlacesAmong, AreSeenAt, SeesCells, cells_acted, made_of};
+ghost use Rattle.dex_act.specs.Wallets.{states_acted, wallet_state_of};
 
-use crate::wallets::{credits, debits, probe_each};
-use dex_cell::{MarketCell, Plan};
-use dex_types::{Movement, Reply, Row, Seen};
+use crate::places::WalletPlaces;
+use crate::probes::probes;
+use crate::wallets::{credits, debits};
+use dex_cell::{MarketCell, Plan, amounts_of};
+use dex_movements::Amounts;
+use dex_types::{Reply, Row, Seen};
 use dex_wallet::WalletCell;
 
 /// Does a row as it was decided: its deposits leave its wallets, its market makes its step, and its payouts enter its
@@ -24,66 +28,66 @@ fn accept(
     wallets: &mut [WalletCell],
     row: &Row,
     seen: &Seen,
+    places: &WalletPlaces,
     plan: &Plan,
-) -> Reply
+)
     requires row { IsFor row.now seen.now market.old }
     requires market { IsMarketCell market.old }
     requires spare { HasSpare market.old }
     requires wallets { SeesCells seen.now wallets.old }
+    requires places { AreSeenAt wallets.old seen.now places.now }
     requires decided { Ok plan.now ≡ answer_on row.now seen.now market.old }
-    ensures reply { result ≡ (step_on row.entry.now seen.now market.old).reply }
-    ensures done { is_refusal result ≡ false }
-    ensures acted { HasActed row.entry.now seen.now market.old market.new }
-    ensures cell { IsMarketCell market.new }
-    ensures wallets { wallets.new ≡ cells_paid row.entry.now seen.now market.old wallets.old }
+    ensures taken { HasTaken row.entry.now seen.now market.old market.new }
+    ensures wallets { wallets.new ≡ cells_acted row.entry.now seen.now market.old wallets.old }
 {
-    let deposit = plan.deposit();
-    let (coin, pc) = debits(wallets, row, seen, deposit.coin, deposit.pc);
-    let (reply, payouts) = market.apply(row, seen, *plan, coin, pc);
-    credits(wallets, row, seen, payouts);
-    reply
+    let amounts = amounts_of(plan);
+    let (coin, pc) = debits(wallets, row, seen, places, &amounts);
+    let payouts = market.carry_out(row, seen, plan, coin, pc);
+    credits(wallets, row, seen, places, payouts);
+    probes(wallets, row, seen, places, &amounts);
 }
 
 /// Decides a row, and does it or writes down that it is refused.
-fn answer(market: &mut MarketCell, wallets: &mut [WalletCell], row: &Row, seen: &Seen) -> Reply
+fn answer(
+    market: &mut MarketCell,
+    wallets: &mut [WalletCell],
+    row: &Row,
+    seen: &Seen,
+    places: &WalletPlaces,
+)
     requires row { IsFor row.now seen.now market.old }
     requires market { IsMarketCell market.old }
     requires spare { HasSpare market.old }
     requires wallets { SeesCells seen.now wallets.old }
-    ensures reply { result ≡ (step_on row.entry.now seen.now market.old).reply }
-    ensures acted { HasActed row.entry.now seen.now market.old market.new }
-    ensures refused { is_refusal result ≡ true → market.new ≡ refused_on row.entry.now seen.now market.old }
-    ensures cell { IsMarketCell market.new }
-    ensures wallets { wallets.new ≡ cells_paid row.entry.now seen.now market.old wallets.old }
+    requires places { AreSeenAt wallets.old seen.now places.now }
+    ensures taken { HasTaken row.entry.now seen.now market.old market.new }
+    ensures wallets { wallets.new ≡ cells_acted row.entry.now seen.now market.old wallets.old }
 {
     match &market.decide(row, seen) {
-        Ok(plan) => accept(market, wallets, row, seen, plan),
+        Ok(plan) => accept(market, wallets, row, seen, places, plan),
         Err(refusal) => {
             market.refuse(row, seen, *refusal);
-            Reply::Refused(*refusal)
+            probes(wallets, row, seen, places, &Amounts::none());
         }
     }
-}
-
-/// The movements of the last row of a market's journal.
-fn last_moves(market: &MarketCell) -> &[Option<Movement>; 4]
-    requires { 0 < length market.now.calls }
-    ensures { (past : List Call) (call : Call) → market.now.calls ≡ past ++ call ∷ []
-        → result.now ≡ call.entry.moves }
-{
-    let entries = market.entries();
-    &entries[entries.len() - 1].moves
 }
 
 /// A row acts on its market's cell and on the cells of the wallets that it names, and this is its market's reply: its
 /// deposits and payouts move as parcels, and it looks at each other wallet that it names. It takes no memory.
 ///
 /// Where the row is refused, nothing moves: the journals say that it was refused and that it looked at its wallets.
-pub fn act(market: &mut MarketCell, wallets: &mut [WalletCell], row: &Row, seen: &Seen) -> Reply
+pub fn act(
+    market: &mut MarketCell,
+    wallets: &mut [WalletCell],
+    row: &Row,
+    seen: &Seen,
+    places: &WalletPlaces,
+) -> Reply
     requires row { IsFor row.now seen.now market.old }
     requires market { IsMarketCell market.old }
     requires spare { HasSpare market.old }
     requires wallets { SeesCells seen.now wallets.old }
+    requires places { ArePlacesAmong wallets.old (row_of row.now) places.now }
     ensures reply { result ≡ (step_on row.entry.now seen.now market.old).reply }
     ensures acted { HasActed row.entry.now seen.now market.old market.new }
     ensures refused { is_refusal result ≡ true → market.new ≡ refused_on row.entry.now seen.now market.old }
@@ -95,20 +99,25 @@ pub fn act(market: &mut MarketCell, wallets: &mut [WalletCell], row: &Row, seen:
     ensures apart { AreApart wallets.new }
     ensures made { map made_of wallets.new ≡ map made_of wallets.old }
 {
-    let reply = answer(market, wallets, row, seen);
-    let moves = last_moves(market);
-    probe_each(wallets, row, moves);
-    reply
+    answer(market, wallets, row, seen, places);
+    market.last().reply
 }
 
 /// A take is held back, for a row whose item is refused elsewhere: its market writes down that nothing was to do, and it looks at the
 /// wallets that it names. No account changes.
-pub fn hold(market: &mut MarketCell, wallets: &mut [WalletCell], row: &Row, seen: &Seen) -> Reply
+pub fn hold(
+    market: &mut MarketCell,
+    wallets: &mut [WalletCell],
+    row: &Row,
+    seen: &Seen,
+    places: &WalletPlaces,
+) -> Reply
     requires row { IsFor row.now seen.now market.old }
     requires market { IsMarketCell market.old }
     requires held { CanHold row.now seen.now market.old }
     requires spare { HasSpare market.old }
     requires wallets { SeesCells seen.now wallets.old }
+    requires places { ArePlacesAmong wallets.old (row_of row.now) places.now }
     ensures reply { result ≡ Done }
     ensures held { market.new ≡ held_on row.entry.now seen.now market.old }
     ensures cell { IsMarketCell market.new }
@@ -118,8 +127,7 @@ pub fn hold(market: &mut MarketCell, wallets: &mut [WalletCell], row: &Row, seen
     ensures apart { AreApart wallets.new }
     ensures made { map made_of wallets.new ≡ map made_of wallets.old }
 {
-    let reply = market.idle(row, seen);
-    let moves = last_moves(market);
-    probe_each(wallets, row, moves);
-    reply
+    market.idle(row, seen);
+    probes(wallets, row, seen, places, &Amounts::none());
+    Reply::Done
 }

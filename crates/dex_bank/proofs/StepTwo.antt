@@ -7,6 +7,7 @@ use Rattle.dex_cell.specs.CellState as market
 use Rattle.dex_wallet.specs.CellState as wallet
 use Rattle.dex_fold.specs.World.{market_at}
 use Rattle.dex_fold.proofs.FarLaws.{market-far, seen-far}
+pub use Rattle.dex_fold.proofs.ItemLaws.{not-refused}
 use Rattle.dex_bank.specs.Cells.{IsTakeOrRefused, OthersThanTwoStay}
 use Rattle.dex_bank.specs.Stepping.{doing}
 use Rattle.dex_bank.proofs.StepWorld.{opened_market, same-markets, same-wallets}
@@ -166,11 +167,6 @@ both-stay one other (b ∷ before) (m ∷ mid) (a ∷ after) first second = (
 )
 
 -- ---- each waits where one of the two is refused and it is not
-
-pub not-refused : (any refused : Bool) → (any && not refused) ≡ true → refused ≡ false
-not-refused any false held = refl
-not-refused true true held = absurd (false≢true held)
-not-refused false true held = absurd (false≢true held)
 
 -- what the item makes them do
 pub chosen-two : (world : World) (first second : PlainRow) (one two any waits other_waits : Bool) → one ≡ is_some (why_in world first) → two ≡ is_some (why_in world second)

@@ -1,19 +1,18 @@
 -- A row at the place of its market.
-use Rattle.std.specs.Prelude.{◌≡◌, ℕ, ◌<◌, Bool, true, false, if◌then◌else◌, List, length, map, slice_index_or, slice_set}
-use Rattle.std.specs.List.{All}
+use Rattle.std.specs.Prelude.{◌≡◌, ℕ, ◌<◌, Bool, true, false, List, length, slice_index_or, slice_set}
 use Rattle.dex_types.specs.declared.addresses.Address.{Address}
 use Rattle.dex_types.specs.declared.rows.Row.{Row}
 use Rattle.dex_types.specs.declared.rows.Seen.{Seen}
 use Rattle.dex_types.specs.Addresses.{is_same}
 use Rattle.dex_types.specs.Rows.{PlainRow}
 use Rattle.dex_types.specs.Steps.{Step}
-use Rattle.dex_types.specs.Transfers.{Transfers}
 use Rattle.dex_history.specs.Journal.{row_step}
 use Rattle.dex_cell.specs.CellState.{CanHold, HasActed, HasSpare, IsFor, IsMarketCell, MarketCellState, held_on, market_at}
-use Rattle.dex_wallet.specs.CellState.{CellState, IsWalletCell}
-use Rattle.dex_fold.specs.Fold.{market_acted, wallet_acted}
-use Rattle.dex_fold.specs.Items.{nothing_to_do}
-use Rattle.dex_act.specs.Wallets.{AreApart, SeesCells, made_of, wallet_state_of}
+use Rattle.dex_wallet.specs.CellState.{CellState}
+use Rattle.dex_fold.specs.Fold.{market_acted}
+pub use Rattle.dex_fold.specs.Items.{doing}
+pub use Rattle.dex_act.specs.Acted.{HaveActed}
+use Rattle.dex_act.specs.Wallets.{SeesCells}
 use Rattle.dex_bank.specs.Cells.{accounts_in, market_state_of}
 
 -- the first of the cells whose market has this address stands at the place
@@ -43,13 +42,6 @@ pub record HasActedAt (row : Row) (seen : Seen) (place : ℕ) (before after : Li
   pub kept : IsMarketCell cell
   pub acted : (default : MarketCellState) → HasActed row seen (slice_index_or before place default) cell
 
--- each wallet that the row names was moved once, as the transfers say, and each cell is still that of its wallet
-pub record HaveActed (row : PlainRow) (seen : Seen) (t : Transfers) (before after : List CellState) : Type 0 where
-  pub states : map wallet_state_of after ≡ map (wallet_acted row seen t) (map wallet_state_of before)
-  pub kept : All IsWalletCell after
-  pub apart : AreApart after
-  pub made : map made_of after ≡ map made_of before
-
 -- the market at the place was held back, and no other changed
 pub record HasHeldAt (row : Row) (seen : Seen) (place : ℕ) (before after : List MarketCellState) : Type 0 where
   pub cell : MarketCellState
@@ -58,10 +50,6 @@ pub record HasHeldAt (row : Row) (seen : Seen) (place : ℕ) (before after : Lis
   pub held : (default : MarketCellState) → cell ≡ held_on row seen (slice_index_or before place default)
 
 -- ---- a row that acts, or is held back
-
--- what the row does: what it asks, or nothing
-abbrev pub doing : Bool → PlainRow → PlainRow
-doing waits row = record row { bytes = if waits then nothing_to_do else row.bytes }
 
 -- the step of a row on the market at a place
 abbrev pub step_at : PlainRow → Seen → ℕ → List MarketCellState → MarketCellState → Step

@@ -1,5 +1,6 @@
 -- an item of one row acts as the row
-use Rattle.std.proofs.Common.{◌≡◌, ◌||◌, Bool, true, false, cond, List, [], ◌∷◌, is_some, Result, Ok, refl, ap}
+use Rattle.std.proofs.Common.{◌≡◌, ◌||◌, ◌&&◌, not, Bool, true, false, cond, List, [], ◌∷◌, is_some, Result, Ok, refl, ap}
+use Rattle.std.proofs.lemmas.Bool.{false≢true}
 use Rattle.dex_types.specs.declared.instructions.BadData.{BadData}
 use Rattle.dex_types.specs.declared.instructions.Ix.{Ix}
 use Rattle.dex_types.specs.declared.instructions.Ix.TheVariants.{MatchOrders}
@@ -35,3 +36,10 @@ nothing-decodes = refl
 -- it does nothing
 pub idle-step : (row : PlainRow) (seen : Seen) (m : Market) → row_step (idle_row row) seen m ≡ done m
 idle-step row seen m = ap (λ (it : Result Ix BadData). step (record (request_of row) { instruction = it }) seen m) nothing-decodes
+
+-- ---- each waits where one of the two is refused and it is not
+
+pub not-refused : (any refused : Bool) → (any && not refused) ≡ true → refused ≡ false
+not-refused any false held = refl
+not-refused true true held = absurd (false≢true held)
+not-refused false true held = absurd (false≢true held)

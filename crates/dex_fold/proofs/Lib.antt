@@ -6,3 +6,5 @@ pub mod NameLaws
 pub mod FarLaws
 pub mod OnceLaws
 pub mod QuietLaws
+pub mod MappedLists
+pub mod KeptMoves

@@ -62,6 +62,10 @@ nothing_to_do = 0 ∷ 2 ∷ 0 ∷ 0 ∷ 0 ∷ 0 ∷ 0 ∷ []
 abbrev pub idle_row : PlainRow → PlainRow
 idle_row row = record row { bytes = nothing_to_do }
 
+-- what a row does: what it asks, or nothing where it waits
+abbrev pub doing : Bool → PlainRow → PlainRow
+doing waits row = record row { bytes = if waits then nothing_to_do else row.bytes }
+
 -- a row of an item of which one is refused: it is refused as well, or has nothing to do
 abbrev pub held_in : World → PlainRow → PlainRow
 held_in world row = if is_some (why_in world row) then row else idle_row row

@@ -3,3 +3,4 @@ pub mod Fold
 pub mod Groups
 pub mod Items
 pub mod RowsOf
+pub mod Lists

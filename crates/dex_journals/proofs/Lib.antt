@@ -1,4 +1,5 @@
 pub mod Counting
 pub mod StampedLists
+pub mod LaneGrowth
 pub mod MarketLaws
 pub mod WalletLaws

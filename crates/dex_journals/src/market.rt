@@ -15,7 +15,7 @@ ghost use Rattle.dex_stamps.specs.Stamped.{Stamped};
 ghost use Rattle.dex_journals.specs.Journals.{IsBankMarket, calls_by, market_calls, market_origin};
 
 use crate::items::{MarketStart, StampedCall};
-use dex_act::{act, hold};
+use dex_act::{act, hold, places_in};
 use dex_cell::MarketCell;
 use dex_gate::Journaled;
 use dex_script::Script;
@@ -124,7 +124,8 @@ impl BankMarket {
         ensures made { map made_of wallets.new ≡ map made_of wallets.old }
         ensures kept { IsBankMarket self.new }
     {
-        let reply = act(&mut self.cell, wallets, row, seen);
+        let places = places_in(wallets, row);
+        let reply = act(&mut self.cell, wallets, row, seen, &places);
         self.stamps = self.stamps.and(stamp, &());
         self.last = stamp.later(stamp);
         reply
@@ -159,7 +160,8 @@ impl BankMarket {
         ensures made { map made_of wallets.new ≡ map made_of wallets.old }
         ensures kept { IsBankMarket self.new }
     {
-        let reply = hold(&mut self.cell, wallets, row, seen);
+        let places = places_in(wallets, row);
+        let reply = hold(&mut self.cell, wallets, row, seen, &places);
         self.stamps = self.stamps.and(stamp, &());
         self.last = stamp.later(stamp);
         reply

@@ -8,7 +8,6 @@ mod Fronts
 mod Gathered
 mod Items
 mod Journals
-pub mod LaneGrowth
 pub mod LastCells
 mod Orders
 mod Seeing

@@ -12,7 +12,7 @@ use Rattle.dex_stamps.specs.Stamped.{Stamped}
 use Rattle.dex_journals.specs.Journals.{BankMarketState, BankWalletState, IsBankMarket, IsBankWallet}
 use Rattle.dex_journals.specs.Journals.{market_calls, market_origin, wallet_entries, wallet_origin}
 use Rattle.dex_journals.specs.StampedCalls.{calls_of_lane, calls_on, entries_of_lane, entries_on}
-use Rattle.dex_order.specs.Lanes.{IsLaneDone, Lane}
+use Rattle.dex_journals.specs.Lanes.{IsLaneDone, Lane}
 
 -- a market that the script starts with, when all lanes are done: for each lane its journal has just the lane's calls on the
 -- market, in their order, and it has no others

@@ -1,4 +1,3 @@
-pub mod Apart
 pub mod Common
 mod AllOrNone
 pub mod Counting
@@ -11,9 +10,7 @@ pub mod LastAccounts
 mod Lawfulness
 pub mod MappedLists
 mod Numbers
-pub mod Once
 pub mod Orders
-pub mod Roles
 pub mod Room
 mod ActedTo
 mod RunOf

@@ -1,19 +1,16 @@
 -- Each row of a script finds the cells that it names, with room for one entry more.
-use Rattle.std.proofs.Common.{◌≡◌, ℕ, ◌+◌, ◌<◌, ◌≤◌, Bool, true, cond, ◌||◌, List, [], ◌∷◌, ◌++◌, length, map, get_or, refl, sym, ap, ◌∙◌, subst, arith}
+use Rattle.std.proofs.Common.{◌≡◌, ℕ, ◌+◌, ◌<◌, ◌≤◌, Bool, true, cond, List, ◌∷◌, ◌++◌, length, map, get_or, sym, ap, ◌∙◌, subst, arith}
 use Rattle.dex_fold.proofs.Common.{Address, Call, Listing, PlainMarketAccounts, PlainRow, Row, get_or-map, is_same, length-map, list_any, names, row_of, row_wallets, sum_by-append, sum_by-cons}
 use Rattle.dex_replay.proofs.Common.{CanAct, CellState, CellsState, IsRowOf, MarketCellState, PlainScript, address_of, has_account, is_among, is_market, market_state_of, rows_naming, rows_on, wallet_state_of, world_of}
 use Rattle.std.specs.List.{All}
 use Rattle.dex_cell.specs.CellState as market
 use Rattle.dex_wallet.specs.CellState as wallet
+use Rattle.dex_act.proofs.CellLists.{is_among-any}
 use Rattle.dex_replay.proofs.Counting.{HasFew, HasFewMoves, IsCounted}
 use Rattle.dex_replay.proofs.LastAccounts.{listing-in}
 use Rattle.dex_replay.proofs.MappedLists.{All-unmap, list_any-map}
-use Rattle.dex_replay.proofs.Roles.{roles-all}
+use Rattle.dex_script.proofs.Roles.{roles-all}
 use Rattle.dex_replay.proofs.Starts.{AreOfScript, HasItsAddress, market-addresses, wallet-addresses}
-
-pub is_among-any : (address : Address) (cells : List CellState) → is_among address cells ≡ list_any (is_same address) (map (λ (cell : CellState). cell.address) cells)
-is_among-any address [] = refl
-is_among-any address (cell ∷ cells) = ap (λ (b : Bool). is_same address cell.address || b) (is_among-any address cells)
 
 module _ (script : PlainScript) (cells : CellsState) (own : AreOfScript script cells) (its : All HasItsAddress cells.markets) where
   abbrev IsHere : Address → Type 0

@@ -1,13 +1,11 @@
 -- What a run of a script may leave, in whatever order its lanes act.
-use Rattle.std.specs.Prelude.{◌≡◌, ◌==◌, ◌&&◌, ℕ, Bool, not, Option, Some, None, List, [], ◌∷◌, map, All, if◌then◌else◌}
+use Rattle.std.specs.Prelude.{◌≡◌, ◌==◌, ◌&&◌, ℕ, Bool, not, List, [], ◌∷◌, map, All, if◌then◌else◌}
 use Rattle.std.specs.List.{Any, Contains, filter, list_any}
 use Rattle.dex_types.specs.declared.addresses.Address.{Address}
 use Rattle.dex_types.specs.declared.movements.Entry.{Entry}
 use Rattle.dex_types.specs.declared.movements.Movement.{Movement}
 use Rattle.dex_types.specs.declared.movements.WalletEntry.{WalletEntry}
 use Rattle.dex_types.specs.declared.replies.Reply.{Reply}
-use Rattle.dex_types.specs.declared.rows.Seen.{Seen}
-use Rattle.dex_types.specs.declared.rows.WalletSeen.{WalletSeen}
 use Rattle.dex_types.specs.Accounts.{PlainAccount, PlainMarketAccounts}
 use Rattle.dex_types.specs.Addresses.{is_same}
 use Rattle.dex_types.specs.Rows.{PlainRow}
@@ -18,18 +16,14 @@ use Rattle.dex_instruction.specs.Reading.{decoded}
 use Rattle.dex_history.specs.Journal.{Call, IsLegal, asked_of, front, is_done, is_refusal, is_take, market_after, wallet_entry_of}
 use Rattle.dex_fold.specs.Groups.{members}
 use Rattle.dex_fold.specs.Items.{Item, items_of, rows_of_lane}
+pub use Rattle.dex_fold.specs.Lists.{AllThree}
 pub use Rattle.dex_fold.specs.RowsOf.{rows_of_market, rows_of_wallet}
 use Rattle.dex_report.specs.Outcomes.{PlainMarketJournal, PlainOutcome, PlainWalletJournal}
 use Rattle.dex_script.specs.Drafts.{PlainScript}
-use Rattle.dex_token.specs.TokenAccount.{wallet_words, with_amount}
+pub use Rattle.dex_script.specs.Sight.{IsSight, IsWalletSeen}
+use Rattle.dex_token.specs.TokenAccount.{with_amount}
 use Rattle.dex_wallet.specs.CellState.{balance_of}
 use Rattle.dex_replay.specs.Replays.{IsOfStart}
-
--- R holds of the elements of three lists, place by place
-abbrev pub AllThree : {A B C : Type 0} → (A → B → C → Type 0) → List A → List B → List C → Type 0
-AllThree R [] [] [] = Unit {0}
-AllThree R (x ∷ xs) (y ∷ ys) (z ∷ zs) = R x y z × AllThree R xs ys zs
-AllThree R _ _ _ = ⊥
 
 -- ---- which rows a journal tells of
 
@@ -48,23 +42,6 @@ abbrev pub origin_of_entry : WalletEntry → Origin
 origin_of_entry entry = record { market = entry.market; lane = entry.lane; row = entry.row }
 
 -- ---- a market
-
--- what is seen under a role is a wallet of these, with some balance
-abbrev pub IsWalletSeen : List PlainAccount → Option WalletSeen → Type 0
-IsWalletSeen wallets None = Unit {0}
-IsWalletSeen wallets (Some seen) = Any (λ (wallet : PlainAccount).
-    let words = wallet_words wallet.bytes in
-    seen ≡ record { address = wallet.address; mint = words.mint; owner = words.owner; balance = seen.balance }) wallets
-
--- what a row of the script may see: its wallets, mints and program
-pub record IsSight (script : PlainScript) (seen : Seen) : Type 0 where
-  pub coin : IsWalletSeen script.start.wallets seen.coin
-  pub pc : IsWalletSeen script.start.wallets seen.pc
-  pub discount : IsWalletSeen script.start.wallets seen.discount
-  pub referrer : IsWalletSeen script.start.wallets seen.referrer
-  pub srm : seen.srm ≡ script.start.srm
-  pub msrm : seen.msrm ≡ script.start.msrm
-  pub program : seen.program ≡ script.program
 
 -- a market's journal is that of a legal history from its first accounts, its last accounts stand for the market at the
 -- end, and for each lane the calls ask what the script's rows of that lane on this market do, one for each, in their order

@@ -3,7 +3,7 @@ use Rattle.std.proofs.Common.{◌≡◌, ◌∙◌, ◌+◌, ◌-◌, ◌<◌, �
 use Rattle.std.proofs.Math.Seq.{set-append_seam}
 use Rattle.std.proofs.lemmas.List.{length-take, take_more}
 
-pub one_written : (text bytes : List ℕ) (place : ℕ) → place < length text → length text ≤ 24 → bytes ≡ take place text ++ replicate (32 - place) 0
+pub one_written : (text bytes : List ℕ) (place : ℕ) → place < length text → length text ≤ 32 → bytes ≡ take place text ++ replicate (32 - place) 0
     → set bytes place (get_or text place 0) ≡ take (place + 1) text ++ replicate (32 - (place + 1)) 0
 one_written text bytes place below few e =
     let front = take place text in

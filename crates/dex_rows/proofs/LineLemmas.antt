@@ -1,5 +1,5 @@
 -- A row that stands in a text without quotes, cut at its commas byte by byte.
-use Rattle.std.proofs.Common.{◌≡◌, ◌∙◌, ◌^◌, ◌+◌, ◌-◌, ◌<◌, ◌≤◌, ◌++◌, ◌==◌, ◌∷◌, [], ℕ, List, All, Bor, Bool, true, false, length, length-append, append-nil, take, drop, get_or, map, arith, refl, sym, ap, inl, inr, Fits, w64}
+use Rattle.std.proofs.Common.{◌≡◌, ◌∙◌, ◌^◌, ◌+◌, ◌<◌, ◌≤◌, ◌++◌, ◌==◌, ◌∷◌, [], ℕ, List, All, Bor, Bool, true, false, length, length-append, take, drop, get_or, arith, refl, sym, ap, inl, inr, Fits, w64}
 use Rattle.std.proofs.lemmas.List.{at_drop_more, drop_more, get_or-map, get_or-take, length-map, length-take, take-append-le, take_all, take_more}
 use Rattle.std.proofs.lemmas.List.Elements.{All-append, All-cons, All-nil}
 use Rattle.std.proofs.lemmas.Bool.{cases_lt}

@@ -88,7 +88,7 @@ number_of-short word few is =
     (let all : digits_value 10 word < 10 ^ 19 = digits_value_short digits_model word 19 (numeral_parts word is).1 few in omega arith) in
     rw (is, lt-ltb (digits_value 10 word) (2 ^ 64) below) refl
 
-numeral_bare : (word : List ℕ) (bare all : Bool) → is_bare word ≡ bare → list_all is_ascii_digit word ≡ all → is_numeral word ≡ (bare && all)
+pub numeral_bare : (word : List ℕ) (bare all : Bool) → is_bare word ≡ bare → list_all is_ascii_digit word ≡ all → is_numeral word ≡ (bare && all)
 unfolding is_numeral is_bare
 numeral_bare word true true e f = grind (arith, nat_tests)
 numeral_bare word true false e f = grind (arith, nat_tests)

@@ -1,10 +1,10 @@
 -- A text without quotes is read row by row where its line ends stand, and each row is cut at its commas.
-use Rattle.std.proofs.Common.{◌≡◌, ◌∙◌, ◌+◌, ◌<◌, ◌≤◌, ◌++◌, ◌==◌, ◌||◌, ◌∷◌, [], ℕ, zero, suc, Bool, if◌then◌else◌, List, All, Option, Some, None, true, false, append_assoc, append-nil, length, take, drop, get_or, arith, refl, sym, ap}
+use Rattle.std.proofs.Common.{◌≡◌, ◌∙◌, ◌+◌, ◌<◌, ◌≤◌, ◌++◌, ◌==◌, ◌∷◌, [], ℕ, Bool, List, All, Option, Some, None, true, false, append_assoc, append-nil, length, drop, get_or, arith, refl, sym, ap}
 use Rattle.std.specs.Prelude.{⊤}
-use Rattle.std.specs.List.{onto_first, slice_split}
+use Rattle.std.specs.List.{onto_first}
 use Rattle.std.proofs.lemmas.Bool.Decides.{nat_tests}
 use Rattle.std.proofs.lemmas.List.{get_or-drop, get_or_default, length-drop, take-append-drop}
-use Rattle.std.proofs.lemmas.List.Elements.{All-drop, All-head, All-nil, All-tail}
+use Rattle.std.proofs.lemmas.List.Elements.{All-drop, All-head, All-tail}
 use Rattle.std.proofs.lemmas.List.Splits.{length-slice_split}
 use Rattle.csv.specs.Machine.{Read, after_end, ends_at_end, next_record, step}
 use Rattle.csv.specs.Reading.{default_config, is_bom, strip_bom}

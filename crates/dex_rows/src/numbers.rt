@@ -108,11 +108,10 @@ pub fn u128_word(text: &[u8]) -> Option<u128>
 }
 
 // Whether a word is decimal digits with no zero in front of others.
-#[tactic(auto, unfolding(crate::specs::Numbers::is_numeral))]
 fn is_numeral(text: &[u8]) -> bool
     ensures { result ≡ is_numeral text.now }
 {
-    !text.is_empty() && all_digits(text) && (text.len() == 1 || text[0] != b'0')
+    is_bare(text) && all_digits(text)
 }
 
 // Whether each byte is a decimal digit.

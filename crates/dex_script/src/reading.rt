@@ -70,7 +70,7 @@ fn read_behind_dump(alloc: Global, bytes: &[u8], batch: bool) -> Result<Reader, 
     let dump = read_dump(alloc, &mut rows)?;
     let number = next_number(dump.count);
     let before = Draft::behind_dump(alloc, dump.accounts, batch)?;
-    read_rows(alloc, Reader::of(before), number, &mut rows)
+    read_rows(alloc, Reader::of(alloc, before), number, &mut rows)
 }
 
 /// The dump at the start, whose accounts have no findings.

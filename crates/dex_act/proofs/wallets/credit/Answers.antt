@@ -8,8 +8,8 @@ use Rattle.dex_act.proofs.wallets.credit.Goals as goal
 
 pub returns-in-Some : goal.returns-in-Some
 returns-in-Some c =
-    credited-here (row_of c.args.row.now) c.args.role.now c.unwrap-wallet.result c.args.parcel c.in-Some.parcel c.args.cells.now c.credit_at.new.cells c.place_of-place.result
-    c.in-Some.is c.unwrap-wallet.ensures c.requires.apart c.requires.can c.place_of-place.ensures c.credit_at.ensures
+    credited-here (row_of c.args.row.now) c.args.role.now c.args.parcel c.in-Some.parcel c.args.cells.now c.credit_at.new.cells c.args.place
+    c.in-Some.is c.requires.apart c.requires.can c.requires.here c.credit_at.ensures
 
 pub returns-in-None : goal.returns-in-None
 returns-in-None c =

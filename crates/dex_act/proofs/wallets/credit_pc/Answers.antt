@@ -2,10 +2,10 @@ use Rattle.std.proofs.Common.{◌≡◌, true, false, List, map, sym, ap, ◌∙
 use Rattle.std.specs.List.{All}
 use Rattle.dex_types.specs.declared.movements.MoveKind.TheVariants.{Credit}
 use Rattle.dex_types.specs.Rows.{row_of}
-use Rattle.dex_types.specs.Wallets.{amount_at}
+use Rattle.dex_types.specs.Wallets.{address_seen, amount_at}
 use Rattle.dex_wallet.specs.CellState.{CellState}
-use Rattle.dex_act.specs.Wallets.{AreApart, CanPut, IsHome, amount_in, is_one, role_moved}
-use Rattle.dex_act.proofs.CellLists.{AreApart-map, IsHome-map, role_moved-address}
+use Rattle.dex_act.specs.Wallets.{AreApart, CanPut, IsRoleAt, amount_in, is_one, role_moved}
+use Rattle.dex_act.proofs.CellLists.{AreApart-map, IsRoleAt-map, role_moved-address}
 use Rattle.dex_act.proofs.WalletMoves.{can-credit, credited-apart, fits-together, second-put}
 use Rattle.dex_act.proofs.wallets.credit_pc.Goals as goal
 
@@ -16,8 +16,8 @@ join-both-requires c =
       mint = c.requires.mint;
       first_is = c.requires.pc_is;
       second_is = c.requires.referrer_is;
-      fits = fits-together c.args.seen.now.pc c.args.seen.now.referrer (amount_in c.args.pc) (amount_in c.args.referrer) c.requires.mint c.args.cells.now one
-          c.requires.pc_home c.requires.each;
+      fits = fits-together c.args.seen.now.pc c.args.seen.now.referrer (amount_in c.args.pc) (amount_in c.args.referrer) c.requires.mint c.args.cells.now
+          c.args.places.now.pc one c.requires.at.pc c.requires.each;
     }
 
 pub credit-requires-else-is_one-2-clause-apart : goal.credit-requires-else-is_one-2-clause-apart
@@ -26,11 +26,12 @@ credit-requires-else-is_one-2-clause-apart c =
     subst AreApart (sym c.credit-else-is_one.ensures)
     (AreApart-map change c.args.cells.now (role_moved-address (row_of c.args.row.now) Credit c.args.seen.now.pc (amount_in c.args.pc)) c.requires.apart)
 
-pub credit-requires-else-is_one-2-clause-home : goal.credit-requires-else-is_one-2-clause-home
-credit-requires-else-is_one-2-clause-home c =
+pub credit-requires-else-is_one-2-clause-here : goal.credit-requires-else-is_one-2-clause-here
+credit-requires-else-is_one-2-clause-here c =
     let change = role_moved (row_of c.args.row.now) Credit c.args.seen.now.pc (amount_in c.args.pc) in
-    subst (λ (cells : List CellState). IsHome cells c.args.seen.now.referrer) (sym c.credit-else-is_one.ensures)
-    (IsHome-map change c.args.cells.now c.args.seen.now.referrer (role_moved-address (row_of c.args.row.now) Credit c.args.seen.now.pc (amount_in c.args.pc)) c.requires.referrer_home)
+    subst (λ (cells : List CellState). IsRoleAt cells (address_seen c.args.seen.now.referrer) c.args.places.now.referrer) (sym c.credit-else-is_one.ensures)
+    (IsRoleAt-map change c.args.cells.now (address_seen c.args.seen.now.referrer) c.args.places.now.referrer
+    (role_moved-address (row_of c.args.row.now) Credit c.args.seen.now.pc (amount_in c.args.pc)) c.requires.at.referrer)
 
 pub credit-requires-else-is_one-2-clause-can : goal.credit-requires-else-is_one-2-clause-can
 credit-requires-else-is_one-2-clause-can c =

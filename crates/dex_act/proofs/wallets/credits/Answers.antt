@@ -3,8 +3,8 @@ use Rattle.std.specs.List.{All}
 use Rattle.dex_types.specs.declared.movements.MoveKind.TheVariants.{Credit}
 use Rattle.dex_types.specs.Rows.{row_of}
 use Rattle.dex_wallet.specs.CellState.{CellState}
-use Rattle.dex_act.specs.Wallets.{AreApart, CanPut, IsHome, amount_in, got_at, pc_credited, role_moved}
-use Rattle.dex_act.proofs.CellLists.{AreApart-map, IsHome-map, KeepsAddress, role_moved-address}
+use Rattle.dex_act.specs.Wallets.{AreApart, AreSeenAt, CanPut, amount_in, got_at, pc_credited, role_moved}
+use Rattle.dex_act.proofs.CellLists.{AreApart-map, AreSeenAt-map, KeepsAddress, role_moved-address}
 use Rattle.dex_act.proofs.WalletMoves.{credited-together, pc-put}
 use Rattle.dex_act.proofs.wallets.credits.Goals as goal
 
@@ -20,9 +20,8 @@ credit_pc-requires c =
       pc_is = c.requires.pc_is;
       referrer_is = c.requires.referrer_is;
       apart = subst AreApart (sym c.credit.ensures) (AreApart-map change c.args.cells.now keeps c.requires.apart);
-      pc_home = subst (λ (cells : List CellState). IsHome cells seen.pc) (sym c.credit.ensures) (IsHome-map change c.args.cells.now seen.pc keeps c.requires.pc_home);
-      referrer_home = subst (λ (cells : List CellState). IsHome cells seen.referrer) (sym c.credit.ensures)
-          (IsHome-map change c.args.cells.now seen.referrer keeps c.requires.referrer_home);
+      at = subst (λ (cells : List CellState). AreSeenAt cells seen c.args.places.now) (sym c.credit.ensures)
+          (AreSeenAt-map change c.args.cells.now seen c.args.places.now keeps c.requires.at);
       pc_named = c.requires.pc_named;
       referrer_named = c.requires.referrer_named;
       each = subst

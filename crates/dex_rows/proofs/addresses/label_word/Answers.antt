@@ -1,4 +1,4 @@
-use Rattle.std.proofs.Common.{◌∙◌, ◌&&◌, arith, refl, sym}
+use Rattle.std.proofs.Common.{◌∙◌, arith, refl, sym}
 use Rattle.std.proofs.lemmas.List.Folds.{list_all_more}
 use Rattle.dex_types.specs.Text.{is_label_character}
 use Rattle.dex_rows.proofs.AddressLemmas.{one_written}

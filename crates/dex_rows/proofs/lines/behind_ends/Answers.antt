@@ -1,4 +1,4 @@
-use Rattle.std.proofs.Common.{◌≡◌, ◌∙◌, ◌+◌, [], length, take, drop, arith, ap, sym}
+use Rattle.std.proofs.Common.{◌≡◌, ◌∙◌, [], drop, arith, sym}
 use Rattle.std.proofs.Math.ListN.{drop_of_length-le}
 use Rattle.std.proofs.lemmas.List.{length-drop, take_all}
 use Rattle.dex_rows.specs.Lines.{behind_ends}

@@ -1,4 +1,4 @@
-use Rattle.std.proofs.Common.{◌≡◌, ◌∙◌, ◌+◌, ◌≤◌, length, take, arith, ap, refl, sym}
+use Rattle.std.proofs.Common.{◌≡◌, ◌∙◌, length, arith, refl, sym}
 use Rattle.std.proofs.lemmas.Bool.Decides.{nat_tests}
 use Rattle.std.proofs.lemmas.List.{take_all}
 use Rattle.dex_rows.proofs.LineLemmas.{count_fits, line_comma, line_end, line_more}

@@ -1,7 +1,6 @@
-use Rattle.std.proofs.Common.{◌≡◌, ◌<◌, ◌∙◌, ◌+◌, ◌∷◌, ◌-◌, length, take, drop, arith, ap, refl, sym}
+use Rattle.std.proofs.Common.{◌≡◌, ◌<◌, ◌-◌, length, drop, arith}
 use Rattle.std.proofs.lemmas.Bool.Decides.{nat_tests}
 use Rattle.std.proofs.lemmas.List.{length-drop, take_all}
-use Rattle.dex_rows.specs.Lines.{HasNoQuote, behind_ends, cells_of, rows_in}
 use Rattle.dex_rows.proofs.PlainLaws.{first_row, no_row, plain_left}
 use Rattle.dex_rows.proofs.lines.next_line.Goals as goal
 

@@ -1,4 +1,4 @@
-use Rattle.std.proofs.Common.{◌≡◌, ◌∙◌, ap, sym}
+use Rattle.std.proofs.Common.{◌≡◌, ◌∙◌, ap}
 use Rattle.csv.specs.Records.{fields_of}
 use Rattle.dex_rows.specs.Lines.{cells_of}
 use Rattle.dex_rows.specs.Printable.{row_is_printable}

@@ -1,4 +1,4 @@
-use Rattle.std.proofs.Common.{◌≡◌, ◌∙◌, [], get_or, length, ap, sym}
+use Rattle.std.proofs.Common.{◌≡◌, ◌∙◌, [], get_or, ap}
 use Rattle.dex_rows.specs.Lines.{IsCut, cells_of}
 use Rattle.dex_rows.proofs.LineLemmas.{field_kept}
 use Rattle.dex_rows.proofs.records.field.Goals as goal

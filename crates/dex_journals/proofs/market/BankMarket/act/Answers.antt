@@ -1,9 +1,14 @@
 use Rattle.std.proofs.Common.{arith, subst, sym}
+use Rattle.dex_types.specs.Rows.{row_of}
+use Rattle.dex_act.proofs.Sights.{sees-named}
 use Rattle.dex_journals.specs.Inside.{market_inside, numbers_in}
 use Rattle.dex_journals.specs.Journals.{BankMarketState}
 use Rattle.dex_journals.proofs.MarketLaws.{MayAct, has-acted, spare-market}
 use Rattle.dex_journals.proofs.StampedLists.{numbers-more}
 use Rattle.dex_journals.proofs.market.BankMarket.act.Goals as goal
+
+pub places_in-places-requires : goal.places_in-places-requires
+places_in-places-requires c = sees-named (row_of c.args.row.now) c.args.seen.now c.args.wallets.now c.requires.row.sees c.requires.wallets
 
 pub act-reply-requires-clause-spare : goal.act-reply-requires-clause-spare
 act-reply-requires-clause-spare c =
