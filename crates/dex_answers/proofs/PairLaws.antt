@@ -8,7 +8,7 @@ use Rattle.dex_types.specs.declared.instructions.Ix.TheVariants.{SendTake}
 use Rattle.dex_types.specs.Requests.{Request}
 use Rattle.dex_types.specs.Steps.{Step, act_decoded, unless_refused}
 use Rattle.dex_types.specs.Why.{why_decoded}
-use Rattle.dex_history.specs.Journal.{asked_step, idle, is_take_or_bad}
+use Rattle.dex_history.specs.Journal.{asked_step, idle, is_take_or_bad, is_took}
 use Rattle.dex_fold.specs.Items.{Item, items_of}
 use Rattle.dex_replay.specs.Lawful.{entries_at}
 use Rattle.dex_replay.proofs.Groups.{grouped-each, unfilter}
@@ -18,7 +18,7 @@ use Rattle.dex_script.specs.Facts.{HasNoSwap}
 use Rattle.dex_replay.specs.Replays.{IsLeftByRows, IsReplayOf}
 use Rattle.dex_replay.specs.Runs.{IsRunOf}
 use Rattle.dex_answers.specs.Answers.{IsPlayed}
-use Rattle.dex_answers.specs.Paired.{ArePaired, BothOrNeither, HasTaken, WasHeldBack, WasRefused, is_took}
+use Rattle.dex_answers.specs.Paired.{ArePaired, BothOrNeither, HasTaken, WasHeldBack, WasRefused}
 
 -- ---- what a leg answers
 

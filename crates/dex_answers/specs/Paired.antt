@@ -1,20 +1,13 @@
 -- Swaps: both legs, or neither.
-use Rattle.std.specs.Prelude.{◌≡◌, ◌⊎◌, Bool, true, false, List, [], All}
+use Rattle.std.specs.Prelude.{◌≡◌, ◌⊎◌, true, List, [], All}
 use Rattle.std.specs.List.{Any}
-use Rattle.dex_types.specs.declared.replies.Reply.{Reply}
-use Rattle.dex_types.specs.declared.replies.Reply.TheVariants.{Took}
 use Rattle.dex_types.specs.Rows.{PlainRow}
-use Rattle.dex_history.specs.Journal.{is_done, is_refusal}
+use Rattle.dex_history.specs.Journal.{is_done, is_refusal, is_took}
 use Rattle.dex_fold.specs.Groups.{members}
 use Rattle.dex_fold.specs.Items.{Item, items_of}
 use Rattle.dex_report.specs.Outcomes.{PlainMarketJournal, PlainOutcome}
 use Rattle.dex_script.specs.Drafts.{PlainScript}
 use Rattle.dex_replay.specs.Lawful.{is_answered}
-
--- the reply tells what was taken
-abbrev pub is_took : Reply → Bool
-is_took (Took lots pc fee) = true
-is_took reply = false
 
 -- a leg took, as its entry in its market's journal tells
 abbrev pub HasTaken : List PlainMarketJournal → PlainRow → Type 0

@@ -2,6 +2,8 @@ pub mod Common
 pub mod OpenCells
 mod OpenCounts
 mod OpenLists
+mod OpenRooms
+pub mod Stands
 pub mod StepMarkets
 pub mod StepCells
 pub mod StepWorld

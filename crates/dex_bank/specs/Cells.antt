@@ -12,13 +12,14 @@ use Rattle.dex_instruction.specs.Reading.{decoded}
 use Rattle.dex_history.specs.Journal.{is_take, row_step}
 use Rattle.dex_types.specs.Wallets.{row_wallets}
 use Rattle.dex_cell.specs.CellState as market_cell
-use Rattle.dex_cell.specs.CellState.{IsMarketCell, MarketCellState, entries_of}
+use Rattle.dex_cell.specs.CellState.{IsMarketCell, MarketCellState}
 use Rattle.dex_wallet.specs.CellState as wallet_cell
 use Rattle.dex_wallet.specs.CellState.{CellState, IsWalletCell}
 use Rattle.dex_fold.specs.Fold.{names}
 use Rattle.dex_fold.specs.Groups.{members}
 use Rattle.dex_fold.specs.Items.{Item, ShareNothing, chosen, why_in}
-use Rattle.dex_fold.specs.World.{MarketState, World, market_at, seen_by}
+use Rattle.dex_fold.specs.World.{World, market_at, seen_by}
+pub use Rattle.dex_act.specs.Opened.{market_state_of}
 use Rattle.dex_act.specs.Wallets.{AreApart, is_among, wallet_state_of}
 
 -- the mints and which of them are SRM and MSRM, the cells of the markets and of the wallets in declared order, and the program
@@ -29,10 +30,6 @@ pub record CellsState : Type 0 where
   pub markets : List MarketCellState
   pub wallets : List CellState
   pub program : Program
-
--- a cell's market, with its journal
-abbrev pub market_state_of : MarketCellState → MarketState
-market_state_of cell = record { market = market_cell.market_at cell; entries = entries_of cell }
 
 -- the world of all cells
 abbrev pub world_of : CellsState → World

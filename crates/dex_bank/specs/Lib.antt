@@ -6,3 +6,4 @@ pub mod Room
 pub mod RoomInside
 pub mod Stepping
 pub mod Counts
+pub mod Places

@@ -1,23 +1,20 @@
 -- The cells with which a script starts.
-use Rattle.std.specs.Prelude.{List, map}
+use Rattle.std.specs.Prelude.{ℕ, List, map}
 use Rattle.dex_types.specs.declared.terms.Program.{Program}
 use Rattle.dex_types.specs.Accounts.{PlainAccount, PlainAccounts, PlainMarketAccounts}
 use Rattle.dex_types.specs.Rows.{PlainRow}
-use Rattle.dex_cell.specs.CellState as market
-use Rattle.dex_cell.specs.CellState.{MarketCellState}
-use Rattle.dex_wallet.specs.CellState as wallet
-use Rattle.dex_wallet.specs.CellState.{CellState}
+pub use Rattle.dex_act.specs.Opened.{market_opened, wallet_opened}
 pub use Rattle.dex_fold.specs.RowsOf.{rows_naming, rows_on}
 use Rattle.dex_script.specs.Drafts.{PlainScript}
 use Rattle.dex_bank.specs.Cells.{CellsState}
 
--- the cell of a market, without an entry, with room for as many as there are rows on it
-abbrev pub market_opened : List PlainRow → PlainMarketAccounts → MarketCellState
-market_opened rows accounts = market.new_cell accounts (rows_on accounts.address rows)
+-- how many rows are on each of these markets
+abbrev pub market_rooms : List PlainRow → List PlainMarketAccounts → List ℕ
+market_rooms rows markets = map (λ (accounts : PlainMarketAccounts). rows_on accounts.address rows) markets
 
--- the cell of a wallet, without an entry, with room for as many as there are rows that name it
-abbrev pub wallet_opened : List PlainRow → PlainAccount → CellState
-wallet_opened rows account = wallet.new_cell account.address account.bytes (rows_naming account.address rows)
+-- how many rows name each of these wallets
+abbrev pub wallet_rooms : List PlainRow → List PlainAccount → List ℕ
+wallet_rooms rows wallets = map (λ (account : PlainAccount). rows_naming account.address rows) wallets
 
 -- one cell for each market and each wallet of these accounts, with room for these rows
 abbrev pub opened_with : PlainAccounts → List PlainRow → Program → CellsState

@@ -6,11 +6,12 @@ use crate::closing::{closed, left_by};
 use crate::copying::accounts_copy;
 use crate::opening::opened;
 use crate::room::Room;
+use crate::standing::Standing;
 use crate::stepping::{act_or_wait, stepped_both};
 use dex_cell::MarketCell;
 use dex_report::Outcome;
 use dex_script::Script;
-use dex_types::{Address, Named, NoMemory, Program, Reply, Row};
+use dex_types::{Address, Named, NoMemory, Program, Reply, Row, RowPlaces};
 use dex_wallet::WalletCell;
 use std::alloc::Global;
 use std::marker::Model;
@@ -47,10 +48,12 @@ impl Cells {
     ghost use Rattle.dex_fold.specs.Items.{act_item, pair_of, why_in};
     ghost use Rattle.dex_report.specs.Outcomes.{outcome_of};
     ghost use Rattle.dex_script.specs.Facts.{IsScript};
+    ghost use Rattle.dex_script.specs.Places.{ArePlaced};
     ghost use Rattle.dex_bank.specs.Cells as spec;
     ghost use Rattle.dex_bank.specs.Cells.{AreCells, CanAct, CanActBoth};
     ghost use Rattle.dex_bank.specs.Closed as left;
     ghost use Rattle.dex_bank.specs.Opened as first;
+    ghost use Rattle.dex_bank.specs.Places.{ArePlacedIn, ArePlacesIn};
 
     /// The cells with which a script starts: one for each market and each wallet, with room for an entry of each row that names it.
     /// The script keeps its accounts: the cells have copies of them.
@@ -58,23 +61,30 @@ impl Cells {
         ensures cells { IfOk result (λ cells. cells ≡ first.opened script.now) }
     {
         let start = accounts_copy(alloc, &script.start)?;
-        opened(alloc, start, &script.rows, script.program)
+        opened(alloc, start, &script.rows, &script.places, script.program)
     }
 
-    /// The same cells, and the script's rows. The script's accounts themselves go into the cells: none is copied.
-    pub fn of_script(alloc: Global, script: Script) -> Result<(Cells, Vec<Row>), NoMemory>
+    /// The same cells, the script's rows, and where the market and the wallets of each row stand among the cells. The script's
+    /// accounts themselves go into the cells: none is copied.
+    pub fn of_script(
+        alloc: Global,
+        script: Script,
+    ) -> Result<(Cells, Vec<Row>, Vec<RowPlaces>), NoMemory>
         ensures cells { IfOk result (λ made. made.0 ≡ first.opened script) }
         ensures rows { IfOk result (λ made. map row_of made.1.items ≡ script.rows) }
+        ensures places { IfOk result (λ made. ArePlacedIn made.0 (map row_of made.1.items) made.2.items) }
+        ensures placed { IfOk result (λ made. ArePlaced script.start (map row_of made.1.items) made.2.items) }
         ensures script { IsScript script }
     {
         let Script {
             start,
             rows,
+            places,
             lanes: _,
             program,
         } = script;
-        let cells = opened(alloc, start, &rows, program)?;
-        Ok((cells, rows))
+        let cells = opened(alloc, start, &rows, &places, program)?;
+        Ok((cells, rows, places))
     }
 
     /// The cells of these markets and wallets, beside mints and program.
@@ -142,7 +152,23 @@ impl Cells {
             → spec.accounts_in self.new.markets ≡ spec.accounts_in self.old.markets }
         ensures cells { AreCells self.new }
     {
-        act_or_wait(self, row, false)
+        let standing = Standing::among(self, row);
+        act_or_wait(self, row, &standing, false)
+    }
+
+    /// The same of a row whose market and wallets stand at these places.
+    pub fn step_at(&mut self, row: &Row, places: &RowPlaces) -> Reply
+        requires row { CanAct (row_of row.now) self.old }
+        requires places { ArePlacesIn self.old (row_of row.now) places.now }
+        ensures reply { spec.IsReply (spec.world_of self.old) (row_of row.entry.now) result }
+        ensures acted { spec.world_of self.new ≡ act (row_of row.entry.now) (spec.world_of self.old) }
+        ensures kept { spec.opened_of self.new ≡ spec.opened_of self.old }
+        ensures others { spec.OthersStay row.entry.now.market self.old.markets self.new.markets }
+        ensures refused { is_refusal result ≡ true
+            → spec.accounts_in self.new.markets ≡ spec.accounts_in self.old.markets }
+        ensures cells { AreCells self.new }
+    {
+        act_or_wait(self, row, &Standing::of(places), false)
     }
 
     /// Two legs of one swap act, both or neither, and these are their markets' replies. It takes no memory.
@@ -160,7 +186,37 @@ impl Cells {
             → spec.accounts_in self.new.markets ≡ spec.accounts_in self.old.markets }
         ensures cells { AreCells self.new }
     {
-        stepped_both(self, first, second)
+        let one = Standing::among(self, first);
+        let two = Standing::among(self, second);
+        stepped_both(self, first, second, &one, &two)
+    }
+
+    /// The same of two legs whose markets and wallets stand at these places.
+    pub fn step_two_at(
+        &mut self,
+        first: &Row,
+        second: &Row,
+        first_places: &RowPlaces,
+        second_places: &RowPlaces,
+    ) -> (Reply, Reply)
+        requires rows { CanActBoth (row_of first.now) (row_of second.now) self.old }
+        requires places { ArePlacesIn self.old (row_of first.now) first_places.now
+            × ArePlacesIn self.old (row_of second.now) second_places.now }
+        ensures replies { spec.AreReplies (spec.world_of self.old)
+            (pair_of (row_of first.entry.now) (row_of second.entry.now)) result }
+        ensures acted { spec.world_of self.new
+            ≡ act_item (pair_of (row_of first.entry.now) (row_of second.entry.now)) (spec.world_of self.old) }
+        ensures kept { spec.opened_of self.new ≡ spec.opened_of self.old }
+        ensures others { spec.OthersThanTwoStay first.entry.now.market second.entry.now.market
+            self.old.markets self.new.markets }
+        ensures stays { (is_some (why_in (spec.world_of self.old) (row_of first.entry.now))
+            || is_some (why_in (spec.world_of self.old) (row_of second.entry.now))) ≡ true
+            → spec.accounts_in self.new.markets ≡ spec.accounts_in self.old.markets }
+        ensures cells { AreCells self.new }
+    {
+        let one = Standing::of(first_places);
+        let two = Standing::of(second_places);
+        stepped_both(self, first, second, &one, &two)
     }
 
     /// The accounts and the journals of all cells, as they are. Where there is no memory for them, all cells are given back as they

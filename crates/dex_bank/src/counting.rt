@@ -1,110 +1,129 @@
-//! How many rows name each market and each wallet, counted in one pass over the rows.
+//! How many rows name each market and each wallet, counted by their places in one pass over the rows.
 
-ghost use Rattle.std.specs.Prelude.{◌≡◌, ◌+◌, ◌-◌, ◌<◌, ◌^◌, ◌&&◌, not, IfOk, OnOk, map};
-ghost use Rattle.dex_types.specs.declared.addresses.Address.{Address as AddressOf};
-ghost use Rattle.dex_types.specs.Addresses as addresses;
+ghost use Rattle.std.specs.Prelude.{◌≡◌, ◌&&◌, not, ℕ, IfOk, length, map, replicate};
+ghost use Rattle.std.specs.List.{All};
+ghost use Rattle.dex_types.specs.Accounts.{accounts_of};
 ghost use Rattle.dex_types.specs.Rows.{row_of};
-ghost use Rattle.dex_fold.specs.Fold as fold;
-ghost use Rattle.dex_fold.specs.Fold.{is_role};
-ghost use Rattle.dex_bank.specs.Counts as counts;
-ghost use Rattle.dex_bank.specs.Counts.{is_earlier, one};
+ghost use Rattle.dex_script.specs.Facts.{IsStart};
+ghost use Rattle.dex_script.specs.Places.{ArePlaced};
+ghost use Rattle.dex_bank.specs.Counts as spec;
+ghost use Rattle.dex_bank.specs.Counts.{AreCounted, HaveSpare, IsWithin};
 ghost use Rattle.dex_bank.specs.Opened as first;
 
-use dex_types::{Address, NoMemory, Row, is_same};
+use dex_types::{Accounts, Address, NoMemory, Row, RowPlaces};
 use std::alloc::Global;
-use std::collections::HashMap;
 
-/// How often the address was counted.
-pub fn times(counted: &HashMap<Address, usize>, address: Address) -> usize
-    ensures { result ≡ counts.times counted.now address }
-{
-    counted.get(&address).copied().unwrap_or(0)
-}
-
-/// Counts the address once more.
-fn count(counted: &mut HashMap<Address, usize>, address: Address) -> Result<(), NoMemory>
-    requires { counts.times counted.old address < 2 ^ 64 - 1 }
-    ensures { OnOk result ((other : AddressOf)
-        → counts.times counted.new other ≡ counts.times counted.old other + one (addresses.is_same other address)) }
-{
-    let more = times(counted, address) + 1;
-    match counted.insert(address, more) {
-        Ok(_) => Ok(()),
-        Err(_) => Err(NoMemory),
-    }
-}
-
-/// How many rows are on each market.
-pub fn rows_by_market(alloc: Global, rows: &[Row]) -> Result<HashMap<Address, usize>, NoMemory>
-    ensures { IfOk result (λ counted. (market : AddressOf)
-        → counts.times counted market ≡ first.rows_on market (map row_of rows.now)) }
-{
-    let mut counted = HashMap::new(alloc);
-    for row in rows {
-        count(&mut counted, row.market)?;
-    }
-    Ok(counted)
-}
-
-/// A role is that of the wallet of an address.
-fn is_role(role: Option<Address>, address: Address) -> bool
-    ensures { result ≡ is_role role address }
+/// The place of a role's wallet, where the role names one.
+fn role_place(role: &Option<Address>, place: u16) -> Option<u16>
+    ensures { result ≡ spec.role_place role.now place }
 {
     match role {
-        Some(wallet) => is_same(address, wallet),
+        Some(_) => Some(place),
+        None => None,
+    }
+}
+
+/// Whether the place is one of these.
+fn is_told(place: u16, told: &[Option<u16>]) -> bool
+    ensures { result ≡ spec.is_told place told.now }
+{
+    told.iter().any(|other| is_there(place, *other))
+}
+
+/// Whether this place is told.
+fn is_there(place: u16, told: Option<u16>) -> bool
+    ensures { result ≡ spec.is_there place told }
+{
+    match told {
+        Some(other) => place == other,
         None => false,
     }
 }
 
-/// One of these roles is that of the wallet of an address.
-fn is_earlier(earlier: [Option<Address>; 3], address: Address) -> bool
-    ensures { result ≡ is_earlier earlier address }
+/// One more at a place that is told behind others, unless it is one of them.
+fn count(counts: &mut [usize], told: Option<u16>, others: &[Option<u16>])
+    requires within { IsWithin (length counts.old) told }
+    requires spare { HaveSpare 1 counts.old }
+    ensures { AreCounted (λ (place : ℕ). not (spec.is_told place others.entry.now) && spec.is_there place told)
+        counts.old counts.new }
 {
-    earlier.iter().any(|role| is_role(*role, address))
-}
-
-/// Counts the wallet of a role, unless it is that of an earlier role.
-fn count_role(
-    counted: &mut HashMap<Address, usize>,
-    role: Option<Address>,
-    earlier: [Option<Address>; 3],
-) -> Result<(), NoMemory>
-    requires { (wallet : AddressOf) → counts.times counted.old wallet < 2 ^ 64 - 1 }
-    ensures { OnOk result ((wallet : AddressOf) → counts.times counted.new wallet
-        ≡ counts.times counted.old wallet + one (not (is_earlier earlier wallet) && is_role role wallet)) }
-{
-    match role {
-        Some(wallet) => {
-            if is_earlier(earlier, wallet) {
-                Ok(())
-            } else {
-                count(counted, wallet)
+    match told {
+        Some(place) => {
+            if !is_told(place, others) {
+                counts[place as usize] += 1;
             }
         }
-        None => Ok(()),
+        None => {}
     }
 }
 
-/// Counts each wallet that the row names once.
-fn count_wallets(counted: &mut HashMap<Address, usize>, row: &Row) -> Result<(), NoMemory>
-    requires { (wallet : AddressOf) → counts.times counted.old wallet < 2 ^ 64 - 4 }
-    ensures { OnOk result ((wallet : AddressOf) → counts.times counted.new wallet
-        ≡ counts.times counted.old wallet + one (fold.names (row_of row.entry.now) wallet)) }
+/// One more at each of these places.
+fn count_each(counts: &mut [usize], told: &[Option<u16>])
+    requires within { All (IsWithin (length counts.old)) told.now }
+    requires spare { HaveSpare 2 counts.old }
+    ensures { AreCounted (λ (place : ℕ). spec.is_told place told.entry.now) counts.old counts.new }
 {
-    count_role(counted, row.coin, [None, None, None])?;
-    count_role(counted, row.pc, [row.coin, None, None])?;
-    count_role(counted, row.discount, [row.coin, row.pc, None])?;
-    count_role(counted, row.referrer, [row.coin, row.pc, row.discount])
+    for i in 0..told.len() {
+        count(counts, told[i], &told[..i]);
+    }
 }
 
-/// How many rows name each wallet.
-pub fn rows_by_wallet(alloc: Global, rows: &[Row]) -> Result<HashMap<Address, usize>, NoMemory>
-    ensures { IfOk result (λ counted. (wallet : AddressOf)
-        → counts.times counted wallet ≡ first.rows_naming wallet (map row_of rows.now)) }
+/// The places of the wallets that a row names, role by role.
+fn wallets_told(row: &Row, places: &RowPlaces) -> [Option<u16>; 4]
+    ensures { result ≡ spec.wallets_told (row_of row.entry.now) places.entry.now }
 {
-    let mut counted = HashMap::new(alloc);
-    for row in rows {
-        count_wallets(&mut counted, row)?;
+    [
+        role_place(&row.coin, places.coin),
+        role_place(&row.pc, places.pc),
+        role_place(&row.discount, places.discount),
+        role_place(&row.referrer, places.referrer),
+    ]
+}
+
+/// So many counts of nothing.
+fn no_counts(alloc: Global, count: usize) -> Result<Vec<usize>, NoMemory>
+    ensures { IfOk result (λ counts. counts.items ≡ replicate count 0) }
+{
+    match Vec::from_elem(alloc, 0, count) {
+        Ok(counts) => Ok(counts),
+        Err(_) => Err(NoMemory),
     }
-    Ok(counted)
+}
+
+/// How many rows are on each of the markets with which they start.
+pub fn rows_by_market(
+    alloc: Global,
+    start: &Accounts,
+    rows: &[Row],
+    places: &[RowPlaces],
+) -> Result<Vec<usize>, NoMemory>
+    requires start { IsStart (accounts_of start.now) }
+    requires places { ArePlaced (accounts_of start.now) (map row_of rows.now) places.now }
+    ensures { IfOk result (λ counts. counts.items
+        ≡ first.market_rooms (map row_of rows.now) (accounts_of start.now).markets) }
+{
+    let mut counts = no_counts(alloc, start.markets.len())?;
+    for row in 0..rows.len() {
+        count_each(&mut counts, &[Some(places[row].market)]);
+    }
+    Ok(counts)
+}
+
+/// How many rows name each of the wallets with which they start.
+pub fn rows_by_wallet(
+    alloc: Global,
+    start: &Accounts,
+    rows: &[Row],
+    places: &[RowPlaces],
+) -> Result<Vec<usize>, NoMemory>
+    requires start { IsStart (accounts_of start.now) }
+    requires places { ArePlaced (accounts_of start.now) (map row_of rows.now) places.now }
+    ensures { IfOk result (λ counts. counts.items
+        ≡ first.wallet_rooms (map row_of rows.now) (accounts_of start.now).wallets) }
+{
+    let mut counts = no_counts(alloc, start.wallets.len())?;
+    for row in 0..rows.len() {
+        count_each(&mut counts, &wallets_told(&rows[row], &places[row]));
+    }
+    Ok(counts)
 }

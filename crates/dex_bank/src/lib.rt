@@ -7,6 +7,7 @@ mod copying;
 mod counting;
 mod opening;
 mod room;
+mod standing;
 mod stepping;
 
 pub use cells::Cells;

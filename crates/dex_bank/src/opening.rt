@@ -1,26 +1,27 @@
 //! The cells with which a script starts.
 
-ghost use Rattle.std.specs.Prelude.{◌≡◌, ◌++◌, ◌∷◌, [], IfOk, OnOk, map};
+ghost use Rattle.std.specs.Prelude.{◌≡◌, ◌++◌, ◌∷◌, [], IfOk, List, OnOk, length, map};
 ghost use Rattle.std.specs.List.{All};
 ghost use Rattle.dex_types.specs.declared.account_bytes.MarketAccounts.{MarketAccounts as MarketAccountsOf};
 ghost use Rattle.dex_types.specs.declared.account_bytes.Named.{Named as NamedOf};
 ghost use Rattle.dex_types.specs.Accounts.{accounts_of, market_accounts_of, named_of};
-ghost use Rattle.dex_types.specs.Rows.{row_of};
+ghost use Rattle.dex_types.specs.Rows.{PlainRow, row_of};
 ghost use Rattle.dex_accounts.specs.Accepted.{IsAccepted};
 ghost use Rattle.dex_accounts.specs.Decoded.{AreSound};
 ghost use Rattle.dex_token.specs.TokenAccount.{IsWallet};
 ghost use Rattle.dex_cell.specs.CellState as market;
 ghost use Rattle.dex_script.specs.Facts.{IsStart};
+ghost use Rattle.dex_script.specs.Places.{ArePlaced};
 ghost use Rattle.dex_wallet.specs.CellState as wallet;
 ghost use Rattle.dex_wallet.specs.CellState.{IsWalletCell};
 ghost use Rattle.dex_wallet.specs.TokenAmount.{held_in};
 ghost use Rattle.dex_bank.specs.Opened as first;
 
 use crate::cells::Cells;
-use crate::counting::{rows_by_market, rows_by_wallet, times};
+use crate::counting::{rows_by_market, rows_by_wallet};
 use dex_cell::MarketCell;
 use dex_token::WalletRef;
-use dex_types::{Accounts, MarketAccounts, Named, NoMemory, Program, Row};
+use dex_types::{Accounts, MarketAccounts, Named, NoMemory, Program, Row, RowPlaces};
 use dex_wallet::{Parcel, WalletCell};
 use std::alloc::Global;
 
@@ -54,22 +55,24 @@ fn market_cell(alloc: Global, accounts: MarketAccounts, room: usize) -> Result<M
     MarketCell::new(alloc, accounts, coin, pc, room)
 }
 
-/// The cells of all markets, each with room for the rows that are on it.
+/// The cells of all markets, each with as much room as it is told.
 fn market_cells(
     alloc: Global,
     markets: Vec<MarketAccounts>,
-    rows: &[Row],
+    rooms: &[usize],
 ) -> Result<Vec<MarketCell>, NoMemory>
     requires sound { All (λ (accounts : MarketAccountsOf). AreSound (market_accounts_of accounts)) markets.items }
     requires accepted { All (λ (accounts : MarketAccountsOf). IsAccepted (market_accounts_of accounts)) markets.items }
-    ensures { IfOk result (λ cells. cells.items
-        ≡ map (first.market_opened (map row_of rows.now)) (map market_accounts_of markets.items)) }
+    requires rooms { length rooms.now ≡ length markets.items }
+    ensures { IfOk result (λ cells. (rows : List PlainRow)
+        → rooms.now ≡ first.market_rooms rows (map market_accounts_of markets.items)
+        → cells.items ≡ map (first.market_opened rows) (map market_accounts_of markets.items)) }
 {
-    let counted = rows_by_market(alloc, rows)?;
     let mut cells = Vec::new(alloc);
+    let mut place = 0;
     for accounts in markets {
-        let room = times(&counted, accounts.address);
-        add(&mut cells, market_cell(alloc, accounts, room)?)?;
+        add(&mut cells, market_cell(alloc, accounts, rooms[place])?)?;
+        place += 1;
     }
     Ok(cells)
 }
@@ -85,22 +88,24 @@ fn wallet_cell(alloc: Global, account: Named, room: usize) -> Result<WalletCell,
     WalletCell::new(alloc, address, bytes, share, room)
 }
 
-/// The cells of all wallets, each with room for the rows that name it.
+/// The cells of all wallets, each with as much room as it is told.
 fn wallet_cells(
     alloc: Global,
     wallets: Vec<Named>,
-    rows: &[Row],
+    rooms: &[usize],
 ) -> Result<Vec<WalletCell>, NoMemory>
-    requires { All (λ (account : NamedOf). IsWallet account.bytes.items) wallets.items }
-    ensures opened { IfOk result (λ cells. cells.items
-        ≡ map (first.wallet_opened (map row_of rows.now)) (map named_of wallets.items)) }
+    requires wallets { All (λ (account : NamedOf). IsWallet account.bytes.items) wallets.items }
+    requires rooms { length rooms.now ≡ length wallets.items }
+    ensures opened { IfOk result (λ cells. (rows : List PlainRow)
+        → rooms.now ≡ first.wallet_rooms rows (map named_of wallets.items)
+        → cells.items ≡ map (first.wallet_opened rows) (map named_of wallets.items)) }
     ensures cells { IfOk result (λ cells. All IsWalletCell cells.items) }
 {
-    let counted = rows_by_wallet(alloc, rows)?;
     let mut cells = Vec::new(alloc);
+    let mut place = 0;
     for account in wallets {
-        let room = times(&counted, account.address);
-        add(&mut cells, wallet_cell(alloc, account, room)?)?;
+        add(&mut cells, wallet_cell(alloc, account, rooms[place])?)?;
+        place += 1;
     }
     Ok(cells)
 }
@@ -110,11 +115,15 @@ pub(crate) fn opened(
     alloc: Global,
     start: Accounts,
     rows: &[Row],
+    places: &[RowPlaces],
     program: Program,
 ) -> Result<Cells, NoMemory>
-    requires { IsStart (accounts_of start) }
+    requires start { IsStart (accounts_of start) }
+    requires places { ArePlaced (accounts_of start) (map row_of rows.now) places.now }
     ensures { IfOk result (λ cells. cells ≡ first.opened_with (accounts_of start) (map row_of rows.now) program) }
 {
+    let market_rooms = rows_by_market(alloc, &start, rows, places)?;
+    let wallet_rooms = rows_by_wallet(alloc, &start, rows, places)?;
     let Accounts {
         mints,
         srm,
@@ -122,8 +131,8 @@ pub(crate) fn opened(
         wallets,
         markets,
     } = start;
-    let markets = market_cells(alloc, markets, rows)?;
-    let wallets = wallet_cells(alloc, wallets, rows)?;
+    let markets = market_cells(alloc, markets, &market_rooms)?;
+    let wallets = wallet_cells(alloc, wallets, &wallet_rooms)?;
     Ok(Cells {
         mints,
         srm,

@@ -12,32 +12,42 @@ ghost use Rattle.dex_cell.specs.CellState.{IsFor, MarketCellState, market_at, re
 ghost use Rattle.dex_fold.specs.Fold as fold;
 ghost use Rattle.dex_fold.specs.Items.{act_item, pair_of, why_in};
 ghost use Rattle.dex_fold.specs.World as world;
-ghost use Rattle.dex_act.specs.Wallets.{Fits, roles_of, wallet_state_of};
+ghost use Rattle.dex_act.specs.Wallets.{AreApart, ArePlacesAmong, Fits, IsRoleAt, roles_of, wallet_state_of};
 ghost use Rattle.dex_bank.specs.Cells.{AreCells, AreReplies, CanAct, CanActBoth, CanWait, IsReply, OthersStay};
-ghost use Rattle.dex_bank.specs.Cells.{OthersThanTwoStay, accounts_in, is_market, opened_of, world_of};
+ghost use Rattle.dex_bank.specs.Cells.{OthersThanTwoStay, accounts_in, opened_of, world_of};
+ghost use Rattle.dex_bank.specs.Places.{StandsAt};
 ghost use Rattle.dex_bank.specs.Stepping.{CanActAt, CanHoldAt, HasActedAt, HasBecomeAt, HasHeldAt, HaveActed};
-ghost use Rattle.dex_bank.specs.Stepping.{IsFirstAt, StaysIf, doing, step_at};
+ghost use Rattle.dex_bank.specs.Stepping.{StaysIf, doing, step_at};
 
 use crate::cells::Cells;
-use dex_act::{act, hold, wallet_at};
+use crate::standing::Standing;
+use dex_act::{WalletPlaces, act, hold};
 use dex_cell::MarketCell;
-use dex_types::{Address, Reply, Row, Seen, WalletSeen, is_same};
+use dex_types::{Address, Reply, Row, Seen, WalletSeen};
 use dex_wallet::WalletCell;
 
-/// Writes down what a row sees of the wallet that a role names, where there was nothing.
-fn look(wallets: &[WalletCell], role: &Option<Address>, seen: &mut Option<WalletSeen>)
-    requires { seen.old ≡ None }
+/// Writes down what a row sees of the wallet that a role names, which stands at the place, where there was nothing.
+fn look(
+    wallets: &[WalletCell],
+    role: &Option<Address>,
+    place: usize,
+    seen: &mut Option<WalletSeen>,
+)
+    requires nothing { seen.old ≡ None }
+    requires here { IsRoleAt wallets.now role.now place }
+    requires apart { AreApart wallets.now }
     ensures seen { seen.new ≡ world.role_at role.entry.now (map wallet_state_of wallets.entry.now) }
     ensures fits { Fits seen.new }
 {
     match role {
-        Some(address) => *seen = wallet_at(wallets, *address),
+        Some(_) => *seen = Some(wallets[place].seen()),
         None => {}
     }
 }
 
 /// What a row sees.
-fn seen_by(cells: &Cells, row: &Row) -> Seen
+fn seen_by(cells: &Cells, row: &Row, places: &WalletPlaces) -> Seen
+    requires { ArePlacesAmong cells.now.wallets (row_of row.now) places.now }
     ensures seen { result ≡ world.seen_by (row_of row.entry.now) (world_of cells.now) }
     ensures fits { All Fits (roles_of result) }
 {
@@ -50,24 +60,11 @@ fn seen_by(cells: &Cells, row: &Row) -> Seen
         msrm: cells.msrm,
         program: cells.program,
     };
-    look(&cells.wallets, &row.coin, &mut seen.coin);
-    look(&cells.wallets, &row.pc, &mut seen.pc);
-    look(&cells.wallets, &row.discount, &mut seen.discount);
-    look(&cells.wallets, &row.referrer, &mut seen.referrer);
+    look(&cells.wallets, &row.coin, places.coin, &mut seen.coin);
+    look(&cells.wallets, &row.pc, places.pc, &mut seen.pc);
+    look(&cells.wallets, &row.discount, places.discount, &mut seen.discount);
+    look(&cells.wallets, &row.referrer, places.referrer, &mut seen.referrer);
     seen
-}
-
-/// The place of the first market of an address.
-fn place_of(markets: &[MarketCell], address: Address) -> usize
-    requires { is_market address markets.now ≡ true }
-    ensures { IsFirstAt address markets.now result }
-{
-    for place in 0..markets.len() {
-        if is_same(address, markets[place].accounts().address) {
-            return place;
-        }
-    }
-    unreachable!()
 }
 
 /// A row acts on the market at a place and on the wallets that it names.
@@ -77,8 +74,10 @@ fn act_at(
     wallets: &mut [WalletCell],
     row: &Row,
     seen: &Seen,
+    places: &WalletPlaces,
 ) -> Reply
-    requires { CanActAt row.now seen.now place markets.old wallets.old }
+    requires row { CanActAt row.now seen.now place markets.old wallets.old }
+    requires places { ArePlacesAmong wallets.old (row_of row.now) places.now }
     ensures reply { (default : MarketCellState) →
         result ≡ (step_on row.entry.now seen.now (slice_index_or markets.old place default)).reply }
     ensures market { HasActedAt row.entry.now seen.now place markets.old markets.new }
@@ -88,7 +87,7 @@ fn act_at(
         HaveActed (row_of row.entry.now) seen.now
         (step_on row.entry.now seen.now (slice_index_or markets.old place default)).transfers wallets.old wallets.new }
 {
-    act(&mut markets[place], wallets, row, seen)
+    act(&mut markets[place], wallets, row, seen, places)
 }
 
 /// A take is held back at the market at a place, and looks at the wallets that it names.
@@ -98,14 +97,16 @@ fn hold_at(
     wallets: &mut [WalletCell],
     row: &Row,
     seen: &Seen,
+    places: &WalletPlaces,
 ) -> Reply
     requires row { CanActAt row.now seen.now place markets.old wallets.old }
+    requires places { ArePlacesAmong wallets.old (row_of row.now) places.now }
     requires held { CanHoldAt row.now seen.now place markets.old }
     ensures reply { result ≡ Done }
     ensures market { HasHeldAt row.entry.now seen.now place markets.old markets.new }
     ensures wallets { HaveActed (row_of row.entry.now) seen.now no_transfers wallets.old wallets.new }
 {
-    hold(&mut markets[place], wallets, row, seen)
+    hold(&mut markets[place], wallets, row, seen, places)
 }
 
 /// A row acts, or is held back, at the market at a place.
@@ -115,9 +116,11 @@ fn do_at(
     wallets: &mut [WalletCell],
     row: &Row,
     seen: &Seen,
+    places: &WalletPlaces,
     waits: bool,
 ) -> Reply
     requires row { CanActAt row.now seen.now place markets.old wallets.old }
+    requires places { ArePlacesAmong wallets.old (row_of row.now) places.now }
     requires held { waits ≡ true → CanHoldAt row.now seen.now place markets.old }
     ensures reply { (default : MarketCellState) → result
         ≡ (step_at (doing waits (row_of row.entry.now)) seen.now place markets.old default).reply }
@@ -127,15 +130,16 @@ fn do_at(
         HaveActed done seen.now (step_at done seen.now place markets.old default).transfers wallets.old wallets.new }
 {
     if waits {
-        hold_at(markets, place, wallets, row, seen)
+        hold_at(markets, place, wallets, row, seen, places)
     } else {
-        act_at(markets, place, wallets, row, seen)
+        act_at(markets, place, wallets, row, seen, places)
     }
 }
 
 /// A row acts on all cells, or is held back on them: then it does nothing, and looks at the wallets that it names.
-pub(crate) fn act_or_wait(cells: &mut Cells, row: &Row, waits: bool) -> Reply
+pub(crate) fn act_or_wait(cells: &mut Cells, row: &Row, standing: &Standing, waits: bool) -> Reply
     requires row { CanAct (row_of row.now) cells.old }
+    requires places { StandsAt cells.old (row_of row.now) standing.now.market standing.now.wallets }
     requires held { waits ≡ true → CanWait (row_of row.now) cells.old }
     ensures reply { IsReply (world_of cells.old) (doing waits (row_of row.entry.now)) result }
     ensures acted { world_of cells.new ≡ fold.act (doing waits (row_of row.entry.now)) (world_of cells.old) }
@@ -144,14 +148,14 @@ pub(crate) fn act_or_wait(cells: &mut Cells, row: &Row, waits: bool) -> Reply
     ensures stays { StaysIf (waits || is_refusal result) cells.old.markets cells.new.markets }
     ensures cells { AreCells cells.new }
 {
-    let seen = seen_by(cells, row);
-    let place = place_of(&cells.markets, row.market);
+    let seen = seen_by(cells, row, &standing.wallets);
     do_at(
         &mut cells.markets,
-        place,
+        standing.market,
         &mut cells.wallets,
         row,
         &seen,
+        &standing.wallets,
         waits,
     )
 }
@@ -167,14 +171,14 @@ fn is_refused_at(markets: &[MarketCell], place: usize, row: &Row, seen: &Seen) -
 }
 
 /// Whether a row would be refused now.
-fn is_refused(cells: &Cells, row: &Row) -> bool
-    requires { CanAct (row_of row.now) cells.now }
+fn is_refused(cells: &Cells, row: &Row, standing: &Standing) -> bool
+    requires row { CanAct (row_of row.now) cells.now }
+    requires places { StandsAt cells.now (row_of row.now) standing.now.market standing.now.wallets }
     ensures refused { result ≡ is_some (why_in (world_of cells.now) (row_of row.entry.now)) }
     ensures cells { AreCells cells.now }
 {
-    let seen = seen_by(cells, row);
-    let place = place_of(&cells.markets, row.market);
-    is_refused_at(&cells.markets, place, row, &seen)
+    let seen = seen_by(cells, row, &standing.wallets);
+    is_refused_at(&cells.markets, standing.market, row, &seen)
 }
 
 /// Whether a row of an item waits: one of the item is refused, and not this one.
@@ -185,8 +189,16 @@ fn waits(any: bool, refused: bool) -> bool
 }
 
 /// Two legs of one swap act, both or neither, and these are their markets' replies.
-pub(crate) fn stepped_both(cells: &mut Cells, first: &Row, second: &Row) -> (Reply, Reply)
-    requires { CanActBoth (row_of first.now) (row_of second.now) cells.old }
+pub(crate) fn stepped_both(
+    cells: &mut Cells,
+    first: &Row,
+    second: &Row,
+    first_standing: &Standing,
+    second_standing: &Standing,
+) -> (Reply, Reply)
+    requires rows { CanActBoth (row_of first.now) (row_of second.now) cells.old }
+    requires first { StandsAt cells.old (row_of first.now) first_standing.now.market first_standing.now.wallets }
+    requires second { StandsAt cells.old (row_of second.now) second_standing.now.market second_standing.now.wallets }
     ensures replies { AreReplies (world_of cells.old)
         (pair_of (row_of first.entry.now) (row_of second.entry.now)) result }
     ensures acted { world_of cells.new
@@ -199,10 +211,10 @@ pub(crate) fn stepped_both(cells: &mut Cells, first: &Row, second: &Row) -> (Rep
         → accounts_in cells.new.markets ≡ accounts_in cells.old.markets }
     ensures cells { AreCells cells.new }
 {
-    let first_refused = is_refused(cells, first);
-    let second_refused = is_refused(cells, second);
+    let first_refused = is_refused(cells, first, first_standing);
+    let second_refused = is_refused(cells, second, second_standing);
     let any = first_refused || second_refused;
-    let one = act_or_wait(cells, first, waits(any, first_refused));
-    let two = act_or_wait(cells, second, waits(any, second_refused));
+    let one = act_or_wait(cells, first, first_standing, waits(any, first_refused));
+    let two = act_or_wait(cells, second, second_standing, waits(any, second_refused));
     (one, two)
 }

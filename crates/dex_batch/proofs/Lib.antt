@@ -1,7 +1,1 @@
-pub mod Working
-pub mod Shelves
-pub mod PlacesOf
-pub mod Returning
-pub mod Handing
 pub mod Endings
-pub mod WaveLaws

@@ -5,14 +5,14 @@ ghost use Rattle.dex_types.specs.Accounts.{named_of};
 ghost use Rattle.dex_report.specs.Outcomes.{outcome_of};
 ghost use Rattle.dex_replay.specs.Replays.{IsReplayOf};
 ghost use Rattle.dex_script.specs.Facts.{HasNoSwap, IsScript};
-ghost use Rattle.dex_batch.specs.Closing.{HaveAllActed};
-ghost use Rattle.dex_batch.specs.Packets.{AreTermsOf};
+ghost use Rattle.dex_team.specs.Closing.{HaveAllActed};
+ghost use Rattle.dex_team.specs.Packets.{AreTermsOf};
 
-use crate::packet::Naming;
 use dex_bank::Cells;
 use dex_cell::MarketCell;
 use dex_report::Outcome;
 use dex_stage::Terms;
+use dex_team::Naming;
 use dex_types::{Named, NoMemory};
 use dex_wallet::WalletCell;
 use std::alloc::Global;

@@ -1,34 +1,35 @@
 //! All rows of a script, in their order, on several threads.
 
-ghost use Rattle.std.specs.Prelude.{◌≡◌, ◌≤◌, IfOk, map};
+ghost use Rattle.std.specs.Prelude.{◌≡◌, ◌++◌, ◌∷◌, [], ◌≤◌, IfOk, OnOk, map};
 ghost use Rattle.dex_types.specs.Accounts.{PlainAccount, PlainMarketAccounts, market_accounts_of, named_of};
 ghost use Rattle.dex_report.specs.Outcomes.{outcome_of};
 ghost use Rattle.dex_replay.specs.Replays.{IsReplayOf};
 ghost use Rattle.dex_replay.specs.Runs.{IsRunOf};
 ghost use Rattle.dex_script.specs.Facts.{HasNoSwap, IsScript};
-ghost use Rattle.dex_batch.specs.Lists.{AreLists};
-ghost use Rattle.dex_batch.specs.Packets.{AreRowsOf, AreTermsOf};
-ghost use Rattle.dex_batch.specs.Slots.{market_addresses, wallet_addresses};
 
-use crate::board::Board;
 use crate::closing::left_by;
-use crate::desk::{Desk, Lists};
-use crate::homes::Homes;
-use crate::packet::{Naming, Packet};
-use crate::slots::add;
-use crate::team::together;
 use dex_bank::Cells;
 use dex_io::Pace;
-use dex_places::Places;
 use dex_replay::laws::{a_replay_is_in_one_order, what_one_order_leaves_is_a_run};
 use dex_report::Outcome;
 use dex_script::Script;
 use dex_stage::Terms;
-use dex_types::{Address, MarketAccounts, Named, NoMemory, Row};
+use dex_team::{Lists, Naming, work_all};
+use dex_types::{Address, MarketAccounts, Named, NoMemory};
 use std::alloc::Global;
 use std::marker::{Brand, Send, Sync};
 use std::sync::Wait;
 use std::thread::Threads;
+
+/// An address more.
+fn push(addresses: &mut Vec<Address>, address: Address) -> Result<(), NoMemory>
+    ensures { OnOk result (addresses.new.items ≡ addresses.old.items ++ address ∷ []) }
+{
+    match addresses.push(address) {
+        Ok(()) => Ok(()),
+        Err(_) => Err(NoMemory),
+    }
+}
 
 /// The addresses of markets.
 fn addresses_of_markets(alloc: Global, markets: &[MarketAccounts]) -> Result<Vec<Address>, NoMemory>
@@ -37,7 +38,7 @@ fn addresses_of_markets(alloc: Global, markets: &[MarketAccounts]) -> Result<Vec
 {
     let mut addresses = Vec::new(alloc);
     for accounts in markets {
-        add(&mut addresses, accounts.address)?;
+        push(&mut addresses, accounts.address)?;
     }
     Ok(addresses)
 }
@@ -49,52 +50,9 @@ fn addresses_of_wallets(alloc: Global, wallets: &[Named]) -> Result<Vec<Address>
 {
     let mut addresses = Vec::new(alloc);
     for account in wallets {
-        add(&mut addresses, account.address)?;
+        push(&mut addresses, account.address)?;
     }
     Ok(addresses)
-}
-
-/// The places of a script's markets.
-fn market_places(alloc: Global, script: &Script) -> Result<Places, NoMemory>
-    ensures { IfOk result (λ places. places ≡ market_addresses script.now) }
-{
-    Places::of(alloc, addresses_of_markets(alloc, &script.start.markets)?)
-}
-
-/// The places of a script's wallets.
-fn wallet_places(alloc: Global, script: &Script) -> Result<Places, NoMemory>
-    ensures { IfOk result (λ places. places ≡ wallet_addresses script.now) }
-{
-    Places::of(alloc, addresses_of_wallets(alloc, &script.start.wallets)?)
-}
-
-/// What a script says and nobody changes.
-fn lists_of<'a, J: Naming>(
-    rows: &'a [Row],
-    terms: Terms,
-    markets: &'a Places,
-    wallets: &'a Places,
-    market_list: &'a [Address],
-    wallet_list: &'a [Address],
-) -> Lists<'a>
-    requires facts { IsScript J.script }
-    requires single { HasNoSwap J.script.rows }
-    requires rows { AreRowsOf J.script rows.now }
-    requires terms { AreTermsOf J.script terms }
-    requires markets { markets.now ≡ market_addresses J.script }
-    requires wallets { wallets.now ≡ wallet_addresses J.script }
-    requires market_list { market_list.now ≡ market_addresses J.script }
-    requires wallet_list { wallet_list.now ≡ wallet_addresses J.script }
-    ensures { AreLists J.script result }
-{
-    Lists {
-        rows,
-        terms,
-        markets,
-        wallets,
-        market_addresses: market_list,
-        wallet_addresses: wallet_list,
-    }
 }
 
 /// How many helpers there are beside the leader: no more than there are markets to work on beside.
@@ -119,31 +77,21 @@ fn batched<J: Naming + Send + Sync, R: Threads + Wait + Sync, P: Pace + Sync>(
         msrm: script.start.msrm,
         program: script.program,
     };
-    let market_list = addresses_of_markets(alloc, &script.start.markets)?;
-    let wallet_list = addresses_of_wallets(alloc, &script.start.wallets)?;
-    let market_places = market_places(alloc, &script)?;
-    let wallet_places = wallet_places(alloc, &script)?;
-    let (cells, rows) = Cells::of_script(alloc, script)?;
+    let market_addresses = addresses_of_markets(alloc, &script.start.markets)?;
+    let wallet_addresses = addresses_of_wallets(alloc, &script.start.wallets)?;
+    let (cells, rows, places) = Cells::of_script(alloc, script)?;
     let (mints, markets, wallets) = cells.into_parts();
     let helpers = helpers_for(workers, markets.len());
-    let homes = Homes::<J>::new(alloc, markets, wallets)?;
-    let board = Board::<Packet<J>>::new(alloc, 16)?;
-    let lists = lists_of::<J>(
-        &rows,
+    let lists = Lists {
+        rows: &rows,
+        places: &places,
         terms,
-        &market_places,
-        &wallet_places,
-        &market_list,
-        &wallet_list,
-    );
-    let desk = Desk {
-        rt,
-        board: &board,
-        lists,
-        pace,
-        helpers,
+        market_addresses: &market_addresses,
+        wallet_addresses: &wallet_addresses,
     };
-    let (markets, wallets) = together(alloc, &desk, homes)?;
+    let (markets, wallets) = work_all::<J, R, P>(
+        rt, alloc, lists, markets, wallets, helpers, pace,
+    )?;
     left_by::<J>(alloc, mints, terms, markets, wallets)
 }
 

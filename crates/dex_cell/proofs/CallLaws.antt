@@ -18,7 +18,9 @@ use Rattle.dex_ring.specs.declared.pending_fills.PendingFills.{PendingFills}
 use Rattle.dex_ring.specs.PendingFills.{pending_fills_of}
 use Rattle.dex_step.specs.Acting.{HasStepped}
 use Rattle.dex_wallet.specs.TokenAmount.{TokenAmount, held_in}
-use Rattle.dex_cell.specs.CellState.{CanHold, HasSpare, IsFor, IsMarketCell, MarketCellState, call_made, call_on, held_made, held_on, market_at, refused_on, step_on}
+use Rattle.dex_movements.specs.Entries.{entry_by}
+use Rattle.dex_cell.specs.CellState.{CanHold, HasActed, HasSpare, HasTaken, IsFor, IsMarketCell, MarketCellState}
+use Rattle.dex_cell.specs.CellState.{call_made, call_on, held_made, held_on, market_at, noted_on, refused_on, step_on}
 
 -- the call of a row stands on the market of its address
 stands : (row : PlainRow) (seen : Seen) (m : Market) → row.market ≡ m.listing.address → Sees (asked_of row) seen → Stands (call_made row seen m) m
@@ -52,17 +54,35 @@ called cell row seen accounts reply pending coin pc is for spare stepped coin_is
       room = omega (arith, length-append cell.calls (call ∷ []), spare);
     }
 
+-- a row whose step is refused, written down so, is its call
+pub refused-noted : (cell : MarketCellState) (row : Row) (seen : Seen) (refusal : Refusal) → step_on row seen cell ≡ refused refusal (market_at cell)
+    → noted_on row seen (Refused refusal) cell ≡ refused_on row seen cell
+refused-noted cell row seen refusal refuses =
+    ap (λ (s : Step). record cell { calls = cell.calls ++ record { asked = asked_of (row_of row); seen = seen; entry = entry_by (row_of row) seen s.reply s.transfers } ∷ [] })
+    (sym refuses)
+
 -- the cell after a refusal
-pub refused-called : (cell : MarketCellState) (row : Row) (seen : Seen) (refusal : Refusal) (pending : PendingFills) → IsMarketCell cell → IsFor row seen cell → HasSpare cell
-    → step_on row seen cell ≡ refused refusal (market_at cell) → IsMarketCell (refused_on row seen cell)
-refused-called cell row seen refusal pending is for spare refuses =
-    called cell row seen cell.accounts (Refused refusal) (pending_fills_of (market_at cell).events) cell.coin cell.pc is for spare (record {
+pub refused-called : (cell : MarketCellState) (row : Row) (seen : Seen) (refusal : Refusal) → IsFor row seen cell → HasSpare cell
+    → step_on row seen cell ≡ refused refusal (market_at cell) → IsMarketCell cell → IsMarketCell (noted_on row seen (Refused refusal) cell)
+refused-called cell row seen refusal for spare refuses is =
+    subst IsMarketCell (sym (refused-noted cell row seen refusal refuses))
+    (called cell row seen cell.accounts (Refused refusal) (pending_fills_of (market_at cell).events) cell.coin cell.pc is for spare (record {
       reply_is = sym (ap (λ (s : Step). s.reply) refuses);
       market = sym (ap (λ (s : Step). s.market) refuses);
       sound = is.sound;
       pending_is = refl;
       kept = record { address = refl; authority = refl; addresses = refl; accepted = λ accepted. accepted };
-    }) is.coin is.pc
+    }) is.coin is.pc)
+
+pub refused-taken : (cell after : MarketCellState) (row : Row) (seen : Seen) (refusal : Refusal) → after ≡ noted_on row seen (Refused refusal) cell
+    → step_on row seen cell ≡ refused refusal (market_at cell) → IsMarketCell after → HasTaken row seen cell after
+refused-taken cell after row seen refusal noted refuses is =
+    let on : after ≡ refused_on row seen cell = noted ∙ refused-noted cell row seen refusal refuses in
+    record {
+      acted = subst (HasActed row seen cell) (sym on) (record { calls = refl; market = sym (ap (λ (s : Step). s.market) refuses); start = refl; room = refl });
+      refused = λ reply. on;
+      cell = is;
+    }
 
 -- the cell after a take that was held back
 pub held-called : (cell : MarketCellState) (row : Row) (seen : Seen) → IsMarketCell cell → IsFor row seen cell → CanHold row seen cell → HasSpare cell

@@ -2,6 +2,7 @@
 use Rattle.std.specs.Prelude.{ℕ, ◌≡◌, ◌<◌, ◌≤◌, true, List, [], ◌∷◌, ◌++◌, None, length, map, Result}
 use Rattle.dex_types.specs.declared.movements.Entry.{Entry}
 use Rattle.dex_types.specs.declared.refusals.Refusal.{Refusal}
+use Rattle.dex_types.specs.declared.replies.Reply.{Reply}
 use Rattle.dex_types.specs.declared.replies.Reply.TheVariants.{Done}
 use Rattle.dex_types.specs.declared.rows.Row.{Row}
 use Rattle.dex_types.specs.declared.rows.Seen.{Seen}
@@ -16,7 +17,7 @@ use Rattle.dex_accounts.specs.Accepted.{IsAccepted}
 use Rattle.dex_accounts.specs.Decoded.{AreSound, market_in}
 use Rattle.dex_plan.specs.declared.plan.Plan.{Plan}
 use Rattle.dex_plan.specs.Plans.{decided}
-use Rattle.dex_history.specs.Journal.{Call, IsLegal, Sees, asked_of, is_take, market_after, request_of, row_step}
+use Rattle.dex_history.specs.Journal.{Call, IsLegal, Sees, asked_of, is_refusal, is_take, market_after, request_of, row_step}
 use Rattle.dex_movements.specs.Entries.{entry_by}
 use Rattle.dex_step.specs.Acting.{addresses_of}
 use Rattle.dex_wallet.specs.TokenAmount.{TokenAmount, held_in}
@@ -97,6 +98,24 @@ step_on row seen cell = row_step (row_of row) seen (market_at cell)
 abbrev pub call_on : Row → Seen → MarketCellState → Call
 call_on row seen cell = call_made (row_of row) seen (market_at cell)
 
+-- the entry that a row makes there
+abbrev pub entry_on : Row → Seen → MarketCellState → Entry
+entry_on row seen cell = (call_on row seen cell).entry
+
+-- the entry of a row that is held back there
+abbrev pub entry_held : Row → Seen → MarketCellState → Entry
+entry_held row seen cell = (held_made (row_of row) seen).entry
+
+-- the cell after a row was written down with this reply that moves nothing
+abbrev pub noted_on : Row → Seen → Reply → MarketCellState → MarketCellState
+noted_on row seen reply cell = record cell {
+  calls = cell.calls ++ record {
+    asked = asked_of (row_of row);
+    seen = seen;
+    entry = entry_by (row_of row) seen reply no_transfers;
+  } ∷ [];
+}
+
 -- it is one of this market, and it sees exactly the wallets that it names
 pub record IsFor (row : Row) (seen : Seen) (cell : MarketCellState) : Type 0 where
   pub market : row.market ≡ cell.accounts.address
@@ -121,3 +140,14 @@ pub record CanHold (row : Row) (seen : Seen) (cell : MarketCellState) : Type 0 w
 -- it was held back: its call stands behind the others, and all else is as it was
 abbrev pub held_on : Row → Seen → MarketCellState → MarketCellState
 held_on row seen cell = record cell { calls = cell.calls ++ held_made (row_of row) seen ∷ [] }
+
+-- a row was done or refused: its call stands behind the others, where it is refused all else is as it was, and this is a cell again
+pub record HasTaken (row : Row) (seen : Seen) (before after : MarketCellState) : Type 0 where
+  pub acted : HasActed row seen before after
+  pub refused : is_refusal (step_on row seen before).reply ≡ true → after ≡ refused_on row seen before
+  pub cell : IsMarketCell after
+
+-- a take was held back, and this is a cell again
+pub record HasHeld (row : Row) (seen : Seen) (before after : MarketCellState) : Type 0 where
+  pub held : after ≡ held_on row seen before
+  pub cell : IsMarketCell after

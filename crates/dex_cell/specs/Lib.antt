@@ -1,4 +1,5 @@
 pub mod CellState
 pub mod CellInside
+pub mod Lending
 pub mod Paying
 pub mod PlanAmounts

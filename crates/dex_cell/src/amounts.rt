@@ -29,7 +29,7 @@ fn exchanged(side: Side, paid: u64, got: u64) -> Amounts
 }
 
 /// What a plan moves, in native amounts.
-pub(crate) fn amounts_of(plan: &Plan) -> Amounts
+pub fn amounts_of(plan: &Plan) -> Amounts
     ensures { transfers_of result ≡ plan_transfers plan.now }
 {
     match *plan {

@@ -6,28 +6,40 @@ ghost use Rattle.dex_history.specs.Journal.{Sees, asked_of};
 ghost use Rattle.dex_movements.specs.Amounts.{CanMoveEach, transfers_of};
 ghost use Rattle.dex_movements.specs.Entries.{entry_by};
 
+use crate::call_record::CallRecord;
 use dex_movements::{Amounts, moves_of};
 use dex_types::{Entry, Reply, Row, Seen};
+use http_server::Log as CallLog;
 
-/// The entry of a row with this reply that moves these amounts.
-pub(crate) fn entry_of(row: &Row, seen: &Seen, reply: Reply, amounts: &Amounts) -> Entry
+/// Writes the entry of a row with this reply that moves these amounts behind the others, where room for it is reserved.
+pub(crate) fn write_down(
+    calls: &mut CallLog<Row, CallRecord>,
+    entries: &mut Vec<Entry>,
+    row: &Row,
+    seen: &Seen,
+    reply: Reply,
+    amounts: &Amounts,
+)
     requires sees { Sees (asked_of (row_of row.now)) seen.now }
     requires moves { CanMoveEach seen.now (transfers_of amounts.now) }
-    ensures { result ≡ entry_by (row_of row.entry.now) seen.now reply (transfers_of amounts.now) }
+    requires room { vec_len entries.old < vec_capacity entries.old }
+    ensures entries { entries.new.items
+        ≡ entries.old.items ++ entry_by (row_of row.entry.now) seen.now reply (transfers_of amounts.now) ∷ [] }
+    ensures calls { calls.new.items ≡ calls.old.items ++ (
+      row.entry.now,
+      record {
+        seen = seen.now;
+        entry = entry_by (row_of row.entry.now) seen.now reply (transfers_of amounts.now);
+      },
+    ) ∷ [] }
+    ensures reserved { vec_capacity entries.old ≤ vec_capacity entries.new }
 {
-    Entry {
+    let entry = Entry {
         lane: row.lane,
         row: row.number,
         reply,
         moves: moves_of(row, seen, amounts),
-    }
-}
-
-/// Writes an entry behind the others, where room for it is reserved.
-pub(crate) fn append(entries: &mut Vec<Entry>, entry: Entry)
-    requires { vec_len entries.old < vec_capacity entries.old }
-    ensures items { entries.new.items ≡ entries.old.items ++ entry ∷ [] }
-    ensures reserved { vec_capacity entries.old ≤ vec_capacity entries.new }
-{
+    };
+    *calls = calls.and(row, &CallRecord { seen: *seen, entry });
     entries.push(entry).unwrap();
 }

@@ -7,6 +7,7 @@ mod journal;
 mod market_cell;
 mod payouts;
 
+pub use amounts::amounts_of;
 pub use dex_decide::{Deposit, Plan};
 pub use market_cell::MarketCell;
 pub use payouts::Payouts;

@@ -1,12 +1,12 @@
 //! A market's cell.
 
-ghost use Rattle.std.specs.Prelude.{◌≡◌, IfOk, Ok, Err, false, length, ◌-◌};
+ghost use Rattle.std.specs.Prelude.{◌≡◌, ◌<◌, ◌-◌, ◌++◌, ◌∷◌, [], IfOk, Ok, Err, List, false, length};
 ghost use Rattle.dex_ring.specs.PendingFills.{pending_fills_of};
 ghost use Rattle.dex_ring.specs.Ring.{IsEventQueue, ring_of};
 
 use crate::amounts::amounts_of;
 use crate::call_record::CallRecord;
-use crate::journal::{append, entry_of};
+use crate::journal::write_down;
 use crate::payouts::{Payouts, pay};
 use dex_decide::Plan;
 use dex_meet::{PendingFills, pending_fills};
@@ -72,15 +72,16 @@ fn pending_in(events: &[u8]) -> PendingFills
 }
 
 impl MarketCell {
-    ghost use Rattle.dex_types.specs.declared.replies.Reply.TheVariants.{Done, Refused};
+    ghost use Rattle.dex_types.specs.declared.replies.Reply.TheVariants.{Refused};
     ghost use Rattle.dex_types.specs.Accounts.{market_accounts_of};
+    ghost use Rattle.dex_types.specs.Rows.{row_of};
     ghost use Rattle.dex_types.specs.Side.{Coin, Pc};
     ghost use Rattle.dex_accounts.specs.Accepted.{IsAccepted};
     ghost use Rattle.dex_accounts.specs.Decoded.{AreSound};
-    ghost use Rattle.dex_history.specs.Journal.{is_refusal};
+    ghost use Rattle.dex_history.specs.Journal.{Call, Sees, asked_of, is_refusal};
     ghost use Rattle.dex_wallet.specs.TokenAmount.{held_in};
     ghost use Rattle.dex_cell.specs.CellState as cells;
-    ghost use Rattle.dex_cell.specs.CellState.{CanHold, HasActed, HasSpare, IsFor, IsMarketCell};
+    ghost use Rattle.dex_cell.specs.CellState.{CanHold, HasActed, HasHeld, HasSpare, HasTaken, IsFor, IsMarketCell};
     ghost use Rattle.dex_cell.specs.CellState.{answer_on, market_at, step_on};
     ghost use Rattle.dex_cell.specs.Paying.{paid_in, paid_out};
 
@@ -176,13 +177,57 @@ impl MarketCell {
         ensures acted { HasActed row.entry.now seen.now self.old self.new }
         ensures cell { IsMarketCell self.new }
     {
-        let amounts = amounts_of(&plan);
-        let reply = dex_step::apply(&mut self.accounts, row, seen, &plan, &mut self.pending);
+        let payouts = self.carry_out(row, seen, &plan, coin, pc);
+        (self.last().reply, payouts)
+    }
+
+    /// The same with the plan lent; its reply is that of the last entry.
+    pub fn carry_out(
+        &mut self,
+        row: &Row,
+        seen: &Seen,
+        plan: &Plan,
+        coin: Option<Parcel>,
+        pc: Option<Parcel>,
+    ) -> Payouts
+        requires row { IsFor row.now seen.now self.old }
+        requires decided { Ok plan.now ≡ answer_on row.now seen.now self.old }
+        requires coin { coin ≡ paid_in Coin plan.now (market_at self.old) }
+        requires pc { pc ≡ paid_in Pc plan.now (market_at self.old) }
+        requires spare { HasSpare self.old }
+        ensures done { is_refusal (step_on row.entry.now seen.now self.old).reply ≡ false }
+        ensures paid { result ≡ paid_out (market_at self.old) (step_on row.entry.now seen.now self.old).transfers }
+        ensures taken { HasTaken row.entry.now seen.now self.old self.new }
+    {
+        let amounts = amounts_of(plan);
+        let reply = dex_step::apply(&mut self.accounts, row, seen, plan, &mut self.pending);
         let payouts = pay(&mut self.coin, &mut self.pc, &amounts, coin, pc);
-        let entry = entry_of(row, seen, reply, &amounts);
-        self.calls = self.calls.and(row, &CallRecord { seen: *seen, entry });
-        append(&mut self.entries, entry);
-        (reply, payouts)
+        write_down(
+            &mut self.calls,
+            &mut self.entries,
+            row,
+            seen,
+            reply,
+            &amounts,
+        );
+        payouts
+    }
+
+    /// Writes a row down that moves nothing, where the cell is one then.
+    fn note(&mut self, row: &Row, seen: &Seen, reply: Reply)
+        requires sees { Sees (asked_of (row_of row.now)) seen.now }
+        requires cell { IsMarketCell self.old → IsMarketCell (cells.noted_on row.now seen.now reply self.old) }
+        ensures noted { self.new ≡ cells.noted_on row.entry.now seen.now reply self.old }
+        ensures cell { IsMarketCell self.new }
+    {
+        write_down(
+            &mut self.calls,
+            &mut self.entries,
+            row,
+            seen,
+            reply,
+            &Amounts::none(),
+        );
     }
 
     /// Writes down that a row is refused, as it was decided: the journal has one entry more, and all accounts stay as they are,
@@ -193,28 +238,30 @@ impl MarketCell {
         requires spare { HasSpare self.old }
         ensures refused { self.new ≡ cells.refused_on row.entry.now seen.now self.old }
         ensures reply { (step_on row.entry.now seen.now self.old).reply ≡ Refused refusal }
-        ensures acted { HasActed row.entry.now seen.now self.old self.new }
-        ensures cell { IsMarketCell self.new }
+        ensures taken { HasTaken row.entry.now seen.now self.old self.new }
     {
-        let entry = entry_of(row, seen, Reply::Refused(refusal), &Amounts::none());
-        self.calls = self.calls.and(row, &CallRecord { seen: *seen, entry });
-        append(&mut self.entries, entry);
+        self.note(row, seen, Reply::Refused(refusal));
     }
 
     /// Writes down that a take is held back which would not be refused, for a row whose item is refused elsewhere: the journal has
     /// one entry more, its reply is that it is done, and all accounts stay as they are, byte by byte.
-    pub fn idle(&mut self, row: &Row, seen: &Seen) -> Reply
+    pub fn idle(&mut self, row: &Row, seen: &Seen)
         requires row { IsFor row.now seen.now self.old }
         requires held { CanHold row.now seen.now self.old }
         requires spare { HasSpare self.old }
-        ensures reply { result ≡ Done }
-        ensures held { self.new ≡ cells.held_on row.entry.now seen.now self.old }
-        ensures cell { IsMarketCell self.new }
+        ensures held { HasHeld row.entry.now seen.now self.old self.new }
     {
-        let entry = entry_of(row, seen, Reply::Done, &Amounts::none());
-        self.calls = self.calls.and(row, &CallRecord { seen: *seen, entry });
-        append(&mut self.entries, entry);
-        Reply::Done
+        self.note(row, seen, Reply::Done);
+    }
+
+    /// The entry of the last row.
+    pub fn last(&self) -> &Entry
+        requires { 0 < length self.now.calls }
+        ensures { (past : List Call) (call : Call) → self.now.calls ≡ past ++ call ∷ []
+            → result.now ≡ call.entry }
+    {
+        let entries = self.entries();
+        &entries[entries.len() - 1]
     }
 
     /// The accounts and the journal, as they are. Both parcels are given up.

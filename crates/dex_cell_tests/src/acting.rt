@@ -11,27 +11,8 @@ ghost use Rattle.std.specs.Prelude.{◌≡◌, IfSome, IsTrue, Ok};
 
 use dex_cell::{MarketCell, Payouts, Plan};
 use dex_market::MarketRef;
-use dex_types::{Address, Reply, Row, Seen, WalletSeen};
+use dex_types::{Address, Row, Seen, WalletSeen};
 use dex_wallet::Parcel;
-
-/// What a row moves, in native amounts: what its wallets pay, and what the wallets of its roles are paid.
-#[derive(Clone, Copy)]
-pub(crate) struct Moved {
-    pub coin_in: u64,
-    pub pc_in: u64,
-    pub coin_out: u64,
-    pub pc_out: u64,
-    pub referrer_out: u64,
-}
-
-/// Nothing is moved.
-const NOTHING: Moved = Moved {
-    coin_in: 0,
-    pc_in: 0,
-    coin_out: 0,
-    pc_out: 0,
-    referrer_out: 0,
-};
 
 /// The wallet of an address among these; one that is not among them has nothing, and is nobody's and of no mint.
 fn wallet_at(wallets: &[WalletSeen], address: Address) -> WalletSeen
@@ -120,20 +101,15 @@ fn parcel(mint: Address, amount: u64) -> Option<Parcel>
     }
 }
 
-/// How much a parcel is, which ends here.
-fn spent(parcel: Option<Parcel>) -> u64 {
-    match parcel {
-        Some(parcel) => {
-            let amount = parcel.amount();
-            parcel.give_up();
-            amount
-        }
-        None => 0,
+/// A parcel ends here.
+fn end(parcel: Option<Parcel>) {
+    if let Some(parcel) = parcel {
+        parcel.give_up();
     }
 }
 
 /// Does a row as it was decided.
-fn accept(cell: &mut MarketCell, row: &Row, seen: &Seen, plan: Plan) -> (Reply, Moved)
+fn accept(cell: &mut MarketCell, row: &Row, seen: &Seen, plan: Plan)
     requires row { IsFor row.now seen.now cell.old }
     requires cell { IsMarketCell cell.old }
     requires spare { HasSpare cell.old }
@@ -142,29 +118,21 @@ fn accept(cell: &mut MarketCell, row: &Row, seen: &Seen, plan: Plan) -> (Reply, 
     let deposit = plan.deposit();
     let coin = parcel(coin_mint(cell), deposit.coin);
     let pc = parcel(pc_mint(cell), deposit.pc);
-    let (reply, payouts) = cell.apply(row, seen, plan, coin, pc);
+    let (_, payouts) = cell.apply(row, seen, plan, coin, pc);
     let Payouts { coin, pc, referrer } = payouts;
-    let moved = Moved {
-        coin_in: deposit.coin,
-        pc_in: deposit.pc,
-        coin_out: spent(coin),
-        pc_out: spent(pc),
-        referrer_out: spent(referrer),
-    };
-    (reply, moved)
+    end(coin);
+    end(pc);
+    end(referrer);
 }
 
 /// Decides a row, and does it or writes down that it is refused.
-pub(crate) fn act(cell: &mut MarketCell, row: &Row, seen: &Seen) -> (Reply, Moved)
+pub(crate) fn act(cell: &mut MarketCell, row: &Row, seen: &Seen)
     requires row { IsFor row.now seen.now cell.old }
     requires cell { IsMarketCell cell.old }
     requires spare { HasSpare cell.old }
 {
     match cell.decide(row, seen) {
         Ok(plan) => accept(cell, row, seen, plan),
-        Err(refusal) => {
-            cell.refuse(row, seen, refusal);
-            (Reply::Refused(refusal), NOTHING)
-        }
+        Err(refusal) => cell.refuse(row, seen, refusal),
     }
 }

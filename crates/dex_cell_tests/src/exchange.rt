@@ -5,13 +5,13 @@ ghost use Rattle.dex_cell.specs.CellState.{IsFor};
 ghost use Rattle.dex_types.specs.Accounts.{market_accounts_of};
 ghost use Rattle.std.specs.Prelude.{IfSome};
 
-use crate::acting::{Moved, act, role, sees};
+use crate::acting::{act, role, sees};
 use crate::making::new_cell;
 use crate::words::{add_line, row_of};
 use dex_cell::MarketCell;
 use dex_rows::records::Rows;
 use dex_statement::{InstructionWords, Statement, statement_of};
-use dex_types::{Address, MarketAccounts, Program, Reply, Row, Seen, WalletSeen};
+use dex_types::{Address, MarketAccounts, MoveKind, Movement, Program, Row, Seen, WalletSeen};
 use std::alloc::Global;
 use std::test::Fail;
 
@@ -25,14 +25,13 @@ pub(crate) struct Exchange {
 }
 
 /// What no test is to come to: a row of another market, no room for a row more, a row that is no wallet's and no instruction, and a row
-/// without an entry or with an entry of another reply.
+/// without an entry.
 #[derive(Debug, Drop)]
 pub(crate) enum Unfit {
     OtherMarket,
     NoSpare,
     OtherRow,
     NoEntry,
-    OtherReply,
 }
 
 /// Wallets, and the rows that open the accounts `amy` of `ann` and `ben` of `bob`.
@@ -114,29 +113,28 @@ impl Exchange {
     /// An instruction acts on the market and on the wallets that it names.
     fn submit(&mut self, words: InstructionWords, lines: &mut String) -> Result<(), Fail> {
         self.number = self.number.wrapping_add(1);
-        let row = row_of(words, self.number);
-        let reply = self.act(&row)?;
+        self.act(&row_of(words, self.number))?;
         let Some(entry) = self.cell.entries().last() else {
             return Err(Unfit::NoEntry)?;
         };
-        if entry.reply != reply {
-            return Err(Unfit::OtherReply)?;
+        let entry = *entry;
+        for movement in entry.moves {
+            self.pay(movement);
         }
-        add_line(lines, entry)?;
+        add_line(lines, &entry)?;
         Ok(())
     }
 
-    /// A row acts on the market and on the wallets that it names.
-    fn act(&mut self, row: &Row) -> Result<Reply, Fail> {
+    /// A row acts on the market.
+    fn act(&mut self, row: &Row) -> Result<(), Fail> {
         let Some(seen) = self.seen_by(row) else {
             return Err(Unfit::OtherMarket)?;
         };
         if self.cell.spare() == 0 {
             return Err(Unfit::NoSpare)?;
         }
-        let (reply, moved) = act(&mut self.cell, row, &seen);
-        self.pay(&seen, moved);
-        Ok(reply)
+        act(&mut self.cell, row, &seen);
+        Ok(())
     }
 
     /// What a row of the market sees; none of a row of another market.
@@ -159,21 +157,23 @@ impl Exchange {
         }
     }
 
-    /// What a row moves leaves and enters the wallets of its roles.
-    fn pay(&mut self, seen: &Seen, moved: Moved) {
-        self.move_by(seen.coin, moved.coin_in, moved.coin_out);
-        self.move_by(seen.pc, moved.pc_in, moved.pc_out);
-        self.move_by(seen.referrer, 0, moved.referrer_out);
-    }
-
-    /// An amount leaves a wallet, and another enters it.
-    fn move_by(&mut self, role: Option<WalletSeen>, out: u64, into: u64) {
-        if let Some(seen) = role {
+    /// A movement changes its wallet.
+    fn pay(&mut self, movement: Option<Movement>) {
+        if let Some(movement) = movement {
             for wallet in self.wallets.iter_mut() {
-                if wallet.address == seen.address {
-                    wallet.balance = wallet.balance.wrapping_sub(out).wrapping_add(into);
+                if wallet.address == movement.wallet {
+                    wallet.balance = left_by(&movement);
                 }
             }
         }
+    }
+}
+
+/// What a movement leaves in its wallet.
+fn left_by(movement: &Movement) -> u64 {
+    match movement.kind {
+        MoveKind::Probe => movement.before,
+        MoveKind::Debit => movement.before.wrapping_sub(movement.amount),
+        MoveKind::Credit => movement.before.wrapping_add(movement.amount),
     }
 }

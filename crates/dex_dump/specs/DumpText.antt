@@ -12,6 +12,10 @@ use Rattle.dex_dump_rows.specs.Lines.{Fields}
 unfoldable pub base64_text : List ℕ → List ℕ
 base64_text bytes = encode_of standard bytes
 
+-- a word, an address and an account
+abbrev pub account_row : List ℕ → PlainAccount → Fields
+account_row word account = word ∷ address_text account.address ∷ base64_text account.bytes ∷ []
+
 -- `mint,ADDRESS,ACCOUNT`
 abbrev pub mint_row : PlainAccount → Fields
 mint_row mint = codes "mint" ∷ address_text mint.address ∷ base64_text mint.bytes ∷ []

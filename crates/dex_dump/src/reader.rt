@@ -1,7 +1,6 @@
 //! Reading a dump.
 
 ghost use Rattle.std.specs.Prelude.{◌≡◌, IfOk};
-ghost use Rattle.csv.specs.Records.{fields_of};
 ghost use Rattle.dex_types.specs.Accounts.{accounts_of};
 ghost use Rattle.dex_dump.specs.Accepted.{AreAccepted, HoldBytes};
 ghost use Rattle.dex_dump.specs.Answers as spec;
@@ -10,9 +9,8 @@ ghost use Rattle.dex_dump.specs.Telling.{TellsAccounts, TellsDump, TellsRow, Tel
 use crate::checks::Failed;
 use crate::faults::{DumpError, DumpFault};
 use crate::reading::{Reading, Stop};
-use csv::ByteRecord;
 use dex_dump_rows::{Line, LineError, is_first_row, line_of};
-use dex_rows::records::Rows;
+use dex_rows::records::{Fields, Rows};
 use dex_types::{AccountFault, Accounts};
 use std::alloc::Global;
 use std::marker::Model;
@@ -80,9 +78,9 @@ fn read_row(
     alloc: Global,
     reading: &mut Reading,
     number: u32,
-    row: &ByteRecord,
+    row: &Fields<'_>,
 ) -> Result<bool, DumpError>
-    ensures { TellsRow result number (plain_reading reading.old) (plain_reading reading.new) (fields_of row.now) }
+    ensures { TellsRow result number (plain_reading reading.old) (plain_reading reading.new) row.now }
 {
     let line = match line_of(alloc, row) {
         Ok(line) => line,

@@ -1,19 +1,17 @@
 //! Writing a dump.
 
-ghost use Rattle.std.specs.Prelude.{◌≡◌, [], ◌∷◌, ◌++◌, IfOk, IfSome, OnOk, codes, map};
+ghost use Rattle.std.specs.Prelude.{◌≡◌, ◌≤◌, [], ◌∷◌, ◌++◌, IfOk, IfSome, OnOk, codes, length, map};
 ghost use Rattle.std.specs.List.{All, flat_map};
-ghost use Rattle.std.specs.String.{string_bytes};
 ghost use Rattle.dex_types.specs.Accounts.{accounts_of, market_accounts_of, named_of, orders_account_of};
 ghost use Rattle.dex_types.specs.Text.{address_text};
 ghost use Rattle.hex.specs.Hex.{IsBytes};
 ghost use Rattle.dex_dump.specs.Accepted.{AreAccepted, HoldBytes, IsAddress, IsHeld, IsHeldMarket};
 ghost use Rattle.dex_dump.specs.Answers.{IsReadAs};
-ghost use Rattle.dex_dump.specs.DumpText.{base64_text, behind_first, dump_text, line_text, lines_text, market_fields, market_row, market_rows, mint_row, named_rows, orders_row, wallet_row};
+ghost use Rattle.dex_dump.specs.DumpText.{account_row, base64_text, behind_first, dump_text, line_text, lines_text, market_fields, market_row, market_rows, named_rows, orders_row};
 
 use base64::engine::general_purpose::STANDARD;
 use dex_types::{Accounts, Address, MarketAccounts, Named, NoMemory, OrdersAccount};
 use std::alloc::{AllocError, Global};
-use std::fmt::Write;
 
 /// The dump of all accounts: a row for each, in declared order, between the rows `dump` and `enddump`.
 ///
@@ -25,54 +23,44 @@ pub fn write_dump(alloc: Global, accounts: &Accounts) -> Result<Vec<u8>, NoMemor
     ensures read_back { IfOk result (λ text.
         AreAccepted (accounts_of accounts.now) → IsReadAs text.items (accounts_of accounts.now)) }
 {
-    let mut text = String::new(alloc);
+    let mut text = Vec::new(alloc);
     match append_dump(&mut text, accounts) {
-        Ok(()) => Ok(text.into_bytes()),
+        Ok(()) => Ok(text),
         Err(_) => Err(NoMemory),
     }
 }
 
 /// Writes the dump of all accounts behind a text. Where memory is wanting, a part of it may have been written. What was
 /// written are bytes, at addresses of 32 of them, as all buffers and addresses hold.
-pub fn append_dump(text: &mut String, accounts: &Accounts) -> Result<(), AllocError>
-    ensures text { OnOk result (string_bytes text.new ≡ string_bytes text.old ++ dump_text (accounts_of accounts.now)) }
+pub fn append_dump(text: &mut Vec<u8>, accounts: &Accounts) -> Result<(), AllocError>
+    ensures text { OnOk result (text.new.items ≡ text.old.items ++ dump_text (accounts_of accounts.now)) }
     ensures held { OnOk result (HoldBytes (accounts_of accounts.now)) }
 {
     write_word(text, "dump\n")?;
-    write_mints(text, &accounts.mints)?;
+    write_accounts(text, "mint", &accounts.mints)?;
     write_name(text, "srm", accounts.srm)?;
     write_name(text, "msrm", accounts.msrm)?;
-    write_wallets(text, &accounts.wallets)?;
+    write_accounts(text, "wallet", &accounts.wallets)?;
     write_markets(text, &accounts.markets)?;
     write_word(text, "enddump\n")?;
     Ok(())
 }
 
-fn write_mints(text: &mut String, mints: &[Named]) -> Result<(), AllocError>
-    ensures text { OnOk result (string_bytes text.new
-        ≡ string_bytes text.old ++ lines_text (map mint_row (map named_of mints.now))) }
-    ensures held { OnOk result (All IsHeld (map named_of mints.now)) }
+/// The rows of mints or of wallets.
+fn write_accounts(text: &mut Vec<u8>, word: &str, accounts: &[Named]) -> Result<(), AllocError>
+    ensures text { OnOk result (text.new.items
+        ≡ text.old.items ++ lines_text (map (account_row word.now) (map named_of accounts.now))) }
+    ensures held { OnOk result (All IsHeld (map named_of accounts.now)) }
 {
-    for mint in mints {
-        write_account(text, "mint", mint)?;
+    for account in accounts {
+        write_account(text, word, account)?;
     }
     Ok(())
 }
 
-fn write_wallets(text: &mut String, wallets: &[Named]) -> Result<(), AllocError>
-    ensures text { OnOk result (string_bytes text.new
-        ≡ string_bytes text.old ++ lines_text (map wallet_row (map named_of wallets.now))) }
-    ensures held { OnOk result (All IsHeld (map named_of wallets.now)) }
-{
-    for wallet in wallets {
-        write_account(text, "wallet", wallet)?;
-    }
-    Ok(())
-}
-
-fn write_markets(text: &mut String, markets: &[MarketAccounts]) -> Result<(), AllocError>
-    ensures text { OnOk result (string_bytes text.new
-        ≡ string_bytes text.old ++ lines_text (flat_map market_rows (map market_accounts_of markets.now))) }
+fn write_markets(text: &mut Vec<u8>, markets: &[MarketAccounts]) -> Result<(), AllocError>
+    ensures text { OnOk result (text.new.items
+        ≡ text.old.items ++ lines_text (flat_map market_rows (map market_accounts_of markets.now))) }
     ensures held { OnOk result (All IsHeldMarket (map market_accounts_of markets.now)) }
 {
     for market in markets {
@@ -83,12 +71,12 @@ fn write_markets(text: &mut String, markets: &[MarketAccounts]) -> Result<(), Al
 }
 
 fn write_orders(
-    text: &mut String,
+    text: &mut Vec<u8>,
     market: Address,
     accounts: &[OrdersAccount],
 ) -> Result<(), AllocError>
-    ensures text { OnOk result (string_bytes text.new
-        ≡ string_bytes text.old ++ lines_text (map (orders_row market) (map orders_account_of accounts.now))) }
+    ensures text { OnOk result (text.new.items
+        ≡ text.old.items ++ lines_text (map (orders_row market) (map orders_account_of accounts.now))) }
     ensures held { OnOk result (All IsHeld (map orders_account_of accounts.now)) }
 {
     for account in accounts {
@@ -98,9 +86,9 @@ fn write_orders(
 }
 
 /// The row of a mint that has a name, if there is one.
-fn write_name(text: &mut String, word: &str, mint: Option<Address>) -> Result<(), AllocError>
-    ensures text { OnOk result (string_bytes text.new
-        ≡ string_bytes text.old ++ lines_text (named_rows word.now mint)) }
+fn write_name(text: &mut Vec<u8>, word: &str, mint: Option<Address>) -> Result<(), AllocError>
+    ensures text { OnOk result (text.new.items
+        ≡ text.old.items ++ lines_text (named_rows word.now mint)) }
     ensures held { OnOk result (IfSome mint IsAddress) }
 {
     let Some(mint) = mint else {
@@ -113,9 +101,9 @@ fn write_name(text: &mut String, word: &str, mint: Option<Address>) -> Result<()
 }
 
 /// The row of a mint or a wallet.
-fn write_account(text: &mut String, word: &str, account: &Named) -> Result<(), AllocError>
-    ensures text { OnOk result (string_bytes text.new ≡ string_bytes text.old
-        ++ line_text (word.now ∷ address_text account.now.address ∷ base64_text account.now.bytes.items ∷ [])) }
+fn write_account(text: &mut Vec<u8>, word: &str, account: &Named) -> Result<(), AllocError>
+    ensures text { OnOk result (text.new.items
+        ≡ text.old.items ++ line_text (account_row word.now (named_of account.now))) }
     ensures held { OnOk result (IsHeld (named_of account.now)) }
 {
     write_word(text, word)?;
@@ -127,12 +115,12 @@ fn write_account(text: &mut String, word: &str, account: &Named) -> Result<(), A
 
 /// The row of an open-orders account.
 fn write_orders_account(
-    text: &mut String,
+    text: &mut Vec<u8>,
     market: Address,
     account: &OrdersAccount,
 ) -> Result<(), AllocError>
-    ensures text { OnOk result (string_bytes text.new
-        ≡ string_bytes text.old ++ line_text (orders_row market (orders_account_of account.now))) }
+    ensures text { OnOk result (text.new.items
+        ≡ text.old.items ++ line_text (orders_row market (orders_account_of account.now))) }
     ensures held { OnOk result (IsHeld (orders_account_of account.now)) }
 {
     write_word(text, "orders")?;
@@ -144,9 +132,9 @@ fn write_orders_account(
 }
 
 /// The row of a market, without its open-orders accounts.
-fn write_market(text: &mut String, market: &MarketAccounts) -> Result<(), AllocError>
-    ensures text { OnOk result (string_bytes text.new
-        ≡ string_bytes text.old ++ line_text (market_row (market_accounts_of market.now))) }
+fn write_market(text: &mut Vec<u8>, market: &MarketAccounts) -> Result<(), AllocError>
+    ensures text { OnOk result (text.new.items
+        ≡ text.old.items ++ line_text (market_row (market_accounts_of market.now))) }
     ensures held { OnOk result (IsHeldMarket (record (market_accounts_of market.now) { orders = [] })) }
 {
     write_word(text, "market")?;
@@ -157,9 +145,9 @@ fn write_market(text: &mut String, market: &MarketAccounts) -> Result<(), AllocE
 }
 
 /// The accounts of a market's row, and its end.
-fn write_market_fields(text: &mut String, market: &MarketAccounts) -> Result<(), AllocError>
-    ensures text { OnOk result (string_bytes text.new
-        ≡ string_bytes text.old ++ behind_first (market_fields (market_accounts_of market.now))) }
+fn write_market_fields(text: &mut Vec<u8>, market: &MarketAccounts) -> Result<(), AllocError>
+    ensures text { OnOk result (text.new.items
+        ≡ text.old.items ++ behind_first (market_fields (market_accounts_of market.now))) }
     ensures held { OnOk result (IsAddress market.now.address → IsAddress market.now.authority
         → IsHeldMarket (record (market_accounts_of market.now) { orders = [] })) }
 {
@@ -174,32 +162,60 @@ fn write_market_fields(text: &mut String, market: &MarketAccounts) -> Result<(),
     Ok(())
 }
 
-fn write_word(text: &mut String, word: &str) -> Result<(), AllocError>
-    ensures { OnOk result (string_bytes text.new ≡ string_bytes text.old ++ word.now) }
+fn write_word(text: &mut Vec<u8>, word: &str) -> Result<(), AllocError>
+    ensures { OnOk result (text.new.items ≡ text.old.items ++ word.now) }
 {
-    text.push_str(word)
+    text.extend_from_slice(word.as_bytes())
 }
 
 /// A comma, and an address.
-fn write_address(text: &mut String, address: Address) -> Result<(), AllocError>
-    ensures text { OnOk result (string_bytes text.new ≡ string_bytes text.old ++ (44 ∷ address_text address)) }
+fn write_address(text: &mut Vec<u8>, address: Address) -> Result<(), AllocError>
+    ensures text { OnOk result (text.new.items ≡ text.old.items ++ (44 ∷ address_text address)) }
     ensures held { OnOk result (IsAddress address) }
 {
-    write!(text, ",{address}")
+    write_word(text, ",")?;
+    push_address(text, address)
 }
 
-/// A comma, and the bytes of an account.
+/// An address: nearly all are labels.
+#[tactic(auto, unfolding(dex_types::specs::Text::address_text))]
+fn push_address(text: &mut Vec<u8>, address: Address) -> Result<(), AllocError>
+    ensures { OnOk result (text.new.items ≡ text.old.items ++ address_text address) }
+{
+    match address.label() {
+        Some(label) => text.extend_from_slice(label),
+        None => text.extend_from_slice(&address.prefixed_digits()),
+    }
+}
+
+/// A comma, and the bytes of an account, piece by piece.
 #[tactic(auto, unfolding(crate::specs::DumpText::base64_text))]
-fn write_bytes(text: &mut String, bytes: &[u8]) -> Result<(), AllocError>
-    ensures text { OnOk result (string_bytes text.new ≡ string_bytes text.old ++ (44 ∷ base64_text bytes.now)) }
+fn write_bytes(text: &mut Vec<u8>, bytes: &[u8]) -> Result<(), AllocError>
+    ensures text { OnOk result (text.new.items ≡ text.old.items ++ (44 ∷ base64_text bytes.now)) }
     ensures held { OnOk result (IsBytes bytes.now) }
 {
-    text.push(',')?;
-    STANDARD.encode_string(bytes, text)
+    write_word(text, ",")?;
+    let mut symbols = [0; 1024];
+    'pieces: for piece in bytes.chunks(768) {
+        write_piece(text, &mut symbols, piece)?;
+    }
+    Ok(())
 }
 
-fn end_row(text: &mut String) -> Result<(), AllocError>
-    ensures { OnOk result (string_bytes text.new ≡ string_bytes text.old ++ (10 ∷ [])) }
+/// Bytes in base64: what they give stands in this array first.
+#[tactic(auto, unfolding(crate::specs::DumpText::base64_text))]
+fn write_piece(text: &mut Vec<u8>, symbols: &mut [u8; 1024], piece: &[u8]) -> Result<(), AllocError>
+    requires { length piece.now ≤ 768 }
+    ensures { OnOk result (text.new.items ≡ text.old.items ++ base64_text piece.now) }
 {
-    text.push('\n')
+    match STANDARD.encode_slice(piece, symbols) {
+        Ok(length) => text.extend_from_slice(&symbols[..length]),
+        Err(_) => unreachable!(),
+    }
+}
+
+fn end_row(text: &mut Vec<u8>) -> Result<(), AllocError>
+    ensures { OnOk result (text.new.items ≡ text.old.items ++ (10 ∷ [])) }
+{
+    write_word(text, "\n")
 }

@@ -1,17 +1,15 @@
 //! One row of a dump by itself.
 
 ghost use Rattle.std.specs.Prelude.{◌≡◌, ◌<◌};
-ghost use Rattle.csv.specs.Records.{fields_of};
 ghost use Rattle.dex_dump_rows.specs.Lines as spec;
 ghost use Rattle.dex_dump_rows.specs.Lines.{field_at, is_first_row};
 ghost use Rattle.dex_dump_rows.specs.Telling.{TellsAccount, TellsLine};
 ghost use Rattle.dex_dump_rows.specs.declared.lines.LineError.TheVariants.{Grammar, NoMemory as OutOfMemory};
 
-use csv::ByteRecord;
 use dex_rows::addresses::address_word;
 use dex_rows::base64_words::base64_word;
 use dex_rows::printable::row_is_printable;
-use dex_rows::records::{field, field_count};
+use dex_rows::records::{Fields, field, field_count};
 use dex_types::{Address, MarketAccounts, Named, NoMemory, OrdersAccount};
 use std::alloc::Global;
 use thiserror::Error;
@@ -51,16 +49,16 @@ impl From<NoMemory> for LineError {
 
 /// Whether a row is the first of a dump, the one word `dump`.
 #[tactic(auto, unfolding(crate::specs::Lines::is_first_row))]
-pub fn is_first_row(row: &ByteRecord) -> bool
-    ensures { result ≡ is_first_row (fields_of row.now) }
+pub fn is_first_row(row: &Fields<'_>) -> bool
+    ensures { result ≡ is_first_row row.now }
 {
     field_count(row) == 1 && field_at(row, 0) == b"dump".as_slice()
 }
 
 /// What a row states by itself. It is no row of a dump where a field has a byte outside 32 to 126.
 #[tactic(auto, unfolding(crate::specs::Lines::line_of))]
-pub fn line_of(alloc: Global, row: &ByteRecord) -> Result<Line, LineError>
-    ensures { TellsLine result (spec.line_of (fields_of row.now)) }
+pub fn line_of(alloc: Global, row: &Fields<'_>) -> Result<Line, LineError>
+    ensures { TellsLine result (spec.line_of row.now) }
 {
     if !row_is_printable(row) {
         return Err(LineError::Grammar);
@@ -69,8 +67,8 @@ pub fn line_of(alloc: Global, row: &ByteRecord) -> Result<Line, LineError>
 }
 
 #[tactic(auto, unfolding(crate::specs::Lines::form_of))]
-fn form_of(alloc: Global, word: &[u8], row: &ByteRecord) -> Result<Line, LineError>
-    ensures { TellsLine result (spec.form_of word.now (fields_of row.now)) }
+fn form_of(alloc: Global, word: &[u8], row: &Fields<'_>) -> Result<Line, LineError>
+    ensures { TellsLine result (spec.form_of word.now row.now) }
 {
     if word == b"mint".as_slice() {
         mint_of(alloc, row)
@@ -92,8 +90,8 @@ fn form_of(alloc: Global, word: &[u8], row: &ByteRecord) -> Result<Line, LineErr
 }
 
 #[tactic(auto, unfolding(crate::specs::Lines::mint_of))]
-fn mint_of(alloc: Global, row: &ByteRecord) -> Result<Line, LineError>
-    ensures { TellsLine result (spec.mint_of (fields_of row.now)) }
+fn mint_of(alloc: Global, row: &Fields<'_>) -> Result<Line, LineError>
+    ensures { TellsLine result (spec.mint_of row.now) }
 {
     if field_count(row) != 3 {
         return Err(LineError::Grammar);
@@ -103,8 +101,8 @@ fn mint_of(alloc: Global, row: &ByteRecord) -> Result<Line, LineError>
 }
 
 #[tactic(auto, unfolding(crate::specs::Lines::wallet_of))]
-fn wallet_of(alloc: Global, row: &ByteRecord) -> Result<Line, LineError>
-    ensures { TellsLine result (spec.wallet_of (fields_of row.now)) }
+fn wallet_of(alloc: Global, row: &Fields<'_>) -> Result<Line, LineError>
+    ensures { TellsLine result (spec.wallet_of row.now) }
 {
     if field_count(row) != 3 {
         return Err(LineError::Grammar);
@@ -114,8 +112,8 @@ fn wallet_of(alloc: Global, row: &ByteRecord) -> Result<Line, LineError>
 }
 
 #[tactic(auto, unfolding(crate::specs::Lines::srm_of))]
-fn srm_of(row: &ByteRecord) -> Result<Line, LineError>
-    ensures { TellsLine result (spec.srm_of (fields_of row.now)) }
+fn srm_of(row: &Fields<'_>) -> Result<Line, LineError>
+    ensures { TellsLine result (spec.srm_of row.now) }
 {
     if field_count(row) != 2 {
         return Err(LineError::Grammar);
@@ -125,8 +123,8 @@ fn srm_of(row: &ByteRecord) -> Result<Line, LineError>
 }
 
 #[tactic(auto, unfolding(crate::specs::Lines::msrm_of))]
-fn msrm_of(row: &ByteRecord) -> Result<Line, LineError>
-    ensures { TellsLine result (spec.msrm_of (fields_of row.now)) }
+fn msrm_of(row: &Fields<'_>) -> Result<Line, LineError>
+    ensures { TellsLine result (spec.msrm_of row.now) }
 {
     if field_count(row) != 2 {
         return Err(LineError::Grammar);
@@ -136,8 +134,8 @@ fn msrm_of(row: &ByteRecord) -> Result<Line, LineError>
 }
 
 #[tactic(auto, unfolding(crate::specs::Lines::orders_of))]
-fn orders_of(alloc: Global, row: &ByteRecord) -> Result<Line, LineError>
-    ensures { TellsLine result (spec.orders_of (fields_of row.now)) }
+fn orders_of(alloc: Global, row: &Fields<'_>) -> Result<Line, LineError>
+    ensures { TellsLine result (spec.orders_of row.now) }
 {
     if field_count(row) != 4 {
         return Err(LineError::Grammar);
@@ -148,8 +146,8 @@ fn orders_of(alloc: Global, row: &ByteRecord) -> Result<Line, LineError>
 }
 
 #[tactic(auto, unfolding(crate::specs::Lines::market_of))]
-fn market_of(alloc: Global, row: &ByteRecord) -> Result<Line, LineError>
-    ensures { TellsLine result (spec.market_of (fields_of row.now)) }
+fn market_of(alloc: Global, row: &Fields<'_>) -> Result<Line, LineError>
+    ensures { TellsLine result (spec.market_of row.now) }
 {
     if field_count(row) != 10 {
         return Err(LineError::Grammar);
@@ -178,8 +176,8 @@ fn market_of(alloc: Global, row: &ByteRecord) -> Result<Line, LineError>
 }
 
 #[tactic(auto, unfolding(crate::specs::Lines::end_of))]
-fn end_of(row: &ByteRecord) -> Result<Line, LineError>
-    ensures { TellsLine result (spec.end_of (fields_of row.now)) }
+fn end_of(row: &Fields<'_>) -> Result<Line, LineError>
+    ensures { TellsLine result (spec.end_of row.now) }
 {
     if field_count(row) != 1 {
         return Err(LineError::Grammar);
@@ -189,9 +187,9 @@ fn end_of(row: &ByteRecord) -> Result<Line, LineError>
 
 /// An address and an account, in two fields from a place on.
 #[tactic(auto, unfolding(crate::specs::Lines::account_at))]
-fn account_at(alloc: Global, row: &ByteRecord, place: usize) -> Result<Named, LineError>
+fn account_at(alloc: Global, row: &Fields<'_>, place: usize) -> Result<Named, LineError>
     requires { place < 8 }
-    ensures { TellsAccount result (spec.account_at (fields_of row.now) place) }
+    ensures { TellsAccount result (spec.account_at row.now place) }
 {
     let address = address_word(field_at(row, place)).ok_or(LineError::Grammar)?;
     let bytes = base64_word(alloc, field_at(row, place + 1))?.ok_or(LineError::Grammar)?;
@@ -199,8 +197,9 @@ fn account_at(alloc: Global, row: &ByteRecord, place: usize) -> Result<Named, Li
 }
 
 /// The field at a place of a row, counted from 0; no bytes behind the last.
-fn field_at(row: &ByteRecord, place: usize) -> &[u8]
-    ensures { result.now ≡ field_at (fields_of row.now) place }
+fn field_at<'r>(row: &'r Fields<'_>, place: usize) -> &'r [u8]
+    requires { place < 12 }
+    ensures { result.now ≡ field_at row.now place }
 {
     if place < field_count(row) {
         field(row, place)

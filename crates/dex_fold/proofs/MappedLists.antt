@@ -151,3 +151,19 @@ same-get (x ∷ xs) (suc place) d e within = same-get xs place d e (omega (arith
 pub All-front : {A : Type 0} (P : A → Type 0) (xs ys : List A) → All P (xs ++ ys) → All P xs
 All-front P [] ys all = All-nil P
 All-front P (x ∷ xs) ys all = All-cons P x xs (All-head P x (xs ++ ys) all) (All-front P xs ys (All-tail P x (xs ++ ys) all))
+
+module _ {A B : Type 0} (R : A → B → Type 0) where
+  pub none-left : (x : A) (xs : List A) → AllZip R (xs ++ x ∷ []) [] → ⊥
+  none-left x [] all = all
+  none-left x (y ∷ xs) all = all
+
+  none-right : (y : B) (ys : List B) → AllZip R [] (ys ++ y ∷ []) → ⊥
+  none-right y [] all = all
+  none-right y (z ∷ ys) all = all
+
+  -- the last of each, and those before
+  pub AllZip-last : (xs : List A) (ys : List B) (x : A) (y : B) → AllZip R (xs ++ x ∷ []) (ys ++ y ∷ []) → AllZip R xs ys × R x y
+  AllZip-last [] [] x y all = (tt, all.0)
+  AllZip-last [] (z ∷ ys) x y all = absurd (none-right y ys all.1)
+  AllZip-last (z ∷ xs) [] x y all = absurd (none-left x xs all.1)
+  AllZip-last (z ∷ xs) (w ∷ ys) x y all = let rest = AllZip-last xs ys x y all.1 in ((all.0, rest.0), rest.1)

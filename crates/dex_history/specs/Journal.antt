@@ -4,7 +4,7 @@ use Rattle.dex_types.specs.declared.instructions.BadData.{BadData}
 use Rattle.dex_types.specs.declared.instructions.Ix.{Ix}
 use Rattle.dex_types.specs.declared.instructions.Ix.TheVariants.{MatchOrders, SendTake}
 use Rattle.dex_types.specs.declared.replies.Reply.{Reply}
-use Rattle.dex_types.specs.declared.replies.Reply.TheVariants.{Done, Refused}
+use Rattle.dex_types.specs.declared.replies.Reply.TheVariants.{Done, Refused, Took}
 use Rattle.dex_types.specs.declared.movements.Entry.{Entry}
 use Rattle.dex_types.specs.declared.movements.Movement.{Movement}
 use Rattle.dex_types.specs.declared.addresses.Address.{Address}
@@ -121,6 +121,11 @@ is_take_or_bad (Ok ix) = is_take (Ok ix)
 abbrev pub is_done : Reply → Bool
 is_done Done = true
 is_done reply = false
+
+-- the reply tells what was taken
+abbrev pub is_took : Reply → Bool
+is_took (Took lots pc fee) = true
+is_took reply = false
 
 -- the reply is a refusal
 abbrev pub is_refusal : Reply → Bool

@@ -4,4 +4,5 @@
 mod insert;
 mod plan;
 
+pub use insert::is_lower;
 pub use plan::{LockPlan, by_address, plan_locks, plan_wallets};

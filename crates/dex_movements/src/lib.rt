@@ -6,4 +6,5 @@ mod movement;
 mod places;
 
 pub use amounts::Amounts;
+pub use movement::is_moved;
 pub use places::moves_of;

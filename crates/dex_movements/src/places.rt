@@ -4,12 +4,12 @@ ghost use Rattle.std.specs.Prelude.{◌≡◌, map};
 ghost use Rattle.dex_types.specs.Rows.{row_of};
 ghost use Rattle.dex_types.specs.Wallets as wallets;
 ghost use Rattle.dex_history.specs.Journal.{Sees, asked_of, places};
-ghost use Rattle.dex_movements.specs.Amounts.{CanMoveEach, moved_place, transfers_of};
+ghost use Rattle.dex_movements.specs.Amounts.{CanMoveEach, SeesTwo, moved_place, transfers_of};
 
 use crate::amounts::Amounts;
-use crate::movement::movement_of;
-use dex_locks::plan_locks;
-use dex_types::{Address, Movement, Row, Seen};
+use crate::movement::{movement_by, movement_of};
+use dex_locks::{is_lower, plan_locks};
+use dex_types::{Address, Movement, Row, Seen, WalletSeen, is_same};
 
 /// The movement of the wallet of a place, if there is one.
 fn moved_at(seen: &Seen, amounts: &Amounts, place: Option<Address>) -> Option<Movement>
@@ -26,6 +26,55 @@ fn moved_at(seen: &Seen, amounts: &Amounts, place: Option<Address>) -> Option<Mo
 /// from the front. Each is a debit of all that is taken from the wallet, else a credit of all that is brought to it, else a
 /// probe of nothing, and has the balance that the row saw.
 pub fn moves_of(row: &Row, seen: &Seen, amounts: &Amounts) -> [Option<Movement>; 4]
+    requires sees { Sees (asked_of (row_of row.now)) seen.now }
+    requires moves { CanMoveEach seen.now (transfers_of amounts.now) }
+    ensures { result ≡ places (wallets.movements seen.now (transfers_of amounts.now)) }
+{
+    match (&seen.coin, &seen.pc, &seen.discount, &seen.referrer) {
+        (Some(coin), Some(pc), None, None) => {
+            if is_same(coin.address, pc.address) {
+                moves_of_any(row, seen, amounts)
+            } else {
+                moves_of_two(seen, coin, pc, amounts)
+            }
+        }
+        _ => moves_of_any(row, seen, amounts),
+    }
+}
+
+/// The movements of the two wallets of nearly all rows: no wallet is compared with another one for its amount.
+fn moves_of_two(
+    seen: &Seen,
+    coin: &WalletSeen,
+    pc: &WalletSeen,
+    amounts: &Amounts,
+) -> [Option<Movement>; 4]
+    requires two { SeesTwo seen.now coin.now pc.now }
+    requires moves { CanMoveEach seen.now (transfers_of amounts.now) }
+    ensures { result ≡ places (wallets.movements seen.now (transfers_of amounts.now)) }
+{
+    let of_coin = movement_by(
+        coin.address,
+        coin.balance,
+        amounts.coin_in as u128,
+        amounts.coin_out as u128,
+    );
+    let of_pc = movement_by(
+        pc.address,
+        pc.balance,
+        amounts.pc_in as u128,
+        amounts.pc_out as u128,
+    );
+    if is_lower(coin.address, pc.address) {
+        [Some(of_coin), Some(of_pc), None, None]
+    } else {
+        [Some(of_pc), Some(of_coin), None, None]
+    }
+}
+
+/// The movements of the wallets of any roles.
+#[inline(never)]
+fn moves_of_any(row: &Row, seen: &Seen, amounts: &Amounts) -> [Option<Movement>; 4]
     requires sees { Sees (asked_of (row_of row.now)) seen.now }
     requires moves { CanMoveEach seen.now (transfers_of amounts.now) }
     ensures { result ≡ places (wallets.movements seen.now (transfers_of amounts.now)) }

@@ -4,6 +4,7 @@ use Rattle.dex_fold.proofs.Common.{Address, Call, Entry, Market, Movement, Plain
 use Rattle.dex_order.proofs.Common.{Stamped, entries_in, entry_made, map-map}
 use Rattle.dex_history.specs.Journal.{front}
 use Rattle.dex_stamps.specs.Stamped.{items_of}
+use Rattle.dex_fold.proofs.KeptMoves.{moves-kept}
 use Rattle.dex_order.proofs.Acts.{Acts}
 
 -- ---- the entries of a row's call

@@ -3,7 +3,7 @@ use Rattle.std.proofs.Common.{◌≡◌, ℕ, List, [], map, sym, ap, ◌∙◌,
 use Rattle.dex_fold.proofs.Common.{Market, MarketState, PlainAccount, PlainMarketAccounts, WalletState, flat_map, market_after}
 use Rattle.dex_replay.proofs.Common.{CellState, IsOneOrder, PlainScript, WalletWords, balance_of, entries_of, market_in, market_state_of, wallet_state_of, wallet_words, wallet_words-with_amount, world_after, world_of}
 use Rattle.dex_order.proofs.Common.{AreMerged, BankMarketState, BankWalletState, Histories, IsMarketMerged, IsWalletMerged, is-left, map-map, market-once, wallet-once}
-use Rattle.dex_replay.proofs.MappedLists.{zip-map}
+use Rattle.dex_fold.proofs.MappedLists.{zip-map}
 use Rattle.dex_order.specs.Merged.{left}
 use Rattle.dex_order.proofs.Acting.{turns-act}
 use Rattle.dex_order.proofs.Fronts.{market_front, market_with, wallet_front, wallet_with, world_front}

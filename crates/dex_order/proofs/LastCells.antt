@@ -5,7 +5,7 @@ use Rattle.dex_replay.proofs.Common.{AreAccepted, AreCells, CellState, CellsStat
 use Rattle.dex_order.proofs.Common.{AreOfScript, BankMarketState, BankWalletState, Histories, IsMarketMerged, IsWalletMerged, Lane, MarketOrigin, WalletOrigin, map-map, start_account}
 use Rattle.dex_act.specs.Wallets.{AreApart}
 use Rattle.dex_bank.proofs.OpenCells.{wallets-apart}
-use Rattle.dex_replay.proofs.MappedLists.{zip-map}
+use Rattle.dex_fold.proofs.MappedLists.{zip-map}
 use Rattle.dex_order.proofs.Zipped.{zip-each, zip-told}
 
 -- the cells of markets

@@ -2,7 +2,7 @@
 use Rattle.std.proofs.Common.{◌≡◌, List, [], ◌∷◌, map, ◌∙◌}
 use Rattle.dex_fold.proofs.Common.{All-cons, All-nil, AllZip, map-id}
 use Rattle.std.specs.List.{All}
-use Rattle.dex_replay.proofs.MappedLists.{zip-map}
+use Rattle.dex_fold.proofs.MappedLists.{zip-map}
 
 -- what holds of each pair of places holds of the first list's elements, and of the second's
 pub zip-first : {A B : Type 0} (R : A → B → Type 0) (P : A → Type 0) → ((x : A) (y : B) → R x y → P x) → (xs : List A) (ys : List B) → AllZip R xs ys → All P xs

@@ -59,9 +59,9 @@ pub fn round<R: Clock + AllocGlobal>(rt: &R, bytes: &[u8]) -> Result<Replayed, E
     let lanes = script.lanes;
     let count = items_in(&script.rows);
     let reading = watch.lap(rt)?;
-    let (cells, of_script) = Cells::of_script(alloc, script)?;
+    let (cells, of_script, places) = Cells::of_script(alloc, script)?;
     let building = watch.lap(rt)?;
-    let cells = act_all(cells, &of_script);
+    let cells = act_all(cells, &of_script, &places);
     let rows = watch.lap(rt)?;
     let Ok(outcome) = cells.close(alloc) else {
         return Err(Error::from(NoMemory));
@@ -71,6 +71,7 @@ pub fn round<R: Clock + AllocGlobal>(rt: &R, bytes: &[u8]) -> Result<Replayed, E
     let report = watch.lap(rt)?;
     drop(outcome);
     drop(of_script);
+    drop(places);
     let dropping = watch.lap(rt)?;
     Ok(Replayed {
         phases: Phases {

@@ -1,5 +1,5 @@
 -- What a plan tells is what the step of its row does.
-use Rattle.std.proofs.Common.{◌≡◌, List, [], ◌∷◌, Option, Some, None, Result, Ok, Err, take, refl, ap}
+use Rattle.std.proofs.Common.{◌≡◌, List, [], ◌∷◌, Option, Some, None, Result, Ok, Err, refl, sym, ap, ◌∙◌}
 use Rattle.dex_types.specs.declared.addresses.Address.{Address}
 use Rattle.dex_types.specs.declared.instructions.BadData.{BadData}
 use Rattle.dex_types.specs.declared.instructions.Ix.{Ix}
@@ -7,21 +7,20 @@ use Rattle.dex_types.specs.declared.instructions.Ix.TheVariants.{InitializeMarke
 use Rattle.dex_types.specs.declared.refusals.Refusal.{Refusal}
 use Rattle.dex_types.specs.declared.rows.Seen.{Seen}
 use Rattle.dex_types.specs.declared.terms.Side.{Side}
-use Rattle.dex_types.specs.Cancel.{CancelBy, ById, ByClient, ByClients, First}
 use Rattle.dex_types.specs.Market.{Market}
 use Rattle.dex_types.specs.NewOrder.{NewOrder}
 use Rattle.dex_types.specs.Reasons.{answered}
 use Rattle.dex_types.specs.Requests.{Party, Request, party_of}
 use Rattle.dex_types.specs.Steps as steps
-use Rattle.dex_types.specs.Steps.{act_cancel, act_close, act_decoded, act_init, act_order, act_settle, refused, step, unless_refused}
+use Rattle.dex_types.specs.Steps.{Step, act, act_decoded, act_init, act_order, act_settle, refused, step, unless_refused}
 use Rattle.dex_types.specs.Terms.{terms_order}
+use Rattle.dex_types.specs.Transfers.{no_transfers}
 use Rattle.dex_types.specs.Why.{why}
 use Rattle.dex_ring.specs.declared.pending_fills.PendingFills.{PendingFills}
 use Rattle.dex_ring.specs.PendingFills.{pending_fills_of}
 use Rattle.dex_plan.specs.declared.plan.Plan.{Plan}
-use Rattle.dex_plan.specs.declared.plan.Deposit.{Deposit}
-use Rattle.dex_plan.specs.Owing.{deposit_of, entering, sums_told}
-use Rattle.dex_plan.specs.Plans.{by_party, decided, order_plan, plan_decoded, settle_plan}
+use Rattle.dex_plan.specs.Owing.{plan_transfers, sums_told}
+use Rattle.dex_plan.specs.Plans.{by_party, decided, order_plan, plan_decoded, plan_on, settle_plan}
 
 -- what is answered tells the reason, and where there is none, what is planned
 pub told-reason : {X : Type 0} (reason : Option Refusal) (x : X) (refusal : Refusal) → answered reason x ≡ Err refusal → reason ≡ Some refusal
@@ -36,49 +35,48 @@ pub told-plan : {X : Type 0} (reason : Option Refusal) (x y : X) → answered re
 told-plan None x y e = cc
 told-plan (Some given) x y e = absurd (cc)
 
--- the deposit of what an open account is to do, and of what it does
-settle-owes : (seen : Seen) (m : Market) (party : Option Party)
-    → deposit_of (by_party (settle_plan seen) party) ≡ entering (steps.by_party (act_settle seen m) m party).transfers
-settle-owes seen m None = refl
-settle-owes seen m (Some party) = refl
+-- where nothing moves for a party, nothing moves without one
+still : (acts : Party → Step) (m : Market) (party : Option Party) → ((found : Party) → no_transfers ≡ (acts found).transfers)
+    → no_transfers ≡ (steps.by_party acts m party).transfers
+still acts m None each = refl
+still acts m (Some found) each = each found
 
-order-owes : (side : Side) (order : Address → NewOrder) (m : Market) (party : Option Party)
-    → deposit_of (by_party (order_plan side order m) party) ≡ entering (steps.by_party (act_order side order m) m party).transfers
-order-owes side order m None = refl
-order-owes side order m (Some party) = refl
+settles : (seen : Seen) (m : Market) (party : Option Party)
+    → plan_transfers (by_party (settle_plan seen) party) ≡ (steps.by_party (act_settle seen m) m party).transfers
+settles seen m None = refl
+settles seen m (Some party) = refl
 
-abbrev nothing : Deposit
-nothing = record { coin = 0; pc = 0 }
+orders : (side : Side) (order : Address → NewOrder) (m : Market) (party : Option Party)
+    → plan_transfers (by_party (order_plan side order m) party) ≡ (steps.by_party (act_order side order m) m party).transfers
+orders side order m None = refl
+orders side order m (Some party) = refl
 
-cancel-owes : (by : CancelBy) (m : Market) (party : Option Party) → nothing ≡ entering (steps.by_party (act_cancel by m) m party).transfers
-cancel-owes by m None = refl
-cancel-owes by m (Some party) = refl
+opens : (named : List Address) (signer : Address) (m : Market) → no_transfers ≡ (act_init named signer m).transfers
+opens [] signer m = refl
+opens (address ∷ others) signer m = refl
 
-close-owes : (m : Market) (party : Option Party) → nothing ≡ entering (steps.by_party (act_close m) m party).transfers
-close-owes m None = refl
-close-owes m (Some party) = refl
+on-ix : (ix : Ix) (request : Request) (seen : Seen) (m : Market) → plan_transfers (plan_on ix request seen m) ≡ (act ix request seen m).transfers
+on-ix (InitializeMarket coin_lot pc_lot fee_rate_bps nonce dust) request seen m = refl
+on-ix (MatchOrders limit) request seen m = refl
+on-ix (ConsumeEvents limit) request seen m = refl
+on-ix SettleFunds request seen m = settles seen m (party_of request.named m.traders)
+on-ix DisableMarket request seen m = refl
+on-ix SweepFees request seen m = refl
+on-ix (NewOrderV3 side price lots max_pc self_trade order_type client limit latest) request seen m =
+    orders side (terms_order request seen price lots max_pc self_trade order_type client limit latest) m (party_of request.named m.traders)
+on-ix (CancelOrderV2 side id) request seen m = still _ m (party_of request.named m.traders) (λ party. refl)
+on-ix (CancelOrderByClientIdV2 client) request seen m = still _ m (party_of request.named m.traders) (λ party. refl)
+on-ix (SendTake side price lots max_pc min_lots min_pc limit) request seen m = refl
+on-ix CloseOpenOrders request seen m = still _ m (party_of request.named m.traders) (λ party. refl)
+on-ix InitOpenOrders request seen m = opens request.named request.signer m
+on-ix (Prune limit) request seen m = still _ m (party_of request.named m.traders) (λ party. refl)
+on-ix (CancelOrdersByClientIds ids) request seen m = still _ m (party_of request.named m.traders) (λ party. refl)
 
-init-owes : (named : List Address) (signer : Address) (m : Market) → nothing ≡ entering (act_init named signer m).transfers
-init-owes [] signer m = refl
-init-owes (address ∷ others) signer m = refl
-
-pub plan-owes : (instruction : Result Ix BadData) (request : Request) (seen : Seen) (m : Market)
-    → deposit_of (plan_decoded instruction request seen m) ≡ entering (act_decoded instruction request seen m).transfers
-plan-owes (Err rule) request seen m = refl
-plan-owes (Ok (InitializeMarket coin_lot pc_lot fee_rate_bps nonce dust)) request seen m = refl
-plan-owes (Ok (MatchOrders limit)) request seen m = refl
-plan-owes (Ok (ConsumeEvents limit)) request seen m = refl
-plan-owes (Ok SettleFunds) request seen m = settle-owes seen m (party_of request.named m.traders)
-plan-owes (Ok DisableMarket) request seen m = refl
-plan-owes (Ok SweepFees) request seen m = refl
-plan-owes (Ok (NewOrderV3 side price lots max_pc self_trade order_type client limit latest)) request seen m = order-owes side (terms_order request seen price lots max_pc self_trade order_type client limit latest) m (party_of request.named m.traders)
-plan-owes (Ok (CancelOrderV2 side id)) request seen m = cancel-owes (ById side id) m (party_of request.named m.traders)
-plan-owes (Ok (CancelOrderByClientIdV2 client)) request seen m = cancel-owes (ByClient client) m (party_of request.named m.traders)
-plan-owes (Ok (SendTake side price lots max_pc min_lots min_pc limit)) request seen m = refl
-plan-owes (Ok CloseOpenOrders) request seen m = close-owes m (party_of request.named m.traders)
-plan-owes (Ok InitOpenOrders) request seen m = init-owes request.named request.signer m
-plan-owes (Ok (Prune limit)) request seen m = cancel-owes (First limit) m (party_of request.named m.traders)
-plan-owes (Ok (CancelOrdersByClientIds ids)) request seen m = cancel-owes (ByClients (take ids.count ids.ids)) m (party_of request.named m.traders)
+-- what is planned moves what is done
+pub plan-moves : (instruction : Result Ix BadData) (request : Request) (seen : Seen) (m : Market)
+    → plan_transfers (plan_decoded instruction request seen m) ≡ (act_decoded instruction request seen m).transfers
+plan-moves (Err rule) request seen m = refl
+plan-moves (Ok ix) request seen m = on-ix ix request seen m
 
 -- the sums that a plan tells, after the step
 some-same : {X : Type 0} {x y : X} → Some x ≡ Some y → y ≡ x
@@ -123,3 +121,11 @@ pub step-acted : (request : Request) (seen : Seen) (m : Market) (plan : Plan) �
 step-acted request seen m plan told =
     ap (λ (r : Option Refusal). unless_refused r m (act_decoded request.instruction request seen m))
     (told-none (why request seen m) (plan_decoded request.instruction request seen m) plan told)
+
+-- a plan that was decided moves what its row's step moves
+pub planned-moves : (plan : Plan) (request : Request) (seen : Seen) (m : Market) → Ok plan ≡ decided request seen m
+    → plan_transfers plan ≡ (step request seen m).transfers
+planned-moves plan request seen m is =
+    sym (ap plan_transfers (told-plan (why request seen m) (plan_decoded request.instruction request seen m) plan (sym is)))
+    ∙ plan-moves request.instruction request seen m
+    ∙ ap (λ (s : Step). s.transfers) (sym (step-acted request seen m plan (sym is)))

@@ -2,7 +2,8 @@
 
 ghost use Rattle.std.specs.Prelude.{◌≡◌};
 ghost use Rattle.dex_types.specs.Side.{locked_token};
-ghost use Rattle.dex_plan.specs.Owing.{deposit_of, owed};
+ghost use Rattle.dex_types.specs.Transfers.{deposit};
+ghost use Rattle.dex_plan.specs.Owing.{deposit_of, entering};
 
 use dex_cancel::CancelWhat;
 use dex_match::{OrderPlan, Taker};
@@ -56,7 +57,7 @@ pub struct Deposit {
 
 /// The deposit of an order or a take of the side: a bid's is quote, an ask's base.
 fn deposit_on(side: Side, amount: u64) -> Deposit
-    ensures { result ≡ owed (locked_token side) amount }
+    ensures { result ≡ entering (deposit (locked_token side) amount) }
 {
     match side {
         Side::Bid => Deposit {

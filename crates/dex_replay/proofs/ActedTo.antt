@@ -8,7 +8,11 @@ use Rattle.std.proofs.lemmas.List.{append-nil, append_assoc, drop_more, get_or-d
 use Rattle.dex_fold.specs.Items.{Item, items_of, pair_of}
 use Rattle.dex_fold.proofs.GroupLaws.{grouped-apart, grouped-pair}
 use Rattle.dex_fold.proofs.ItemLaws.{alone-acts}
+use Rattle.dex_types.specs.declared.rows.RowPlaces.{RowPlaces}
+use Rattle.dex_act.specs.Wallets.{wallet_places}
 use Rattle.dex_bank.specs.Cells.{CanActBoth, IsTakeOrRefused}
+use Rattle.dex_bank.specs.Places.{ArePlacedIn, ArePlacesIn}
+use Rattle.dex_bank.proofs.Stands.{stand-at, stands-still}
 use Rattle.dex_script.specs.Facts.{IsLeg}
 use Rattle.dex_replay.proofs.Counting.{IsCounted, run-counted}
 use Rattle.dex_replay.proofs.Items.{HaveAllRun, items-run, row_told, take-or-refused}
@@ -212,6 +216,16 @@ module _ (script : PlainScript) (rows : List Row) (same : map row_of rows ≡ sc
   pub all-rows : (place : ℕ) (cells : CellsState) → IsActed script place cells → length rows ≤ place
       → world_of cells ≡ fold_items (items_of script.rows) (start_world script)
   all-rows place cells so past = all-acted script place cells so (omega (arith, past, long))
+
+  -- each row stands among the cells where it stood among those with which the script starts
+  pub row-stands : (start cells : CellsState) → start ≡ opened script → (place : ℕ) → IsActed script place cells → (places : List RowPlaces)
+      → ArePlacedIn start (map row_of rows) places → (i : ℕ) (row : Row) (default : RowPlaces) → i < length rows → row ≡ get_or rows i row
+      → ArePlacesIn cells (row_of row) (get_or places i default)
+  row-stands start cells made place so places are i row default within at =
+      let there : RowPlaces = get_or places i default in
+      stands-still start cells (opened-address script start made) so.its (so.opened ∙ sym (opened-opened script start made)) (row_of row) there.market (wallet_places there)
+      (subst (λ (one : PlainRow). ArePlacesIn start one there) (get_or-map row_of rows i row (row_of row) within ∙ ap row_of (sym at))
+      (stand-at start (map row_of rows) places are i (row_of row) default (omega (arith, within, length-map rows row_of))))
 
   module _ (is : IsScript script) (place : ℕ) (cells : CellsState) (so : IsActed script place cells) (row : Row) (within : place < length rows)
       (at : row ≡ get_or rows place row) where

@@ -1,4 +1,3 @@
-pub mod Apart
 pub mod Common
 mod AllOrNone
 pub mod Counting
@@ -11,7 +10,6 @@ pub mod LastAccounts
 mod Lawfulness
 pub mod MappedLists
 mod Numbers
-pub mod Once
 pub mod Orders
 pub mod Room
 mod ActedTo

@@ -19,7 +19,7 @@ use Rattle.dex_replay.proofs.Runs.{AllStandIn, IsHistory, IsMoved, IsRun, StandI
 use Rattle.dex_replay.proofs.Sights.{AreOnce, address_in, before-movement, sees-balances}
 use Rattle.dex_script.proofs.Roles.{roles-all}
 use Rattle.dex_replay.proofs.Doing.{Does, doing, made, sees-doing}
-use Rattle.dex_replay.proofs.Once.{market-once, wallet-once}
+use Rattle.dex_script.proofs.Apart.{market-once, wallet-once}
 
 -- a market at the end of its calls is sound
 pub history-sound : (script : PlainScript) (done : List RowReply) (first : PlainMarketAccounts) (state : MarketState) → AreSound first → IsHistory script done first state

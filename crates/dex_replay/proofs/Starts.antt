@@ -1,10 +1,11 @@
 -- What cells keep of the script with which they were opened.
 use Rattle.std.proofs.Common.{◌≡◌, List, map, refl, sym, ap, ◌∙◌, subst}
 use Rattle.dex_fold.proofs.Common.{All-map, MarketState, PlainAccount, PlainMarketAccounts, WalletState, map-id}
-use Rattle.dex_replay.proofs.Common.{AreCells, CellState, CellsState, MarketCellState, PlainScript, address_of, market_opened, market_state_of, opened, opened_of, rows_naming, rows_on, start_world, wallet_opened, wallet_state_of, world_of}
+use Rattle.dex_replay.proofs.Common.{CellState, CellsState, MarketCellState, PlainScript, address_of, market_opened, market_state_of, opened, opened_of, rows_naming, rows_on, start_world, wallet_opened, wallet_state_of, world_of}
 use Rattle.std.specs.List.{All}
 use Rattle.dex_cell.specs.CellState as market
 use Rattle.dex_wallet.specs.CellState as wallet
+pub use Rattle.dex_bank.proofs.Stands.{HasItsAddress, its-address}
 use Rattle.dex_replay.proofs.MappedLists.{All-across, map-agree, map-map}
 
 -- the wallet of a cell as it was when the cell was made
@@ -56,13 +57,6 @@ module _ (script : PlainScript) (cells : CellsState) (same : opened_of cells ≡
   }
 
 -- ---- addresses
-
--- a market's cell has the address of its start
-abbrev pub HasItsAddress : MarketCellState → Type 0
-HasItsAddress cell = cell.accounts.address ≡ cell.start.address
-
-pub its-address : (cells : CellsState) → AreCells cells → All HasItsAddress cells.markets
-its-address cells kept = λ k d within. (kept.markets k d within).one_market.address
 
 -- the cells' markets have the addresses of the start
 pub market-addresses : (script : PlainScript) (cells : CellsState) → AreOfScript script cells → All HasItsAddress cells.markets

@@ -3,7 +3,6 @@ use Rattle.std.specs.Prelude.{◌≡◌, List, [], ◌∷◌, map}
 use Rattle.std.specs.List.{AllZip}
 use Rattle.dex_types.specs.Accounts.{PlainAccount, PlainMarketAccounts}
 use Rattle.dex_types.specs.Rows.{PlainRow}
-use Rattle.dex_accounts.specs.Decoded.{market_in}
 use Rattle.dex_accounts.specs.StandsFor.{StandsFor}
 use Rattle.dex_cell.specs.CellState.{AreOfOneMarket}
 use Rattle.dex_dump.specs.Accepted.{AreAccepted, address_of}
@@ -12,31 +11,9 @@ use Rattle.dex_fold.specs.Items.{Item, fold_items, items_of}
 use Rattle.dex_fold.specs.World.{MarketState, WalletState, World}
 use Rattle.dex_report.specs.Outcomes.{PlainMarketJournal, PlainOutcome, PlainWalletJournal}
 use Rattle.dex_script.specs.Drafts.{PlainScript}
+pub use Rattle.dex_script.specs.Starts.{market_state, start_world, wallet_state}
 use Rattle.dex_wallet.specs.CellState.{balance_of}
-use Rattle.dex_token.specs.TokenAccount.{wallet_words, with_amount}
-
--- a market with which a script starts
-abbrev pub market_state : PlainMarketAccounts → MarketState
-market_state accounts = record { market = market_in accounts; entries = [] }
-
--- a wallet with which a script starts
-abbrev pub wallet_state : PlainAccount → WalletState
-wallet_state account =
-    let words = wallet_words account.bytes in
-    record {
-      seen = record { address = account.address; mint = words.mint; owner = words.owner; balance = words.amount };
-      entries = [];
-    }
-
--- the world with which a script starts
-abbrev pub start_world : PlainScript → World
-start_world script = record {
-  markets = map market_state script.start.markets;
-  wallets = map wallet_state script.start.wallets;
-  srm = script.start.srm;
-  msrm = script.start.msrm;
-  program = script.program;
-}
+use Rattle.dex_token.specs.TokenAccount.{with_amount}
 
 -- the world when items have acted in this order
 abbrev pub world_after : PlainScript → List Item → World

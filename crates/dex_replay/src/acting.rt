@@ -6,12 +6,13 @@ ghost use Rattle.dex_types.specs.Rows.{row_of};
 ghost use Rattle.dex_fold.specs.Items.{items_of};
 ghost use Rattle.dex_bank.specs.Cells.{opened_of, world_of};
 ghost use Rattle.dex_bank.specs.Opened.{opened};
+ghost use Rattle.dex_bank.specs.Places.{ArePlacedIn};
 ghost use Rattle.dex_script.specs.Drafts.{PlainScript};
 ghost use Rattle.dex_script.specs.Facts.{IsScript};
 ghost use Rattle.dex_replay.specs.Replays.{world_after};
 
 use dex_bank::Cells;
-use dex_types::Row;
+use dex_types::{Row, RowPlaces};
 
 /// Whether the row at a place and the one behind it are the legs of one swap: they have one number.
 pub fn is_swap(rows: &[Row], place: usize) -> bool
@@ -24,10 +25,12 @@ pub fn is_swap(rows: &[Row], place: usize) -> bool
     rows.len() - place > 1 && rows[place].number == rows[place + 1].number
 }
 
-/// All items of a script act in their order on the cells with which it starts: each row, or the two legs of a swap.
-pub fn act_all(cells: Cells, rows: &[Row]) -> Cells
-    requires { (script : PlainScript) × IsScript script × (cells ≡ opened script)
+/// All items of a script act in their order on the cells with which it starts: each row, or the two legs of a swap. Each row's
+/// market and wallets stand among the cells at its places.
+pub fn act_all(cells: Cells, rows: &[Row], places: &[RowPlaces]) -> Cells
+    requires script { (script : PlainScript) × IsScript script × (cells ≡ opened script)
         × (map row_of rows.now ≡ script.rows) }
+    requires places { ArePlacedIn cells (map row_of rows.now) places.now }
     ensures acted { (script : PlainScript) → IsScript script → cells ≡ opened script
         → map row_of rows.entry.now ≡ script.rows → world_of result ≡ world_after script (items_of script.rows) }
     ensures kept { opened_of result ≡ opened_of cells }
@@ -36,10 +39,11 @@ pub fn act_all(cells: Cells, rows: &[Row]) -> Cells
     let mut place = 0;
     'item: while place < rows.len() {
         if is_swap(rows, place) {
-            cells.step_two(&rows[place], &rows[place + 1]);
+            let next = place + 1;
+            cells.step_two_at(&rows[place], &rows[next], &places[place], &places[next]);
             place += 2;
         } else {
-            cells.step(&rows[place]);
+            cells.step_at(&rows[place], &places[place]);
             place += 1;
         }
     }

@@ -20,8 +20,8 @@ pub fn replay_with_rows(alloc: Global, script: Script) -> Result<(Outcome, Vec<R
     ensures run { IfOk result (λ left. IsRunOf script (outcome_of left.0)) }
     ensures rows { IfOk result (λ left. map row_of left.1.items ≡ script.rows) }
 {
-    let (cells, rows) = Cells::of_script(alloc, script)?;
-    let cells = act_all(cells, &rows);
+    let (cells, rows, places) = Cells::of_script(alloc, script)?;
+    let cells = act_all(cells, &rows, &places);
     match cells.close(alloc) {
         Ok(outcome) => Ok((outcome, rows)),
         Err(_) => Err(NoMemory),

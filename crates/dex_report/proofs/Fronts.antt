@@ -1,5 +1,5 @@
 -- the movements of each entry of a legal history stand from the front
-use Rattle.std.proofs.Common.{ℕ, zero, suc, ◌≡◌, ◌++◌, true, List, [], ◌∷◌, Option, Some, None, map, take, replicate, refl, sym, subst}
+use Rattle.std.proofs.Common.{ℕ, zero, suc, ◌≡◌, ◌++◌, true, List, [], ◌∷◌, Some, None, map, take, replicate, refl, sym, subst}
 use Rattle.std.specs.List.{All}
 use Rattle.std.proofs.lemmas.List.Elements.{All-nil, All-cons}
 use Rattle.dex_types.specs.declared.movements.Entry.{Entry}

@@ -3,7 +3,6 @@ pub mod Words
 pub mod Values
 pub mod Replies
 pub mod ReadBack
-pub mod Digits
 pub mod Entries
 pub mod Journals
 pub mod Written

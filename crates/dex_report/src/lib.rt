@@ -2,6 +2,7 @@
 #![tactic(auto)]
 
 mod bulk;
+mod fitting;
 mod laws;
 mod lines;
 mod made;

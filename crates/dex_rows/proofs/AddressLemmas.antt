@@ -1,16 +1,15 @@
--- The address of a label.
-use Rattle.std.proofs.Common.{◌≡◌, ◌≤◌, ◌++◌, ℕ, List, true, length, drop, replicate, arith, ap, refl}
-use Rattle.std.proofs.lemmas.Bool.Decides.{nat_tests}
-use Rattle.std.proofs.lemmas.List.{drop-replicate}
-use Rattle.dex_types.specs.declared.addresses.Address.{Address}
-use Rattle.dex_types.specs.Text.{is_label, label_address}
+-- The bytes of a label, written over zeros one by one.
+use Rattle.std.proofs.Common.{◌≡◌, ◌∙◌, ◌+◌, ◌-◌, ◌<◌, ◌≤◌, ◌++◌, ◌∷◌, [], ℕ, suc, List, append_assoc, length, take, get_or, replicate, set, arith, ap, sym}
+use Rattle.std.proofs.Math.Seq.{set-append_seam}
+use Rattle.std.proofs.lemmas.List.{length-take, take_more}
 
--- a label is no longer than an address
-pub label_fits : (word : List ℕ) → is_label word ≡ true → length word ≤ 32
-label_fits word h = grind (arith, nat_tests)
-
--- a label over zeros is followed by zeros
-pub label_address-over : (label bytes : List ℕ) → bytes ≡ label → record { 0 = bytes ++ drop (length label) (replicate 32 0) } ≡ label_address label
-label_address-over label bytes e =
-    let address : List ℕ → Address = λ all. record { 0 = all } in
-    ap address (rw (e, drop-replicate {X = ℕ} (length label) 32 0) refl)
+pub one_written : (text bytes : List ℕ) (place : ℕ) → place < length text → length text ≤ 32 → bytes ≡ take place text ++ replicate (32 - place) 0
+    → set bytes place (get_or text place 0) ≡ take (place + 1) text ++ replicate (32 - (place + 1)) 0
+one_written text bytes place below few e =
+    let front = take place text in
+    let byte = get_or text place 0 in
+    let rest : List ℕ = replicate (32 - (place + 1)) 0 in
+    let size : 32 - place ≡ suc (32 - (place + 1)) = omega arith in
+    let here : length front ≡ place = omega (arith, length-take place text) in
+    rw e (ap (λ n. set (front ++ replicate n 0) place byte) size ∙ ap (λ n. set (front ++ 0 ∷ rest) n byte) (sym here) ∙ set-append_seam front 0 rest byte
+    ∙ sym (append_assoc front (byte ∷ []) rest) ∙ ap (λ all. all ++ rest) (sym (take_more text place 0 below)))

@@ -1,6 +1,9 @@
+pub mod SplitLemmas
+mod LineLemmas
+mod PlainLaws
 pub mod NumberLemmas
 pub mod RecordLemmas
-pub mod AddressLemmas
+mod AddressLemmas
 pub mod PrintableLemmas
 pub mod OnLiterals
 pub mod NumberLaws

@@ -1,8 +1,9 @@
 -- What `parse` answers for a numeral, as `number_of`.
-use Rattle.std.proofs.Common.{◌≡◌, ◌∙◌, ◌^◌, ◌<◌, ◌≤◌, ◌+◌, ◌-◌, ◌*◌, ℕ, Bool, nat_lt, if◌then◌else◌, Option, take, get_or, List, Some, None, Result, Ok, Err, Bor, OkIff, MatchOption, MatchResult, IsUtf8, true, false, length, arith, rules, refl, ap, sym}
+use Rattle.std.proofs.Common.{◌≡◌, ◌∙◌, ◌^◌, ◌<◌, ◌≤◌, ◌+◌, ◌-◌, ◌*◌, ◌&&◌, ℕ, Bool, nat_lt, if◌then◌else◌, Option, take, get_or, List, Some, None, Result, Ok, Err, Bor, OkIff, MatchOption, MatchResult, IsUtf8, true, false, length, arith, rules, refl, ap, sym}
 use Rattle.std.specs.Char.{digit_value, is_ascii_digit}
 use Rattle.std.proofs.lemmas.Int.Digits.{digits_value_more}
-use Rattle.std.proofs.lemmas.List.Folds.{list_all_at}
+use Rattle.std.proofs.lemmas.List.{length-take}
+use Rattle.std.proofs.lemmas.List.Folds.{list_all_at, list_all_more}
 use Rattle.std.specs.List.{list_all}
 use Rattle.std.specs.Result.{result_ok}
 use Rattle.std.specs.Str.Parse.{ParsesUnsigned, digits_value}
@@ -10,8 +11,8 @@ use Rattle.std.proofs.lemmas.Bool.{le-ltb, lt-ltb}
 use Rattle.std.proofs.lemmas.Bool.Decides.{nat_tests}
 use Rattle.std.proofs.lemmas.Fmt.{IsAscii-from_digits}
 use Rattle.std.proofs.lemmas.Str.{IsUtf8-from_ascii}
-use Rattle.std.proofs.lemmas.Str.Parse.{IsNumeralModel, digits_value-take-le, digits_value_short, numerals_by_value, parse_digits}
-use Rattle.dex_rows.specs.Numbers.{is_numeral, number_of}
+use Rattle.std.proofs.lemmas.Str.Parse.{IsNumeralModel, digits_value_short, numerals_by_value, parse_digits}
+use Rattle.dex_rows.specs.Numbers.{is_bare, is_numeral, number_of}
 
 -- texts of digits, and their values
 pub digits_model : IsNumeralModel (λ ds. list_all is_ascii_digit ds ≡ true) (digits_value 10)
@@ -55,50 +56,54 @@ pub numeral_text : {E : Type 0} (P : E → Type 0) (word : List ℕ) (r : Result
 numeral_text P word (Ok s) is h = (h.0, is)
 numeral_text P word (Err e) is h = absurd (h.0 (IsUtf8-numeral word is))
 
--- digits so far are no more than a number of at most 19 digits
-pub digits_fit : (digits : List ℕ) (place : ℕ) → length digits ≤ 19 → list_all is_ascii_digit digits ≡ true
-    → digits_value 10 (take place digits) < 10 ^ 19
-digits_fit digits place few are =
-    let so_far = digits_value-take-le 10 digits place (omega arith) in
-    let all : digits_value 10 digits < 10 ^ 19 = digits_value_short digits_model digits 19 are few in
-    omega arith
-
--- a place of digits is one
-digit_test : (digits : List ℕ) (place : ℕ) → place < length digits → list_all is_ascii_digit digits ≡ true
-    → (is : Bool) → is_ascii_digit (get_or digits place 0) ≡ is → is_ascii_digit (get_or digits place 0) ≡ true
-digit_test digits place below are true e = e
-digit_test digits place below are false e = cc (are, list_all_at is_ascii_digit digits place 0 below e)
-
-digit_at : (digits : List ℕ) (place : ℕ) → place < length digits → list_all is_ascii_digit digits ≡ true → is_ascii_digit (get_or digits place 0) ≡ true
-digit_at digits place below are = digit_test digits place below are (is_ascii_digit (get_or digits place 0)) refl
-
-pub digit_bounds : (digits : List ℕ) (place : ℕ) → place < length digits → list_all is_ascii_digit digits ≡ true
-    → (48 ≤ get_or digits place 0) × (get_or digits place 0 ≤ 57)
-digit_bounds digits place below are =
-    let is = digit_at digits place below are in
-    (grind (arith, nat_tests), grind (arith, nat_tests))
-
 value_of_digit : (c : ℕ) → 48 ≤ c → c ≤ 57 → digit_value c ≡ c - 48
 value_of_digit c low high = rw (le-ltb c 48 low, lt-ltb c 58 (omega arith)) refl
 
--- one more digit
-pub digits_more : (digits : List ℕ) (place : ℕ) → place < length digits → list_all is_ascii_digit digits ≡ true
-    → digits_value 10 (take (place + 1) digits) ≡ digits_value 10 (take place digits) * 10 + (get_or digits place 0 - 48)
-digits_more digits place below are =
-    let bounds = digit_bounds digits place below are in
-    digits_value_more 10 digits place below ∙ ap (λ digit. digits_value 10 (take place digits) * 10 + digit) (value_of_digit (get_or digits place 0) bounds.0 bounds.1)
+-- a number of at most 19 digits, with one more digit
+pub record IsMore (digits : List ℕ) (place digit : ℕ) : Type 0 where
+  pub all : list_all is_ascii_digit (take (place + 1) digits) ≡ true
+  pub value : digits_value 10 (take (place + 1) digits) ≡ digits_value 10 (take place digits) * 10 + digit
+  pub fits : digits_value 10 (take (place + 1) digits) < 10 ^ 19
+
+pub digits_more : (digits : List ℕ) (place : ℕ) → place < length digits → length digits ≤ 19 → list_all is_ascii_digit (take place digits) ≡ true
+    → 48 ≤ get_or digits place 0 → get_or digits place 0 ≤ 57 → IsMore digits place (get_or digits place 0 - 48)
+digits_more digits place below few before low high =
+    let digit : is_ascii_digit (get_or digits place 0) ≡ true = grind (arith, nat_tests) in
+    let all : list_all is_ascii_digit (take (place + 1) digits) ≡ true = rw (list_all_more is_ascii_digit digits place 0 below, before, digit) refl in
+    record {
+      all = all;
+      value = digits_value_more 10 digits place below ∙ ap (λ d. digits_value 10 (take place digits) * 10 + d) (value_of_digit (get_or digits place 0) low high);
+      fits = digits_value_short digits_model (take (place + 1) digits) 19 all (omega (arith, length-take (place + 1) digits));
+    }
+
+-- a byte that is none
+pub not_digits : (digits : List ℕ) (place : ℕ) → place < length digits → is_ascii_digit (get_or digits place 0) ≡ false → list_all is_ascii_digit digits ≡ false
+not_digits digits place below not = list_all_at is_ascii_digit digits place 0 below not
 
 -- a short numeral is a number
-pub number_of-short : (word : List ℕ) → length word ≤ 19 → is_numeral word ≡ true → Some (digits_value 10 word) ≡ number_of (2 ^ 64) word
+number_of-short : (word : List ℕ) → length word ≤ 19 → is_numeral word ≡ true → Some (digits_value 10 word) ≡ number_of (2 ^ 64) word
 unfolding number_of
 number_of-short word few is =
     let below : digits_value 10 word < 2 ^ 64 =
     (let all : digits_value 10 word < 10 ^ 19 = digits_value_short digits_model word 19 (numeral_parts word is).1 few in omega arith) in
     rw (is, lt-ltb (digits_value 10 word) (2 ^ 64) below) refl
 
--- a numeral is of digits
-pub numeral_digits : (word : List ℕ) → is_numeral word ≡ true → list_all is_ascii_digit word ≡ true
-numeral_digits word is = (numeral_parts word is).1
+pub numeral_bare : (word : List ℕ) (bare all : Bool) → is_bare word ≡ bare → list_all is_ascii_digit word ≡ all → is_numeral word ≡ (bare && all)
+unfolding is_numeral is_bare
+numeral_bare word true true e f = grind (arith, nat_tests)
+numeral_bare word true false e f = grind (arith, nat_tests)
+numeral_bare word false true e f = grind (arith, nat_tests)
+numeral_bare word false false e f = grind (arith, nat_tests)
+
+-- what is not bare is no number, nor is what is not of digits
+pub number_of-other : (word : List ℕ) → is_bare word ≡ false → number_of (2 ^ 64) word ≡ None
+number_of-other word not = number_of-none (2 ^ 64) word (numeral_bare word false (list_all is_ascii_digit word) not refl)
+
+-- a short word that is bare
+pub number_of-digits : (word : List ℕ) (r : Option ℕ) → length word ≤ 19 → is_bare word ≡ true
+    → MatchOption r (list_all is_ascii_digit word ≡ false) (λ value. (list_all is_ascii_digit word ≡ true) × (value ≡ digits_value 10 word)) → r ≡ number_of (2 ^ 64) word
+number_of-digits word None few bare h = sym (number_of-none (2 ^ 64) word (numeral_bare word true false bare h))
+number_of-digits word (Some value) few bare h = ap Some h.1 ∙ number_of-short word few (numeral_bare word true true bare h.0)
 
 -- what of a number is kept below a limit
 abbrev pub kept_below : ℕ → Option ℕ → Option ℕ

@@ -1,11 +1,15 @@
 -- What the tests of printable fields say.
-use Rattle.std.proofs.Common.{◌≡◌, ◌≤◌, ◌<◌, ◌+◌, ◌-◌, ◌∷◌, ◌↔◌, ℕ, Bool, List, [], true, false, All, length, take, drop, get_or, arith, refl, sym}
+use Rattle.std.proofs.Common.{◌≡◌, ◌∙◌, ◌==◌, ◌&&◌, ◌≤◌, ◌<◌, ◌+◌, ◌-◌, ◌∷◌, ◌↔◌, ℕ, Bool, List, [], true, false, All, length, take, drop, get_or, arith, refl, sym, ap}
 use Rattle.std.specs.Bool.{Decides}
 use Rattle.std.proofs.lemmas.Bool.Decides.{Decides-by_and, nat_tests}
+use Rattle.std.specs.List.{list_all, onto_first}
+use Rattle.std.proofs.Math.Bool.{and-true, and_assoc}
+use Rattle.std.proofs.lemmas.Bool.{eqb-true}
 use Rattle.std.proofs.lemmas.List.{take_all}
 use Rattle.std.proofs.lemmas.List.Folds.{list_all_at, list_all_more}
 use Rattle.csv.specs.Records.{Row, cut_from, fields_of, text_of}
 use Rattle.std.proofs.lemmas.List.Elements.{All-cons, All-drop, All-nil, All-take}
+use Rattle.dex_rows.specs.Lines.{cells_of}
 use Rattle.dex_rows.specs.Printable.{IsPrintable, IsPrintableByte, is_printable, is_printable_byte, row_is_printable}
 
 byte_decides : (byte : ℕ) → Decides (is_printable_byte byte) (IsPrintableByte byte)
@@ -55,3 +59,25 @@ cut_printable start (end ∷ ends) bytes h =
 pub row_of_printable : (row : Row) → is_printable (text_of row) ≡ true → row_is_printable (fields_of row) ≡ true
 row_of_printable row h =
     (row_is_printable-decides (fields_of row)).1 (cut_printable 0 row.ends row.bytes ((is_printable-decides (text_of row)).0 h))
+
+-- a field with one more byte
+onto_printable : (c : ℕ) (parts : List (List ℕ)) → list_all is_printable (onto_first c parts) ≡ (is_printable_byte c && list_all is_printable parts)
+unfolding is_printable
+onto_printable c [] = and-true (is_printable_byte c && true)
+onto_printable c (part ∷ parts) = and_assoc (is_printable_byte c) (list_all is_printable_byte part) (list_all is_printable parts)
+
+cells_at : (c : ℕ) (rest : List ℕ) (comma : Bool) → (c == 44) ≡ comma → list_all is_printable (cells_of rest) ≡ list_all is_printable_byte rest
+    → list_all is_printable (cells_of (c ∷ rest)) ≡ list_all is_printable_byte (c ∷ rest)
+unfolding is_printable
+cells_at c rest true e more = rw (e, eqb-true c 44 e) more
+cells_at c rest false e more = rw e (onto_printable c (cells_of rest) ∙ ap (λ all. is_printable_byte c && all) more)
+
+-- a comma is printable, so a row that stands in a text is so as it stands
+cells_printable : (line : List ℕ) → list_all is_printable (cells_of line) ≡ list_all is_printable_byte line
+unfolding is_printable
+cells_printable [] = refl
+cells_printable (c ∷ rest) = cells_at c rest (c == 44) refl (cells_printable rest)
+
+pub line_printable : (line : List ℕ) → is_printable line ≡ row_is_printable (cells_of line)
+unfolding is_printable row_is_printable
+line_printable line = sym (cells_printable line)

@@ -89,7 +89,7 @@ enough (suc n) (suc m) s text outside a b = next_enough n m (next_record default
     enough n m p.1 p.2 bounds.1 (omega arith) (omega arith))
 
 -- the rows from a place where a row begins are that row, and those after it
-rows_at : (s : State) (text : List ℕ) (p : Read) → ends_at_end s ≡ false → next_record default_config s [] [] text ≡ Some p
+pub rows_at : (s : State) (text : List ℕ) (p : Read) → ends_at_end s ≡ false → next_record default_config s [] [] text ≡ Some p
     → rows_from s (Some text) ≡ p.0 ∷ rows_from p.1 (Some p.2)
 unfolding rows_from records_from
 rows_at s text p outside e =
@@ -98,7 +98,7 @@ rows_at s text p outside e =
     rw (add-one, e) (ap (λ rows. p.0 ∷ rows) (enough (length text) (length p.2 + 1) p.1 p.2 bounds.1 shorter (omega arith)))
 
 -- where no row is, there are none
-rows_end : (s : State) (text : List ℕ) → next_record default_config s [] [] text ≡ None → rows_from s (Some text) ≡ []
+pub rows_end : (s : State) (text : List ℕ) → next_record default_config s [] [] text ≡ None → rows_from s (Some text) ≡ []
 unfolding rows_from records_from
 rows_end s text e = rw (add-one, e) refl
 

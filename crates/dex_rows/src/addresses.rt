@@ -1,4 +1,4 @@
-ghost use Rattle.std.specs.Prelude.{◌≡◌, ◌≤◌, length};
+ghost use Rattle.std.specs.Prelude.{◌≡◌, MatchOption, false, true};
 ghost use Rattle.std.specs.List.{list_all};
 ghost use Rattle.dex_types.specs.Text.{is_label, is_label_character, label_address};
 ghost use Rattle.dex_rows.specs.Addresses.{address_of, digits_address, is_lower_hexdigit, prefixed_address, role_of};
@@ -7,14 +7,13 @@ use dex_types::Address;
 use hex::FromHex;
 
 /// The address that a word names: a label's, or that of `0x` and 64 lower-case hexadecimal digits.
-#[tactic(auto, unfolding(crate::specs::Addresses::address_of), using(crate::proofs::AddressLemmas::label_fits))]
+#[tactic(auto, unfolding(crate::specs::Addresses::address_of))]
 pub fn address_word(text: &[u8]) -> Option<Address>
     ensures { result ≡ address_of text.now }
 {
-    if is_label_word(text) {
-        Some(address_of_label(text))
-    } else {
-        prefixed_address(text)
+    match label_word(text) {
+        Some(address) => Some(address),
+        None => prefixed_address(text),
     }
 }
 
@@ -58,14 +57,23 @@ fn is_lower_hexdigit(c: u8) -> bool
     c.is_ascii_digit() || (b'a' <= c && c <= b'f')
 }
 
-// The address of a label.
-fn address_of_label(label: &[u8]) -> Address
-    requires { length label.now ≤ 32 }
-    ensures { result ≡ label_address label.now }
+// The address of a word that is a label: one pass over its bytes.
+fn label_word(text: &[u8]) -> Option<Address>
+    ensures { MatchOption result (is_label text.now ≡ false)
+        (λ address. (is_label text.now ≡ true) × (address ≡ label_address text.now)) }
 {
+    if text.is_empty() || 24 < text.len() {
+        return None;
+    }
     let mut bytes = [0; 32];
-    bytes[..label.len()].copy_from_slice(label);
-    Address(bytes)
+    'label: for place in 0..text.len() {
+        let byte = text[place];
+        if !is_label_character(byte) {
+            return None;
+        }
+        bytes[place] = byte;
+    }
+    Some(Address(bytes))
 }
 
 // The address of `0x` and 64 hexadecimal digits in lower case. It is not inlined: a label needs nothing of it.

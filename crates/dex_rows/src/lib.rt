@@ -5,6 +5,8 @@
 
 pub mod addresses;
 pub mod base64_words;
+pub(crate) mod lines;
 pub mod numbers;
 pub mod printable;
+pub(crate) mod quoted;
 pub mod records;

@@ -2,7 +2,7 @@ ghost use Rattle.std.specs.Prelude.{◌≡◌, ◌<◌, ◌≤◌, ◌^◌, IfSo
 ghost use Rattle.std.specs.Char.{is_ascii_digit};
 ghost use Rattle.std.specs.List.{list_all};
 ghost use Rattle.std.specs.Str.Parse.{digits_value};
-ghost use Rattle.dex_rows.specs.Numbers.{is_numeral, number_of};
+ghost use Rattle.dex_rows.specs.Numbers.{is_bare, is_numeral, number_of};
 
 use std::str;
 
@@ -61,24 +61,36 @@ fn short_word(text: &[u8]) -> Option<u64>
     requires { length text.now ≤ 19 }
     ensures { result ≡ number_of (2 ^ 64) text.now }
 {
-    if is_numeral(text) {
-        Some(digits_value(text))
+    if is_bare(text) {
+        digits_value(text)
     } else {
         None
     }
 }
 
-// The number that at most 19 digits write.
-fn digits_value(digits: &[u8]) -> u64
-    requires few { length digits.now ≤ 19 }
-    requires digits { list_all is_ascii_digit digits.now ≡ true }
-    ensures { result ≡ digits_value 10 digits.now }
+// Whether a word is not empty and has no zero in front of other bytes.
+#[tactic(auto, unfolding(crate::specs::Numbers::is_bare))]
+fn is_bare(text: &[u8]) -> bool
+    ensures { result ≡ is_bare text.now }
+{
+    !text.is_empty() && (text.len() == 1 || text[0] != b'0')
+}
+
+// The number that at most 19 digits write, if they are digits: one pass over them.
+fn digits_value(digits: &[u8]) -> Option<u64>
+    requires { length digits.now ≤ 19 }
+    ensures { MatchOption result (list_all is_ascii_digit digits.now ≡ false)
+        (λ value. (list_all is_ascii_digit digits.now ≡ true) × (value ≡ digits_value 10 digits.now)) }
 {
     let mut value = 0;
     'digits: for place in 0..digits.len() {
-        value = value * 10 + u64::from(digits[place] - b'0');
+        let digit = digits[place].wrapping_sub(b'0');
+        if 9 < digit {
+            return None;
+        }
+        value = value * 10 + u64::from(digit);
     }
-    value
+    Some(value)
 }
 
 // The number below 2^64 that a word of any length writes.
@@ -96,11 +108,10 @@ pub fn u128_word(text: &[u8]) -> Option<u128>
 }
 
 // Whether a word is decimal digits with no zero in front of others.
-#[tactic(auto, unfolding(crate::specs::Numbers::is_numeral))]
 fn is_numeral(text: &[u8]) -> bool
     ensures { result ≡ is_numeral text.now }
 {
-    !text.is_empty() && all_digits(text) && (text.len() == 1 || text[0] != b'0')
+    is_bare(text) && all_digits(text)
 }
 
 // Whether each byte is a decimal digit.

@@ -3,7 +3,8 @@ ghost use Rattle.std.specs.List.{list_all};
 ghost use Rattle.csv.specs.Records.{fields_of};
 ghost use Rattle.dex_rows.specs.Printable.{IsPrintable, is_printable, is_printable_byte, row_is_printable};
 
-use crate::records::{field, field_count};
+use crate::quoted::field;
+use crate::records::{Fields, Row};
 use csv::ByteRecord;
 
 /// Whether each byte of a field is from 32 to 126.
@@ -34,9 +35,19 @@ fn is_printable_byte(byte: u8) -> bool
 }
 
 /// Whether each byte of each field of a row is from 32 to 126.
-pub fn row_is_printable(row: &ByteRecord) -> bool
-    ensures value { result ≡ row_is_printable (fields_of row.now) }
-    ensures every { IsTrue result ↔ All IsPrintable (fields_of row.now) }
+pub fn row_is_printable(row: &Fields<'_>) -> bool
+    ensures value { result ≡ row_is_printable row.now }
+    ensures every { IsTrue result ↔ All IsPrintable row.now }
+{
+    match &row.row {
+        Row::Plain(line) => is_printable(line.bytes),
+        Row::Quoted(record) => record_is_printable(record),
+    }
+}
+
+// Whether each byte of each field of a record is from 32 to 126.
+fn record_is_printable(row: &ByteRecord) -> bool
+    ensures { result ≡ row_is_printable (fields_of row.now) }
 {
     is_printable(row.as_slice()) || fields_are_printable(row)
 }
@@ -45,7 +56,7 @@ pub fn row_is_printable(row: &ByteRecord) -> bool
 fn fields_are_printable(row: &ByteRecord) -> bool
     ensures { result ≡ row_is_printable (fields_of row.now) }
 {
-    'fields: for place in 0..field_count(row) {
+    'fields: for place in 0..row.len() {
         if !is_printable(field(row, place)) {
             return false;
         }

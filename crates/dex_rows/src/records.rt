@@ -1,33 +1,65 @@
-ghost use Rattle.std.specs.Prelude.{◌≡◌, ◌<◌, [], ◌∷◌, IfOk, IsTrue, MatchOption, OnErr, false, length, slice_index_or};
-ghost use Rattle.csv.specs.Records.{fields_of};
-ghost use Rattle.dex_rows.specs.Records.{rows_of};
-ghost use Rattle.dex_rows.specs.RowReader.{GivesRows, rows_left};
+//! The rows of a text, and the fields of a row.
 
-use csv::{ByteRecord, Reader, ReaderBuilder};
+ghost use Rattle.std.specs.Prelude.{◌≡◌, ◌<◌, [], ◌∷◌, IfOk, MatchOption, OnErr, length, slice_index_or};
+ghost use Rattle.dex_rows.specs.Records.{rows_of};
+
+use crate::lines::{Line, next_line, without_mark};
+use crate::quoted::{self, QuotedRows};
+use csv::ByteRecord;
 use dex_types::NoMemory;
+use memchr::memchr;
 use std::alloc::Global;
 use std::marker::Model;
+
+/// The fields of a row. A contract sees them as a list.
+#[derive(Drop)]
+pub struct Fields<'a> {
+    pub(crate) row: Row<'a>,
+}
+
+/// Where the fields of a row stand: in the text, or without their quotes in a record.
+#[derive(Drop)]
+pub(crate) enum Row<'a> {
+    Plain(Line<'a>),
+    Quoted(ByteRecord),
+}
+
+impl<'a> Model for Fields<'a> {
+    ghost use Rattle.std.specs.Prelude.{List, ℕ};
+    ghost use Rattle.dex_rows.specs.Rows.{IsRow, fields_in};
+
+    ghost Value = { List (List ℕ) };
+
+    ghost view = { λ s. fields_in s.row };
+
+    ghost invariant = { λ s. IsRow s.row };
+}
 
 /// The rows of a text that are still to come, read one after the other. A contract sees it as the list of these rows.
 ///
 /// A row may have any number of fields, and no row is a header. A byte-order mark at the start is no part of the first
-/// field, and an empty text has no rows.
+/// field, and an empty text has no rows. A text without a quote is cut where it stands; any other is read by `csv`.
 #[derive(Drop)]
 pub struct Rows<'a> {
-    reader: Reader<&'a [u8]>,
-    is_over: bool,
-    alloc: Global,
+    source: Source<'a>,
+}
+
+// What is left of a text: bytes without a quote, or rows that `csv` reads.
+#[derive(Drop)]
+enum Source<'a> {
+    Plain(&'a [u8]),
+    Quoted(QuotedRows<'a>),
 }
 
 impl<'a> Model for Rows<'a> {
-    ghost use Rattle.std.specs.Prelude.{◌≡◌, List, ℕ, false};
-    ghost use Rattle.dex_rows.specs.RowReader.{rows_unless, GivesRows};
+    ghost use Rattle.std.specs.Prelude.{List, ℕ};
+    ghost use Rattle.dex_rows.specs.Rows.{IsSource, rows_behind};
 
     ghost Value = { List (List (List ℕ)) };
 
-    ghost view = { λ s. rows_unless s.is_over s.reader };
+    ghost view = { λ s. rows_behind s.source };
 
-    ghost invariant = { λ s. s.is_over ≡ false → GivesRows s.reader };
+    ghost invariant = { λ s. IsSource s.source };
 }
 
 impl<'a> Rows<'a> {
@@ -35,72 +67,54 @@ impl<'a> Rows<'a> {
     pub fn new(alloc: Global, text: &'a [u8]) -> Rows<'a>
         ensures { result ≡ rows_of text.now }
     {
-        let reader = ReaderBuilder::new()
-            .has_headers(false)
-            .flexible(true)
-            .from_reader(alloc, text);
-        Rows {
-            reader,
-            is_over: false,
-            alloc,
-        }
+        let source = match memchr(b'"', text) {
+            None => Source::Plain(without_mark(text)),
+            Some(_) => Source::Quoted(QuotedRows::new(alloc, text)),
+        };
+        Rows { source }
     }
 
     /// Takes the next row, if there is one. After a want of memory there are no more rows.
-    pub fn next_row(&mut self) -> Result<Option<ByteRecord>, NoMemory>
+    pub fn next_row(&mut self) -> Result<Option<Fields<'a>>, NoMemory>
         ensures next { IfOk result (λ next. MatchOption next (self.old ≡ [])
-            (λ row. self.old ≡ fields_of row ∷ self.new)) }
+            (λ row. self.old ≡ row ∷ self.new)) }
         ensures stopped { OnErr result (self.new ≡ []) }
     {
-        let mut row = ByteRecord::new(self.alloc);
-        if self.read_row(&mut row)? {
-            Ok(Some(row))
-        } else {
-            Ok(None)
+        match &mut self.source {
+            Source::Plain(rest) => match next_line(rest) {
+                None => Ok(None),
+                Some(line) => Ok(Some(Fields {
+                    row: Row::Plain(line),
+                })),
+            },
+            Source::Quoted(rows) => match rows.next_row()? {
+                None => Ok(None),
+                Some(record) => Ok(Some(Fields {
+                    row: Row::Quoted(record),
+                })),
+            },
         }
     }
-
-    /// Reads the next row over `row`, and answers whether there was one. After a want of memory there are no more rows.
-    pub fn read_row(&mut self, row: &mut ByteRecord) -> Result<bool, NoMemory>
-        ensures next { IfOk result (λ found. IsTrue found → self.old ≡ fields_of row.new ∷ self.new) }
-        ensures end { IfOk result (λ found. found ≡ false → self.old ≡ []) }
-        ensures stopped { OnErr result (self.new ≡ []) }
-    {
-        if self.is_over {
-            return Ok(false);
-        }
-        self.is_over = true;
-        let found = read_row(&mut self.reader, row)?;
-        self.is_over = !found;
-        Ok(found)
-    }
-}
-
-// Reads the next row, and answers whether there was one.
-fn read_row(reader: &mut Reader<&[u8]>, row: &mut ByteRecord) -> Result<bool, NoMemory>
-    requires { GivesRows reader.old }
-    ensures goes_on { IfOk result (λ found. IsTrue found → GivesRows reader.new) }
-    ensures row { IfOk result (λ found. IsTrue found
-        → rows_left reader.old ≡ fields_of row.new ∷ rows_left reader.new) }
-    ensures end { IfOk result (λ found. found ≡ false → rows_left reader.old ≡ []) }
-{
-    let Ok(found) = reader.read_byte_record(row) else {
-        return Err(NoMemory);
-    };
-    Ok(found)
 }
 
 /// How many fields a row has.
-pub fn field_count(row: &ByteRecord) -> usize
-    ensures { result ≡ length (fields_of row.now) }
+pub fn field_count(row: &Fields<'_>) -> usize
+    ensures { result ≡ length row.now }
 {
-    row.len()
+    match &row.row {
+        Row::Plain(line) => line.count,
+        Row::Quoted(record) => record.len(),
+    }
 }
 
-/// The bytes of the field at a place of a row, counted from 0.
-pub fn field(row: &ByteRecord, place: usize) -> &[u8]
-    requires { place < length (fields_of row.now) }
-    ensures { result.now ≡ slice_index_or (fields_of row.now) place [] }
+/// The bytes of the field at a place of a row, counted from 0, if it is one of the first twelve.
+pub fn field<'r>(row: &'r Fields<'_>, place: usize) -> &'r [u8]
+    requires among { place < length row.now }
+    requires kept { place < 12 }
+    ensures { result.now ≡ slice_index_or row.now place [] }
 {
-    row.get(place).unwrap()
+    match &row.row {
+        Row::Plain(line) => line.fields[place],
+        Row::Quoted(record) => quoted::field(record, place),
+    }
 }

@@ -11,7 +11,7 @@ use Rattle.dex_bank.specs.Closed as cells
 use Rattle.dex_journals.specs.StampedCalls.{calls_of_lane, entries_of_lane}
 use Rattle.dex_order.proofs.LastCells.{wallets-kept}
 use Rattle.dex_run.specs.Closing.{ClosesAs}
-use Rattle.dex_run.specs.Seats.{lane_in}
+use Rattle.dex_turns.specs.Seats.{lane_in}
 use Rattle.dex_run.proofs.ColumnLists.{All-across, AllThree-length, AllZip-last_of}
 
 length-range : (first count : ℕ) → length (range_with_len first count) ≡ count

@@ -4,6 +4,7 @@ use Rattle.dex_fold.proofs.Common.{All-cons, All-head, All-nil, All-tail, AllZip
 use Rattle.dex_replay.proofs.Common.{AllThree}
 use Rattle.dex_run.proofs.Common.{AreLonger, IsLonger}
 use Rattle.std.specs.List.{All}
+use Rattle.dex_fold.proofs.MappedLists.{AllZip-last, none-left}
 use Rattle.std.proofs.lemmas.List.{reverse-append}
 use Rattle.std.proofs.lemmas.Slice.Zip.{all_zipped_more}
 
@@ -13,29 +14,14 @@ none [] empty = refl
 none (x ∷ xs) empty = absurd (omega (arith, empty))
 
 module _ {A B : Type 0} (R : A → B → Type 0) where
-  none-left : (x : A) (xs : List A) → AllZip R (xs ++ x ∷ []) [] → ⊥
-  none-left x [] all = all
-  none-left x (y ∷ xs) all = all
-
-  none-right : (y : B) (ys : List B) → AllZip R [] (ys ++ y ∷ []) → ⊥
-  none-right y [] all = all
-  none-right y (z ∷ ys) all = all
-
-  -- the last of each, and those before
-  pub AllZip-last : (xs : List A) (ys : List B) (x : A) (y : B) → AllZip R (xs ++ x ∷ []) (ys ++ y ∷ []) → AllZip R xs ys × R x y
-  AllZip-last [] [] x y all = (tt, all.0)
-  AllZip-last [] (z ∷ ys) x y all = absurd (none-right y ys all.1)
-  AllZip-last (z ∷ xs) [] x y all = absurd (none-left x xs all.1)
-  AllZip-last (z ∷ xs) (w ∷ ys) x y all = let rest = AllZip-last xs ys x y all.1 in ((all.0, rest.0), rest.1)
-
   -- the same of lists that end so
   pub AllZip-ends : (all_xs xs : List A) (all_ys ys : List B) (x : A) (y : B) → AllZip R all_xs all_ys → all_xs ≡ xs ++ x ∷ [] → all_ys ≡ ys ++ y ∷ [] → AllZip R xs ys × R x y
   AllZip-ends all_xs xs all_ys ys x y all ends_x ends_y =
-      AllZip-last xs ys x y (subst (λ zs. AllZip R zs (ys ++ y ∷ [])) ends_x (subst (λ zs. AllZip R all_xs zs) ends_y all))
+      AllZip-last R xs ys x y (subst (λ zs. AllZip R zs (ys ++ y ∷ [])) ends_x (subst (λ zs. AllZip R all_xs zs) ends_y all))
 
   -- where the first ends with one, the second is not empty
   pub AllZip-not_empty : (xs front : List A) (ys : List B) (x : A) → AllZip R xs ys → xs ≡ front ++ x ∷ [] → ys ≡ [] → ⊥
-  AllZip-not_empty xs front ys x all ends empty = none-left x front (subst (λ zs. AllZip R (front ++ x ∷ []) zs) empty (subst (λ zs. AllZip R zs ys) ends all))
+  AllZip-not_empty xs front ys x all ends empty = none-left R x front (subst (λ zs. AllZip R (front ++ x ∷ []) zs) empty (subst (λ zs. AllZip R zs ys) ends all))
 
   pub AllZip-empty : (ys : List B) → AllZip R [] ys → ys ≡ []
   AllZip-empty [] all = refl

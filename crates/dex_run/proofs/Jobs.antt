@@ -3,7 +3,7 @@ use Rattle.std.proofs.Common.{◌≡◌, List, [], ◌∷◌, map, sym, subst}
 use Rattle.dex_fold.proofs.Common.{All-cons, All-head, All-nil, All-tail, AllZip, Row}
 use Rattle.dex_run.proofs.Common.{BankState, CanRun, HasRun, IsDone, IsJobOf, IsSeatOf, LaneJob, SeatState}
 use Rattle.std.specs.List.{All}
-use Rattle.dex_replay.proofs.MappedLists.{zip-map}
+use Rattle.dex_fold.proofs.MappedLists.{zip-map}
 use Rattle.dex_run.proofs.ColumnLists.{All-second}
 
 module _ {R P : Type 0} where

@@ -3,7 +3,7 @@ use Rattle.std.proofs.Common.{◌≡◌, ℕ, zero, suc, ◌+◌, ◌<◌, ◌�
 use Rattle.dex_fold.proofs.Common.{All-filter, All-map, get_or-map, length-map, PlainRow, Row, eq-eqb, filter-append, row_of, rows_of_lane, take_all, take_at, take_more}
 use Rattle.dex_replay.proofs.Common.{AreLegs, AreRows, PlainScript}
 use Rattle.std.specs.List.{All}
-use Rattle.dex_run.proofs.Taking.{same-get}
+use Rattle.dex_fold.proofs.MappedLists.{same-get}
 use Rattle.dex_run.proofs.Common.{AreNext, IsDone, IsNext, SeatState}
 use Rattle.std.proofs.lemmas.Bool.{cases_lt}
 use Rattle.std.proofs.lemmas.List.{append_assoc, drop_more, get_or-drop, take-append-drop, get_or-take, length-append, length-take-le, map-append}

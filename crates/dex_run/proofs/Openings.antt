@@ -1,22 +1,10 @@
 -- Lists of gates and of the passes for them.
 use Rattle.std.proofs.Common.{◌≡◌, ℕ, zero, suc, ◌+◌, ◌<◌, ◌≤◌, List, [], ◌∷◌, ◌++◌, length, get_or, set, map, take, refl, sym, ap, ◌∙◌, subst, arith, Some}
-use Rattle.dex_fold.proofs.Common.{All-cons, All-head, All-nil, All-tail, AllZip, PlainAccounts, PlainRow, take_more}
-use Rattle.dex_replay.proofs.Common.{IsRowOf, lanes_of}
+use Rattle.dex_fold.proofs.Common.{All-cons, All-nil, AllZip, take_more}
 use Rattle.dex_run.proofs.Common.{GateView, PassView, first_passes, fresh_pass, next_pass, passes_of, split_once}
 use Rattle.std.specs.List.{All}
 use Rattle.std.proofs.lemmas.List.{map-append}
 use Rattle.dex_gate.specs.PassView.{first_pass}
-
--- ---- lanes
-
-pub lanes_of-some : (rows : List PlainRow) → 1 ≤ lanes_of rows
-lanes_of-some [] = omega arith
-lanes_of-some (row ∷ rows) = omega (arith, lanes_of-some rows)
-
-pub lanes_of-few : (start : PlainAccounts) (rows : List PlainRow) → All (IsRowOf start) rows → lanes_of rows ≤ 16
-lanes_of-few start [] each = omega arith
-lanes_of-few start (row ∷ rows) each =
-    omega (arith, (All-head (IsRowOf start) row rows each).lane, lanes_of-few start rows (All-tail (IsRowOf start) row rows each))
 
 -- ---- two lists, place by place
 

@@ -6,8 +6,8 @@ use Rattle.dex_order.proofs.Common.{MarketOrigin, Stamped, WalletOrigin}
 use Rattle.dex_run.proofs.Common.{BankState, GateView, IsMarketGate, IsPass, IsSeatOf, IsWalletGate, PassView, SeatState, first_passes, fresh_pass, passes_of, seat_in}
 use Rattle.std.specs.List.{All}
 use Rattle.std.proofs.lemmas.List.FromFn.{map-range_with_len_more}
-use Rattle.dex_run.specs.Bank.{IsGate}
-use Rattle.dex_run.specs.Opened.{fresh_seat}
+use Rattle.dex_turns.specs.Bank.{IsGate}
+use Rattle.dex_turns.specs.Seats.{fresh_seat}
 use Rattle.dex_run.proofs.Openings.{all-mapped, firsts-last, firsts-some, passes-of_gates, zip-map, zip-unmap}
 
 -- ---- passes of a lane

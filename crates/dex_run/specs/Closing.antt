@@ -9,7 +9,7 @@ use Rattle.dex_gate.specs.PassView.{PassView}
 use Rattle.dex_history.specs.Journal.{Call}
 use Rattle.dex_report.specs.Outcomes.{PlainOutcome}
 use Rattle.dex_script.specs.Drafts.{PlainScript}
-use Rattle.dex_replay.specs.Lawful.{AllThree}
+use Rattle.dex_fold.specs.Lists.{AllThree}
 use Rattle.dex_wallet.specs.CellState.{CellState}
 use Rattle.dex_stamps.specs.Stamped.{Stamped}
 use Rattle.dex_journals.specs.Journals.{BankMarketState, IsBankMarket, MarketOrigin, market_calls, market_origin}
@@ -18,9 +18,9 @@ use Rattle.dex_journals.specs.StampedCalls.{calls_on, entries_on}
 use Rattle.dex_order.specs.Merged.{AreMerged, Histories, left}
 use Rattle.dex_run.specs.declared.closing.ClosingRoom.{ClosingRoom}
 use Rattle.dex_run.specs.declared.closing.GateRoom.{GateRoom}
-use Rattle.dex_run.specs.Bank.{BankState}
+use Rattle.dex_turns.specs.Bank.{BankState}
 use Rattle.dex_run.specs.Columns.{AreEmpty, IsClosed, IsRoom}
-use Rattle.dex_run.specs.Seats.{IsPass, SeatState, lane_in}
+use Rattle.dex_turns.specs.Seats.{IsPass, SeatState, lane_in}
 
 -- journals that hold for the lane of each of these seats just what it made, in its order, leave this
 pub record ClosesAs (script : PlainScript) (seats : List SeatState) (outcome : PlainOutcome) : Type 0 where

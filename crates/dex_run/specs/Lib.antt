@@ -1,11 +1,4 @@
-pub mod Bank
-pub mod Seats
-pub mod Submitted
-pub mod Inside
-pub mod Outline
 pub mod Columns
 pub mod Closing
 pub mod Opened
 pub mod Running
-pub mod Turns
-pub mod Legs

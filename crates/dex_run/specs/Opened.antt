@@ -1,15 +1,10 @@
 -- A bank's gates and the passes for them, when no row has acted.
 use Rattle.std.specs.Prelude.{ℕ, ◌+◌, List, [], Some, map}
-use Rattle.dex_types.specs.declared.movements.WalletEntry.{WalletEntry}
 use Rattle.dex_gate.specs.GateView.{GateView}
 use Rattle.dex_gate.specs.PassView.{PassView}
 use Rattle.dex_gate.specs.declared.stage.Stage.TheVariants.{Idle}
-use Rattle.dex_history.specs.Journal.{Call}
-use Rattle.dex_script.specs.Drafts.{PlainScript}
-use Rattle.dex_stamps.specs.Stamped.{Stamped}
-use Rattle.dex_journals.specs.Journals.{MarketOrigin, WalletOrigin}
-use Rattle.dex_run.specs.Bank.{BankState}
-use Rattle.dex_run.specs.Seats.{SeatState}
+use Rattle.dex_turns.specs.Bank.{BankState}
+use Rattle.dex_turns.specs.Seats.{SeatState, fresh_seat}
 
 -- a pass for a gate, of this number, that may hand out the numbers from the next one on, and has made nothing
 abbrev pub fresh_pass : {E O : Type 0} → ℕ → ℕ → GateView E O → PassView E O
@@ -34,12 +29,6 @@ first_passes next gates = map (λ gate. fresh_pass 0 next gate) gates
 -- the passes of one number for all gates, which have no number to hand out
 abbrev pub passes_of : {E O : Type 0} → ℕ → List (GateView E O) → List (PassView E O)
 passes_of number gates = map (λ gate. fresh_pass number gate.passes gate) gates
-
--- the seat of a lane with these passes, when no row has acted
-abbrev pub fresh_seat : ℕ → PlainScript → List (PassView (Stamped Call) MarketOrigin)
-    → List (PassView (Stamped WalletEntry) WalletOrigin) → SeatState
-fresh_seat lane script markets wallets =
-    record { lane = lane; script = script; calls = []; last = 0; markets = markets; wallets = wallets }
 
 -- the seat of a lane with which a bank is built, at this bank
 abbrev pub seat_in : BankState → ℕ → SeatState

@@ -4,8 +4,8 @@ use Rattle.dex_types.specs.declared.rows.Row.{Row}
 use Rattle.dex_types.specs.Rows.{row_of}
 use Rattle.dex_script.specs.Facts.{IsScript}
 use Rattle.dex_run.specs.declared.lane.LaneJob.{LaneJob}
-use Rattle.dex_run.specs.Bank.{BankState}
-use Rattle.dex_run.specs.Seats.{IsDone, IsSeatOf, SeatState}
+use Rattle.dex_turns.specs.Bank.{BankState}
+use Rattle.dex_turns.specs.Seats.{IsDone, IsSeatOf, SeatState}
 
 -- a seat of this bank of whose rows none has acted, and all rows of its script
 pub record CanRun (bank : BankState) (rows : List Row) (seat : SeatState) : Type 0 where

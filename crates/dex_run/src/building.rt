@@ -3,7 +3,6 @@
 ghost use Rattle.std.specs.Prelude.{◌≡◌, ◌<◌, ◌++◌, ◌∷◌, [], All, IfOk, OnOk, Some, map};
 ghost use Rattle.std.specs.List.{AllZip, range_with_len};
 ghost use Rattle.dex_types.specs.declared.movements.WalletEntry.{WalletEntry};
-ghost use Rattle.dex_types.specs.Accounts.{named_of};
 ghost use Rattle.dex_history.specs.Journal.{Call};
 ghost use Rattle.dex_cell.specs.CellState.{MarketCellState};
 ghost use Rattle.dex_gate.specs.GateView.{GateView};
@@ -12,22 +11,18 @@ ghost use Rattle.dex_stamps.specs.Stamped.{Stamped};
 ghost use Rattle.dex_wallet.specs.CellState as wallet;
 ghost use Rattle.dex_bank.specs.Opened.{opened, rows_naming, rows_on};
 ghost use Rattle.dex_journals.specs.Journals.{MarketOrigin, WalletOrigin};
-ghost use Rattle.dex_run.specs.Bank.{IsBank, IsMarketGate, IsWalletGate};
-ghost use Rattle.dex_run.specs.Opened.{first_passes, fresh_seat, seat_in, split_once};
-ghost use Rattle.dex_run.specs.Seats.{IsMarketPass, IsSeatOf, IsWalletPass, SeatState};
+ghost use Rattle.dex_turns.specs.Bank.{IsBank, IsMarketGate, IsWalletGate};
+ghost use Rattle.dex_run.specs.Opened.{first_passes, seat_in, split_once};
+ghost use Rattle.dex_turns.specs.Seats.{IsSeatOf, SeatState};
 
-use crate::bank::Bank;
-use crate::outline::Outline;
-use crate::seat::LaneSeat;
 use dex_bank::Cells;
 use dex_cell::MarketCell;
 use dex_gate::{Gate, Journaled, Pass};
 use dex_journals::{BankMarket, BankWallet};
 use dex_script::Script;
-use dex_stamps::Stamp;
-use dex_types::{Named, NoMemory};
+use dex_turns::{Bank, LaneSeat, Outline};
+use dex_types::NoMemory;
 use dex_wallet::WalletCell;
-use http_server::Log as CallLog;
 use std::alloc::Global;
 
 /// Adds an item behind the others.
@@ -157,32 +152,6 @@ fn split_all<V: Journaled>(
     Ok(given)
 }
 
-/// The seat of a lane, of whose rows none has acted.
-fn seat(
-    alloc: Global,
-    outline: &Outline,
-    lane: u32,
-    markets: Vec<Pass<BankMarket>>,
-    wallets: Vec<Pass<BankWallet>>,
-) -> Result<LaneSeat, NoMemory>
-    requires markets { AllZip (IsMarketPass lane []) outline.now.start.markets markets.items }
-    requires wallets { AllZip (IsWalletPass lane []) outline.now.start.wallets wallets.items }
-    ensures { IfOk result (λ seat. seat ≡ fresh_seat lane outline.now markets.items wallets.items) }
-{
-    let Ok(hands) = Vec::with_capacity(alloc, 4) else {
-        return Err(NoMemory);
-    };
-    Ok(LaneSeat {
-        lane,
-        markets,
-        wallets,
-        hands,
-        calls: CallLog::new(),
-        last: Stamp::first(),
-        script: outline.kept(),
-    })
-}
-
 /// The seats of all lanes.
 fn seats_of(
     alloc: Global,
@@ -204,12 +173,10 @@ fn seats_of(
     for lane in 1..outline.lanes() {
         let of_markets = split_all(alloc, markets, &mut market_passes)?;
         let of_wallets = split_all(alloc, wallets, &mut wallet_passes)?;
-        add(
-            &mut seats,
-            seat(alloc, outline, lane, of_markets, of_wallets)?,
-        )?;
+        let seat = LaneSeat::open(alloc, outline, lane, of_markets, of_wallets)?;
+        add(&mut seats, seat)?;
     }
-    let first = seat(alloc, outline, 0, market_passes, wallet_passes)?;
+    let first = LaneSeat::open(alloc, outline, 0, market_passes, wallet_passes)?;
     match seats.insert(0, first) {
         Ok(()) => Ok(seats),
         Err(_) => Err(NoMemory),
@@ -217,41 +184,6 @@ fn seats_of(
 }
 
 // ---- the bank
-
-/// The bank of these gates.
-fn bank_of(
-    outline: Outline,
-    mints: Vec<Named>,
-    markets: Vec<Gate<BankMarket>>,
-    wallets: Vec<Gate<BankWallet>>,
-) -> Bank
-    requires markets { AllZip (IsMarketGate outline) outline.start.markets markets.items }
-    requires wallets { AllZip (IsWalletGate outline) outline.start.wallets wallets.items }
-    requires mints { map named_of mints.items ≡ outline.start.mints }
-    ensures bank { result ≡ record { script = outline; markets = markets.items; wallets = wallets.items } }
-    ensures kept { IsBank result }
-{
-    let Outline {
-        lanes: _,
-        srm,
-        msrm,
-        program,
-        market_places,
-        wallet_places,
-        script,
-    } = outline;
-    Bank {
-        mints,
-        srm,
-        msrm,
-        program,
-        markets,
-        wallets,
-        market_places,
-        wallet_places,
-        script,
-    }
-}
 
 /// The bank of a script's cells, and one seat for each lane, by their numbers. The cells themselves go behind the gates.
 pub(crate) fn bank_over(
@@ -278,8 +210,7 @@ pub(crate) fn bank_over(
         market_passes,
         wallet_passes,
     )?;
-    let bank = bank_of(outline, mints, markets, wallets);
-    Ok((bank, seats))
+    Ok((Bank::of(outline, mints, markets, wallets), seats))
 }
 
 /// The bank of a script, and one seat for each lane, by their numbers. Asks memory.

@@ -6,15 +6,13 @@ ghost use Rattle.dex_report.specs.Outcomes.{PlainOutcome, outcome_of};
 ghost use Rattle.dex_script.specs.Drafts.{PlainScript};
 ghost use Rattle.dex_replay.specs.Runs.{IsOneOrder, IsRunOf};
 ghost use Rattle.dex_journals.specs.Journals.{BankMarketState, BankWalletState, IsBankMarket, IsBankWallet};
-ghost use Rattle.dex_run.specs.Bank.{IsBank};
+ghost use Rattle.dex_turns.specs.Bank.{IsBank};
 ghost use Rattle.dex_run.specs.Closing.{AreMarketsClosed, AreWalletsClosed, ClosesAs, HasGateRoom, HasRoom};
 ghost use Rattle.dex_run.specs.Closing.{MarketColumns, WalletColumns};
 ghost use Rattle.dex_run.specs.Columns.{AreEmpty, CanClose, IsRoom};
-ghost use Rattle.dex_run.specs.Seats.{IsDone, IsSeat, IsSeatOf, SeatState};
+ghost use Rattle.dex_turns.specs.Seats.{IsDone, IsSeat, IsSeatOf, SeatState};
 
-use crate::bank::Bank;
 use crate::columns::{append, closed_gates, columns_for, hand_out};
-use crate::seat::LaneSeat;
 use dex_bank::{Cells, Room};
 use dex_cell::MarketCell;
 use dex_gate::{Gate, Pass};
@@ -22,6 +20,7 @@ use dex_journals::{BankMarket, BankWallet};
 use dex_order::laws::what_lanes_leave_is_a_replay;
 use dex_replay::laws::what_one_order_leaves_is_a_run;
 use dex_report::Outcome;
+use dex_turns::{Bank, BankParts, LaneSeat};
 use dex_wallet::WalletCell;
 use std::alloc::Global;
 
@@ -77,24 +76,6 @@ fn closing_room(alloc: Global, markets: usize, wallets: usize, lanes: usize) -> 
 
 // ---- the passes of all seats
 
-/// The passes of a seat.
-fn passes_of(seat: LaneSeat) -> (Vec<Pass<BankMarket>>, Vec<Pass<BankWallet>>)
-    ensures markets { result.0.items ≡ seat.markets }
-    ensures wallets { result.1.items ≡ seat.wallets }
-    ensures kept { IsSeat seat }
-{
-    let LaneSeat {
-        lane: _,
-        markets,
-        wallets,
-        hands: _,
-        calls: _,
-        last: _,
-        script: _,
-    } = seat;
-    (markets, wallets)
-}
-
 /// Hands the passes of all seats out to the columns of their gates.
 fn hand_out_all(
     bank: &Bank,
@@ -111,7 +92,7 @@ fn hand_out_all(
     ensures kept { All IsSeat seats.items }
 {
     for seat in seats {
-        let (own, others) = passes_of(seat);
+        let (own, others) = seat.into_passes();
         hand_out(own, markets);
         hand_out(others, wallets);
     }
@@ -196,17 +177,14 @@ fn closed(bank: Bank, seats: Vec<LaneSeat>, room: ClosingRoom) -> Outcome
         left,
     } = room;
     hand_out_all(&bank, seats, &mut markets.columns, &mut wallets.columns);
-    let Bank {
+    let BankParts {
         mints,
         srm,
         msrm,
         program,
         markets: market_gates,
         wallets: wallet_gates,
-        market_places: _,
-        wallet_places: _,
-        script: _,
-    } = bank;
+    } = bank.into_parts();
     let market_cells = market_cells(market_gates, markets);
     let wallet_cells = wallet_cells(wallet_gates, wallets);
     Cells::of(mints, srm, msrm, market_cells, wallet_cells, program).close_into(left)
@@ -230,28 +208,27 @@ fn what_closes_is_a_run()
     what_one_order_leaves_is_a_run();
 }
 
-impl Bank {
-    /// Takes all seats back, by the numbers of their lanes, and gives what is left: where all their rows are done, the journals
-    /// hold just the calls of these seats. Where there is no memory for it, all come back untouched.
-    pub fn close(
-        self,
-        alloc: Global,
-        seats: Vec<LaneSeat>,
-    ) -> Result<Outcome, (Bank, Vec<LaneSeat>)>
-        requires seats { All (IsSeatOf self) seats.items }
-        requires lanes { map (λ seat. seat.lane) seats.items ≡ range_with_len 0 self.script.lanes }
-        ensures outcome { IfOk result (λ outcome. All IsDone seats.items
-            → ClosesAs self.script seats.items (outcome_of outcome)) }
-        ensures run { IfOk result (λ outcome. All IsDone seats.items → IsRunOf self.script (outcome_of outcome)) }
-        ensures one_order { IfOk result (λ outcome. All IsDone seats.items
-            → IsOneOrder self.script (outcome_of outcome)) }
-        ensures refused { IfErr result (λ back. (back.0 ≡ self) × (back.1.items ≡ seats.items)) }
-    {
-        what_closes_is_in_one_order();
-        what_closes_is_a_run();
-        match closing_room(alloc, self.markets.len(), self.wallets.len(), seats.len()) {
-            Some(room) => Ok(closed(self, seats, room)),
-            None => Err((self, seats)),
-        }
+/// Takes all seats back, by the numbers of their lanes, and gives what is left: where all their rows are done, the journals
+/// hold just the calls of these seats. Where there is no memory for it, all come back untouched.
+pub fn close(
+    alloc: Global,
+    bank: Bank,
+    seats: Vec<LaneSeat>,
+) -> Result<Outcome, (Bank, Vec<LaneSeat>)>
+    requires seats { All (IsSeatOf bank) seats.items }
+    requires lanes { map (λ seat. seat.lane) seats.items ≡ range_with_len 0 bank.script.lanes }
+    ensures outcome { IfOk result (λ outcome. All IsDone seats.items
+        → ClosesAs bank.script seats.items (outcome_of outcome)) }
+    ensures run { IfOk result (λ outcome. All IsDone seats.items → IsRunOf bank.script (outcome_of outcome)) }
+    ensures one_order { IfOk result (λ outcome. All IsDone seats.items
+        → IsOneOrder bank.script (outcome_of outcome)) }
+    ensures refused { IfErr result (λ back. (back.0 ≡ bank) × (back.1.items ≡ seats.items)) }
+{
+    what_closes_is_in_one_order();
+    what_closes_is_a_run();
+    let (markets, wallets) = bank.counts();
+    match closing_room(alloc, markets, wallets, seats.len()) {
+        Some(room) => Ok(closed(bank, seats, room)),
+        None => Err((bank, seats)),
     }
 }

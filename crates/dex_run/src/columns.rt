@@ -1,8 +1,8 @@
 //! Passes by the gates that they are of.
 
-ghost use Rattle.std.specs.Prelude.{◌≡◌, ◌<◌, ◌≤◌, [], All, IfSome, Vec as VecOf, length, vec_capacity, vec_len};
+ghost use Rattle.std.specs.Prelude.{◌≡◌, ◌<◌, ◌≤◌, [], All, IfSome, length, vec_capacity, vec_len};
 ghost use Rattle.std.specs.List.{AllZip};
-ghost use Rattle.dex_replay.specs.Lawful.{AllThree};
+ghost use Rattle.dex_fold.specs.Lists.{AllThree};
 ghost use Rattle.dex_run.specs.Columns.{AreEmpty, AreLonger, CanClose, IsClosed, IsLonger};
 
 use dex_gate::{Gate, Journaled, Pass};

@@ -4,14 +4,13 @@ ghost use Rattle.std.specs.Prelude.{◌≡◌, ◌+◌, ◌∷◌, [], length};
 ghost use Rattle.dex_types.specs.Rows.{row_of};
 ghost use Rattle.dex_fold.specs.Items.{rows_of_lane};
 ghost use Rattle.dex_run.specs.Running.{CanRun, HasRun};
-ghost use Rattle.dex_run.specs.Seats.{IsSeatOf};
-ghost use Rattle.dex_run.specs.Submitted.{AreNext, IsNext};
+ghost use Rattle.dex_turns.specs.Seats.{IsSeatOf};
+ghost use Rattle.dex_turns.specs.Submitted.{AreNext, IsNext};
 
-use crate::bank::Bank;
-use crate::seat::LaneSeat;
 use dex_io::Pace;
 use dex_lanes::Job;
 use dex_replay::is_swap;
+use dex_turns::{Bank, LaneSeat};
 use dex_types::Row;
 use std::sync::Wait;
 
@@ -25,7 +24,7 @@ fn submit_own<R: Wait, P: Pace>(rt: &R, bank: &Bank, seat: &mut LaneSeat, row: &
     ensures calls { length seat.new.calls
         ≡ length seat.old.calls + length (rows_of_lane seat.old.lane (row_of row.entry.now ∷ [])) }
 {
-    if row.lane == seat.lane {
+    if row.lane == seat.lane() {
         bank.submit(rt, seat, row, pace);
     }
 }
@@ -48,7 +47,7 @@ fn submit_both<R: Wait, P: Pace>(
     ensures calls { length seat.new.calls ≡ length seat.old.calls
         + length (rows_of_lane seat.old.lane (row_of first.entry.now ∷ row_of second.entry.now ∷ [])) }
 {
-    if first.lane == seat.lane {
+    if first.lane == seat.lane() {
         bank.submit_two(rt, seat, first, second, pace);
     }
 }

@@ -1,21 +1,20 @@
 //! All lanes of a script at once.
 
-ghost use Rattle.std.specs.Prelude.{◌≡◌, ◌<◌, ◌≤◌, ◌++◌, ◌∷◌, [], All, IfOk, OnOk, length, map, vec_capacity, vec_len};
+ghost use Rattle.std.specs.Prelude.{◌≡◌, ◌<◌, ◌≤◌, [], All, IfOk, map, vec_capacity, vec_len};
 ghost use Rattle.std.specs.List.{AllZip};
 ghost use Rattle.dex_report.specs.Outcomes.{outcome_of};
 ghost use Rattle.dex_replay.specs.Runs.{IsOneOrder, IsRunOf};
 ghost use Rattle.dex_run.specs.Running.{CanRun, HasRun, IsJobOf};
 
-use crate::bank::Bank;
 use crate::building::bank_over;
+use crate::closing::close;
 use crate::lane::LaneJob;
-use crate::outline::Outline;
-use crate::seat::LaneSeat;
 use dex_bank::Cells;
 use dex_io::Pace;
 use dex_lanes::run_jobs;
 use dex_report::Outcome;
 use dex_script::Script;
+use dex_turns::{Bank, LaneSeat, Outline};
 use dex_types::{NoMemory, Row};
 use std::alloc::Global;
 use std::marker::Sync;
@@ -106,7 +105,7 @@ pub fn run<R: Threads + Wait + Sync, P: Pace + Sync>(
     let (cells, rows) = Cells::of_script(alloc, script)?;
     let (bank, seats) = bank_over(alloc, outline, cells)?;
     let seats = run_all(rt, alloc, &bank, seats, &rows, pace)?;
-    match bank.close(alloc, seats) {
+    match close(alloc, bank, seats) {
         Ok(outcome) => Ok(outcome),
         Err(_) => Err(NoMemory),
     }

@@ -22,7 +22,7 @@ use Rattle.dex_script.specs.Known.{has_account, is_any_among, made_addresses, mi
 use Rattle.dex_script.specs.Facts.{HasNoSwap}
 use Rattle.dex_script.specs.Rows.{checked_name, exceeds_market, exceeds_row, instruction_row, is_full, is_unknown, set_of, with_instruction, with_item, with_known, with_market, with_mint, with_msrm, with_orders_row, with_program, with_row, with_srm, with_statement, with_wallet}
 use Rattle.dex_script.specs.Scripts.{AnswersBy, Reads, Refusal, begins_with_dump, behind, draft_after, fault_in, script_from, unless_found}
-use Rattle.dex_script.proofs.FaultLaws.{bind-ok, no-error, ok-same}
+use Rattle.dex_script.proofs.FaultLaws.{bind-ok, differ, no-error, ok-same}
 use Rattle.dex_script.proofs.ItemRows.{IsSwapRow, first_leg, instruction-row, second_leg, swap-row}
 use Rattle.dex_script.proofs.KeptLaws.{Kept, kept-clock, kept-market, kept-mint, kept-msrm, kept-orders, kept-program, kept-srm, kept-wallet}
 use Rattle.dex_script.proofs.OrderLaws.{fault-ok, last_script}
@@ -209,9 +209,6 @@ no-swap-before number before last (fields ∷ rows) is none =
 -- the script is for batches, or has no swap in the end
 abbrev IsQuiet : PlainDraft → PlainDraft → Type 0
 IsQuiet before last = (before.batch ≡ true) ⊎ HasNoSwap last.script.rows
-
-differ : true ≡ false → ⊥
-differ e = cc
 
 by-rows : (b : Bool) (number : ℕ) (before last : PlainDraft) (rows : List Fields) → IsQuiet before last → draft_after before number rows ≡ Ok last
     → draft_after (other_use b before) number rows ≡ Ok (other_use b last)

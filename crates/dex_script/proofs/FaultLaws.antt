@@ -9,6 +9,9 @@ ok-same x y is = cc
 pub no-error : {A E : Type 0} (e : E) (x : A) → Err e ≡ Ok x → ⊥
 no-error e x is = cc
 
+pub differ : true ≡ false → ⊥
+differ e = cc
+
 pub bind-ok : {A B E : Type 0} (r : Result A E) (next : A → Result B E) (y : B) → (r >>= next) ≡ Ok y
     → (x : A) × (r ≡ Ok x) × (next x ≡ Ok y)
 bind-ok (Ok x) next y is = (x, refl, is)
@@ -25,7 +28,4 @@ found-ok None kind x is = absurd (no-error kind x is)
 
 pub or-none : (a b : Bool) → a || b ≡ false → (a ≡ false) × (b ≡ false)
 or-none true b is = absurd (differ is)
-  where
-    differ : true ≡ false → ⊥
-    differ e = cc
 or-none false b is = (refl, is)

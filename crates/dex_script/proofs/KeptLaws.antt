@@ -1,15 +1,25 @@
 -- What rows that are no instructions leave.
-use Rattle.std.proofs.Common.{◌≡◌, ◌∙◌, ℕ, ℤ, true, false, not, List, Result, Ok, refl, subst, sym}
+use Rattle.std.proofs.Common.{◌≡◌, ◌∙◌, ◌∷◌, [], ℕ, ℤ, Bool, true, false, not, List, Result, Ok, arith, length-append, refl, subst, sym}
 use Rattle.dex_types.specs.declared.addresses.Address.{Address}
 use Rattle.dex_types.specs.declared.terms.Program.{Program}
-use Rattle.dex_types.specs.Accounts.{PlainAccounts}
+use Rattle.dex_types.specs.declared.rows.RowPlaces.{RowPlaces}
+use Rattle.dex_types.specs.Accounts.{PlainAccount, PlainAccounts}
+use Rattle.dex_types.specs.Rows.{PlainRow}
+use Rattle.dex_make.specs.Blanks.{blank_account}
+use Rattle.dex_make.specs.MarketBytes.{made_accounts}
+use Rattle.dex_make.specs.TokenBytes.{wallet_bytes}
 use Rattle.dex_statement.specs.declared.faults.FaultKind.{FaultKind}
 use Rattle.dex_statement.specs.declared.faults.FaultKind.TheVariants.{SetupRefused}
 use Rattle.dex_statement.specs.declared.faults.SetupCode.TheVariants as code
+use Rattle.dex_statement.specs.declared.statement.Statement.{Statement}
+use Rattle.dex_statement.specs.declared.statement.Statement.TheVariants as row
 use Rattle.dex_statement.specs.Stated.{PlainMarketWords}
 use Rattle.dex_script.specs.Drafts.{PlainDraft}
-use Rattle.dex_script.specs.Rows.{with_clock, with_market, with_mint, with_msrm, with_orders_row, with_program, with_srm, with_wallet}
-use Rattle.dex_script.proofs.FaultLaws.{ok-same, unless-ok}
+use Rattle.dex_script.specs.Names.{AreFew, IsReading}
+use Rattle.dex_script.specs.Places.{ArePlaced}
+use Rattle.dex_script.specs.Rows.{IsSetup, with_clock, with_market, with_mint, with_msrm, with_orders_row, with_program, with_srm, with_statement, with_wallet}
+use Rattle.dex_script.proofs.FaultLaws.{differ, ok-same, unless-ok}
+use Rattle.dex_script.proofs.StartOrders.{length-grown}
 use Rattle.dex_script.proofs.RowParts.{Declares, market-row, mint-row, msrm-row, orders-row, srm-row, wallet-row}
 
 -- the instruction rows stay, and so do the accounts where setup rows come too late
@@ -20,14 +30,13 @@ pub record Kept (before after : PlainDraft) : Type 0 where
   pub batch : after.batch ≡ before.batch
   pub late : after.is_late ≡ before.is_late
   pub start : before.is_late ≡ true → after.script.start ≡ before.script.start
+  pub few : AreFew before.script.start → AreFew after.script.start
 
-differ : true ≡ false → ⊥
-differ e = cc
-
-declared : (draft : PlainDraft) (new : List Address) (start : PlainAccounts) (after : PlainDraft) → Declares draft new start after → Kept draft after
-declared draft new start after row =
+declared : (draft : PlainDraft) (new : List Address) (start : PlainAccounts) (after : PlainDraft) → Declares draft new start after
+    → (AreFew draft.script.start → AreFew start) → Kept draft after
+declared draft new start after row few =
     subst (Kept draft) row.leaves
-    (record { rows = refl; lanes = refl; items = refl; batch = refl; late = refl; start = λ late. absurd (differ (sym late ∙ row.early)) })
+    (record { rows = refl; lanes = refl; items = refl; batch = refl; late = refl; start = λ late. absurd (differ (sym late ∙ row.early)); few = few })
 
 module _ (draft : PlainDraft) (after : PlainDraft) where
   -- a row that chooses the program or sets the clock leaves the accounts, and what is taken
@@ -42,25 +51,78 @@ module _ (draft : PlainDraft) (after : PlainDraft) where
   clock-row now is = ok-same (with_clock draft now) after is
 
   pub kept-program : (program : Program) → with_program draft program ≡ Ok after → Kept draft after
-  kept-program program is = subst (Kept draft) (program-row program is) (record { rows = refl; lanes = refl; items = refl; batch = refl; late = refl; start = λ late. refl })
+  kept-program program is = subst (Kept draft) (program-row program is) (record { rows = refl; lanes = refl; items = refl; batch = refl; late = refl; start = λ late. refl; few = λ few. few })
 
   pub kept-clock : (now : ℤ) → ◌≡◌ {A = Result PlainDraft FaultKind} (Ok (with_clock draft now)) (Ok after) → Kept draft after
-  kept-clock now is = subst (Kept draft) (clock-row now is) (record { rows = refl; lanes = refl; items = refl; batch = refl; late = refl; start = λ late. refl })
+  kept-clock now is = subst (Kept draft) (clock-row now is) (record { rows = refl; lanes = refl; items = refl; batch = refl; late = refl; start = λ late. refl; few = λ few. few })
 
   pub kept-mint : (address : Address) (decimals : ℕ) → with_mint draft address decimals ≡ Ok after → Kept draft after
-  kept-mint address decimals is = declared draft _ _ after (mint-row draft after address decimals is).declares
+  kept-mint address decimals is = declared draft _ _ after (mint-row draft after address decimals is).declares (λ few. record { markets = few.markets; wallets = few.wallets })
 
   pub kept-srm : (mint : Address) → with_srm draft mint ≡ Ok after → Kept draft after
-  kept-srm mint is = declared draft _ _ after (srm-row draft after mint is).1
+  kept-srm mint is = declared draft _ _ after (srm-row draft after mint is).1 (λ few. record { markets = few.markets; wallets = few.wallets })
 
   pub kept-msrm : (mint : Address) → with_msrm draft mint ≡ Ok after → Kept draft after
-  kept-msrm mint is = declared draft _ _ after (msrm-row draft after mint is).1
+  kept-msrm mint is = declared draft _ _ after (msrm-row draft after mint is).1 (λ few. record { markets = few.markets; wallets = few.wallets })
 
   pub kept-wallet : (address mint owner : Address) (amount : ℕ) → with_wallet draft address mint owner amount ≡ Ok after → Kept draft after
-  kept-wallet address mint owner amount is = declared draft _ _ after (wallet-row draft after address mint owner amount is).declares
+  kept-wallet address mint owner amount is =
+      let row = wallet-row draft after address mint owner amount is in
+      let wallet : PlainAccount = record { address = address; bytes = wallet_bytes mint owner amount } in
+      declared draft _ _ after row.declares
+      (λ few. record { markets = few.markets; wallets = omega (arith, length-append draft.script.start.wallets (wallet ∷ []), row.few) })
 
   pub kept-market : (words : PlainMarketWords) → with_market draft words ≡ Ok after → Kept draft after
-  kept-market words is = declared draft _ _ after (market-row draft after words is).declares
+  kept-market words is =
+      let row = market-row draft after words is in
+      declared draft _ _ after row.declares
+      (λ few. record { markets = omega (arith, length-append draft.script.start.markets (made_accounts row.set ∷ []), row.few); wallets = few.wallets })
 
   pub kept-orders : (market address : Address) → with_orders_row draft market address ≡ Ok after → Kept draft after
-  kept-orders market address is = declared draft _ _ after (orders-row draft after market address is).declares
+  kept-orders market address is =
+      declared draft _ _ after (orders-row draft after market address is).declares
+      (λ few. record {
+        markets = omega (arith, few.markets, length-grown market (blank_account address) draft.script.start.markets);
+        wallets = few.wallets;
+      })
+
+-- a row that declares accounts or chooses the program
+pub kept-setup : (number : ℕ) (before after : PlainDraft) (statement : Statement) → IsSetup statement
+    → with_statement before number statement ≡ Ok after → Kept before after
+kept-setup number before after (row.Program program) setup is = kept-program before after program is
+kept-setup number before after (row.Clock now) setup is = absurd setup
+kept-setup number before after (row.Mint address decimals) setup is = kept-mint before after address decimals is
+kept-setup number before after (row.Srm mint) setup is = kept-srm before after mint is
+kept-setup number before after (row.Msrm mint) setup is = kept-msrm before after mint is
+kept-setup number before after (row.Wallet address mint owner amount) setup is = kept-wallet before after address mint owner amount is
+kept-setup number before after (row.Market words) setup is = kept-market before after words is
+kept-setup number before after (row.Orders market address) setup is = kept-orders before after market address is
+kept-setup number before after (row.Instruction words) setup is = absurd setup
+kept-setup number before after (row.Swap words) setup is = absurd setup
+
+-- ---- what a reader knows stays
+
+-- no rows are placed among any accounts
+none-placed : (start : PlainAccounts) (rows : List PlainRow) (places : List RowPlaces) (other : PlainAccounts) → rows ≡ [] → ArePlaced start rows places
+    → ArePlaced other rows places
+none-placed start [] [] other none are = tt
+none-placed start [] (place ∷ places) other none are = absurd are
+none-placed start (row ∷ rows) places other none are = absurd (some row rows none)
+  where
+    some : (row : PlainRow) (rows : List PlainRow) → ◌≡◌ {A = List PlainRow} (row ∷ rows) [] → ⊥
+    some row rows is = cc
+
+pub kept-reading : (before after : PlainDraft) (places : List RowPlaces) → Kept before after → IsReading before places → IsReading after places
+kept-reading before after places kept reading = record {
+  placed = placed_now before.is_late refl;
+  quiet = λ early. kept.rows ∙ reading.quiet (sym kept.late ∙ early);
+  few = kept.few reading.few;
+}
+  where
+    placed_now : (late : Bool) → before.is_late ≡ late → ArePlaced after.script.start after.script.rows places
+    placed_now true is =
+        subst (λ (start : PlainAccounts). ArePlaced start after.script.rows places) (sym (kept.start is))
+        (subst (λ (rows : List PlainRow). ArePlaced before.script.start rows places) (sym kept.rows) reading.placed)
+    placed_now false is =
+        subst (λ (rows : List PlainRow). ArePlaced after.script.start rows places) (sym kept.rows)
+        (none-placed before.script.start before.script.rows places after.script.start (reading.quiet is) reading.placed)

@@ -13,6 +13,7 @@ use Rattle.dex_fold.proofs.NameLaws.{names-roles}
 use Rattle.dex_statement.specs.Stated.{PlainInstruction, PlainLeg, leg_words}
 use Rattle.dex_script.specs.Facts.{AreLegs, IsLeg}
 use Rattle.dex_script.specs.Rows.{instruction_row, is_bad_swap, is_named_among, is_named_twice, is_no_leg, is_one_wallet}
+use Rattle.dex_script.proofs.FaultLaws.{differ}
 
 -- ---- wallets
 
@@ -26,9 +27,6 @@ among-two : (role one other : Option Address) → is_named_among role (one ∷ o
 among-two role one other none =
     let a = or_parts (is_one_wallet role one) (is_one_wallet role other || false) none in
     (a.0, (or_parts (is_one_wallet role other) false a.1).0)
-
-differ : true ≡ false → ⊥
-differ e = cc
 
 module _ (number : ℕ) (now : ℤ) (lane : ℕ) (signer : Address) (first second : PlainLeg) where
   abbrev one : PlainInstruction

@@ -1,6 +1,7 @@
 pub mod FirstLaws
 pub mod MintLaws
 pub mod MarketLaws
+pub mod PlacedLaws
 pub mod NameLaws
 pub mod ScriptLaws
 pub mod FaultLaws
@@ -22,3 +23,4 @@ pub mod StartOrders
 pub mod StartRows
 pub mod Roles
 pub mod StartLaws
+pub mod Apart

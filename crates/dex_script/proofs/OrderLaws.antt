@@ -24,7 +24,7 @@ use Rattle.dex_script.specs.Facts.{AreLegs, AreRows, HasNoSwap, IsRowOf, lanes_o
 use Rattle.dex_script.specs.Known.{has_market, is_known_role}
 use Rattle.dex_script.specs.Rows.{exceeds_row, instruction_row, is_full, is_unknown, with_instruction, with_item, with_row, with_statement, with_swap}
 use Rattle.dex_script.specs.Scripts.{AnswersBy, Reads, Refusal, begins_with_dump, behind, draft_after, fault_in, script_from, unless_found}
-use Rattle.dex_script.proofs.FaultLaws.{bind-ok, no-error, ok-same, or-none}
+use Rattle.dex_script.proofs.FaultLaws.{bind-ok, differ, no-error, ok-same, or-none}
 use Rattle.dex_script.proofs.ItemRows.{IsOneRow, IsSwapRow, first_leg, instruction-row, second_leg, swap-row}
 use Rattle.dex_script.proofs.KeptLaws.{Kept, kept-clock, kept-market, kept-mint, kept-msrm, kept-orders, kept-program, kept-srm, kept-wallet}
 use Rattle.dex_script.proofs.LegLaws.{are-legs}
@@ -71,9 +71,6 @@ known-row start number draft words known within =
       named = ltb-false 16 (length words.parties.named) g.1;
       bytes = ltb-false 256 (length words.bytes) f.1;
     }
-
-differ : true ≡ false → ⊥
-differ e = cc
 
 in-order : (script : PlainScript) → AreRows script → AreInOrder script.start script.rows
 in-order script are = record { each = are.each; rising = are.rising; legs = are.legs; two = are.two }

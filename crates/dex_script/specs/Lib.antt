@@ -5,8 +5,10 @@ pub mod Known
 pub mod Markets
 pub mod Mints
 pub mod Names
+pub mod Places
 pub mod Rows
 pub mod ScriptInside
 pub mod Scripts
 pub mod Sight
+pub mod Starts
 pub mod Telling

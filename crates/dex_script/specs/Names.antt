@@ -1,25 +1,60 @@
--- The addresses of markets and wallets, kept for look-ups.
-use Rattle.std.specs.Prelude.{◌≡◌, Bool, true, not, ◌||◌, List, Option, Some, None}
+-- The places of markets and wallets, kept for look-ups.
+use Rattle.std.specs.Prelude.{◌≡◌, ℕ, ◌≤◌, false, List, [], Option, Some, None, length}
+use Rattle.std.specs.HashMap as hash
 use Rattle.dex_types.specs.declared.addresses.Address.{Address}
+use Rattle.dex_types.specs.declared.rows.RowPlaces.{RowPlaces}
 use Rattle.dex_types.specs.Accounts.{PlainAccounts}
-use Rattle.dex_dump.specs.Reading.{is_among}
+use Rattle.dex_types.specs.Addresses.{is_same}
 use Rattle.dex_statement.specs.Stated.{PlainParties}
 use Rattle.dex_script.specs.declared.names.Names.{Names}
-use Rattle.dex_script.specs.Known.{has_account, has_market}
+use Rattle.dex_script.specs.Drafts.{PlainDraft}
+use Rattle.dex_script.specs.Places.{ArePlaced, IsRolePlaced, market_place, wallet_place}
 
 -- they are those of these accounts
 pub record AreNames (names : Names) (start : PlainAccounts) : Type 0 where
-  pub markets : (address : Address) → is_among address names.markets.keys ≡ has_market address start.markets
-  pub wallets : (address : Address) → is_among address names.wallets.keys ≡ has_account address start.wallets
+  pub markets : (address : Address) → hash.get is_same names.markets address ≡ market_place address start.markets
+  pub wallets : (address : Address) → hash.get is_same names.wallets address ≡ wallet_place address start.wallets
 
--- a role names no wallet, or one of these
-abbrev pub holds_role : List Address → Option Address → Bool
-holds_role addresses None = true
-holds_role addresses (Some address) = is_among address addresses
+-- where the wallet of a role stands, if it is found; 0 for a role that names none
+abbrev pub role_place : (Address → Option ℕ) → Option Address → Option ℕ
+role_place find None = Some 0
+role_place find (Some address) = find address
 
--- an instruction row names a market or a wallet that is none of these
-abbrev pub is_unknown_to : Names → PlainParties → Bool
-is_unknown_to names parties =
-    not (is_among parties.market names.markets.keys) || not (holds_role names.wallets.keys parties.coin)
-    || not (holds_role names.wallets.keys parties.pc) || not (holds_role names.wallets.keys parties.discount)
-    || not (holds_role names.wallets.keys parties.referrer)
+-- all five places, if all are found
+abbrev pub all_places : Option ℕ → Option ℕ → Option ℕ → Option ℕ → Option ℕ → Option RowPlaces
+all_places (Some market) (Some coin) (Some pc) (Some discount) (Some referrer) =
+    Some (record { market = market; coin = coin; pc = pc; discount = discount; referrer = referrer })
+all_places _ _ _ _ _ = None
+
+-- where the market and the wallets that an instruction row names are found, if all are
+abbrev pub places_by : (Address → Option ℕ) → (Address → Option ℕ) → PlainParties → Option RowPlaces
+places_by market wallet parties =
+    all_places (market parties.market) (role_place wallet parties.coin) (role_place wallet parties.pc)
+    (role_place wallet parties.discount) (role_place wallet parties.referrer)
+
+-- by the names
+abbrev pub places_in : Names → PlainParties → Option RowPlaces
+places_in names parties = places_by (hash.get is_same names.markets) (hash.get is_same names.wallets) parties
+
+-- among the accounts
+abbrev pub places_of : PlainAccounts → PlainParties → Option RowPlaces
+places_of start parties = places_by (λ address. market_place address start.markets) (λ address. wallet_place address start.wallets) parties
+
+-- the market and the wallets that an instruction row names stand at these places
+pub record StandAt (start : PlainAccounts) (parties : PlainParties) (places : RowPlaces) : Type 0 where
+  pub market : market_place parties.market start.markets ≡ Some places.market
+  pub coin : IsRolePlaced start.wallets parties.coin places.coin
+  pub pc : IsRolePlaced start.wallets parties.pc places.pc
+  pub discount : IsRolePlaced start.wallets parties.discount places.discount
+  pub referrer : IsRolePlaced start.wallets parties.referrer places.referrer
+
+-- so few that a place is a number of 16 bits
+pub record AreFew (start : PlainAccounts) : Type 0 where
+  pub markets : length start.markets ≤ 16
+  pub wallets : length start.wallets ≤ 256
+
+-- what a reader knows: each row has its places, and none was read where setup rows do not come too late
+pub record IsReading (draft : PlainDraft) (places : List RowPlaces) : Type 0 where
+  pub placed : ArePlaced draft.script.start draft.script.rows places
+  pub quiet : draft.is_late ≡ false → draft.script.rows ≡ []
+  pub few : AreFew draft.script.start

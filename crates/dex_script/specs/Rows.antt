@@ -182,6 +182,10 @@ with_item draft rows lane = record draft {
   items = draft.items + 1;
 }
 
+-- the draft with one more row
+abbrev pub with_one : PlainDraft → PlainRow → PlainDraft
+with_one draft row = record draft { script = record draft.script { rows = draft.script.rows ++ row ∷ [] } }
+
 -- an instruction row of known names, with the clock of the last `clock` row before it
 unfoldable pub with_known : PlainDraft → ℕ → PlainInstruction → Result PlainDraft FaultKind
 with_known draft number words =
@@ -233,6 +237,13 @@ with_swap draft number words =
     let start = draft.script.start in
     unless (is_unknown start first.parties) UnknownLabel
     (unless (is_unknown start second.parties) UnknownLabel (with_legs draft number first second))
+
+-- a row declares accounts, or chooses the program
+abbrev pub IsSetup : Statement → Type 0
+IsSetup (row.Clock now) = ⊥
+IsSetup (row.Instruction words) = ⊥
+IsSetup (row.Swap words) = ⊥
+IsSetup _ = Unit {0}
 
 -- the script with what a row of this number states
 abbrev pub with_statement : PlainDraft → ℕ → Statement → Result PlainDraft FaultKind

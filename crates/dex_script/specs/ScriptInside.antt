@@ -5,6 +5,7 @@ use Rattle.dex_types.specs.Rows.{row_of}
 use Rattle.dex_script.specs.declared.script.Script.TheInside.{Inside}
 use Rattle.dex_script.specs.Drafts.{PlainScript}
 use Rattle.dex_script.specs.Facts.{IsScript}
+use Rattle.dex_script.specs.Places.{ArePlaced}
 
 -- the script that the fields are
 abbrev pub script_inside : Inside → PlainScript
@@ -15,6 +16,7 @@ script_inside inside = record {
   program = inside.program;
 }
 
--- what holds of every script (`IsScript`) holds of the fields
+-- what holds of every script (`IsScript`) holds of the fields, and each row has its places beside it
 abbrev pub IsKept : Inside → Type 0
-IsKept inside = IsScript (script_inside inside)
+IsKept inside =
+    IsScript (script_inside inside) × ArePlaced (accounts_of inside.start) (map row_of inside.rows.items) inside.places.items

@@ -1,16 +1,18 @@
 //! A script as far as it is read.
 
-ghost use Rattle.std.specs.Prelude.{◌≡◌, IfOk};
+ghost use Rattle.std.specs.Prelude.{◌≡◌, IfOk, map};
 ghost use Rattle.dex_types.specs.Accounts.{accounts_of};
+ghost use Rattle.dex_types.specs.Rows.{row_of};
 ghost use Rattle.dex_dump.specs.Accepted.{AreAccepted};
 ghost use Rattle.dex_script.specs.Drafts as spec;
 ghost use Rattle.dex_script.specs.Facts.{IsScript};
-ghost use Rattle.dex_script.specs.Telling.{draft_of};
+ghost use Rattle.dex_script.specs.Places.{ArePlaced};
+ghost use Rattle.dex_script.specs.Telling.{draft_of, start_of};
 
 use crate::mints::Mints;
 use crate::script::Script;
 use crate::taken::taken_addresses;
-use dex_types::{Accounts, Address, MarketAccounts, Named, NoMemory, Program, Row};
+use dex_types::{Accounts, Address, MarketAccounts, Named, NoMemory, Program, Row, RowPlaces};
 use std::alloc::Global;
 
 /// The accounts with which a script starts, as far as they are declared.
@@ -99,9 +101,10 @@ impl Draft {
         })
     }
 
-    /// What was read, as a script.
-    pub(crate) fn into_script(self) -> Script
-        requires { IsScript (draft_of self).script }
+    /// What was read, as a script, with the places of each row.
+    pub(crate) fn into_script(self, places: Vec<RowPlaces>) -> Script
+        requires script { IsScript (draft_of self).script }
+        requires placed { ArePlaced (start_of self.start) (map row_of self.rows.items) places.items }
         ensures { result ≡ (draft_of self).script }
     {
         Script {
@@ -113,6 +116,7 @@ impl Draft {
                 markets: self.start.markets,
             },
             rows: self.rows,
+            places,
             lanes: self.lanes,
             program: self.program,
         }

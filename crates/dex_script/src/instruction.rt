@@ -1,14 +1,17 @@
 //! Instruction rows, behind the rows before them.
 
-ghost use Rattle.std.specs.Prelude.{◌≡◌};
+ghost use Rattle.std.specs.Prelude.{◌≡◌, [], ◌∷◌, ◌++◌, true, IfErr, OnOk, map};
+ghost use Rattle.dex_types.specs.Accounts.{PlainAccounts};
 ghost use Rattle.dex_types.specs.Rows.{row_of};
+ghost use Rattle.dex_script.specs.Names.{IsReading, StandAt};
+ghost use Rattle.dex_script.specs.Places.{ArePlaced, IsPlaced};
 ghost use Rattle.dex_script.specs.Rows as spec;
 ghost use Rattle.dex_script.specs.Telling.{TellsIn, draft_of, start_of};
 
 use crate::draft::Draft;
 use crate::swap::is_bad_swap;
 use dex_statement::{FaultKind, InstructionWords, RowError};
-use dex_types::Row;
+use dex_types::{Row, RowPlaces};
 
 impl Draft {
     /// Whether no instruction row of this number finds room.
@@ -18,32 +21,47 @@ impl Draft {
         100_000 <= self.items || number == u32::MAX
     }
 
-    /// Adds an instruction row of this number, whose market and wallets are declared.
+    /// Adds an instruction row of this number, whose market and wallets stand at these places.
     #[tactic(auto, unfolding(crate::specs::Rows::with_known))]
-    pub(crate) fn add_known(&mut self, number: u32, words: InstructionWords) -> Result<(), RowError>
+    pub(crate) fn add_known(
+        &mut self,
+        places: &mut Vec<RowPlaces>,
+        number: u32,
+        words: InstructionWords,
+        at: RowPlaces,
+    ) -> Result<(), RowError>
+        requires reading { IsReading (draft_of self.old) places.old.items }
+        requires at { StandAt (start_of self.old.start) words.parties at }
         ensures row { TellsIn result (draft_of self.new) (spec.with_known (draft_of self.old) number words) }
+        ensures reading { IsReading (draft_of self.new) places.new.items }
         ensures start { start_of self.new.start ≡ start_of self.old.start }
     {
         if self.is_full(number) || exceeds_row(&words) {
             return Err(RowError::Fault(FaultKind::OverLimit));
         }
         self.lanes = self.lanes.max(words.lane + 1);
-        self.rows.push(instruction_row(number, self.clock, words))?;
         self.is_first = false;
         self.is_late = true;
         self.items += 1;
-        Ok(())
+        self.push_row(places, number, words, at)
     }
 
-    /// Adds the two legs of a swap row of this number, whose markets and wallets are declared.
+    /// Adds the two legs of a swap row of this number, whose markets and wallets stand at these places.
     #[tactic(auto, unfolding(crate::specs::Rows::with_legs))]
     pub(crate) fn add_legs(
         &mut self,
+        places: &mut Vec<RowPlaces>,
         number: u32,
         first: InstructionWords,
         second: InstructionWords,
+        first_at: RowPlaces,
+        second_at: RowPlaces,
     ) -> Result<(), RowError>
+        requires reading { IsReading (draft_of self.old) places.old.items }
+        requires first { StandAt (start_of self.old.start) first.parties first_at }
+        requires second { StandAt (start_of self.old.start) second.parties second_at }
         ensures row { TellsIn result (draft_of self.new) (spec.with_legs (draft_of self.old) number first second) }
+        ensures reading { IsReading (draft_of self.new) places.new.items }
         ensures start { start_of self.new.start ≡ start_of self.old.start }
     {
         if self.is_full(number) || exceeds_row(&first) || exceeds_row(&second) {
@@ -56,13 +74,56 @@ impl Draft {
             return Err(RowError::Fault(FaultKind::NoBatch));
         }
         self.lanes = self.lanes.max(first.lane + 1);
-        self.rows.push(instruction_row(number, self.clock, first))?;
-        self.rows.push(instruction_row(number, self.clock, second))?;
         self.is_first = false;
         self.is_late = true;
         self.items += 1;
-        Ok(())
+        self.push_row(places, number, first, first_at)?;
+        self.push_row(places, number, second, second_at)
     }
+
+    /// One more row of this number, at these places. Where memory is wanting the rows stay.
+    fn push_row(
+        &mut self,
+        places: &mut Vec<RowPlaces>,
+        number: u32,
+        words: InstructionWords,
+        at: RowPlaces,
+    ) -> Result<(), RowError>
+        requires reading { IsReading (draft_of self.old) places.old.items }
+        requires late { self.old.is_late ≡ true }
+        requires at { StandAt (start_of self.old.start) words.parties at }
+        ensures memory { IfErr result (λ error. error ≡ RowError.NoMemory) }
+        ensures row { OnOk result (draft_of self.new
+            ≡ spec.with_one (draft_of self.old) (spec.instruction_row number self.old.clock words)) }
+        ensures reading { IsReading (draft_of self.new) places.new.items }
+        ensures start { start_of self.new.start ≡ start_of self.old.start }
+    {
+        push(
+            &mut self.rows,
+            places,
+            instruction_row(number, self.clock, words),
+            at,
+        )
+    }
+}
+
+/// One more row, at these places. Where memory is wanting both lists stay.
+fn push(
+    rows: &mut Vec<Row>,
+    places: &mut Vec<RowPlaces>,
+    row: Row,
+    at: RowPlaces,
+) -> Result<(), RowError>
+    ensures memory { IfErr result (λ error. error ≡ RowError.NoMemory) }
+    ensures row { OnOk result (map row_of rows.new.items ≡ map row_of rows.old.items ++ (row_of row ∷ [])) }
+    ensures placed { (start : PlainAccounts) → IsPlaced start (row_of row) at
+        → ArePlaced start (map row_of rows.old.items) places.old.items
+        → ArePlaced start (map row_of rows.new.items) places.new.items }
+{
+    rows.reserve(1)?;
+    places.push(at)?;
+    rows.push(row).unwrap();
+    Ok(())
 }
 
 /// The row of this number, at this time.

@@ -1,98 +1,107 @@
-//! The addresses of markets and wallets, looked up by what they hash to.
+//! The names of markets and wallets, kept for look-ups.
 
-ghost use Rattle.std.specs.Prelude.{◌≡◌, ◌||◌, IfOk, OnOk, map};
+ghost use Rattle.std.specs.Prelude.{◌≡◌, ◌≤◌, cond, IfOk, OnOk, Some, length, map};
+ghost use Rattle.std.specs.HashMap as hash;
 ghost use Rattle.dex_types.specs.declared.addresses.Address.{Address};
 ghost use Rattle.dex_types.specs.Accounts.{market_accounts_of, named_of};
 ghost use Rattle.dex_types.specs.Addresses.{is_same};
-ghost use Rattle.dex_dump.specs.Reading.{is_among};
-ghost use Rattle.dex_script.specs.Known.{has_account, has_market};
 ghost use Rattle.dex_script.specs.Names as spec;
+ghost use Rattle.dex_script.specs.Places.{market_place, wallet_place};
 ghost use Rattle.dex_script.specs.Telling.{start_of};
 
 use crate::draft::Start;
 use dex_statement::Parties;
-use dex_types::{Address, MarketAccounts, Named, NoMemory};
+use dex_types::{Address, MarketAccounts, Named, NoMemory, RowPlaces};
 use std::alloc::Global;
-use std::collections::HashSet;
+use std::collections::HashMap;
 
-/// The addresses of the markets and the wallets with which a script starts.
+/// The markets and the wallets with which a script starts, each at its place.
 #[derive(Drop)]
 pub(crate) struct Names {
-    pub(crate) markets: HashSet<Address>,
-    pub(crate) wallets: HashSet<Address>,
+    pub(crate) markets: HashMap<Address, u16>,
+    pub(crate) wallets: HashMap<Address, u16>,
 }
 
 impl Names {
-    /// Those of these accounts.
+    /// The names of these accounts.
     pub(crate) fn of(alloc: Global, start: &Start) -> Result<Names, NoMemory>
+        requires { spec.AreFew (start_of start.now) }
         ensures { IfOk result (λ names. spec.AreNames names (start_of start.now)) }
     {
         Ok(Names {
-            markets: market_addresses(alloc, &start.markets)?,
-            wallets: wallet_addresses(alloc, &start.wallets)?,
+            markets: market_places(alloc, &start.markets)?,
+            wallets: wallet_places(alloc, &start.wallets)?,
         })
     }
 
-    /// Whether an instruction row names a market or a wallet that is none of these.
-    pub(crate) fn is_unknown(&self, parties: &Parties) -> bool
-        ensures { result ≡ spec.is_unknown_to self.now parties.now }
+    /// Where the market and the wallets that an instruction row names stand, if all of them are here.
+    pub(crate) fn places_of(&self, parties: &Parties) -> Option<RowPlaces>
+        ensures { result ≡ spec.places_in self.now parties.now }
     {
-        !holds(&self.markets, parties.market)
-            || !holds_role(&self.wallets, parties.coin)
-            || !holds_role(&self.wallets, parties.pc)
-            || !holds_role(&self.wallets, parties.discount)
-            || !holds_role(&self.wallets, parties.referrer)
+        Some(RowPlaces {
+            market: place_in(&self.markets, parties.market)?,
+            coin: role_place(&self.wallets, parties.coin)?,
+            pc: role_place(&self.wallets, parties.pc)?,
+            discount: role_place(&self.wallets, parties.discount)?,
+            referrer: role_place(&self.wallets, parties.referrer)?,
+        })
     }
 }
 
-/// Whether an address is one of these.
-fn holds(addresses: &HashSet<Address>, address: Address) -> bool
-    ensures { result ≡ is_among address addresses.now.keys }
+/// Where an address stands, if it is here.
+fn place_in(places: &HashMap<Address, u16>, address: Address) -> Option<u16>
+    ensures { result ≡ hash.get is_same places.now address }
 {
-    addresses.contains(&address)
+    places.get(&address).copied()
 }
 
-/// Whether a role names no wallet, or one of these.
-fn holds_role(addresses: &HashSet<Address>, role: Option<Address>) -> bool
-    ensures { result ≡ spec.holds_role addresses.now.keys role }
+/// Where the wallet of a role stands, if it is here; 0 for a role that names none.
+fn role_place(places: &HashMap<Address, u16>, role: Option<Address>) -> Option<u16>
+    ensures { result ≡ spec.role_place (hash.get is_same places.now) role }
 {
     match role {
-        None => true,
-        Some(address) => holds(addresses, address),
+        None => Some(0),
+        Some(address) => place_in(places, address),
     }
 }
 
-/// One more address.
-fn add(addresses: &mut HashSet<Address>, address: Address) -> Result<(), NoMemory>
+/// Puts an address at a place.
+fn put(places: &mut HashMap<Address, u16>, address: Address, place: u16) -> Result<(), NoMemory>
     ensures { OnOk result ((other : Address)
-        → is_among other addresses.new.keys ≡ is_same other address || is_among other addresses.old.keys) }
+        → hash.get is_same places.new other
+        ≡ cond (is_same address other) (Some place) (hash.get is_same places.old other)) }
 {
-    match addresses.insert(address) {
+    match places.insert(address, place) {
         Ok(_) => Ok(()),
         Err(_) => Err(NoMemory),
     }
 }
 
-/// The addresses of these wallets.
-fn wallet_addresses(alloc: Global, wallets: &[Named]) -> Result<HashSet<Address>, NoMemory>
-    ensures { IfOk result (λ addresses. (address : Address)
-        → is_among address addresses.keys ≡ has_account address (map named_of wallets.now)) }
+/// The places of these wallets. It goes from the last to the first, so the first of an address counts.
+fn wallet_places(alloc: Global, wallets: &[Named]) -> Result<HashMap<Address, u16>, NoMemory>
+    requires { length wallets.now ≤ 256 }
+    ensures { IfOk result (λ places. (address : Address)
+        → hash.get is_same places address ≡ wallet_place address (map named_of wallets.now)) }
 {
-    let mut addresses = HashSet::new(alloc);
-    for wallet in wallets {
-        add(&mut addresses, wallet.address)?;
+    let mut places = HashMap::new(alloc);
+    for place in (0..wallets.len()).rev() {
+        put(&mut places, wallets[place].address, place as u16)?;
     }
-    Ok(addresses)
+    Ok(places)
 }
 
-/// The addresses of these markets.
-fn market_addresses(alloc: Global, markets: &[MarketAccounts]) -> Result<HashSet<Address>, NoMemory>
-    ensures { IfOk result (λ addresses. (address : Address)
-        → is_among address addresses.keys ≡ has_market address (map market_accounts_of markets.now)) }
+/// The places of these markets, from the last to the first.
+fn market_places(
+    alloc: Global,
+    markets: &[MarketAccounts],
+) -> Result<HashMap<Address, u16>, NoMemory>
+    requires { length markets.now ≤ 16 }
+    ensures { IfOk result (λ places. (address : Address)
+        → hash.get is_same places address ≡ market_place address (map market_accounts_of markets.now)) }
 {
-    let mut addresses = HashSet::new(alloc);
-    for market in markets {
-        add(&mut addresses, market.address)?;
+    let mut places = HashMap::new(alloc);
+    for place in (0..markets.len()).rev() {
+        put(&mut places, markets[place].address, place as u16)?;
     }
-    Ok(addresses)
+    Ok(places)
 }

@@ -1,44 +1,45 @@
 //! A script as far as it is read, one row after the other.
 
-ghost use Rattle.std.specs.Prelude.{◌≡◌, IfOk, Result};
-ghost use Rattle.csv.specs.Records.{fields_of};
-ghost use Rattle.dex_statement.specs.declared.faults.FaultKind.{FaultKind};
-ghost use Rattle.dex_statement.specs.Telling.{TellsAs};
-ghost use Rattle.dex_script.specs.Drafts.{PlainDraft, no_rows};
+ghost use Rattle.std.specs.Prelude.{◌≡◌, ℕ, [], IfOk};
+ghost use Rattle.dex_script.specs.Drafts.{no_rows};
 ghost use Rattle.dex_script.specs.Facts.{IsScript};
+ghost use Rattle.dex_script.specs.Names.{IsReading, places_of};
 ghost use Rattle.dex_script.specs.Rows as spec;
+ghost use Rattle.dex_script.specs.Rows.{IsSetup};
 ghost use Rattle.dex_script.specs.Telling.{TellsIn, draft_of};
 
 use crate::draft::Draft;
 use crate::names::Names;
 use crate::script::Script;
-use csv::ByteRecord;
+use dex_rows::records::Fields;
 use dex_statement::{
     FaultKind, InstructionWords, Parties, RowError, Statement, SwapWords, statement_of,
 };
-use dex_types::NoMemory;
+use dex_types::{NoMemory, RowPlaces};
 use std::alloc::Global;
 use std::marker::Model;
 
-/// A script as far as its rows are read, and, from its first instruction row on, the names of its markets and wallets.
-/// A contract sees it as what the rows say.
+/// A script as far as its rows are read, the places of each row, and, from its first instruction row on, the names of its
+/// markets and wallets. A contract sees it as what the rows say.
 #[derive(Drop)]
 pub(crate) struct Reader {
     draft: Draft,
+    places: Vec<RowPlaces>,
     names: Option<Names>,
 }
 
 impl Model for Reader {
     ghost use Rattle.std.specs.Prelude.{IfSome};
     ghost use Rattle.dex_script.specs.Drafts.{PlainDraft};
-    ghost use Rattle.dex_script.specs.Names.{AreNames};
+    ghost use Rattle.dex_script.specs.Names.{AreNames, IsReading};
     ghost use Rattle.dex_script.specs.Telling.{draft_of, start_of};
 
     ghost Value = { PlainDraft };
 
     ghost view = { λ s. draft_of s.draft };
 
-    ghost invariant = { λ s. IfSome s.names (λ names. AreNames names (start_of s.draft.start)) };
+    ghost invariant = { λ s. IsReading (draft_of s.draft) s.places.items
+        × IfSome s.names (λ names. AreNames names (start_of s.draft.start)) };
 }
 
 impl Reader {
@@ -46,14 +47,19 @@ impl Reader {
     pub(crate) fn new(alloc: Global, batch: bool) -> Reader
         ensures { result ≡ no_rows batch }
     {
-        Reader::of(Draft::new(alloc, batch))
+        Reader::of(alloc, Draft::new(alloc, batch))
     }
 
-    /// What was read so far, without names.
-    pub(crate) fn of(draft: Draft) -> Reader
+    /// What was read so far, of which nothing is an instruction row.
+    pub(crate) fn of(alloc: Global, draft: Draft) -> Reader
+        requires { IsReading (draft_of draft) [] }
         ensures { result ≡ draft_of draft }
     {
-        Reader { draft, names: None }
+        Reader {
+            draft,
+            places: Vec::new(alloc),
+            names: None,
+        }
     }
 
     /// What was read, as a script.
@@ -61,7 +67,7 @@ impl Reader {
         requires { IsScript self.script }
         ensures { result ≡ self.script }
     {
-        self.draft.into_script()
+        self.draft.into_script(self.places)
     }
 
     /// Adds what the row of this number states. Behind a fault, what is left does not matter.
@@ -70,9 +76,9 @@ impl Reader {
         &mut self,
         alloc: Global,
         number: u32,
-        row: &ByteRecord,
+        row: &Fields<'_>,
     ) -> Result<(), RowError>
-        ensures added { TellsIn result self.new (spec.with_row self.old number (fields_of row.now)) }
+        ensures added { TellsIn result self.new (spec.with_row self.old number row.now) }
     {
         match statement_of(alloc, row)? {
             Statement::Instruction(words) => self.add_instruction(alloc, number, words),
@@ -97,26 +103,29 @@ impl Reader {
                 self.set_clock(now);
                 Ok(())
             }
-            Statement::Program(program) => put(take(self, alloc).with_program(program), self),
-            Statement::Mint { address, decimals } => {
-                put(take(self, alloc).with_mint(alloc, address, decimals), self)
-            }
-            Statement::Srm(mint) => put(take(self, alloc).with_srm(mint), self),
-            Statement::Msrm(mint) => put(take(self, alloc).with_msrm(mint), self),
-            Statement::Wallet {
-                address,
-                mint,
-                owner,
-                amount,
-            } => put(
-                take(self, alloc).with_wallet(alloc, address, mint, owner, amount),
-                self,
-            ),
-            Statement::Market(words) => put(take(self, alloc).with_market(alloc, words), self),
-            Statement::Orders { market, address } => {
-                put(take(self, alloc).with_orders(alloc, market, address), self)
-            }
+            Statement::Program(_)
+            | Statement::Mint { .. }
+            | Statement::Srm(_)
+            | Statement::Msrm(_)
+            | Statement::Wallet { .. }
+            | Statement::Market(_)
+            | Statement::Orders { .. } => self.add_setup(alloc, statement),
         }
+    }
+
+    /// Adds what a setup row states, or one that chooses the program. Names are made anew behind it.
+    fn add_setup(&mut self, alloc: Global, statement: Statement) -> Result<(), RowError>
+        requires { IsSetup statement }
+        ensures { (number : ℕ) → TellsIn result self.new (spec.with_statement self.old number statement) }
+    {
+        let before = std::mem::replace(self, Reader::new(alloc, false));
+        let draft = before.draft.with_setup(alloc, statement)?;
+        *self = Reader {
+            draft,
+            places: before.places,
+            names: None,
+        };
+        Ok(())
     }
 
     /// Adds an instruction row of this number.
@@ -129,10 +138,10 @@ impl Reader {
     ) -> Result<(), RowError>
         ensures { TellsIn result self.new (spec.with_instruction self.old number words) }
     {
-        if self.is_unknown(alloc, &words.parties)? {
-            return Err(RowError::Fault(FaultKind::UnknownLabel));
+        match self.places_of(alloc, &words.parties)? {
+            Some(at) => self.draft.add_known(&mut self.places, number, words, at),
+            None => Err(RowError::Fault(FaultKind::UnknownLabel)),
         }
-        self.draft.add_known(number, words)
     }
 
     /// Adds a swap row of this number.
@@ -146,28 +155,28 @@ impl Reader {
         let second = words
             .second
             .into_instruction(alloc, words.lane, words.signer);
-        if self.is_unknown(alloc, &first.parties)? {
+        let Some(first_at) = self.places_of(alloc, &first.parties)? else {
             return Err(RowError::Fault(FaultKind::UnknownLabel));
-        }
-        if self.is_unknown(alloc, &second.parties)? {
+        };
+        let Some(second_at) = self.places_of(alloc, &second.parties)? else {
             return Err(RowError::Fault(FaultKind::UnknownLabel));
-        }
-        self.draft.add_legs(number, first, second)
+        };
+        self.draft.add_legs(&mut self.places, number, first, second, first_at, second_at)
     }
 
-    /// Whether an instruction row names a market or a wallet that is not declared. Makes the names where they are not
-    /// there yet.
-    fn is_unknown(&mut self, alloc: Global, parties: &Parties) -> Result<bool, NoMemory>
-        ensures answer { IfOk result (λ answer. answer ≡ spec.is_unknown self.old.script.start parties.now) }
+    /// Where the market and the wallets that an instruction row names stand, if all are declared. Makes the names where
+    /// they are not there yet.
+    fn places_of(&mut self, alloc: Global, parties: &Parties) -> Result<Option<RowPlaces>, NoMemory>
+        ensures places { IfOk result (λ found. found ≡ places_of self.old.script.start parties.now) }
         ensures same { self.new ≡ self.old }
     {
         if let Some(names) = &self.names {
-            return Ok(names.is_unknown(parties));
+            return Ok(names.places_of(parties));
         }
         let names = Names::of(alloc, &self.draft.start)?;
-        let answer = names.is_unknown(parties);
+        let found = names.places_of(parties);
         self.names = Some(names);
-        Ok(answer)
+        Ok(found)
     }
 
     /// Behind a `clock` row. The names stay.
@@ -177,20 +186,4 @@ impl Reader {
         self.draft.clock = now;
         self.draft.is_first = false;
     }
-}
-
-/// Takes out what was read so far, for a row that may make an account.
-fn take(reader: &mut Reader, alloc: Global) -> Draft
-    ensures { draft_of result ≡ reader.old }
-{
-    let before = std::mem::replace(reader, Reader::new(alloc, false));
-    before.draft
-}
-
-/// Puts in what a row left.
-fn put(next: Result<Draft, RowError>, reader: &mut Reader) -> Result<(), RowError>
-    ensures { (meant : Result PlainDraft FaultKind) → TellsAs draft_of next meant → TellsIn result reader.new meant }
-{
-    *reader = Reader::of(next?);
-    Ok(())
 }

@@ -17,7 +17,6 @@ use crate::laws::{
 };
 use crate::reader::Reader;
 use crate::script::Script;
-use csv::ByteRecord;
 use dex_audit::audit;
 use dex_dump::{DumpError, DumpRead, is_first_row};
 use dex_rows::records::Rows;
@@ -71,7 +70,7 @@ fn read_behind_dump(alloc: Global, bytes: &[u8], batch: bool) -> Result<Reader, 
     let dump = read_dump(alloc, &mut rows)?;
     let number = next_number(dump.count);
     let before = Draft::behind_dump(alloc, dump.accounts, batch)?;
-    read_rows(alloc, Reader::of(before), number, &mut rows)
+    read_rows(alloc, Reader::of(alloc, before), number, &mut rows)
 }
 
 /// The dump at the start, whose accounts have no findings.
@@ -113,8 +112,7 @@ fn read_rows(
 {
     let mut reader = before;
     let mut number = first;
-    let mut row = ByteRecord::new(alloc);
-    'rows: while rows.read_row(&mut row)? {
+    'rows: while let Some(row) = rows.next_row()? {
         match reader.add_row(alloc, number, &row) {
             Ok(()) => {}
             Err(RowError::Fault(kind)) => return Err(row_error(number, kind)),

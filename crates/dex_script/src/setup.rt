@@ -1,19 +1,42 @@
 //! Setup rows, and the row that chooses the program, behind the rows before them.
 
-ghost use Rattle.std.specs.Prelude.{◌≡◌};
+ghost use Rattle.std.specs.Prelude.{◌≡◌, ℕ};
 ghost use Rattle.dex_statement.specs.Telling.{TellsAs};
 ghost use Rattle.dex_script.specs.Rows as spec;
+ghost use Rattle.dex_script.specs.Rows.{IsSetup};
 ghost use Rattle.dex_script.specs.Telling.{draft_of};
 
 use crate::draft::Draft;
 use crate::known::{is_among, is_any_among, made_addresses};
 use crate::markets::{add_orders, exceeds_market, orders_at, set_of};
 use dex_make::{make_market, make_orders, make_wallet};
-use dex_statement::{FaultKind, MarketWords, RowError, SetupCode};
+use dex_statement::{FaultKind, MarketWords, RowError, SetupCode, Statement};
 use dex_types::{Address, Named, OrdersAccount, Program};
 use std::alloc::Global;
 
 impl Draft {
+    /// Behind a setup row, or one that chooses the program.
+    pub(crate) fn with_setup(self, alloc: Global, statement: Statement) -> Result<Draft, RowError>
+        requires { IsSetup statement }
+        ensures { (number : ℕ) → TellsAs draft_of result (spec.with_statement (draft_of self) number statement) }
+    {
+        match statement {
+            Statement::Program(program) => self.with_program(program),
+            Statement::Mint { address, decimals } => self.with_mint(alloc, address, decimals),
+            Statement::Srm(mint) => self.with_srm(mint),
+            Statement::Msrm(mint) => self.with_msrm(mint),
+            Statement::Wallet {
+                address,
+                mint,
+                owner,
+                amount,
+            } => self.with_wallet(alloc, address, mint, owner, amount),
+            Statement::Market(words) => self.with_market(alloc, words),
+            Statement::Orders { market, address } => self.with_orders(alloc, market, address),
+            Statement::Clock(_) | Statement::Instruction(_) | Statement::Swap(_) => unreachable!(),
+        }
+    }
+
     /// Behind a `program` row.
     #[tactic(auto, unfolding(crate::specs::Rows::with_program))]
     pub(crate) fn with_program(mut self, program: Program) -> Result<Draft, RowError>

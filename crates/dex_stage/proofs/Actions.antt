@@ -25,15 +25,15 @@ use Rattle.dex_wallet.specs.CellState as wallet
 use Rattle.dex_wallet.specs.CellState.{CellState, IsWalletCell, seen_of}
 use Rattle.dex_fold.specs.Fold.{acted, market_acted, markets_acted, names, wallet_acted}
 use Rattle.dex_fold.specs.World.{MarketState, WalletState, World, market_at, role_at, seen_by, wallet_at}
+use Rattle.dex_fold.specs.RowsOf.{rows_naming, rows_on}
+use Rattle.dex_act.specs.Opened.{market_state_of}
 use Rattle.dex_act.specs.Wallets.{AreApart, is_among, made_of, wallet_state_of}
-use Rattle.dex_bank.specs.Cells.{market_state_of}
-use Rattle.dex_bank.specs.Opened.{rows_naming, rows_on}
+use Rattle.dex_act.proofs.CellLists.{is_among-any}
+use Rattle.dex_fold.proofs.MappedLists.{map-map}
 use Rattle.dex_script.specs.Drafts.{PlainScript}
 use Rattle.dex_script.specs.Facts.{IsScript}
-use Rattle.dex_replay.specs.Replays.{start_world}
-use Rattle.dex_replay.proofs.Counting.{HasFew, HasFewMoves}
-use Rattle.dex_replay.proofs.MappedLists.{map-map}
-use Rattle.dex_replay.proofs.Apart.{markets-distinct, wallets-distinct}
+use Rattle.dex_script.specs.Starts.{start_world}
+use Rattle.dex_script.proofs.Apart.{markets-distinct, wallets-distinct}
 use Rattle.dex_fold.proofs.OnceLaws.{AreOnce, once-head, once-tail}
 use Rattle.dex_stage.specs.Parts.{CanStep, HasStepped}
 use Rattle.dex_stage.specs.Stages.{AreDone, AreReady, AreWalletsOf, IsMarketAt, IsRowAt, IsWalletAt, world_at, world_with}
@@ -178,14 +178,10 @@ role-parts cells (Some address) addresses all = all-parts (IsHere cells) address
 abbrev pub address_in : CellState → Address
 address_in cell = cell.address
 
-pub among-any : (address : Address) (cells : List CellState) → is_among address cells ≡ list_any (is_same address) (map address_in cells)
-among-any address [] = refl
-among-any address (cell ∷ cells) = ap (λ (b : Bool). is_same address cell.address || b) (among-any address cells)
-
 pub apart-cells : (cells : List CellState) → AreOnce (map address_in cells) → AreApart cells
 apart-cells [] once = tt
 apart-cells (cell ∷ cells) once = (
-  among-any cell.address cells ∙ once-head cell.address (map address_in cells) once,
+  is_among-any cell.address cells ∙ once-head cell.address (map address_in cells) once,
   apart-cells cells (once-tail cell.address (map address_in cells) once),
 )
 
@@ -195,6 +191,13 @@ each-any (first ∷ others) =
     All-cons (λ (address : Address). list_any (is_same address) (first ∷ others) ≡ true) first others (or_left (is_same first first) (list_any (is_same first) others) (is_same-refl first))
     (All-weaker (λ (address : Address). list_any (is_same address) others ≡ true) (λ (address : Address). list_any (is_same address) (first ∷ others) ≡ true)
     (λ address among. or_right (is_same address first) (list_any (is_same address) others) among) others (each-any others))
+
+-- cells of the wallets that a row names are here for each of them
+pub all-here : (row : PlainRow) (cells : List CellState) → map address_in cells ≡ row_wallets row → All (IsHere cells) (row_wallets row)
+all-here row cells are =
+    subst (All (IsHere cells)) are
+    (All-weaker (λ (address : Address). list_any (is_same address) (map address_in cells) ≡ true) (IsHere cells)
+    (λ address among. is_among-any address cells ∙ among) (map address_in cells) (each-any (map address_in cells)))
 
 -- ---- room
 
@@ -224,8 +227,8 @@ module _ (script : PlainScript) (count : ℕ) (row : PlainRow) (at : IsRowAt scr
   pub market-spare : (place : ℕ) (cell : MarketCellState) → IsMarketAt script count place cell → row.market ≡ cell.accounts.address → market.HasSpare cell
   market-spare place cell has on =
       let d : MarketState = market_state_of cell in
-      let few : HasFew (take count script.rows) (market_state_of cell) =
-      subst (λ (s : MarketState). HasFew (take count script.rows) s) (sym (has.state d))
+      let few : length (entries_of cell) ≤ rows_on (address_of_market (market_state_of cell)) (take count script.rows) =
+      subst (λ (s : MarketState). length s.entries ≤ rows_on (address_of_market s) (take count script.rows)) (sym (has.state d))
       (few-at script count place d has.within) in
       let calls = length-map cell.calls (λ (call : Call). call.entry) in
       let few_on : length (map (λ (call : Call). call.entry) cell.calls) ≤ rows_on cell.accounts.address (take count script.rows) =
@@ -242,8 +245,8 @@ module _ (script : PlainScript) (count : ℕ) (row : PlainRow) (at : IsRowAt scr
   pub wallet-spare : (place : ℕ) (cell : CellState) → IsWalletAt script count place cell → names row cell.address ≡ true → wallet.HasSpare cell
   wallet-spare place cell has named =
       let d : WalletState = wallet_state_of cell in
-      let few : HasFewMoves (take count script.rows) (wallet_state_of cell) =
-      subst (λ (s : WalletState). HasFewMoves (take count script.rows) s) (sym (has.state d))
+      let few : length (wallet_state_of cell).entries ≤ rows_naming cell.address (take count script.rows) =
+      subst (λ (s : WalletState). length s.entries ≤ rows_naming (address_of_wallet s) (take count script.rows)) (sym (has.state d))
       (few-moves-at script count place d has.within) in
       let e : PlainAccount = record { address = cell.address; bytes = [] } in
       let first : PlainAccount = get_or script.start.wallets place e in
@@ -259,12 +262,6 @@ module _ (script : PlainScript) (is : IsScript script) (count : ℕ) (row : Plai
   now : World
   now = world_at script count
 
-  named-here : All (IsHere cells) (row_wallets row)
-  named-here =
-      subst (All (IsHere cells)) hand.are
-      (All-weaker (λ (address : Address). list_any (is_same address) (map address_in cells) ≡ true) (IsHere cells)
-      (λ address among. among-any address cells ∙ among) (map address_in cells) (each-any (map address_in cells)))
-
   role-same : (role : Option Address) → IsNamed cells role → role_at role (map wallet_state_of cells) ≡ role_at role (world_at script count).wallets
   role-same None named = refl
   role-same (Some address) named =
@@ -275,7 +272,7 @@ module _ (script : PlainScript) (is : IsScript script) (count : ℕ) (row : Plai
   -- it sees the wallets as they are when the rows before it have acted
   pub same-sight : seen_by row (world_with script cells) ≡ seen_by row (world_at script count)
   same-sight =
-      let one = role-parts cells row.coin (with_role row.pc (with_role row.discount (with_role row.referrer []))) named-here in
+      let one = role-parts cells row.coin (with_role row.pc (with_role row.discount (with_role row.referrer []))) (all-here row cells hand.are) in
       let two = role-parts cells row.pc (with_role row.discount (with_role row.referrer [])) one.1 in
       let three = role-parts cells row.discount (with_role row.referrer []) two.1 in
       let four = role-parts cells row.referrer [] three.1 in

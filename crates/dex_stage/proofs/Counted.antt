@@ -1,11 +1,12 @@
 -- No journal is longer than there are rows that name its market or its wallet, when the first so many rows have acted.
 use Rattle.std.proofs.Common.{◌≡◌, ℕ, zero, suc, ◌+◌, ◌<◌, ◌≤◌, Bool, cond, true, List, [], ◌∷◌, length, map, take, get_or, Option, Some, None, sym, ap, ◌∙◌, subst, arith}
 use Rattle.dex_fold.proofs.Common.{Address, Market, MarketState, PlainAccount, PlainMarketAccounts, PlainRow, Seen, Step, Transfers, WalletState, World, act, acted, cond_both, entry_by, fold, get_or-map, is_same, length-map, market_acted, markets_acted, movement_of, names, row_step, seen_by, sum_by-cons, wallet_acted, wallet_entry_by, wallet_moved}
-use Rattle.dex_replay.proofs.Common.{PlainScript, market_state, rows_naming, rows_on, start_world, wallet_state}
+use Rattle.dex_fold.specs.RowsOf.{rows_naming, rows_on}
+use Rattle.dex_script.specs.Drafts.{PlainScript}
+use Rattle.dex_script.specs.Starts.{market_state, start_world, wallet_state}
 use Rattle.std.proofs.lemmas.List.{length-append}
 use Rattle.dex_types.specs.declared.movements.Movement.{Movement}
 use Rattle.dex_fold.specs.World.{market_at}
-use Rattle.dex_replay.proofs.Counting.{HasFew, HasFewMoves}
 use Rattle.dex_stage.specs.Stages.{world_at}
 use Rattle.dex_stage.proofs.Frames.{act-markets, act-wallets, address_of_market, address_of_wallet, fold-markets, fold-wallets}
 
@@ -64,7 +65,8 @@ few-fold (row ∷ rows) world place d within =
     omega (arith, rest, few-act row (market_at row.market world.markets) world place d, sum_by-cons (λ (one : PlainRow). cond (is_same one.market own) 1 0) row rows)
 
 pub few-at : (script : PlainScript) (count place : ℕ) (d : MarketState) → place < length script.start.markets
-    → HasFew (take count script.rows) (get_or (world_at script count).markets place d)
+    → length (get_or (world_at script count).markets place d).entries
+    ≤ rows_on (address_of_market (get_or (world_at script count).markets place d)) (take count script.rows)
 few-at script count place d within =
     let rows : List PlainRow = take count script.rows in
     let start : World = start_world script in
@@ -127,7 +129,8 @@ few-moves-fold (row ∷ rows) world place d within =
     omega (arith, rest, few-moves row (market_at row.market world.markets) world place d within, sum_by-cons (λ (one : PlainRow). cond (names one own) 1 0) row rows)
 
 pub few-moves-at : (script : PlainScript) (count place : ℕ) (d : WalletState) → place < length script.start.wallets
-    → HasFewMoves (take count script.rows) (get_or (world_at script count).wallets place d)
+    → length (get_or (world_at script count).wallets place d).entries
+    ≤ rows_naming (address_of_wallet (get_or (world_at script count).wallets place d)) (take count script.rows)
 few-moves-at script count place d within =
     let rows : List PlainRow = take count script.rows in
     let start : World = start_world script in

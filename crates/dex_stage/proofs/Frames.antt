@@ -17,8 +17,8 @@ use Rattle.dex_fold.specs.Fold.{act, acted, fold, market_acted, markets_acted, n
 use Rattle.dex_fold.specs.World.{MarketState, WalletState, World, market_at, seen_by}
 use Rattle.dex_fold.proofs.FoldLaws.{fold-append}
 use Rattle.dex_script.specs.Drafts.{PlainScript}
-use Rattle.dex_replay.specs.Replays.{market_state, start_world, wallet_state}
-use Rattle.dex_replay.proofs.MappedLists.{map-map}
+use Rattle.dex_script.specs.Starts.{market_state, start_world, wallet_state}
+use Rattle.dex_fold.proofs.MappedLists.{map-map}
 use Rattle.dex_stage.specs.Stages.{IsRowAt, world_at}
 
 -- ---- one row more

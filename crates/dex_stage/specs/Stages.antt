@@ -8,11 +8,10 @@ use Rattle.dex_cell.specs.CellState.{IsMarketCell, MarketCellState, new_cell}
 use Rattle.dex_wallet.specs.CellState.{CellState, IsWalletCell}
 use Rattle.dex_fold.specs.Fold.{fold}
 use Rattle.dex_fold.specs.World.{MarketState, WalletState, World}
+use Rattle.dex_act.specs.Opened.{market_opened, market_state_of, wallet_opened}
 use Rattle.dex_act.specs.Wallets.{made_of, wallet_state_of}
 use Rattle.dex_script.specs.Drafts.{PlainScript}
-use Rattle.dex_bank.specs.Cells.{market_state_of}
-use Rattle.dex_bank.specs.Opened.{market_opened, wallet_opened}
-use Rattle.dex_replay.specs.Replays.{start_world}
+use Rattle.dex_script.specs.Starts.{start_world}
 
 -- the world when the first so many rows of a script have acted
 abbrev pub world_at : PlainScript → ℕ → World

@@ -8,7 +8,7 @@ ghost use Rattle.dex_fold.specs.World as world;
 ghost use Rattle.dex_act.specs.Wallets.{Fits, roles_of, wallet_state_of};
 ghost use Rattle.dex_stage.specs.Parts.{CanStep, HasStepped, world_in_hand};
 
-use dex_act::{act, wallet_at};
+use dex_act::{act, places_in, wallet_at};
 use dex_cell::MarketCell;
 use dex_types::{Address, Program, Reply, Row, Seen, WalletSeen};
 use dex_wallet::WalletCell;
@@ -64,7 +64,8 @@ fn step_in_hand(market: &mut MarketCell, hands: &mut [WalletCell], terms: Terms,
         HasStepped row.entry.now seen market.old market.new hands.old hands.new }
 {
     let seen = seen_by(hands, terms, row);
-    act(market, hands, row, &seen)
+    let places = places_in(hands, row);
+    act(market, hands, row, &seen, &places)
 }
 
 /// A row acts on its market and on its wallets. It takes no memory.

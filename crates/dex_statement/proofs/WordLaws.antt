@@ -1,6 +1,7 @@
 -- The first word of a field, and the words behind it.
-use Rattle.std.proofs.Common.{◌≡◌, ◌+◌, ◌-◌, ◌∙◌, ◌≤◌, ◌<◌, ◌∷◌, [], ℕ, nat_lt, if◌then◌else◌, Bool, true, false, List, Option, Some, None, length, take, drop, arith, refl, sym, ap}
-use Rattle.std.proofs.lemmas.List.{length-drop, take_all}
+use Rattle.std.proofs.Common.{◌≡◌, ◌+◌, ◌-◌, ◌∙◌, ◌≤◌, ◌<◌, ◌++◌, ◌∷◌, [], ℕ, Bor, set, nat_lt, if◌then◌else◌, Bool, true, false, List, Option, Some, None, length, take, drop, arith, refl, sym, ap}
+use Rattle.std.proofs.lemmas.List.{length-drop, map-append, take_all, take_more_set}
+use Rattle.dex_statement.specs.Words.{texts}
 use Rattle.std.specs.List.{onto_first, position, position_or_len, slice_split}
 use Rattle.std.proofs.lemmas.Bool.Decides.{nat_tests}
 use Rattle.std.proofs.lemmas.List.Splits.{slice_split-cons_no, slice_split_first}
@@ -58,3 +59,8 @@ behind_shorter p field place e =
     let within = (cut p field place e).within in
     rw (take_all (length field - (place + 1)) (drop (place + 1) field) (omega (arith, length-drop (place + 1) field)))
     (omega (arith, length-drop (place + 1) field))
+
+-- one more word that is kept
+pub word_more : (words : List (Bor (List ℕ))) (count : ℕ) (word : Bor (List ℕ)) → count < length words
+    → texts (take (count + 1) (set words count word)) ≡ texts (take count words) ++ word.now ∷ []
+word_more words count word below = ap texts (take_more_set words count word below) ∙ map-append (λ (w : Bor (List ℕ)). w.now) (take count words) (word ∷ [])

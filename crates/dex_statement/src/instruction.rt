@@ -1,7 +1,6 @@
 //! Instruction rows.
 
 ghost use Rattle.std.specs.Prelude.{◌≡◌};
-ghost use Rattle.csv.specs.Records.{fields_of};
 ghost use Rattle.dex_statement.specs.declared.forms.Form.TheVariants as form;
 ghost use Rattle.dex_statement.specs.Statements as statements;
 ghost use Rattle.dex_statement.specs.Telling.{Tells, TellsAs};
@@ -11,10 +10,9 @@ use crate::order_words::data_in;
 use crate::parties::{Parties, parties_of};
 use crate::statement::Statement;
 use crate::words::field_at;
-use csv::ByteRecord;
 use dex_rows::base64_words::base64_word;
 use dex_rows::numbers::u32_word;
-use dex_rows::records::field_count;
+use dex_rows::records::{Fields, field_count};
 use std::alloc::Global;
 use std::marker::Model;
 
@@ -37,8 +35,8 @@ impl Model for InstructionWords {
 /// What an `ix` row states, whose last field is the instruction's bytes in base64.
 #[inline(never)]
 #[tactic(auto, unfolding(crate::specs::Statements::bytes_row))]
-pub(crate) fn bytes_row(alloc: Global, row: &ByteRecord) -> Result<Statement, RowError>
-    ensures { Tells result (statements.stated form.Bytes (fields_of row.now)) }
+pub(crate) fn bytes_row(alloc: Global, row: &Fields<'_>) -> Result<Statement, RowError>
+    ensures { Tells result (statements.stated form.Bytes row.now) }
 {
     if field_count(row) != 10 {
         return Err(RowError::Fault(FaultKind::FieldCount));
@@ -56,8 +54,8 @@ pub(crate) fn bytes_row(alloc: Global, row: &ByteRecord) -> Result<Statement, Ro
 /// What a `do` row states, whose last field is the instruction in words.
 #[inline(never)]
 #[tactic(auto, unfolding(crate::specs::Statements::words_row))]
-pub(crate) fn words_row(alloc: Global, row: &ByteRecord) -> Result<Statement, RowError>
-    ensures { Tells result (statements.stated form.Words (fields_of row.now)) }
+pub(crate) fn words_row(alloc: Global, row: &Fields<'_>) -> Result<Statement, RowError>
+    ensures { Tells result (statements.stated form.Words row.now) }
 {
     if field_count(row) != 10 {
         return Err(RowError::Fault(FaultKind::FieldCount));

@@ -1,14 +1,13 @@
 //! Whom an instruction row names.
 
-ghost use Rattle.std.specs.Prelude.{◌≡◌};
-ghost use Rattle.csv.specs.Records.{fields_of};
+ghost use Rattle.std.specs.Prelude.{◌≡◌, ◌≤◌, length};
 ghost use Rattle.dex_statement.specs.Parties as parties;
 ghost use Rattle.dex_statement.specs.Telling.{Tells, TellsAs};
 
 use crate::faults::{FaultKind, RowError};
 use crate::words::{field_at, first_word};
-use csv::ByteRecord;
 use dex_rows::addresses::{address_word, role_word};
+use dex_rows::records::Fields;
 use dex_types::Address;
 use std::alloc::Global;
 use std::marker::Model;
@@ -43,8 +42,8 @@ impl Model for Parties {
 
 /// Whom an instruction row names, in its fields from MARKET to REFERRER.
 #[tactic(auto, unfolding(crate::specs::Parties::parties_of))]
-pub(crate) fn parties_of(alloc: Global, row: &ByteRecord) -> Result<Parties, RowError>
-    ensures { Tells result (parties.parties_of (fields_of row.now)) }
+pub(crate) fn parties_of(alloc: Global, row: &Fields<'_>) -> Result<Parties, RowError>
+    ensures { Tells result (parties.parties_of row.now) }
 {
     let market = address_word(field_at(row, 2)).ok_or(FaultKind::BadLabel)?;
     let signer = address_word(field_at(row, 3)).ok_or(FaultKind::BadLabel)?;
@@ -64,6 +63,19 @@ pub(crate) fn parties_of(alloc: Global, row: &ByteRecord) -> Result<Parties, Row
     })
 }
 
+// How many spaces a field has.
+fn spaces_in(field: &[u8]) -> usize
+    ensures { result ≤ length field.now }
+{
+    let mut count = 0;
+    'bytes: for place in 0..field.len() {
+        if field[place] == b' ' {
+            count += 1;
+        }
+    }
+    count
+}
+
 /// The open-orders accounts that a field names: none for `-`, or address words with one space between two.
 #[tactic(auto, unfolding(crate::specs::Parties::named_of))]
 fn named_of(alloc: Global, field: &[u8]) -> Result<Vec<Address>, RowError>
@@ -72,7 +84,7 @@ fn named_of(alloc: Global, field: &[u8]) -> Result<Vec<Address>, RowError>
     if field == b"-".as_slice() {
         return Ok(Vec::new(alloc));
     }
-    let mut named = Vec::with_capacity(alloc, 1)?;
+    let mut named = Vec::with_capacity(alloc, spaces_in(field) + 1)?;
     let mut rest = field;
     'words: while let Some((word, behind)) = first_word(rest) {
         let address = address_word(word).ok_or(FaultKind::BadLabel)?;

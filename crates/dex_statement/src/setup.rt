@@ -1,18 +1,16 @@
 //! Setup rows, and the rows that choose the program and set the clock.
 
 ghost use Rattle.std.specs.Prelude.{◌≡◌, IfSome, slice_index};
-ghost use Rattle.csv.specs.Records.{fields_of};
 ghost use Rattle.dex_statement.specs.Setup as setup;
 ghost use Rattle.dex_statement.specs.Telling.{Tells};
 
 use crate::faults::{FaultKind, RowError};
 use crate::statement::Statement;
 use crate::words::{field_at, time_word};
-use csv::ByteRecord;
 use dex_rows::addresses::address_word;
 use dex_rows::base64_words::base64_word;
 use dex_rows::numbers::{u8_word, u32_word, u64_word};
-use dex_rows::records::field_count;
+use dex_rows::records::{Fields, field_count};
 use dex_types::{Address, Program};
 use std::alloc::Global;
 use std::marker::Model;
@@ -67,8 +65,8 @@ fn program_word(word: &[u8]) -> Option<Program>
 
 /// What a `program` row states.
 #[tactic(auto, unfolding(crate::specs::Setup::program_of))]
-pub(crate) fn program_of(row: &ByteRecord) -> Result<Statement, FaultKind>
-    ensures { result ≡ setup.program_of (fields_of row.now) }
+pub(crate) fn program_of(row: &Fields<'_>) -> Result<Statement, FaultKind>
+    ensures { result ≡ setup.program_of row.now }
 {
     if field_count(row) != 2 {
         return Err(FaultKind::FieldCount);
@@ -79,8 +77,8 @@ pub(crate) fn program_of(row: &ByteRecord) -> Result<Statement, FaultKind>
 
 /// What a `clock` row states.
 #[tactic(auto, unfolding(crate::specs::Setup::clock_of))]
-pub(crate) fn clock_of(row: &ByteRecord) -> Result<Statement, FaultKind>
-    ensures { result ≡ setup.clock_of (fields_of row.now) }
+pub(crate) fn clock_of(row: &Fields<'_>) -> Result<Statement, FaultKind>
+    ensures { result ≡ setup.clock_of row.now }
 {
     if field_count(row) != 2 {
         return Err(FaultKind::FieldCount);
@@ -91,8 +89,8 @@ pub(crate) fn clock_of(row: &ByteRecord) -> Result<Statement, FaultKind>
 
 /// What a `mint` row states.
 #[tactic(auto, unfolding(crate::specs::Setup::mint_of))]
-pub(crate) fn mint_of(row: &ByteRecord) -> Result<Statement, FaultKind>
-    ensures { result ≡ setup.mint_of (fields_of row.now) }
+pub(crate) fn mint_of(row: &Fields<'_>) -> Result<Statement, FaultKind>
+    ensures { result ≡ setup.mint_of row.now }
 {
     if field_count(row) != 3 {
         return Err(FaultKind::FieldCount);
@@ -104,8 +102,8 @@ pub(crate) fn mint_of(row: &ByteRecord) -> Result<Statement, FaultKind>
 
 /// The mint that a `srm` or `msrm` row names.
 #[tactic(auto, unfolding(crate::specs::Setup::discount_of))]
-pub(crate) fn discount_of(row: &ByteRecord) -> Result<Address, FaultKind>
-    ensures { result ≡ setup.discount_of (fields_of row.now) }
+pub(crate) fn discount_of(row: &Fields<'_>) -> Result<Address, FaultKind>
+    ensures { result ≡ setup.discount_of row.now }
 {
     if field_count(row) != 2 {
         return Err(FaultKind::FieldCount);
@@ -115,8 +113,8 @@ pub(crate) fn discount_of(row: &ByteRecord) -> Result<Address, FaultKind>
 
 /// What a `wallet` row states.
 #[tactic(auto, unfolding(crate::specs::Setup::wallet_of))]
-pub(crate) fn wallet_of(row: &ByteRecord) -> Result<Statement, FaultKind>
-    ensures { result ≡ setup.wallet_of (fields_of row.now) }
+pub(crate) fn wallet_of(row: &Fields<'_>) -> Result<Statement, FaultKind>
+    ensures { result ≡ setup.wallet_of row.now }
 {
     if field_count(row) != 5 {
         return Err(FaultKind::FieldCount);
@@ -135,8 +133,8 @@ pub(crate) fn wallet_of(row: &ByteRecord) -> Result<Statement, FaultKind>
 
 /// What an `orders` row states.
 #[tactic(auto, unfolding(crate::specs::Setup::orders_of))]
-pub(crate) fn orders_of(row: &ByteRecord) -> Result<Statement, FaultKind>
-    ensures { result ≡ setup.orders_of (fields_of row.now) }
+pub(crate) fn orders_of(row: &Fields<'_>) -> Result<Statement, FaultKind>
+    ensures { result ≡ setup.orders_of row.now }
 {
     if field_count(row) != 3 {
         return Err(FaultKind::FieldCount);
@@ -162,8 +160,8 @@ fn market_word(word: &[u8]) -> Option<Address>
 
 /// What a `market` row states.
 #[tactic(auto, unfolding(crate::specs::Setup::market_of))]
-pub(crate) fn market_of(alloc: Global, row: &ByteRecord) -> Result<MarketWords, RowError>
-    ensures { Tells result (setup.market_of (fields_of row.now)) }
+pub(crate) fn market_of(alloc: Global, row: &Fields<'_>) -> Result<MarketWords, RowError>
+    ensures { Tells result (setup.market_of row.now) }
 {
     if field_count(row) != 9 {
         return Err(RowError::Fault(FaultKind::FieldCount));

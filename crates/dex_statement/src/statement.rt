@@ -1,6 +1,5 @@
 //! What a row states by itself.
 
-ghost use Rattle.csv.specs.Records.{fields_of};
 ghost use Rattle.dex_statement.specs.Statements as statements;
 ghost use Rattle.dex_statement.specs.Telling.{Tells};
 
@@ -12,8 +11,8 @@ use crate::setup::{
 };
 use crate::swap::{SwapWords, swap_row};
 use crate::words::field_at;
-use csv::ByteRecord;
 use dex_rows::printable::row_is_printable;
+use dex_rows::records::Fields;
 use dex_types::{Address, Program};
 use std::alloc::Global;
 
@@ -56,8 +55,8 @@ pub enum Statement {
 /// What a row states by itself, or the lowest fault that it has by itself: an unprintable byte, an unknown word, another
 /// number of fields or words, a bad number, or a bad address word.
 #[tactic(auto, unfolding(crate::specs::Statements::statement_of))]
-pub fn statement_of(alloc: Global, row: &ByteRecord) -> Result<Statement, RowError>
-    ensures { Tells result (statements.statement_of (fields_of row.now)) }
+pub fn statement_of(alloc: Global, row: &Fields<'_>) -> Result<Statement, RowError>
+    ensures { Tells result (statements.statement_of row.now) }
 {
     if !row_is_printable(row) {
         return Err(RowError::Fault(FaultKind::BadCsv));
@@ -69,8 +68,8 @@ pub fn statement_of(alloc: Global, row: &ByteRecord) -> Result<Statement, RowErr
 }
 
 /// What a row of a form states. A script is nearly all `do` rows, so these go their own way.
-fn stated(alloc: Global, form: Form, row: &ByteRecord) -> Result<Statement, RowError>
-    ensures { Tells result (statements.stated form (fields_of row.now)) }
+fn stated(alloc: Global, form: Form, row: &Fields<'_>) -> Result<Statement, RowError>
+    ensures { Tells result (statements.stated form row.now) }
 {
     if form == Form::Words {
         words_row(alloc, row)
@@ -81,8 +80,8 @@ fn stated(alloc: Global, form: Form, row: &ByteRecord) -> Result<Statement, RowE
 
 /// What a row of any form states. It is not inlined: it has room for every kind of row.
 #[inline(never)]
-fn stated_by_form(alloc: Global, form: Form, row: &ByteRecord) -> Result<Statement, RowError>
-    ensures { Tells result (statements.stated form (fields_of row.now)) }
+fn stated_by_form(alloc: Global, form: Form, row: &Fields<'_>) -> Result<Statement, RowError>
+    ensures { Tells result (statements.stated form row.now) }
 {
     match form {
         Form::Program => Ok(program_of(row)?),

@@ -1,7 +1,6 @@
 //! Swap rows.
 
 ghost use Rattle.std.specs.Prelude.{◌≡◌};
-ghost use Rattle.csv.specs.Records.{fields_of};
 ghost use Rattle.dex_statement.specs.declared.forms.Form.TheVariants as form;
 ghost use Rattle.dex_statement.specs.Stated as stated;
 ghost use Rattle.dex_statement.specs.Statements as statements;
@@ -13,11 +12,10 @@ use crate::instruction::InstructionWords;
 use crate::parties::Parties;
 use crate::statement::Statement;
 use crate::words::field_at;
-use csv::ByteRecord;
 use dex_rows::addresses::{address_word, role_word};
 use dex_rows::base64_words::base64_word;
 use dex_rows::numbers::u32_word;
-use dex_rows::records::field_count;
+use dex_rows::records::{Fields, field_count};
 use dex_types::Address;
 use std::alloc::Global;
 use std::marker::Model;
@@ -97,8 +95,8 @@ fn leg_of(market: &[u8], coin: &[u8], pc: &[u8], bytes: Vec<u8>) -> Result<LegWo
 /// What a `swap` row states, whose legs have their instructions' bytes in base64.
 #[inline(never)]
 #[tactic(auto, unfolding(crate::specs::Swaps::swap_row))]
-pub(crate) fn swap_row(alloc: Global, row: &ByteRecord) -> Result<Statement, RowError>
-    ensures { Tells result (statements.stated form.Swap (fields_of row.now)) }
+pub(crate) fn swap_row(alloc: Global, row: &Fields<'_>) -> Result<Statement, RowError>
+    ensures { Tells result (statements.stated form.Swap row.now) }
 {
     if field_count(row) != 11 {
         return Err(RowError::Fault(FaultKind::FieldCount));

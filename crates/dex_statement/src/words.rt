@@ -2,18 +2,17 @@
 
 ghost use Rattle.std.specs.Prelude.{◌≡◌, ◌<◌, ◌≤◌, ◌==◌, ◌∷◌, [], IfOk, IfSome, MatchOption, length, take};
 ghost use Rattle.std.specs.List.{position};
-ghost use Rattle.csv.specs.Records.{fields_of};
 ghost use Rattle.dex_statement.specs.Words as script;
 
-use csv::ByteRecord;
 use dex_rows::numbers::u64_word;
-use dex_rows::records::{field, field_count};
+use dex_rows::records::{Fields, field, field_count};
 use dex_types::{OrderType, SelfTrade, Side};
 use std::alloc::{AllocError, Global};
 
 /// The field at a place of a row, counted from 0; no bytes behind the last.
-pub(crate) fn field_at(row: &ByteRecord, place: usize) -> &[u8]
-    ensures { result.now ≡ script.field_at (fields_of row.now) place }
+pub(crate) fn field_at<'r>(row: &'r Fields<'_>, place: usize) -> &'r [u8]
+    requires { place < 12 }
+    ensures { result.now ≡ script.field_at row.now place }
 {
     if place < field_count(row) {
         field(row, place)
@@ -30,17 +29,19 @@ pub(crate) fn few_words<'a>(field: &'a [u8], words: &mut [&'a [u8]; MOST_WORDS])
     ensures within { IfSome result (λ count. count ≤ length words.new) }
     ensures words { IfSome result (λ count. script.texts (take count words.new) ≡ script.words_of field.now) }
 {
-    let mut rest = field;
+    let mut start = 0;
     let mut count = 0;
-    'words: while let Some((word, behind)) = first_word(rest) {
-        if count == MOST_WORDS - 1 {
-            return None;
+    'bytes: for place in 0..field.len() {
+        if field[place] == b' ' {
+            if count == MOST_WORDS - 1 {
+                return None;
+            }
+            words[count] = &field[start..place];
+            count += 1;
+            start = place + 1;
         }
-        words[count] = word;
-        count += 1;
-        rest = behind;
     }
-    words[count] = rest;
+    words[count] = &field[start..];
     Some(count + 1)
 }
 

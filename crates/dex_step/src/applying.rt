@@ -33,32 +33,32 @@ fn do_plan(
     accounts: &mut MarketAccounts,
     row: &Row,
     seen: &Seen,
-    plan: Plan,
+    plan: &Plan,
     pending: &mut PendingFills,
 ) -> Reply
     requires sound { AreSound (market_accounts_of accounts.old) }
-    requires decided { Ok plan ≡ decided (asked_by row.now) seen.now (market_of accounts.old) }
+    requires decided { Ok plan.now ≡ decided (asked_by row.now) seen.now (market_of accounts.old) }
     requires pending { pending.old ≡ pending_fills_of (market_of accounts.old).events }
     ensures { HasStepped (market_accounts_of accounts.old) (market_accounts_of accounts.new) result pending.new
         (row_step (row_of row.entry.now) seen.entry.now (market_of accounts.old)) }
 {
     match plan {
         Plan::Nothing => Reply::Done,
-        Plan::Consume { limit } => consume_row(accounts, pending, &row.named, limit),
-        Plan::Settle(paid) => settle_row(accounts, first_named(row), &paid),
+        Plan::Consume { limit } => consume_row(accounts, pending, &row.named, *limit),
+        Plan::Settle(paid) => settle_row(accounts, first_named(row), paid),
         Plan::Disable => disable_row(accounts),
-        Plan::Sweep(fees) => sweep_row(accounts, fees),
+        Plan::Sweep(fees) => sweep_row(accounts, *fees),
         Plan::Order {
             taker,
             plan,
             pending: left,
-        } => order_row(accounts, pending, taker, &plan, left),
+        } => order_row(accounts, pending, *taker, plan, *left),
         Plan::Take {
             taker,
             plan,
             pending: left,
-        } => take_row(accounts, pending, taker, &plan, left),
-        Plan::Cancel(what) => cancel_row(accounts, first_named(row), &what),
+        } => take_row(accounts, pending, *taker, plan, *left),
+        Plan::Cancel(what) => cancel_row(accounts, first_named(row), what),
         Plan::Close => close_row(accounts, first_named(row)),
         Plan::Init => init_row(accounts, first_named(row), row.signer),
     }
@@ -85,5 +85,5 @@ pub fn apply(
     ensures pending { pending.new ≡ pending_fills_of (market_of accounts.new).events }
     ensures kept { KeepsAccounts (market_accounts_of accounts.old) (market_accounts_of accounts.new) }
 {
-    do_plan(accounts, row, seen, *plan, pending)
+    do_plan(accounts, row, seen, plan, pending)
 }

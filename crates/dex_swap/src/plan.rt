@@ -4,7 +4,7 @@ ghost use Rattle.std.specs.Prelude.{◌≡◌};
 ghost use Rattle.dex_types.specs.Rows.{row_of};
 ghost use Rattle.dex_fold.specs.Items.{ShareNothing};
 ghost use Rattle.dex_locks.specs.Places.{StandInFront, front};
-ghost use Rattle.dex_run.specs.Turns.{leg_wallets};
+ghost use Rattle.dex_turns.specs.Turns.{leg_wallets};
 ghost use Rattle.dex_swap.specs.Legs.{leg_markets};
 
 use dex_locks::{by_address, plan_wallets};

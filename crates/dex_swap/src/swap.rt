@@ -1,11 +1,11 @@
 //! A swap at a bank.
 
 ghost use Rattle.dex_types.specs.Rows.{row_of};
-ghost use Rattle.dex_run.specs.Seats.{IsSeat, IsSeatOf};
-ghost use Rattle.dex_run.specs.Submitted.{AreLegReplies, AreNext, HaveSubmitted};
+ghost use Rattle.dex_turns.specs.Seats.{IsSeat, IsSeatOf};
+ghost use Rattle.dex_turns.specs.Submitted.{AreLegReplies, AreNext, HaveSubmitted};
 
 use dex_io::Pace;
-use dex_run::{Bank, LaneSeat};
+use dex_turns::{Bank, LaneSeat};
 use dex_types::{Reply, Row};
 use std::sync::Wait;
 

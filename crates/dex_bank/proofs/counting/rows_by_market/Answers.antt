@@ -1,21 +1,40 @@
-use Rattle.std.proofs.Common.{ℕ, ◌+◌, Bool, map, take, ap, ◌∙◌, sym, arith}
-use Rattle.dex_fold.proofs.Common.{PlainRow, is_same, is_same-sym, row_of}
-use Rattle.dex_bank.proofs.Common.{rows_on}
-use Rattle.dex_bank.specs.Counts.{one}
-use Rattle.dex_bank.proofs.OpenCounts.{counted-le, counted-more}
+use Rattle.std.proofs.Common.{◌+◌, List, [], ◌∷◌, Some, get_or, ℕ, arith, length, map, take, sym, subst}
+use Rattle.dex_fold.proofs.Common.{accounts_of, length-map, market_accounts_of, row_of, with_items_is}
+use Rattle.std.specs.List.{All}
+use Rattle.dex_types.specs.declared.rows.RowPlaces.{RowPlaces}
+use Rattle.dex_script.proofs.PlacedLaws.{placed-long}
+use Rattle.dex_bank.specs.Counts.{HaveSpare, IsWithin}
+use Rattle.dex_bank.proofs.OpenRooms.{AreRowsOf, markets_at, market-more, market-rooms, market-within, on, rows-spare}
 use Rattle.dex_bank.proofs.counting.rows_by_market.Goals as goal
 
-pub count-requires : goal.count-requires
-count-requires c =
-    omega (
-      arith,
-      c.loop-row.invariant c.row-item.result.market,
-      counted-le (λ (row : PlainRow). is_same row.market c.row-item.result.market) c.args.rows.now c.loop-row.row-index (omega arith),
-    )
+abbrev nowhere : RowPlaces
+nowhere = record { market = 0; coin = 0; pc = 0; discount = 0; referrer = 0 }
+
+pub bounds-places-row : goal.bounds-places-row
+bounds-places-row c =
+    omega (arith, placed-long (accounts_of c.args.start.now) (map row_of c.args.rows.now) c.args.places.now c.requires.places, length-map c.args.rows.now row_of)
+
+pub count_each-requires-clause-within : goal.count_each-requires-clause-within
+count_each-requires-clause-within c =
+    subst (λ (counts : List ℕ). All (IsWithin (length counts)) (Some (get_or c.args.places.now c.loop-row.row nowhere).market ∷ [])) (sym c.deref_mut.ensures.value)
+    (market-within (accounts_of c.args.start.now) c.requires.start c.args.rows.now c.args.places.now c.requires.places c.loop-row.row c.loop-row-test.true nowhere c.loop-row.counts.items c.loop-row.invariant)
+
+pub count_each-requires-clause-spare : goal.count_each-requires-clause-spare
+count_each-requires-clause-spare c =
+    subst (HaveSpare 2) (sym c.deref_mut.ensures.value)
+    (rows-spare on (markets_at (map market_accounts_of c.args.start.now.markets.items)) (map row_of c.args.rows.now) c.loop-row.row 2 c.loop-row.counts.items
+    (omega (arith, length-map c.args.rows.now row_of)) (omega arith) c.loop-row.invariant)
 
 pub loop-row-preserved : goal.loop-row-preserved
-loop-row-preserved c = λ market.
-    c.in_ok-count.ensures market
-    ∙ ap (λ (n : ℕ). n + one (is_same market c.row-item.result.market)) (c.loop-row.invariant market)
-    ∙ ap (λ (b : Bool). rows_on market (map row_of (take c.loop-row.row-index c.args.rows.now)) + one b) (is_same-sym market c.row-item.result.market)
-    ∙ sym (counted-more (λ (row : PlainRow). is_same row.market market) c.args.rows.now c.loop-row.row-index c.row-item.result (omega arith) c.row-item.is)
+loop-row-preserved c =
+    subst (AreRowsOf on (markets_at (map market_accounts_of c.args.start.now.markets.items)) (take (c.loop-row.row + 1) (map row_of c.args.rows.now)))
+    (sym (with_items_is c.loop-row.counts c.count_each.new.counts (omega (arith, c.count_each.auto.counts, c.deref_mut.ensures.len))))
+    (market-more (accounts_of c.args.start.now) c.requires.start c.args.rows.now c.args.places.now c.requires.places c.loop-row.row c.loop-row-test.true nowhere
+    c.deref_mut.result.now c.count_each.new.counts
+    (subst (AreRowsOf on (markets_at (map market_accounts_of c.args.start.now.markets.items)) (take c.loop-row.row (map row_of c.args.rows.now))) (sym c.deref_mut.ensures.value) c.loop-row.invariant)
+    c.count_each.ensures)
+
+pub returns : goal.returns
+returns c =
+    market-rooms (map row_of c.args.rows.now) (map market_accounts_of c.args.start.now.markets.items) c.loop-row.row c.loop-row.counts.items
+    (omega (arith, length-map c.args.rows.now row_of, c.loop-row-test.false)) c.loop-row.invariant

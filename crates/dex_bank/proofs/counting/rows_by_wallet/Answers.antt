@@ -1,19 +1,42 @@
-use Rattle.std.proofs.Common.{ℕ, ◌+◌, ap, ◌∙◌, sym, arith}
-use Rattle.dex_fold.proofs.Common.{PlainRow, names, row_of}
-use Rattle.dex_bank.specs.Counts.{one}
-use Rattle.dex_bank.proofs.OpenCounts.{counted-le, counted-more}
+use Rattle.std.proofs.Common.{◌+◌, List, ℕ, arith, length, map, take, sym, subst}
+use Rattle.dex_fold.proofs.Common.{accounts_of, length-map, named_of, names, row_of, with_items_is}
+use Rattle.std.specs.List.{All}
+use Rattle.dex_types.specs.declared.rows.RowPlaces.{RowPlaces}
+use Rattle.dex_script.proofs.PlacedLaws.{placed-long}
+use Rattle.dex_bank.specs.Counts.{HaveSpare, IsWithin}
+use Rattle.dex_bank.proofs.OpenRooms.{AreRowsOf, wallets_at, wallet-more, wallet-rooms, wallet-within, rows-spare}
 use Rattle.dex_bank.proofs.counting.rows_by_wallet.Goals as goal
 
-pub count_wallets-requires : goal.count_wallets-requires
-count_wallets-requires c = λ wallet.
-    omega (
-      arith,
-      c.loop-row.invariant wallet,
-      counted-le (λ (row : PlainRow). names row wallet) c.args.rows.now c.loop-row.row-index (omega arith),
-    )
+abbrev nowhere : RowPlaces
+nowhere = record { market = 0; coin = 0; pc = 0; discount = 0; referrer = 0 }
+
+pub bounds-places-row : goal.bounds-places-row
+bounds-places-row c =
+    omega (arith, placed-long (accounts_of c.args.start.now) (map row_of c.args.rows.now) c.args.places.now c.requires.places, length-map c.args.rows.now row_of)
+
+pub count_each-requires-clause-within : goal.count_each-requires-clause-within
+count_each-requires-clause-within c =
+    subst (λ (counts : List ℕ). All (IsWithin (length counts)) c.wallets_told.result) (sym c.deref_mut.ensures.value)
+    (wallet-within (accounts_of c.args.start.now) c.requires.start c.args.rows.now c.args.places.now c.requires.places c.loop-row.row c.loop-row-test.true nowhere
+    c.index-rows-row.result c.index-rows-row.is c.wallets_told.result c.wallets_told.ensures c.loop-row.counts.items c.loop-row.invariant)
+
+pub count_each-requires-clause-spare : goal.count_each-requires-clause-spare
+count_each-requires-clause-spare c =
+    subst (HaveSpare 2) (sym c.deref_mut.ensures.value)
+    (rows-spare names (wallets_at (map named_of c.args.start.now.wallets.items)) (map row_of c.args.rows.now) c.loop-row.row 2 c.loop-row.counts.items
+    (omega (arith, length-map c.args.rows.now row_of)) (omega arith) c.loop-row.invariant)
 
 pub loop-row-preserved : goal.loop-row-preserved
-loop-row-preserved c = λ wallet.
-    c.in_ok-count_wallets.ensures wallet
-    ∙ ap (λ (n : ℕ). n + one (names (row_of c.row-item.result) wallet)) (c.loop-row.invariant wallet)
-    ∙ sym (counted-more (λ (row : PlainRow). names row wallet) c.args.rows.now c.loop-row.row-index c.row-item.result (omega arith) c.row-item.is)
+loop-row-preserved c =
+    subst (AreRowsOf names (wallets_at (map named_of c.args.start.now.wallets.items)) (take (c.loop-row.row + 1) (map row_of c.args.rows.now)))
+    (sym (with_items_is c.loop-row.counts c.count_each.new.counts (omega (arith, c.count_each.auto.counts, c.deref_mut.ensures.len))))
+    (wallet-more (accounts_of c.args.start.now) c.requires.start c.args.rows.now c.args.places.now c.requires.places c.loop-row.row c.loop-row-test.true nowhere
+    c.index-rows-row.result c.index-rows-row.is c.wallets_told.result c.wallets_told.ensures
+    c.deref_mut.result.now c.count_each.new.counts
+    (subst (AreRowsOf names (wallets_at (map named_of c.args.start.now.wallets.items)) (take c.loop-row.row (map row_of c.args.rows.now))) (sym c.deref_mut.ensures.value) c.loop-row.invariant)
+    c.count_each.ensures)
+
+pub returns : goal.returns
+returns c =
+    wallet-rooms (map row_of c.args.rows.now) (map named_of c.args.start.now.wallets.items) c.loop-row.row c.loop-row.counts.items
+    (omega (arith, length-map c.args.rows.now row_of, c.loop-row-test.false)) c.loop-row.invariant

@@ -1,7 +1,12 @@
-use Rattle.std.proofs.Common.{◌≡◌, map}
-use Rattle.dex_fold.proofs.Common.{market_accounts_of, row_of}
+use Rattle.std.proofs.Common.{◌≡◌, List, length, map}
+use Rattle.dex_fold.proofs.Common.{PlainRow, market_accounts_of}
 use Rattle.dex_bank.proofs.Common.{market_opened}
+use Rattle.dex_bank.specs.Opened.{market_rooms}
 use Rattle.dex_bank.proofs.opening.market_cells.Given as goal
 
 abbrev pub invariant-loop-accounts : goal.invariant-loop-accounts
-invariant-loop-accounts l = l.cells.items ≡ map (market_opened (map row_of l.fn.rows)) (map market_accounts_of l.yielded)
+invariant-loop-accounts l = record {
+  place : l.place ≡ length l.yielded;
+  cells : (rows : List PlainRow) → l.fn.rooms ≡ market_rooms rows (map market_accounts_of l.fn.markets.items)
+      → l.cells.items ≡ map (market_opened rows) (map market_accounts_of l.yielded);
+}

@@ -1,20 +1,36 @@
-use Rattle.std.proofs.Common.{map}
-use Rattle.dex_fold.proofs.Common.{accounts_of, market_accounts_of, named_of, row_of}
-use Rattle.dex_bank.proofs.Common.{AreSound, IsAccepted, IsWallet}
+use Rattle.std.proofs.Common.{◌≡◌, ℕ, List, length, map, ap, ◌∙◌}
+use Rattle.dex_fold.proofs.Common.{PlainAccount, PlainMarketAccounts, accounts_of, length-map, market_accounts_of, named_of, row_of}
+use Rattle.dex_bank.proofs.Common.{AreSound, IsAccepted, IsWallet, rows_naming, rows_on}
 use Rattle.dex_bank.proofs.OpenCells.{AreCells-opened}
 use Rattle.dex_bank.proofs.OpenLists.{unmapped}
 use Rattle.dex_bank.proofs.opening.opened.Goals as goal
 
 pub market_cells-requires-clause-sound : goal.market_cells-requires-clause-sound
-market_cells-requires-clause-sound c = unmapped AreSound market_accounts_of c.args.start.markets.items c.requires.sound
+market_cells-requires-clause-sound c = unmapped AreSound market_accounts_of c.args.start.markets.items c.requires.start.sound
 
 pub market_cells-requires-clause-accepted : goal.market_cells-requires-clause-accepted
-market_cells-requires-clause-accepted c = unmapped IsAccepted market_accounts_of c.args.start.markets.items c.requires.accepted.markets
+market_cells-requires-clause-accepted c = unmapped IsAccepted market_accounts_of c.args.start.markets.items c.requires.start.accepted.markets
 
-pub wallet_cells-requires : goal.wallet_cells-requires
-wallet_cells-requires c = unmapped (λ w. IsWallet w.bytes) named_of c.args.start.wallets.items c.requires.accepted.wallets
+pub wallet_cells-requires-clause-wallets : goal.wallet_cells-requires-clause-wallets
+wallet_cells-requires-clause-wallets c = unmapped (λ w. IsWallet w.bytes) named_of c.args.start.wallets.items c.requires.start.accepted.wallets
+
+-- as many as there are of what was counted
+long : {A B : Type 0} (f : B → ℕ) (g : A → B) (xs : List A) (rooms told : List ℕ) → rooms ≡ told → told ≡ map f (map g xs) → length rooms ≡ length xs
+long f g xs rooms told is counted = ap (λ (l : List ℕ). length l) (is ∙ counted) ∙ length-map (map g xs) f ∙ length-map xs g
+
+pub market_cells-requires-clause-rooms : goal.market_cells-requires-clause-rooms
+market_cells-requires-clause-rooms c =
+    long (λ (one : PlainMarketAccounts). rows_on one.address (map row_of c.args.rows.now)) market_accounts_of c.args.start.markets.items c.deref.result.now
+    c.in_ok-market_rooms.market_rooms.items c.deref.ensures.value c.in_ok-market_rooms.ensures
+
+pub wallet_cells-requires-clause-rooms : goal.wallet_cells-requires-clause-rooms
+wallet_cells-requires-clause-rooms c =
+    long (λ (one : PlainAccount). rows_naming one.address (map row_of c.args.rows.now)) named_of c.args.start.wallets.items c.deref-2.result.now
+    c.in_ok-wallet_rooms.wallet_rooms.items c.deref-2.ensures.value c.in_ok-wallet_rooms.ensures
 
 pub invariant_of-result : goal.invariant_of-result
 invariant_of-result c =
-    AreCells-opened (accounts_of c.args.start) (map row_of c.args.rows.now) _ c.requires c.in_ok-markets.ensures c.in_ok-wallets.ensures.opened
-    c.in_ok-wallets.ensures.cells
+    let rows = map row_of c.args.rows.now in
+    AreCells-opened (accounts_of c.args.start) rows _ c.requires.start
+    (c.in_ok-markets.ensures rows (c.deref.ensures.value ∙ c.in_ok-market_rooms.ensures))
+    (c.in_ok-wallets.ensures.opened rows (c.deref-2.ensures.value ∙ c.in_ok-wallet_rooms.ensures)) c.in_ok-wallets.ensures.cells

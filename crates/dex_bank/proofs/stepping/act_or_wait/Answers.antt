@@ -14,12 +14,12 @@ do_at-requires-clause-row c =
     let cells : CellsState = cells_inside c.cells.inside in
     let row = c.args.row.now in
     let seen : Seen = c.seen_by-seen.result in
-    let place = c.place_of-place.result in
+    let place = c.args.standing.now.market in
     subst (λ (ms : List MarketCellState). CanActAt row seen place ms c.deref_mut-2.result.now) (sym c.deref_mut.ensures.value)
     (subst (CanActAt row seen place cells.markets) (sym c.deref_mut-2.ensures.value)
     (can-act-at row seen place cells
     (subst (λ (cs : CellsState). seen ≡ seen_by (row_of row) (world_of cs)) (sym c.cells.view_is) c.seen_by-seen.ensures.seen)
-    (subst (λ (ms : List MarketCellState). IsFirstAt row.market ms place) c.deref.ensures.value c.place_of-place.ensures)
+    (subst (λ (cs : CellsState). IsFirstAt row.market cs.markets place) (sym c.cells.view_is) c.requires.places.market)
     c.cells.invariant (subst (CanAct (row_of row)) (sym c.cells.view_is) c.requires.row) c.seen_by-seen.ensures.fits))
 
 pub do_at-requires-clause-held : goal.do_at-requires-clause-held
@@ -27,11 +27,11 @@ do_at-requires-clause-held c = λ waits default.
     let cells : CellsState = cells_inside c.cells.inside in
     let row = c.args.row.now in
     let seen : Seen = c.seen_by-seen.result in
-    let place = c.place_of-place.result in
+    let place = c.args.standing.now.market in
     subst (λ (ms : List MarketCellState). CanHold row seen (get_or ms place default)) (sym c.deref_mut.ensures.value)
     (can-hold row seen place cells
     (subst (λ (cs : CellsState). seen ≡ seen_by (row_of row) (world_of cs)) (sym c.cells.view_is) c.seen_by-seen.ensures.seen)
-    (subst (λ (ms : List MarketCellState). IsFirstAt row.market ms place) c.deref.ensures.value c.place_of-place.ensures)
+    (subst (λ (cs : CellsState). IsFirstAt row.market cs.markets place) (sym c.cells.view_is) c.requires.places.market)
     (subst (CanWait (row_of row)) (sym c.cells.view_is) (c.requires.held waits)) default)
 
 -- ---- the cells before and after it
@@ -64,21 +64,21 @@ seen-before : (c : goal.After-cells-2-1) → c.seen_by-seen.result ≡ seen_by (
 seen-before c =
     subst (λ (cs : CellsState). c.seen_by-seen.result ≡ seen_by (done c) (world_of cs)) (sym c.cells.view_is) c.seen_by-seen.ensures.seen
 
-first : (c : goal.After-cells-2-1) → IsFirstAt c.args.row.now.market (before c).markets c.place_of-place.result
-first c = subst (λ (ms : List MarketCellState). IsFirstAt c.args.row.now.market ms c.place_of-place.result) c.deref.ensures.value c.place_of-place.ensures
+first : (c : goal.After-cells-2-1) → IsFirstAt c.args.row.now.market (before c).markets c.args.standing.now.market
+first c = subst (λ (cs : CellsState). IsFirstAt c.args.row.now.market cs.markets c.args.standing.now.market) (sym c.cells.view_is) c.requires.places.market
 
-has : (c : goal.After-cells-2-1) → HasBecomeAt (done c) c.seen_by-seen.result c.place_of-place.result (before c).markets c.do_at.new.markets
+has : (c : goal.After-cells-2-1) → HasBecomeAt (done c) c.seen_by-seen.result c.args.standing.now.market (before c).markets c.do_at.new.markets
 has c =
-    subst (λ (ms : List MarketCellState). HasBecomeAt (done c) c.seen_by-seen.result c.place_of-place.result ms c.do_at.new.markets) c.deref_mut.ensures.value
+    subst (λ (ms : List MarketCellState). HasBecomeAt (done c) c.seen_by-seen.result c.args.standing.now.market ms c.do_at.new.markets) c.deref_mut.ensures.value
     c.do_at.ensures.market
 
 have : (c : goal.After-cells-2-1) → (default : MarketCellState)
     → HaveActed (done c) c.seen_by-seen.result
-    (row_step (done c) c.seen_by-seen.result (market.market_at (get_or (before c).markets c.place_of-place.result default))).transfers (before c).wallets
+    (row_step (done c) c.seen_by-seen.result (market.market_at (get_or (before c).markets c.args.standing.now.market default))).transfers (before c).wallets
     c.do_at.new.wallets
 have c default =
     let seen : Seen = c.seen_by-seen.result in
-    let place = c.place_of-place.result in
+    let place = c.args.standing.now.market in
     subst (λ (ms : List MarketCellState).
     HaveActed (done c) seen (row_step (done c) seen (market.market_at (get_or ms place default))).transfers (before c).wallets c.do_at.new.wallets)
     c.deref_mut.ensures.value
@@ -88,7 +88,7 @@ have c default =
 
 cells-after : (c : goal.After-cells-2-1) → AreCells (after c)
 cells-after c =
-    stepped-cells (done c) c.seen_by-seen.result c.place_of-place.result (before c) (seen-before c) (first c) c.do_at.new.markets c.do_at.new.wallets (has c) (have c)
+    stepped-cells (done c) c.seen_by-seen.result c.args.standing.now.market (before c) (seen-before c) (first c) c.do_at.new.markets c.do_at.new.wallets (has c) (have c)
     c.cells.invariant
 
 pub invariant_of-cells : goal.invariant_of-cells
@@ -101,19 +101,19 @@ pub returns-clause-acted : goal.returns-clause-acted
 returns-clause-acted c =
     ap world_of (left-is c)
     ∙ subst (λ (cs : CellsState). world_of (after c) ≡ act (done c) (world_of cs)) c.cells.view_is
-    (stepped-acted (done c) c.seen_by-seen.result c.place_of-place.result (before c) (seen-before c) (first c) c.do_at.new.markets c.do_at.new.wallets (has c) (have c))
+    (stepped-acted (done c) c.seen_by-seen.result c.args.standing.now.market (before c) (seen-before c) (first c) c.do_at.new.markets c.do_at.new.wallets (has c) (have c))
 
 pub returns-clause-kept : goal.returns-clause-kept
 returns-clause-kept c =
     ap opened_of (left-is c)
     ∙ subst (λ (cs : CellsState). opened_of (after c) ≡ opened_of cs) c.cells.view_is
-    (stepped-opened (done c) c.seen_by-seen.result c.place_of-place.result (before c) (seen-before c) (first c) c.do_at.new.markets c.do_at.new.wallets (has c) (have c))
+    (stepped-opened (done c) c.seen_by-seen.result c.args.standing.now.market (before c) (seen-before c) (first c) c.do_at.new.markets c.do_at.new.wallets (has c) (have c))
 
 pub returns-clause-reply : goal.returns-clause-reply
 returns-clause-reply c =
     let row = c.args.row.now in
     let seen : Seen = c.seen_by-seen.result in
-    let place = c.place_of-place.result in
+    let place = c.args.standing.now.market in
     subst (λ (cs : CellsState). (m : Market) → market_at row.market (world_of cs).markets ≡ Some m
     → c.do_at.result ≡ (row_step (done c) (seen_by (row_of row) (world_of cs)) m).reply) c.cells.view_is
     (stepped-reply (done c) seen place (before c) (seen-before c) (first c) c.do_at.new.markets c.do_at.new.wallets (has c) (have c) c.do_at.result
@@ -126,7 +126,7 @@ returns-clause-others c =
     let address : Address = c.args.row.now.market in
     subst (λ (cs : CellsState). OthersStay address cs.markets (left c).markets) c.cells.view_is
     (subst (OthersStay address (before c).markets) (sym (ap (λ (cs : CellsState). cs.markets) (left-is c) ∙ (has c).is))
-    (others-stay address (before c).markets c.place_of-place.result (has c).cell (first c)))
+    (others-stay address (before c).markets c.args.standing.now.market (has c).cell (first c)))
 
 pub returns-clause-stays : goal.returns-clause-stays
 returns-clause-stays c = λ stays.

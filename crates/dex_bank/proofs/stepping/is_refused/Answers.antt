@@ -10,12 +10,12 @@ is_refused_at-requires-clause-row c = λ default.
     let cells : CellsState = cells_inside c.cells.inside in
     let row = c.args.row.now in
     let seen : Seen = c.seen_by-seen.result in
-    let place = c.place_of-place.result in
-    subst (λ (ms : List MarketCellState). IsFor row seen (get_or ms place default)) (sym c.deref-2.ensures.value)
+    let place = c.args.standing.now.market in
+    subst (λ (ms : List MarketCellState). IsFor row seen (get_or ms place default)) (sym c.deref.ensures.value)
     ((can-act-at row seen place cells
     (subst (λ (cs : CellsState). seen ≡ seen_by (row_of row) (world_of cs)) (sym c.cells.view_is) c.seen_by-seen.ensures.seen)
-    (subst (λ (ms : List MarketCellState). IsFirstAt row.market ms place) c.deref.ensures.value c.place_of-place.ensures)
-    c.cells.invariant (subst (CanAct (row_of row)) (sym c.cells.view_is) c.requires) c.seen_by-seen.ensures.fits).for default)
+    (subst (λ (cs : CellsState). IsFirstAt row.market cs.markets place) (sym c.cells.view_is) c.requires.places.market)
+    c.cells.invariant (subst (CanAct (row_of row)) (sym c.cells.view_is) c.requires.row) c.seen_by-seen.ensures.fits).for default)
 
 -- one of some cells
 some-of : (cells : List MarketCellState) (place : ℕ) → place < length cells → MarketCellState
@@ -27,12 +27,12 @@ returns-clause-refused c =
     let cells : CellsState = cells_inside c.cells.inside in
     let row = c.args.row.now in
     let seen : Seen = c.seen_by-seen.result in
-    let place = c.place_of-place.result in
-    let default : MarketCellState = some-of c.deref.result.now place c.place_of-place.ensures.within in
+    let place = c.args.standing.now.market in
+    let default : MarketCellState = some-of c.args.cells.now.markets place c.requires.places.market.within in
     subst (λ (cs : CellsState). c.is_refused_at.result ≡ is_some (why_in (world_of cs) (row_of row))) c.cells.view_is
-    (subst (λ (ms : List MarketCellState). c.is_refused_at.result ≡ is_some (why (request_of (row_of row)) seen (market_at (get_or ms place default)))) c.deref-2.ensures.value
+    (subst (λ (ms : List MarketCellState). c.is_refused_at.result ≡ is_some (why (request_of (row_of row)) seen (market_at (get_or ms place default)))) c.deref.ensures.value
     (c.is_refused_at.ensures default)
     ∙ ap (λ (found : Option Refusal). is_some found)
     (refused-here row seen place cells
     (subst (λ (cs : CellsState). seen ≡ seen_by (row_of row) (world_of cs)) (sym c.cells.view_is) c.seen_by-seen.ensures.seen)
-    (subst (λ (ms : List MarketCellState). IsFirstAt row.market ms place) c.deref.ensures.value c.place_of-place.ensures) default))
+    (subst (λ (cs : CellsState). IsFirstAt row.market cs.markets place) (sym c.cells.view_is) c.requires.places.market) default))

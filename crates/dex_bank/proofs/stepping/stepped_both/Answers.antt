@@ -1,20 +1,27 @@
-use Rattle.std.proofs.Common.{◌≡◌, ◌||◌, ◌&&◌, Bool, true, false, not, is_some, List, [], ◌∷◌, Option, sym, ap, ◌∙◌, subst}
+use Rattle.std.proofs.Common.{◌≡◌, ◌||◌, ◌&&◌, Bool, true, not, is_some, List, [], ◌∷◌, Option, sym, ap, ◌∙◌, subst}
 use Rattle.dex_fold.proofs.Common.{AllZip, PlainRow, Refusal, act, fold, row_of, why_in}
 use Rattle.dex_bank.proofs.Common.{CellsState, IsReply, world_of}
 use Rattle.dex_bank.specs.Stepping.{doing}
+use Rattle.dex_bank.proofs.Stands.{its-address, stands-still}
 use Rattle.dex_bank.proofs.StepTwo.{both-stay, can-behind, can-wait, chosen-two, not-refused, reply-still, waits-or-refused, why-still}
 use Rattle.dex_bank.proofs.stepping.stepped_both.Goals as goal
 use Rattle.dex_bank.proofs.stepping.stepped_both.Goals.{else-first_refused, then-first_refused}
 
 pub act_or_wait-one-requires-clause-held : goal.act_or_wait-one-requires-clause-held
 act_or_wait-one-requires-clause-held c = λ held.
-    can-wait (row_of c.args.first.now) c.args.cells.now c.requires.first_take
+    can-wait (row_of c.args.first.now) c.args.cells.now c.requires.rows.first_take
     (sym c.is_refused-first_refused.ensures.refused ∙ not-refused c.if-first_refused.any c.is_refused-first_refused.result (sym c.waits.ensures ∙ held))
 
 pub act_or_wait-two-requires-clause-row : goal.act_or_wait-two-requires-clause-row
 act_or_wait-two-requires-clause-row c =
-    can-behind (row_of c.args.first.now) (row_of c.args.second.now) c.requires.share c.args.cells.now c.act_or_wait-one.new.cells c.is_refused-first_refused.ensures.cells c.act_or_wait-one.ensures.cells
-    c.act_or_wait-one.ensures.kept c.act_or_wait-one.ensures.others c.waits.result c.act_or_wait-one.ensures.acted c.requires.second_can
+    can-behind (row_of c.args.first.now) (row_of c.args.second.now) c.requires.rows.share c.args.cells.now c.act_or_wait-one.new.cells c.is_refused-first_refused.ensures.cells c.act_or_wait-one.ensures.cells
+    c.act_or_wait-one.ensures.kept c.act_or_wait-one.ensures.others c.waits.result c.act_or_wait-one.ensures.acted c.requires.rows.second_can
+
+pub act_or_wait-two-requires-clause-places : goal.act_or_wait-two-requires-clause-places
+act_or_wait-two-requires-clause-places c =
+    stands-still c.args.cells.now c.act_or_wait-one.new.cells (its-address c.args.cells.now c.is_refused-first_refused.ensures.cells)
+    (its-address c.act_or_wait-one.new.cells c.act_or_wait-one.ensures.cells) c.act_or_wait-one.ensures.kept (row_of c.args.second.now)
+    c.args.second_standing.now.market c.args.second_standing.now.wallets c.requires.second
 
 pub act_or_wait-two-requires-clause-held : goal.act_or_wait-two-requires-clause-held
 act_or_wait-two-requires-clause-held c = λ held.
@@ -22,9 +29,9 @@ act_or_wait-two-requires-clause-held c = λ held.
     let after : CellsState = c.act_or_wait-one.new.cells in
     let second = row_of c.args.second.now in
     let same : why_in (world_of after) second ≡ why_in (world_of before) second =
-    why-still (row_of c.args.first.now) second c.requires.share before after c.is_refused-first_refused.ensures.cells c.act_or_wait-one.ensures.cells c.act_or_wait-one.ensures.kept
+    why-still (row_of c.args.first.now) second c.requires.rows.share before after c.is_refused-first_refused.ensures.cells c.act_or_wait-one.ensures.cells c.act_or_wait-one.ensures.kept
     c.act_or_wait-one.ensures.others c.waits.result c.act_or_wait-one.ensures.acted in
-    can-wait second after (λ isnt. ap (λ (found : Option Refusal). is_some found) same ∙ c.requires.second_take isnt)
+    can-wait second after (λ isnt. ap (λ (found : Option Refusal). is_some found) same ∙ c.requires.rows.second_take isnt)
     (ap (λ (found : Option Refusal). is_some found) same
     ∙ sym c.is_refused-second_refused.ensures.refused
     ∙ not-refused c.if-first_refused.any c.is_refused-second_refused.result (sym c.waits-2.ensures ∙ held))
@@ -50,7 +57,7 @@ returns-clause-replies c =
     c.is_refused-first_refused.ensures.refused c.is_refused-second_refused.ensures.refused any_is c.waits.ensures c.waits-2.ensures)) (
       c.act_or_wait-one.ensures.reply,
       (
-        reply-still first second c.requires.share c.args.cells.now c.act_or_wait-one.new.cells c.is_refused-first_refused.ensures.cells
+        reply-still first second c.requires.rows.share c.args.cells.now c.act_or_wait-one.new.cells c.is_refused-first_refused.ensures.cells
             c.act_or_wait-one.ensures.cells c.act_or_wait-one.ensures.kept c.act_or_wait-one.ensures.others c.waits.result c.act_or_wait-one.ensures.acted
             c.waits-2.result c.act_or_wait-two.result c.act_or_wait-two.ensures.reply,
         tt,
@@ -88,7 +95,7 @@ returns-clause-stays c = λ some.
       | else-first_refused w ↦ w.any-is ∙ (sym (ap (λ (b : Bool). b || two) w.if-first_refused.false) ∙ either)
     ] in
     let same : why_in (world_of after) second ≡ why_in (world_of before) second =
-    why-still first second c.requires.share before after c.is_refused-first_refused.ensures.cells c.act_or_wait-one.ensures.cells c.act_or_wait-one.ensures.kept
+    why-still first second c.requires.rows.share before after c.is_refused-first_refused.ensures.cells c.act_or_wait-one.ensures.cells c.act_or_wait-one.ensures.kept
     c.act_or_wait-one.ensures.others c.waits.result c.act_or_wait-one.ensures.acted in
     let two_told : two ≡ is_some (why_in (world_of after) second) = two_is ∙ ap (λ (found : Option Refusal). is_some found) (sym same) in
     c.act_or_wait-two.ensures.stays

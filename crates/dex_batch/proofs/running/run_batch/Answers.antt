@@ -13,7 +13,7 @@ then-ok P Q (Err e) then is = tt
 pub returns-clause-run : goal.returns-clause-run
 returns-clause-run g c =
     let script = c.args.script in
-    let is : IsScript script = subst IsScript c.script.view_is c.script.invariant in
+    let is : IsScript script = subst IsScript c.script.view_is c.script.invariant.0 in
     then-ok (λ (outcome : Outcome). IsReplayOf script (outcome_of outcome)) (λ (outcome : Outcome). IsRunOf script (outcome_of outcome)) c.batched.result
     (λ outcome replay. c.what_one_order_leaves_is_a_run.ensures script (outcome_of outcome) is
     (c.a_replay_is_in_one_order.ensures script (outcome_of outcome) is replay)) c.batched.ensures

@@ -13,10 +13,10 @@ returns-clause-text c =
     rw (
       c.in_ok-write_word-2.ensures,
       c.in_ok-write_markets.ensures.text,
-      c.in_ok-write_wallets.ensures.text,
+      c.in_ok-write_accounts-2.ensures.text,
       c.in_ok-write_name-2.ensures.text,
       c.in_ok-write_name.ensures.text,
-      c.in_ok-write_mints.ensures.text,
+      c.in_ok-write_accounts.ensures.text,
       c.in_ok-write_word.ensures,
       c.deref.ensures.value,
       c.deref-2.ensures.value,
@@ -26,10 +26,10 @@ returns-clause-text c =
 
 pub returns-clause-held : goal.returns-clause-held
 returns-clause-held c = record {
-  mints = subst (λ (mints : List Named). All IsHeld (map named_of mints)) c.deref.ensures.value c.in_ok-write_mints.ensures.held;
+  mints = subst (λ (mints : List Named). All IsHeld (map named_of mints)) c.deref.ensures.value c.in_ok-write_accounts.ensures.held;
   srm = c.in_ok-write_name.ensures.held;
   msrm = c.in_ok-write_name-2.ensures.held;
-  wallets = subst (λ (wallets : List Named). All IsHeld (map named_of wallets)) c.deref-2.ensures.value c.in_ok-write_wallets.ensures.held;
+  wallets = subst (λ (wallets : List Named). All IsHeld (map named_of wallets)) c.deref-2.ensures.value c.in_ok-write_accounts-2.ensures.held;
   markets = subst (λ (markets : List MarketAccounts). All IsHeldMarket (map market_accounts_of markets)) c.deref-3.ensures.value
       c.in_ok-write_markets.ensures.held;
 }

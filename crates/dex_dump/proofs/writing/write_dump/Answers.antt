@@ -8,6 +8,5 @@ use Rattle.dex_dump.proofs.writing.write_dump.Goals as goal
 pub returns-in-Ok-clause-read_back : goal.returns-in-Ok-clause-read_back
 returns-in-Ok-clause-read_back c = λ are.
     let accounts = accounts_of c.args.accounts.now in
-    let same : c.into_bytes.result.items ≡ dump_text accounts =
-    rw c.into_bytes.ensures.value (c.in-Ok.ensures.text ∙ ap (λ (text : List ℕ). text ++ dump_text accounts) c.new-text.ensures.bytes) in
+    let same : c.append_dump.new.text.items ≡ dump_text accounts = c.in-Ok.ensures.text ∙ ap (λ (text : List ℕ). text ++ dump_text accounts) c.new-text.ensures.items in
     subst (λ (text : List ℕ). IsReadAs text accounts) (sym same) (text-read accounts are c.in-Ok.ensures.held)

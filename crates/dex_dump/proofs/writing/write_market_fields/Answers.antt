@@ -1,5 +1,4 @@
 use Rattle.std.proofs.Common.{[], ◌∷◌}
-use Rattle.std.specs.String.{string_bytes}
 use Rattle.dex_dump.specs.DumpText.{base64_text, behind_first}
 use Rattle.dex_dump.proofs.TextLaws.{pieces}
 use Rattle.dex_dump.proofs.writing.write_market_fields.Goals as goal
@@ -25,6 +24,6 @@ returns-clause-text c =
       c.deref-6.ensures.value,
       c.deref-7.ensures.value,
     )
-    (pieces (string_bytes c.args.text.now) (44 ∷ base64_text m.market.items) (44 ∷ base64_text m.coin_vault.items)
+    (pieces (c.args.text.now.items) (44 ∷ base64_text m.market.items) (44 ∷ base64_text m.coin_vault.items)
     (44 ∷ base64_text m.pc_vault.items) (44 ∷ base64_text m.requests.items) (44 ∷ base64_text m.events.items)
     (44 ∷ base64_text m.bids.items) (44 ∷ base64_text m.asks.items) (10 ∷ []))

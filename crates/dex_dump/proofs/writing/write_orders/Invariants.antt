@@ -1,5 +1,4 @@
 use Rattle.std.proofs.Common.{All, ◌≡◌, ◌++◌, map, take}
-use Rattle.std.specs.String.{string_bytes}
 use Rattle.dex_types.specs.Accounts.{orders_account_of}
 use Rattle.dex_dump.specs.Accepted.{IsHeld}
 use Rattle.dex_dump.specs.DumpText.{lines_text, orders_row}
@@ -7,6 +6,6 @@ use Rattle.dex_dump.proofs.writing.write_orders.Given as goal
 
 abbrev pub invariant-loop-account : goal.invariant-loop-account
 invariant-loop-account l = record {
-  text : string_bytes l.text ≡ string_bytes l.fn.text ++ lines_text (map (orders_row l.market) (map orders_account_of (take l.account-index l.accounts)));
+  text : l.text.items ≡ l.fn.text.items ++ lines_text (map (orders_row l.market) (map orders_account_of (take l.account-index l.accounts)));
   held : All IsHeld (map orders_account_of (take l.account-index l.accounts));
 }

@@ -1,13 +1,19 @@
 use Rattle.std.proofs.Common.{List, map, sym, ap, subst, ◌∙◌}
 use Rattle.dex_fold.proofs.Common.{Row, row_of}
+use Rattle.dex_bank.specs.Places.{ArePlacedIn}
 use Rattle.dex_replay.proofs.Common.{IsReplayOf, outcome_of}
 use Rattle.dex_replay.proofs.RunOf.{items-replay, replay-is-run}
 use Rattle.dex_replay.proofs.Starts.{opened-opened}
 use Rattle.dex_replay.proofs.replaying.replay_with_rows.Goals as goal
 
-pub act_all-cells-requires : goal.act_all-cells-requires
-act_all-cells-requires c =
+pub act_all-cells-requires-clause-script : goal.act_all-cells-requires-clause-script
+act_all-cells-requires-clause-script c =
     (c.args.script, c.in_ok-cells.ensures.script, c.in_ok-cells.ensures.cells, ap (λ (rows : List Row). map row_of rows) c.deref.ensures.value ∙ c.in_ok-cells.ensures.rows)
+
+pub act_all-cells-requires-clause-places : goal.act_all-cells-requires-clause-places
+act_all-cells-requires-clause-places c =
+    subst (ArePlacedIn c.in_ok-cells.cells (map row_of c.deref.result.now)) (sym c.deref-2.ensures.value)
+    (subst (λ (rows : List Row). ArePlacedIn c.in_ok-cells.cells (map row_of rows) c.in_ok-cells.places.items) (sym c.deref.ensures.value) c.in_ok-cells.ensures.places)
 
 pub returns-in-Ok-clause-outcome : goal.returns-in-Ok-clause-outcome
 returns-in-Ok-clause-outcome c =

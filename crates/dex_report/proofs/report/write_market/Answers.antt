@@ -16,6 +16,6 @@ returns-clause-fits c =
     let items : List Entry = c.deref-entry-items.result.now in
     record {
       address = c.address_fits.ensures;
-      count = omega (arith, c.len-count.ensures);
+      count = omega (arith, c.len.ensures);
       entries = subst (All FitEntry) (take_all c.entries.entry-index items c.entries-test.false ∙ c.deref-entry-items.ensures.value) c.entries.invariant.fits;
     }

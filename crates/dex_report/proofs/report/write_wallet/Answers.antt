@@ -16,6 +16,6 @@ returns-clause-fits c =
     let items : List WalletEntry = c.deref-entry-items.result.now in
     record {
       address = c.address_fits.ensures;
-      count = omega (arith, c.len-count.ensures);
+      count = omega (arith, c.len.ensures);
       entries = subst (All FitWalletEntry) (take_all c.moves.entry-index items c.moves-test.false ∙ c.deref-entry-items.ensures.value) c.moves.invariant.fits;
     }

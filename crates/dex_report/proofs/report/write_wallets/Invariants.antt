@@ -1,6 +1,5 @@
 use Rattle.std.proofs.Common.{All, ◌≡◌, ◌++◌, map, take}
 use Rattle.std.specs.List.{flat_map}
-use Rattle.std.specs.String.{string_bytes}
 use Rattle.dex_report.specs.Outcomes.{wallet_journal_of}
 use Rattle.dex_report.specs.Report.{wallet_lines}
 use Rattle.dex_report.specs.Telling.{IsToldWallet}
@@ -8,6 +7,6 @@ use Rattle.dex_report.proofs.report.write_wallets.Given as goal
 
 abbrev pub invariant-wallets : goal.invariant-wallets
 invariant-wallets l = record {
-  text : string_bytes l.text ≡ string_bytes l.initial.text ++ flat_map wallet_lines (map wallet_journal_of (take l.journal-index l.journals));
+  text : l.text.items ≡ l.initial.text.items ++ flat_map wallet_lines (map wallet_journal_of (take l.journal-index l.journals));
   fits : All IsToldWallet (map wallet_journal_of (take l.journal-index l.journals));
 }

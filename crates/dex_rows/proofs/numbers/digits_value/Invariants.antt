@@ -1,6 +1,8 @@
-use Rattle.std.proofs.Common.{◌≡◌, take}
+use Rattle.std.proofs.Common.{◌≡◌, take, true}
+use Rattle.std.specs.Char.{is_ascii_digit}
+use Rattle.std.specs.List.{list_all}
 use Rattle.std.specs.Str.Parse.{digits_value}
 use Rattle.dex_rows.proofs.numbers.digits_value.Given as goal
 
 abbrev pub invariant-digits : goal.invariant-digits
-invariant-digits l = l.value ≡ digits_value 10 (take l.place l.digits)
+invariant-digits l = (list_all is_ascii_digit (take l.place l.digits) ≡ true) × (l.value ≡ digits_value 10 (take l.place l.digits))

@@ -1,13 +1,9 @@
-use Rattle.std.proofs.Common.{◌∙◌, ◌^◌, Some, ap, sym}
-use Rattle.dex_rows.proofs.NumberLemmas.{number_of-none, number_of-short, numeral_digits}
+use Rattle.std.proofs.Common.{◌∙◌, sym}
+use Rattle.dex_rows.proofs.NumberLemmas.{number_of-digits, number_of-other}
 use Rattle.dex_rows.proofs.numbers.short_word.Goals as goal
 
-pub digits_value-requires-clause-digits : goal.digits_value-requires-clause-digits
-digits_value-requires-clause-digits c = numeral_digits c.args.text.now (sym c.is_numeral.ensures ∙ c.if-is_numeral.true)
+pub returns-then-is_bare : goal.returns-then-is_bare
+returns-then-is_bare c = number_of-digits c.args.text.now c.digits_value.result c.requires (sym c.is_bare.ensures ∙ c.if-is_bare.true) c.digits_value.ensures
 
-pub returns-then-is_numeral : goal.returns-then-is_numeral
-returns-then-is_numeral c =
-    ap Some c.digits_value.ensures ∙ number_of-short c.args.text.now c.requires (sym c.is_numeral.ensures ∙ c.if-is_numeral.true)
-
-pub returns-else-is_numeral : goal.returns-else-is_numeral
-returns-else-is_numeral c = sym (number_of-none (2 ^ 64) c.args.text.now (sym c.is_numeral.ensures ∙ c.if-is_numeral.false))
+pub returns-else-is_bare : goal.returns-else-is_bare
+returns-else-is_bare c = sym (number_of-other c.args.text.now (sym c.is_bare.ensures ∙ c.if-is_bare.false))

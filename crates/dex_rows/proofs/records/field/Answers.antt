@@ -1,9 +1,11 @@
-use Rattle.csv.specs.Records.{fields_of}
-use Rattle.dex_rows.proofs.RecordLemmas.{field_found, field_value}
+use Rattle.std.proofs.Common.{◌≡◌, ◌∙◌, [], get_or, ap}
+use Rattle.dex_rows.specs.Lines.{IsCut, cells_of}
+use Rattle.dex_rows.proofs.LineLemmas.{field_kept}
 use Rattle.dex_rows.proofs.records.field.Goals as goal
 
-pub unwrap-requires : goal.unwrap-requires
-unwrap-requires c = field_found c.get.result (fields_of c.args.row.now) c.args.place c.requires c.get.ensures.value
-
-pub returns : goal.returns
-returns c = field_value c.get.result (fields_of c.args.row.now) c.args.place c.unwrap.result c.unwrap.ensures c.get.ensures.value
+pub returns-in-Plain : goal.returns-in-Plain
+returns-in-Plain c =
+    let line = c.in-Plain.line in
+    let cut : IsCut line = rw c.in-Plain.is at c.row.invariant in
+    let cells : cells_of line.bytes.now ≡ c.args.row.now = rw c.in-Plain.is at c.row.view_is in
+    field_kept line c.args.place _ cut (rw cells c.requires.among) c.requires.kept ∙ ap (λ fields. get_or fields c.args.place []) cells

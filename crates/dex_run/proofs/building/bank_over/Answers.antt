@@ -40,32 +40,32 @@ seats_of-requires-clause-wallets c =
     (c.into_parts-mints.ensures.wallets ∙ ap (λ (cells : CellsState). cells.wallets) c.requires)
     c.in_ok-wallets.ensures.gates c.deref-2.ensures.value
 
-pub bank_of-bank-requires-clause-markets : goal.bank_of-bank-requires-clause-markets
-bank_of-bank-requires-clause-markets c =
+pub of-requires-clause-markets : goal.of-requires-clause-markets
+of-requires-clause-markets c =
     market-gates c.args.outline c.into_parts-mints.result.1.items c.in_ok-markets.markets.items c.in_ok-markets.markets.items
     (c.into_parts-mints.ensures.markets ∙ ap (λ (cells : CellsState). cells.markets) c.requires)
     c.in_ok-markets.ensures.gates refl
 
-pub bank_of-bank-requires-clause-wallets : goal.bank_of-bank-requires-clause-wallets
-bank_of-bank-requires-clause-wallets c =
+pub of-requires-clause-wallets : goal.of-requires-clause-wallets
+of-requires-clause-wallets c =
     wallet-gates c.args.outline c.into_parts-mints.result.2.items c.in_ok-wallets.wallets.items c.in_ok-wallets.wallets.items
     (c.into_parts-mints.ensures.wallets ∙ ap (λ (cells : CellsState). cells.wallets) c.requires)
     c.in_ok-wallets.ensures.gates refl
 
 pub returns-clause-seats : goal.returns-clause-seats
 returns-clause-seats c =
-    seats-of_bank c.bank_of-bank.result (range_with_len 0 c.args.outline.lanes) c.in_ok-seats.seats.items
-    (seats-at_bank c.args.outline c.deref.result.now c.in_ok-markets.markets.items c.deref-2.result.now c.in_ok-wallets.wallets.items c.bank_of-bank.result
-    (range_with_len 0 c.args.outline.lanes) c.in_ok-seats.seats.items c.in_ok-seats.ensures c.deref.ensures.value c.deref-2.ensures.value c.bank_of-bank.ensures.bank)
+    seats-of_bank c.of.result (range_with_len 0 c.args.outline.lanes) c.in_ok-seats.seats.items
+    (seats-at_bank c.args.outline c.deref.result.now c.in_ok-markets.markets.items c.deref-2.result.now c.in_ok-wallets.wallets.items c.of.result
+    (range_with_len 0 c.args.outline.lanes) c.in_ok-seats.seats.items c.in_ok-seats.ensures c.deref.ensures.value c.deref-2.ensures.value c.of.ensures.bank)
 
 pub returns-clause-lanes : goal.returns-clause-lanes
 returns-clause-lanes c =
-    seats-numbers c.bank_of-bank.result (range_with_len 0 c.args.outline.lanes) c.in_ok-seats.seats.items
-    (seats-at_bank c.args.outline c.deref.result.now c.in_ok-markets.markets.items c.deref-2.result.now c.in_ok-wallets.wallets.items c.bank_of-bank.result
-    (range_with_len 0 c.args.outline.lanes) c.in_ok-seats.seats.items c.in_ok-seats.ensures c.deref.ensures.value c.deref-2.ensures.value c.bank_of-bank.ensures.bank)
+    seats-numbers c.of.result (range_with_len 0 c.args.outline.lanes) c.in_ok-seats.seats.items
+    (seats-at_bank c.args.outline c.deref.result.now c.in_ok-markets.markets.items c.deref-2.result.now c.in_ok-wallets.wallets.items c.of.result
+    (range_with_len 0 c.args.outline.lanes) c.in_ok-seats.seats.items c.in_ok-seats.ensures c.deref.ensures.value c.deref-2.ensures.value c.of.ensures.bank)
 
 pub returns-clause-fresh : goal.returns-clause-fresh
 returns-clause-fresh c =
-    seats-fresh c.bank_of-bank.result (range_with_len 0 c.args.outline.lanes) c.in_ok-seats.seats.items
-    (seats-at_bank c.args.outline c.deref.result.now c.in_ok-markets.markets.items c.deref-2.result.now c.in_ok-wallets.wallets.items c.bank_of-bank.result
-    (range_with_len 0 c.args.outline.lanes) c.in_ok-seats.seats.items c.in_ok-seats.ensures c.deref.ensures.value c.deref-2.ensures.value c.bank_of-bank.ensures.bank)
+    seats-fresh c.of.result (range_with_len 0 c.args.outline.lanes) c.in_ok-seats.seats.items
+    (seats-at_bank c.args.outline c.deref.result.now c.in_ok-markets.markets.items c.deref-2.result.now c.in_ok-wallets.wallets.items c.of.result
+    (range_with_len 0 c.args.outline.lanes) c.in_ok-seats.seats.items c.in_ok-seats.ensures c.deref.ensures.value c.deref-2.ensures.value c.of.ensures.bank)

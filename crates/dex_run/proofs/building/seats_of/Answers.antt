@@ -20,13 +20,13 @@ split_all-requires-in-loop-lane-clause-some c =
     passes-some c.args.outline.now.lanes (wallet_from c.args.outline.now) c.args.outline.now.start.wallets c.args.wallets.now c.loop-lane.wallet_passes.items c.requires.wallets c.loop-lane.lane c.loop-lane.invariant.wallets
     (omega (arith, c.loop-lane-test.true, c.lanes-lane-end.ensures.lanes))
 
-pub seat-requires-clause-markets : goal.seat-requires-clause-markets
-seat-requires-clause-markets c =
+pub open-requires-clause-markets : goal.open-requires-clause-markets
+open-requires-clause-markets c =
     passes-are c.args.outline.now.lanes (market_from c.args.outline.now) c.args.outline.now.start.markets c.args.markets.now c.in_ok-of_markets.of_markets.items c.requires.markets c.loop-lane.lane
     (given-are c.loop-lane.lane c.args.markets.now c.loop-lane.market_passes.items c.in_ok-of_markets.of_markets.items c.loop-lane.invariant.markets c.in_ok-of_markets.ensures.given)
 
-pub seat-requires-clause-wallets : goal.seat-requires-clause-wallets
-seat-requires-clause-wallets c =
+pub open-requires-clause-wallets : goal.open-requires-clause-wallets
+open-requires-clause-wallets c =
     passes-are c.args.outline.now.lanes (wallet_from c.args.outline.now) c.args.outline.now.start.wallets c.args.wallets.now c.in_ok-of_wallets.of_wallets.items c.requires.wallets c.loop-lane.lane
     (given-are c.loop-lane.lane c.args.wallets.now c.loop-lane.wallet_passes.items c.in_ok-of_wallets.of_wallets.items c.loop-lane.invariant.wallets c.in_ok-of_wallets.ensures.given)
 
@@ -38,19 +38,19 @@ loop-lane-preserved c =
       some = omega (arith, c.loop-lane.invariant.some);
       markets = kept-are c.loop-lane.lane c.args.markets.now c.loop-lane.market_passes.items c.split_all.new.firsts.items c.loop-lane.invariant.markets c.in_ok-of_markets.ensures.kept;
       wallets = kept-are c.loop-lane.lane c.args.wallets.now c.loop-lane.wallet_passes.items c.split_all-in-loop-lane.new.firsts.items c.loop-lane.invariant.wallets c.in_ok-of_wallets.ensures.kept;
-      seats = seats-more bank c.loop-lane.lane c.loop-lane.seats.items c.add.new.items.items c.in_ok-seat.field-0 c.loop-lane.invariant.some c.loop-lane.invariant.seats
-          (seat-is bank c.loop-lane.lane c.in_ok-seat.field-0 c.in_ok-of_markets.of_markets.items c.in_ok-of_wallets.of_wallets.items c.in_ok-seat.ensures markets wallets)
+      seats = seats-more bank c.loop-lane.lane c.loop-lane.seats.items c.add.new.items.items c.in_ok-seat.seat c.loop-lane.invariant.some c.loop-lane.invariant.seats
+          (seat-is bank c.loop-lane.lane c.in_ok-seat.seat c.in_ok-of_markets.of_markets.items c.in_ok-of_wallets.of_wallets.items c.in_ok-seat.ensures markets wallets)
           c.in_ok-add.ensures;
     }
 
-pub seat-requires-2-clause-markets : goal.seat-requires-2-clause-markets
-seat-requires-2-clause-markets c =
+pub open-requires-2-clause-markets : goal.open-requires-2-clause-markets
+open-requires-2-clause-markets c =
     passes-are c.args.outline.now.lanes (market_from c.args.outline.now) c.args.outline.now.start.markets c.args.markets.now c.loop-lane.market_passes.items c.requires.markets 0
     (passes-first c.args.outline.now.lanes (market_from c.args.outline.now) c.args.outline.now.start.markets c.args.markets.now c.loop-lane.market_passes.items c.requires.markets c.loop-lane.lane c.loop-lane.invariant.markets
     (omega (arith, c.loop-lane-test.false, c.loop-lane.auto.lane-end, c.loop-lane.auto.lane, c.lanes-lane-end.ensures.lanes, c.lanes-lane-end.ensures.some)))
 
-pub seat-requires-2-clause-wallets : goal.seat-requires-2-clause-wallets
-seat-requires-2-clause-wallets c =
+pub open-requires-2-clause-wallets : goal.open-requires-2-clause-wallets
+open-requires-2-clause-wallets c =
     passes-are c.args.outline.now.lanes (wallet_from c.args.outline.now) c.args.outline.now.start.wallets c.args.wallets.now c.loop-lane.wallet_passes.items c.requires.wallets 0
     (passes-first c.args.outline.now.lanes (wallet_from c.args.outline.now) c.args.outline.now.start.wallets c.args.wallets.now c.loop-lane.wallet_passes.items c.requires.wallets c.loop-lane.lane c.loop-lane.invariant.wallets
     (omega (arith, c.loop-lane-test.false, c.loop-lane.auto.lane-end, c.loop-lane.auto.lane, c.lanes-lane-end.ensures.lanes, c.lanes-lane-end.ensures.some)))

@@ -2,7 +2,7 @@ use Rattle.std.proofs.Common.{List, length, map, ap, sym, subst, ◌∙◌, arit
 use Rattle.dex_fold.proofs.Common.{AllZip, Call, WalletEntry, named_of}
 use Rattle.dex_replay.proofs.Common.{CellsState, outcome_of}
 use Rattle.dex_order.proofs.Common.{MarketOrigin, Stamped, WalletOrigin}
-use Rattle.dex_run.proofs.Common.{AreMarketsClosed, AreWalletsClosed, BankState, CanClose, GateView, IsBank}
+use Rattle.dex_run.proofs.Common.{AreMarketsClosed, AreWalletsClosed, CanClose, GateView}
 use Rattle.dex_bank.specs.Closed as cells
 use Rattle.dex_run.proofs.ClosingLaws.{are-cells, closes, market-cells-length, wallet-cells-length}
 use Rattle.dex_run.proofs.ClosingPasses.{markets-close, wallets-close}
@@ -11,24 +11,24 @@ use Rattle.dex_run.proofs.closing.closed.Goals as goal
 pub market_cells-market_cells-requires-clause-passes : goal.market_cells-market_cells-requires-clause-passes
 market_cells-market_cells-requires-clause-passes c =
     subst (λ (gates : List (GateView (Stamped Call) MarketOrigin)). AllZip (λ gate column. CanClose gate column.items) gates c.hand_out_all.new.markets.items)
-    (sym (ap (λ (bank : BankState). bank.markets) c.bank.view_is))
-    (markets-close c.args.bank c.args.seats.items (subst IsBank c.bank.view_is c.bank.invariant.bank) c.requires.lanes c.hand_out_all.new.markets.items c.hand_out_all.ensures.markets)
+    (sym c.into_parts-mints.ensures.parts.markets)
+    (markets-close c.args.bank c.args.seats.items c.into_parts-mints.ensures.kept c.requires.lanes c.hand_out_all.new.markets.items c.hand_out_all.ensures.markets)
 
 pub wallet_cells-wallet_cells-requires-clause-passes : goal.wallet_cells-wallet_cells-requires-clause-passes
 wallet_cells-wallet_cells-requires-clause-passes c =
     subst (λ (gates : List (GateView (Stamped WalletEntry) WalletOrigin)). AllZip (λ gate column. CanClose gate column.items) gates c.hand_out_all.new.wallets.items)
-    (sym (ap (λ (bank : BankState). bank.wallets) c.bank.view_is))
-    (wallets-close c.args.bank c.args.seats.items (subst IsBank c.bank.view_is c.bank.invariant.bank) c.requires.lanes c.hand_out_all.new.wallets.items c.hand_out_all.ensures.wallets)
+    (sym c.into_parts-mints.ensures.parts.wallets)
+    (wallets-close c.args.bank c.args.seats.items c.into_parts-mints.ensures.kept c.requires.lanes c.hand_out_all.new.wallets.items c.hand_out_all.ensures.wallets)
 
 pub of-requires : goal.of-requires
 of-requires c = record {
-  cells = are-cells c.args.bank c.args.seats.items (subst IsBank c.bank.view_is c.bank.invariant.bank) c.requires.lanes
-      c.hand_out_all.new.markets.items c.hand_out_all.new.wallets.items (map named_of c.bank.inside.mints.items) c.bank.inside.srm c.bank.inside.msrm
-      c.market_cells-market_cells.result.items c.wallet_cells-wallet_cells.result.items c.bank.inside.program c.hand_out_all.ensures.wallets
+  cells = are-cells c.args.bank c.args.seats.items c.into_parts-mints.ensures.kept c.requires.lanes
+      c.hand_out_all.new.markets.items c.hand_out_all.new.wallets.items (map named_of c.into_parts-mints.result.mints.items) c.into_parts-mints.result.srm c.into_parts-mints.result.msrm
+      c.market_cells-market_cells.result.items c.wallet_cells-wallet_cells.result.items c.into_parts-mints.result.program c.hand_out_all.ensures.wallets
       (subst (λ (gates : List (GateView (Stamped Call) MarketOrigin)). AreMarketsClosed gates c.hand_out_all.new.markets.items c.market_cells-market_cells.result.items)
-      (ap (λ (bank : BankState). bank.markets) c.bank.view_is) c.market_cells-market_cells.ensures)
+      c.into_parts-mints.ensures.parts.markets c.market_cells-market_cells.ensures)
       (subst (λ (gates : List (GateView (Stamped WalletEntry) WalletOrigin)). AreWalletsClosed gates c.hand_out_all.new.wallets.items c.wallet_cells-wallet_cells.result.items)
-      (ap (λ (bank : BankState). bank.wallets) c.bank.view_is) c.wallet_cells-wallet_cells.ensures);
+      c.into_parts-mints.ensures.parts.wallets c.wallet_cells-wallet_cells.ensures);
 }
 
 pub close_into-requires : goal.close_into-requires
@@ -37,22 +37,22 @@ close_into-requires c =
     let wallets = wallet-cells-length _ _ _ c.wallet_cells-wallet_cells.ensures in
     record {
       room = (
-        omega (arith, ap (λ (cells : CellsState). length cells.markets) c.of.ensures, markets, ap (λ (bank : BankState). length bank.markets) c.bank.view_is, c.requires.room.market_cells),
-        omega (arith, ap (λ (cells : CellsState). length cells.wallets) c.of.ensures, wallets, ap (λ (bank : BankState). length bank.wallets) c.bank.view_is, c.requires.room.wallet_cells),
+        omega (arith, ap (λ (cells : CellsState). length cells.markets) c.of.ensures, markets, ap length c.into_parts-mints.ensures.parts.markets, c.requires.room.market_cells),
+        omega (arith, ap (λ (cells : CellsState). length cells.wallets) c.of.ensures, wallets, ap length c.into_parts-mints.ensures.parts.wallets, c.requires.room.wallet_cells),
       );
     }
 
 pub returns : goal.returns
 returns c done =
-    closes c.args.bank c.args.seats.items (subst IsBank c.bank.view_is c.bank.invariant.bank) c.requires.lanes
-    c.hand_out_all.new.markets.items c.hand_out_all.new.wallets.items (map named_of c.bank.inside.mints.items) c.bank.inside.srm c.bank.inside.msrm
-    c.market_cells-market_cells.result.items c.wallet_cells-wallet_cells.result.items c.bank.inside.program (outcome_of c.close_into.result)
+    closes c.args.bank c.args.seats.items c.into_parts-mints.ensures.kept c.requires.lanes
+    c.hand_out_all.new.markets.items c.hand_out_all.new.wallets.items (map named_of c.into_parts-mints.result.mints.items) c.into_parts-mints.result.srm c.into_parts-mints.result.msrm
+    c.market_cells-market_cells.result.items c.wallet_cells-wallet_cells.result.items c.into_parts-mints.result.program (outcome_of c.close_into.result)
     c.hand_out_all.ensures.kept c.requires.seats done c.hand_out_all.ensures.markets c.hand_out_all.ensures.wallets
     (subst (λ (gates : List (GateView (Stamped Call) MarketOrigin)). AreMarketsClosed gates c.hand_out_all.new.markets.items c.market_cells-market_cells.result.items)
-    (ap (λ (bank : BankState). bank.markets) c.bank.view_is) c.market_cells-market_cells.ensures)
+    c.into_parts-mints.ensures.parts.markets c.market_cells-market_cells.ensures)
     (subst (λ (gates : List (GateView (Stamped WalletEntry) WalletOrigin)). AreWalletsClosed gates c.hand_out_all.new.wallets.items c.wallet_cells-wallet_cells.result.items)
-    (ap (λ (bank : BankState). bank.wallets) c.bank.view_is) c.wallet_cells-wallet_cells.ensures)
-    (c.bank.invariant.mints ∙ ap (λ (bank : BankState). bank.script.start.mints) c.bank.view_is)
-    (c.bank.invariant.srm ∙ ap (λ (bank : BankState). bank.script.start.srm) c.bank.view_is)
-    (c.bank.invariant.msrm ∙ ap (λ (bank : BankState). bank.script.start.msrm) c.bank.view_is)
+    c.into_parts-mints.ensures.parts.wallets c.wallet_cells-wallet_cells.ensures)
+    c.into_parts-mints.ensures.parts.mints
+    c.into_parts-mints.ensures.parts.srm
+    c.into_parts-mints.ensures.parts.msrm
     (c.close_into.ensures.outcome ∙ ap cells.closed c.of.ensures)

@@ -21,7 +21,7 @@ hand_out-requires-clause-count c =
     let turn = YieldsList-turn (YieldsList-from_vec c.args.seats.items c.into_iter-seat-iterator.ensures.into_iter_gives.0 (search rules)) c.loop-seat.yielded c.loop-seat.seat-iterator c.loop-seat.yielded_by
     c.next.result c.next.new.self c.in-Some.seat c.in-Some.is c.next.ensures.steps in
     let of : IsSeatOf c.args.bank.now c.in-Some.seat = subst (λ (seat : SeatState). IsSeatOf c.args.bank.now seat) (sym turn.1) (c.requires.seats (length c.loop-seat.yielded) c.in-Some.seat turn.0) in
-    omega (arith, c.passes_of-own.result.0.ok.0, market-count c.args.bank.now c.in-Some.seat of c.loop-seat.yielded c.passes_of-own.result.0.items c.loop-seat.markets.items c.loop-seat.invariant.markets c.passes_of-own.ensures.markets)
+    omega (arith, c.into_passes-own.result.0.ok.0, market-count c.args.bank.now c.in-Some.seat of c.loop-seat.yielded c.into_passes-own.result.0.items c.loop-seat.markets.items c.loop-seat.invariant.markets c.into_passes-own.ensures.markets)
 
 pub hand_out-requires-clause-room : goal.hand_out-requires-clause-room
 hand_out-requires-clause-room c =
@@ -35,7 +35,7 @@ hand_out-requires-in-loop-seat-clause-count c =
     let turn = YieldsList-turn (YieldsList-from_vec c.args.seats.items c.into_iter-seat-iterator.ensures.into_iter_gives.0 (search rules)) c.loop-seat.yielded c.loop-seat.seat-iterator c.loop-seat.yielded_by
     c.next.result c.next.new.self c.in-Some.seat c.in-Some.is c.next.ensures.steps in
     let of : IsSeatOf c.args.bank.now c.in-Some.seat = subst (λ (seat : SeatState). IsSeatOf c.args.bank.now seat) (sym turn.1) (c.requires.seats (length c.loop-seat.yielded) c.in-Some.seat turn.0) in
-    omega (arith, c.passes_of-own.result.1.ok.0, wallet-count c.args.bank.now c.in-Some.seat of c.loop-seat.yielded c.passes_of-own.result.1.items c.loop-seat.wallets.items c.loop-seat.invariant.wallets c.passes_of-own.ensures.wallets)
+    omega (arith, c.into_passes-own.result.1.ok.0, wallet-count c.args.bank.now c.in-Some.seat of c.loop-seat.yielded c.into_passes-own.result.1.items c.loop-seat.wallets.items c.loop-seat.invariant.wallets c.into_passes-own.ensures.wallets)
 
 pub hand_out-requires-in-loop-seat-clause-room : goal.hand_out-requires-in-loop-seat-clause-room
 hand_out-requires-in-loop-seat-clause-room c =
@@ -50,11 +50,11 @@ loop-seat-preserved c =
     c.next.result c.next.new.self c.in-Some.seat c.in-Some.is c.next.ensures.steps in
     let of : IsSeatOf c.args.bank.now c.in-Some.seat = subst (λ (seat : SeatState). IsSeatOf c.args.bank.now seat) (sym turn.1) (c.requires.seats (length c.loop-seat.yielded) c.in-Some.seat turn.0) in
     record {
-      markets = market-more c.args.bank.now c.in-Some.seat of c.loop-seat.yielded c.passes_of-own.result.0.items c.loop-seat.markets.items c.hand_out.new.columns.items c.loop-seat.invariant.markets
-          c.passes_of-own.ensures.kept c.passes_of-own.ensures.markets c.hand_out.ensures;
-      market_room = columns-room (vec_len c.args.seats) c.loop-seat.markets.items c.hand_out.new.columns.items c.passes_of-own.result.0.items c.hand_out.ensures c.loop-seat.invariant.market_room;
-      wallets = wallet-more c.args.bank.now c.in-Some.seat of c.loop-seat.yielded c.passes_of-own.result.1.items c.loop-seat.wallets.items c.hand_out-in-loop-seat.new.columns.items c.loop-seat.invariant.wallets
-          c.passes_of-own.ensures.kept c.passes_of-own.ensures.wallets c.hand_out-in-loop-seat.ensures;
-      wallet_room = columns-room (vec_len c.args.seats) c.loop-seat.wallets.items c.hand_out-in-loop-seat.new.columns.items c.passes_of-own.result.1.items c.hand_out-in-loop-seat.ensures c.loop-seat.invariant.wallet_room;
-      kept = All-push IsSeat c.loop-seat.yielded c.in-Some.seat c.loop-seat.invariant.kept c.passes_of-own.ensures.kept;
+      markets = market-more c.args.bank.now c.in-Some.seat of c.loop-seat.yielded c.into_passes-own.result.0.items c.loop-seat.markets.items c.hand_out.new.columns.items c.loop-seat.invariant.markets
+          c.into_passes-own.ensures.kept c.into_passes-own.ensures.markets c.hand_out.ensures;
+      market_room = columns-room (vec_len c.args.seats) c.loop-seat.markets.items c.hand_out.new.columns.items c.into_passes-own.result.0.items c.hand_out.ensures c.loop-seat.invariant.market_room;
+      wallets = wallet-more c.args.bank.now c.in-Some.seat of c.loop-seat.yielded c.into_passes-own.result.1.items c.loop-seat.wallets.items c.hand_out-in-loop-seat.new.columns.items c.loop-seat.invariant.wallets
+          c.into_passes-own.ensures.kept c.into_passes-own.ensures.wallets c.hand_out-in-loop-seat.ensures;
+      wallet_room = columns-room (vec_len c.args.seats) c.loop-seat.wallets.items c.hand_out-in-loop-seat.new.columns.items c.into_passes-own.result.1.items c.hand_out-in-loop-seat.ensures c.loop-seat.invariant.wallet_room;
+      kept = All-push IsSeat c.loop-seat.yielded c.in-Some.seat c.loop-seat.invariant.kept c.into_passes-own.ensures.kept;
     }

@@ -1,0 +1,56 @@
+//! Where the market and the wallets of a row stand among cells.
+
+ghost use Rattle.std.specs.Prelude.{◌≡◌, true};
+ghost use Rattle.dex_types.specs.Rows.{row_of};
+ghost use Rattle.dex_act.specs.Wallets.{wallet_places};
+ghost use Rattle.dex_bank.specs.Cells.{CanAct, is_market};
+ghost use Rattle.dex_bank.specs.Places.{StandsAt};
+ghost use Rattle.dex_bank.specs.Stepping.{IsFirstAt};
+
+use crate::cells::Cells;
+use dex_act::{WalletPlaces, places_in};
+use dex_cell::MarketCell;
+use dex_types::{Address, Row, RowPlaces, is_same};
+
+/// The place of the market of a row, and those of the wallets that it names.
+#[derive(Clone, Copy)]
+pub(crate) struct Standing {
+    pub(crate) market: usize,
+    pub(crate) wallets: WalletPlaces,
+}
+
+impl Standing {
+    /// As the places of a row tell.
+    pub(crate) fn of(places: &RowPlaces) -> Standing
+        ensures { result ≡ record { market = places.now.market; wallets = wallet_places places.now } }
+    {
+        Standing {
+            market: places.market as usize,
+            wallets: WalletPlaces::of(places),
+        }
+    }
+
+    /// Looked up among all cells.
+    pub(crate) fn among(cells: &Cells, row: &Row) -> Standing
+        requires { CanAct (row_of row.now) cells.now }
+        ensures { StandsAt cells.now (row_of row.entry.now) result.market result.wallets }
+    {
+        Standing {
+            market: place_of(&cells.markets, row.market),
+            wallets: places_in(&cells.wallets, row),
+        }
+    }
+}
+
+/// The place of the first market of an address.
+fn place_of(markets: &[MarketCell], address: Address) -> usize
+    requires { is_market address markets.now ≡ true }
+    ensures { IsFirstAt address markets.now result }
+{
+    for place in 0..markets.len() {
+        if is_same(address, markets[place].accounts().address) {
+            return place;
+        }
+    }
+    unreachable!()
+}

@@ -1,0 +1,49 @@
+-- Rows of a text without quotes, as they stand in it.
+use Rattle.std.specs.Prelude.{ℕ, ◌+◌, ◌≡◌, ◌<◌, ◌≤◌, ◌==◌, ◌||◌, Bool, true, false, if◌then◌else◌, List, [], ◌∷◌, ◌++◌, All, Some, length, map, slice_index, take}
+use Rattle.std.specs.Borrow.{Bor}
+use Rattle.std.specs.List.{slice_split}
+use Rattle.csv.specs.declared.parser.State.TheVariants as st
+use Rattle.dex_rows.specs.RowReader.{rows_from}
+use Rattle.dex_rows.specs.declared.lines.Line.{Line}
+
+-- no byte is a quote
+abbrev pub HasNoQuote : List ℕ → Type 0
+HasNoQuote text = All (λ byte. (byte == 34) ≡ false) text
+
+-- a byte ends a row: a carriage return or a line feed
+abbrev pub ends_row : ℕ → Bool
+ends_row byte = (byte == 13) || (byte == 10)
+
+-- what stands behind the line ends at the front of a text
+unfoldable pub behind_ends : List ℕ → List ℕ
+behind_ends [] = []
+behind_ends (byte ∷ rest) = if ends_row byte then behind_ends rest else byte ∷ rest
+
+-- the rows of a text that is read from its start
+abbrev pub rows_in : List ℕ → List (List (List ℕ))
+rows_in text = rows_from st.StartRecord (Some text)
+
+-- the fields of a row: what stands before, between and behind its commas
+abbrev pub cells_of : List ℕ → List (List ℕ)
+cells_of line = slice_split (λ byte. byte == 44) line
+
+-- borrowed texts, as bytes
+abbrev pub texts : List (Bor (List ℕ)) → List (List ℕ)
+texts fields = map (λ (field : Bor (List ℕ)). field.now) fields
+
+-- a row with its first twelve fields, and how many there are
+pub record IsCut (line : Line) : Type 0 where
+  pub count : line.count ≡ length (cells_of line.bytes.now)
+  pub kept : texts (take line.count line.fields) ≡ take 12 (cells_of line.bytes.now)
+
+-- a row that stands at the front of a text, up to a line end or the text's
+pub record IsFront (text line : List ℕ) : Type 0 where
+  pub fits : length line ≤ length text
+  pub is : take (length line) text ≡ line
+  pub whole : All (λ byte. ends_row byte ≡ false) line
+  pub ended : length line < length text → ends_row (slice_index text (length line)) ≡ true
+
+-- a field is kept at this place, if it is one of the first twelve
+pub record KeepsField (fields : List (Bor (List ℕ))) (place : ℕ) (field : List ℕ) (after : List (Bor (List ℕ))) : Type 0 where
+  pub first : place < 12 → texts (take (place + 1) after) ≡ texts (take place fields) ++ field ∷ []
+  pub behind : 12 ≤ place → after ≡ fields

@@ -1,0 +1,17 @@
+//! A script's rows in their order on several threads: a leader that has the cells, and helpers.
+#![tactic(auto)]
+
+mod ahead;
+mod board;
+mod desk;
+mod hand;
+mod homes;
+pub mod laws;
+mod leading;
+mod packet;
+mod slots;
+mod team;
+
+pub use desk::Lists;
+pub use packet::Naming;
+pub use team::work_all;

@@ -1,0 +1,122 @@
+-- A row that acts on its market and on the cells in hand, or is held back there, and what is told of it.
+use Rattle.std.proofs.Common.{◌≡◌, ℕ, ◌&&◌, ◌||◌, not, Bool, true, false, List, [], ◌∷◌, is_some, Option, Some, None, Result, Ok, Err, refl, sym, ap, ◌∙◌, subst}
+use Rattle.dex_fold.proofs.Common.{AllZip, Refusal, Row, decoded, false≢true, row_of, All-cons, All-nil, Call, Market, PlainMarketAccounts, PlainRow, Seen, Sees, Step, asked_of, idle-step, is_done, is_held, is_refusal, is_refused, is_take, request_of, row_step, row_wallets, seen_by, step-refused, why}
+use Rattle.dex_turns.proofs.Common.{AreAllOrNone, AreInHand, CellState, Fits, HasEntry, IsAsOthers, IsSight, MarketCellState, PlainScript, SeesCells, Stamped, roles_of, world_in}
+use Rattle.std.specs.List.{All}
+use Rattle.dex_types.specs.declared.instructions.BadData.{BadData}
+use Rattle.dex_types.specs.declared.instructions.Ix.{Ix}
+use Rattle.dex_types.specs.Requests.{Request}
+use Rattle.dex_types.specs.Why.{why_decoded}
+use Rattle.dex_history.specs.Journal.{is_take_or_bad}
+use Rattle.dex_history.proofs.HeldLaws.{own-not_held}
+use Rattle.dex_cell.specs.CellState.{CanHold, market_at}
+use Rattle.dex_accounts.specs.Decoded.{market_in}
+use Rattle.dex_act.specs.Acted.{HaveActed}
+use Rattle.dex_fold.specs.Items.{doing}
+use Rattle.dex_fold.proofs.ItemLaws.{not-refused}
+use Rattle.dex_script.specs.Facts.{IsLeg}
+use Rattle.dex_turns.specs.Submitted.{written_by}
+use Rattle.dex_turns.specs.Turns.{IsTold, made_by}
+use Rattle.dex_turns.proofs.InHand.{HasHands, cells-named, have-entries, moves-each, sees-asked, sees-hand, sight}
+
+-- ---- what it sees of the cells in hand
+
+module _ (script : PlainScript) (row : PlainRow) (cells lent : List CellState) (seen : Seen) (hand : HasHands script row cells) (value : lent ≡ cells)
+    (seen_so : seen ≡ seen_by row (world_in script lent)) where
+  pub seen-is : seen ≡ seen_by row (world_in script cells)
+  seen-is = seen_so ∙ ap (λ (l : List CellState). seen_by row (world_in script l)) value
+
+  pub sees-row : Sees (asked_of row) seen
+  sees-row = subst (Sees (asked_of row)) (sym seen-is) (sees-asked script row cells hand)
+
+  pub sees-own : All Fits (roles_of seen) → SeesCells seen cells
+  sees-own fits =
+      subst (λ (s : Seen). SeesCells s cells) (sym seen-is) (sees-hand script row cells hand (subst (λ (s : Seen). All Fits (roles_of s)) seen-is fits))
+
+  -- what is told of its call
+  pub is-told : (waits : Bool) (m : Market) (stamp : ℕ) → IsTold script (record { item = made_by waits row seen m; stamp = stamp })
+  is-told waits m stamp =
+      let s : Step = row_step (doing waits row) seen m in
+      record {
+        sees = subst (IsSight script) (sym seen-is) (sight script row cells hand);
+        moves = moves-each row seen s.reply s.transfers stamp sees-row;
+      }
+
+-- ---- what it writes
+
+-- where the item is a row, each cell in hand has its entry
+pub row-entries : (script : PlainScript) (row : PlainRow) (seen : Seen) (waits : Bool) (m : Market) (stamp : ℕ) (cells after : List CellState)
+    → AreInHand script (row_wallets row) [] cells → Sees (asked_of row) seen
+    → HaveActed (doing waits row) seen (row_step (doing waits row) seen m).transfers cells after
+    → AllZip (HasEntry (written_by (record { item = made_by waits row seen m; stamp = stamp }))) cells after
+row-entries script row seen waits m stamp cells after hand sees moved =
+    let s : Step = row_step (doing waits row) seen m in
+    have-entries row seen s.reply s.transfers stamp sees cells after (cells-named script row cells hand) moved.states moved.kept moved.made
+
+-- ---- whether it was held back, and whether it was refused
+
+-- a row waits only where it is a take that would not be refused
+pub record MayWait (waits : Bool) (row : PlainRow) (seen : Seen) (m : Market) : Type 0 where
+  pub take : waits ≡ true → is_take (asked_of row).request.instruction ≡ true
+  pub spared : waits ≡ true → is_some (why (request_of row) seen m) ≡ false
+
+pub held-is : (waits : Bool) (row : PlainRow) (seen : Seen) (m : Market) → MayWait waits row seen m → is_held (made_by waits row seen m) ≡ waits
+held-is true row seen m may =
+    ap (λ (b : Bool). b && is_done (row_step (doing true row) seen m).reply) (may.take refl) ∙ ap (λ (s : Step). is_done s.reply) (idle-step row seen m)
+held-is false row seen m may = own-not_held (made_by false row seen m) m refl
+
+pub refused-is : (waits : Bool) (row : PlainRow) (seen : Seen) (m : Market) → MayWait waits row seen m
+    → is_refused (made_by waits row seen m) ≡ is_some (why (request_of row) seen m)
+refused-is true row seen m may = ap (λ (s : Step). is_refusal s.reply) (idle-step row seen m) ∙ sym (may.spared refl)
+refused-is false row seen m may = step-refused (request_of row) seen m
+
+-- a leg waits where it is a take that would not be refused
+pub take-of : (it : Result Ix BadData) (request : Request) (seen : Seen) (m : Market) → is_take_or_bad it ≡ true → is_some (why_decoded it request seen m) ≡ false → is_take it ≡ true
+take-of (Err bad) request seen m good spared = absurd (false≢true (sym spared))
+take-of (Ok ix) request seen m good spared = good
+
+pub leg-waits : (row : PlainRow) → IsLeg row → (seen : Seen) (m : Market) (waits other refused : Bool) → waits ≡ (other && not refused)
+    → refused ≡ is_some (why (request_of row) seen m) → MayWait waits row seen m
+leg-waits row leg seen m waits other refused is told = record {
+  take = λ on. take-of (decoded row.bytes) (request_of row) seen m leg.take (spared on);
+  spared = spared;
+}
+  where
+    spared : waits ≡ true → is_some (why (request_of row) seen m) ≡ false
+    spared on = sym told ∙ not-refused other refused (sym is ∙ on)
+
+pub can-hold : (row : Row) (seen : Seen) (market : MarketCellState) (waits : Bool) → MayWait waits (row_of row) seen (market_at market) → waits ≡ true → CanHold row seen market
+can-hold row seen market waits may on = record { take = may.take on; spared = nothing (why (request_of (row_of row)) seen (market_at market)) (may.spared on) }
+  where
+    nothing : (found : Option Refusal) → is_some found ≡ false → found ≡ None
+    nothing None is = refl
+    nothing (Some why) is = absurd (false≢true (sym is))
+
+-- two calls of which each waits where the other is refused and it is not
+pub all-or-none : (one two : Stamped Call) (waits next refused other : Bool) → is_held one.item ≡ waits → is_held two.item ≡ next → is_refused one.item ≡ refused
+    → is_refused two.item ≡ other → waits ≡ (other && not refused) → next ≡ (refused && not other) → AreAllOrNone (record { first = one; others = two ∷ [] })
+all-or-none one two waits next refused other one_held two_held one_refused two_refused first second =
+    All-cons (IsAsOthers (one ∷ two ∷ [])) one (two ∷ [])
+    (one_held ∙ first ∙ one-is refused other ∙ sym (ap (λ (a : Bool). (a || (is_refused two.item || false)) && not a) one_refused ∙ ap (λ (b : Bool). (refused || (b || false)) && not refused) two_refused))
+    (All-cons (IsAsOthers (one ∷ two ∷ [])) two []
+    (two_held ∙ second ∙ two-is refused other ∙ sym (ap (λ (a : Bool). (a || (is_refused two.item || false)) && not (is_refused two.item)) one_refused ∙ ap (λ (b : Bool). (refused || (b || false)) && not b) two_refused))
+    (All-nil (IsAsOthers (one ∷ two ∷ []))))
+  where
+    one-is : (a b : Bool) → (b && not a) ≡ ((a || (b || false)) && not a)
+    one-is true true = refl
+    one-is true false = refl
+    one-is false true = refl
+    one-is false false = refl
+
+    two-is : (a b : Bool) → (a && not b) ≡ ((a || (b || false)) && not b)
+    two-is true true = refl
+    two-is true false = refl
+    two-is false true = refl
+    two-is false false = refl
+
+-- ---- its market
+
+-- the address of a market is that of its accounts
+pub listed : (accounts : PlainMarketAccounts) → (market_in accounts).listing.address ≡ accounts.address
+unfolding market_in
+listed accounts = refl

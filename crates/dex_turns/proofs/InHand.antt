@@ -1,0 +1,179 @@
+-- The cells in hand, when they are those of all wallets that a row names: what it sees, and what it leaves.
+use Rattle.std.proofs.Common.{◌≡◌, ℕ, true, List, [], ◌∷◌, ◌++◌, length, map, Option, Some, None, refl, sym, ap, ◌∙◌, subst, arith}
+use Rattle.dex_fold.proofs.Common.{Address, All-cons, All-head, All-nil, All-tail, All-weaker, AllZip, Call, Movement, PlainAccount, PlainRow, Reply, Seen, Sees, Transfers, WalletSeen, WalletState, asked_of, cond-true, cond_both, entry_by, filter, is_same, is_same-refl, list_any, movement_of, names, or_left, or_right, places-movements, role_at, row_wallets, seen_by, wallet_acted, wallet_at, wallet_entry_by, wallet_moved}
+use Rattle.dex_turns.proofs.Common.{All-unmap, AreInHand, CellState, Fits, HasEntry, IsReady, IsSight, IsWalletCell, IsWalletSeen, MovesEach, PlainScript, SeesCells, Stamped, WalletWords, any-here, any-there, balance_of, entries_in, entry_made, is_among, made_of, roles_of, wallet_state_of, wallet_words, wallet_words-with_amount, world_in}
+use Rattle.std.specs.List.{All, Any}
+use Rattle.std.proofs.lemmas.List.{append-nil}
+use Rattle.dex_history.proofs.WalletLaws.{movements-named}
+use Rattle.dex_wallet.specs.CellState.{HasSpare, seen_of}
+use Rattle.dex_act.specs.Wallets.{AreApart}
+use Rattle.dex_act.proofs.Sights.{row-sees, sees-cells}
+use Rattle.dex_act.proofs.CellLists.{is_among-any}
+use Rattle.dex_fold.proofs.KeptMoves.{moves-kept}
+use Rattle.dex_turns.specs.Submitted.{written_by}
+use Rattle.dex_turns.specs.Turns.{AreOnce, IsOfStart}
+
+abbrev address_in : CellState → Address
+address_in cell = cell.address
+
+-- ---- by address
+
+apart-cells : (cells : List CellState) → AreOnce (map address_in cells) → AreApart cells
+apart-cells [] once = tt
+apart-cells (cell ∷ cells) once = (is_among-any cell.address cells ∙ once.0, apart-cells cells once.1)
+
+-- each of some addresses is one of them
+pub each-any : (addresses : List Address) → All (λ (address : Address). list_any (is_same address) addresses ≡ true) addresses
+each-any [] = All-nil _
+each-any (first ∷ others) =
+    All-cons (λ (address : Address). list_any (is_same address) (first ∷ others) ≡ true) first others (or_left (is_same first first) (list_any (is_same first) others) (is_same-refl first))
+    (All-weaker (λ (address : Address). list_any (is_same address) others ≡ true) (λ (address : Address). list_any (is_same address) (first ∷ others) ≡ true)
+    (λ address among. or_right (is_same address first) (list_any (is_same address) others) among) others (each-any others))
+
+-- a wallet of the script, with room for an entry where the row names it
+pub record IsUsable (script : PlainScript) (row : PlainRow) (cell : CellState) : Type 0 where
+  pub kept : IsWalletCell cell
+  pub start : IsOfStart script.start.wallets cell
+  pub spare : names row cell.address ≡ true → HasSpare cell
+
+-- the cells are of wallets of the script, no two of one, and those that the row names are among them
+pub record HasHands (script : PlainScript) (row : PlainRow) (cells : List CellState) : Type 0 where
+  pub usable : All (IsUsable script row) cells
+  pub once : AreOnce (map address_in cells)
+  pub here : All (λ (address : Address). is_among address cells ≡ true) (row_wallets row)
+
+-- all cells are in hand of an item that names the row's wallets
+pub has-hands : (script : PlainScript) (row : PlainRow) (named : List Address) (cells : List CellState) → AreInHand script named [] cells → AreOnce named
+    → ((address : Address) → names row address ≡ true → list_any (is_same address) named ≡ true) → HasHands script row cells
+has-hands script row named cells hand once own = record {
+  usable =
+      All-weaker (IsReady script) (IsUsable script row) (λ cell ready. record { kept = ready.kept; start = ready.start; spare = λ named. ready.spare }) cells hand.ready;
+  once = subst AreOnce (sym are) once;
+  here =
+      All-weaker (λ (address : Address). names row address ≡ true) (λ (address : Address). is_among address cells ≡ true)
+      (λ address of. is_among-any address cells ∙ ap (λ (l : List Address). list_any (is_same address) l) are ∙ own address of) (row_wallets row) (each-any (row_wallets row));
+}
+  where
+    are : map address_in cells ≡ named
+    are = sym (append-nil (map address_in cells)) ∙ hand.are
+
+-- ---- what is seen of one of them
+
+mint-stays : (cell : CellState) → IsWalletCell cell → (wallet_words cell.bytes).mint ≡ (wallet_words cell.start).mint
+mint-stays cell is =
+    ap (λ (bytes : List ℕ). (wallet_words bytes).mint) is.others
+    ∙ ap (λ (words : WalletWords). words.mint) (wallet_words-with_amount cell.start (balance_of cell.bytes) (ap balance_of (sym is.others)))
+
+owner-stays : (cell : CellState) → IsWalletCell cell → (wallet_words cell.bytes).owner ≡ (wallet_words cell.start).owner
+owner-stays cell is =
+    ap (λ (bytes : List ℕ). (wallet_words bytes).owner) is.others
+    ∙ ap (λ (words : WalletWords). words.owner) (wallet_words-with_amount cell.start (balance_of cell.bytes) (ap balance_of (sym is.others)))
+
+abbrev IsOf : WalletSeen → PlainAccount → Type 0
+IsOf seen wallet =
+    seen ≡ record { address = wallet.address; mint = (wallet_words wallet.bytes).mint; owner = (wallet_words wallet.bytes).owner; balance = seen.balance }
+
+seen-so : (cell : CellState) → IsWalletCell cell → IsOf (seen_of cell) (record { address = cell.address; bytes = cell.start })
+seen-so cell is =
+    ap (λ (a : Address). record (seen_of cell) { mint = a }) (mint-stays cell is)
+    ∙ ap (λ (a : Address). record (seen_of cell) { mint = (wallet_words cell.start).mint; owner = a }) (owner-stays cell is)
+
+stands : (P : PlainAccount → Type 0) (earlier later : List PlainAccount) (wallet : PlainAccount) → P wallet → Any P (earlier ++ wallet ∷ later)
+stands P [] later wallet is = any-here P wallet later is
+stands P (one ∷ earlier) later wallet is = any-there P one (earlier ++ wallet ∷ later) (stands P earlier later wallet is)
+
+cell-sight : (script : PlainScript) (row : PlainRow) (cell : CellState) → IsUsable script row cell → IsWalletSeen script.start.wallets (Some (seen_of cell))
+cell-sight script row cell ready =
+    subst (Any (IsOf (seen_of cell))) (sym ready.start.is)
+    (stands (IsOf (seen_of cell)) ready.start.earlier ready.start.later (record { address = cell.address; bytes = cell.start }) (seen-so cell ready.kept))
+
+at-sight : (script : PlainScript) (row : PlainRow) (address : Address) (list : List CellState) → All (IsUsable script row) list → IsWalletSeen script.start.wallets (wallet_at address (map wallet_state_of list))
+at-sight script row address [] ready = tt
+at-sight script row address (cell ∷ others) ready =
+    cond_both (is_same address cell.address) (Some (seen_of cell)) (wallet_at address (map wallet_state_of others)) (IsWalletSeen script.start.wallets)
+    (λ same. cell-sight script row cell (All-head (IsUsable script row) cell others ready))
+    (λ apart. at-sight script row address others (All-tail (IsUsable script row) cell others ready))
+
+-- where the item is a row, each of the cells is named
+pub cells-named : (script : PlainScript) (row : PlainRow) (cells : List CellState) → AreInHand script (row_wallets row) [] cells
+    → All (λ (cell : CellState). names row cell.address ≡ true) cells
+cells-named script row cells hand =
+    All-unmap (λ (address : Address). names row address ≡ true) address_in cells
+    (subst (λ (l : List Address). All (λ (address : Address). list_any (is_same address) l ≡ true) (map address_in cells))
+    (sym (append-nil (map address_in cells)) ∙ hand.are) (each-any (map address_in cells)))
+
+module _ (script : PlainScript) (row : PlainRow) (cells : List CellState) (hand : HasHands script row cells) where
+  -- ---- what the row sees
+
+  pub sees-asked : Sees (asked_of row) (seen_by row (world_in script cells))
+  sees-asked = row-sees row (world_in script cells) cells refl hand.here
+
+  pub sees-hand : All Fits (roles_of (seen_by row (world_in script cells))) → SeesCells (seen_by row (world_in script cells)) cells
+  sees-hand fits =
+      sees-cells row (world_in script cells) cells refl (apart-cells cells hand.once)
+      (All-weaker (IsUsable script row) IsWalletCell (λ cell ready. ready.kept) cells hand.usable) hand.here
+      (All-weaker (IsUsable script row) (λ (cell : CellState). names row cell.address ≡ true → HasSpare cell) (λ cell ready. ready.spare) cells hand.usable) fits
+
+  -- ---- it is a sight of the script
+
+  role-sight : (role : Option Address) → IsWalletSeen script.start.wallets (role_at role (map wallet_state_of cells))
+  role-sight None = tt
+  role-sight (Some address) = at-sight script row address cells hand.usable
+
+  pub sight : IsSight script (seen_by row (world_in script cells))
+  sight = record {
+    coin = role-sight row.coin;
+    pc = role-sight row.pc;
+    discount = role-sight row.discount;
+    referrer = role-sight row.referrer;
+    srm = refl;
+    msrm = refl;
+    program = refl;
+  }
+
+-- ---- the call
+
+module _ (row : PlainRow) (seen : Seen) (reply : Reply) (t : Transfers) (stamp : ℕ) (sees : Sees (asked_of row) seen) where
+  abbrev pub call_by : Stamped Call
+  call_by = record { item = record { asked = asked_of row; seen = seen; entry = entry_by row seen reply t }; stamp = stamp }
+
+  -- it moves each wallet of its row
+  pub moves-each : MovesEach call_by.item
+  moves-each = ap (map (λ (move : Movement). move.wallet)) (places-movements seen t) ∙ movements-named (asked_of row) seen t sees
+
+  -- its entry in the journal of a wallet that is named
+  pub entry-named : (address : Address) → names row address ≡ true
+      → entries_in address call_by ≡ record { item = wallet_entry_by row (movement_of seen t address); stamp = stamp } ∷ []
+  entry-named address named =
+      ap (λ (moves : List Movement). map (entry_made call_by) (filter (λ (move : Movement). is_same move.wallet address) moves)) (places-movements seen t)
+      ∙ ap (map (entry_made call_by)) (moves-kept row seen t sees address ∙ cond-true (names row address) (movement_of seen t address ∷ []) [] named)
+
+  -- a cell that acted has it
+  pub has-entry : (before after : CellState) → names row before.address ≡ true → wallet_state_of after ≡ wallet_acted row seen t (wallet_state_of before) → IsWalletCell after
+      → made_of after ≡ made_of before → HasEntry (written_by call_by) before after
+  has-entry before after named acted kept made = record {
+    entry = wallet_entry_by row (movement_of seen t before.address);
+    is = entry-named before.address named;
+    lane = refl;
+    entries =
+        ap (λ (state : WalletState). state.entries) acted
+        ∙ ap (λ (state : WalletState). state.entries)
+        (cond-true (names row before.address) (wallet_moved row (movement_of seen t before.address) (wallet_state_of before)) (wallet_state_of before) named);
+    made = made;
+    kept = kept;
+  }
+
+  abbrev states_of : List CellState → List WalletState
+  states_of cells = map wallet_state_of cells
+
+  pub have-entries : (before after : List CellState) → All (λ (cell : CellState). names row cell.address ≡ true) before
+      → states_of after ≡ map (wallet_acted row seen t) (states_of before) → All IsWalletCell after → map made_of after ≡ map made_of before
+      → AllZip (HasEntry (written_by call_by)) before after
+  have-entries [] [] named acted kept made = tt
+  have-entries [] (cell ∷ after) named acted kept made = absurd (omega (arith, ap length made))
+  have-entries (cell ∷ before) [] named acted kept made = absurd (omega (arith, ap length made))
+  have-entries (first ∷ before) (cell ∷ after) named acted kept made =
+      let Named : CellState → Type 0 = λ c. names row c.address ≡ true in (
+        has-entry first cell (All-head Named first before named) (let one = acted in cc) (All-head IsWalletCell cell after kept) (let one = made in cc),
+        have-entries before after (All-tail Named first before named) (let rest = acted in cc) (All-tail IsWalletCell cell after kept) (let rest = made in cc),
+      )

@@ -1,0 +1,20 @@
+pub mod Common
+mod FewLanes
+mod Placed
+mod Counts
+mod Growing
+mod Distinct
+mod LeavingTurns
+mod InHand
+mod Acted
+pub mod Taking
+mod Entering
+mod SeatAfter
+mod RowMore
+mod LegHands
+mod LegNames
+mod LegReady
+mod LegReplies
+mod LegSeat
+mod LegTurns
+mod TwoPlaces

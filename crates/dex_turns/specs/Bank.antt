@@ -1,0 +1,51 @@
+-- The gates of an exchange's markets and wallets.
+use Rattle.std.specs.Prelude.{ℕ, ◌≡◌, ◌<◌, List, [], length, map, slice_index_or}
+use Rattle.std.specs.List.{AllZip}
+use Rattle.dex_types.specs.declared.addresses.Address.{Address}
+use Rattle.dex_types.specs.declared.movements.WalletEntry.{WalletEntry}
+use Rattle.dex_types.specs.Accounts.{PlainAccount, PlainMarketAccounts}
+use Rattle.dex_gate.specs.GateView.{GateView}
+use Rattle.dex_history.specs.Journal.{Call}
+use Rattle.dex_script.specs.Drafts.{PlainScript}
+use Rattle.dex_script.specs.Facts.{IsScript}
+use Rattle.dex_stamps.specs.Stamped.{Stamped}
+use Rattle.dex_journals.specs.Journals.{MarketOrigin, WalletOrigin}
+
+-- a gate for each market and each wallet of a script's start, in declared order
+pub record BankState : Type 0 where
+  pub script : PlainScript
+  pub markets : List (GateView (Stamped Call) MarketOrigin)
+  pub wallets : List (GateView (Stamped WalletEntry) WalletOrigin)
+
+-- a gate that was opened so, with nothing made yet, and has a pass for each of so many lanes
+pub record IsGate {E O : Type 0} (lanes : ℕ) (from : O) (gate : GateView E O) : Type 0 where
+  pub origin : gate.origin ≡ from
+  pub opening : gate.opening ≡ []
+  pub passes : gate.passes ≡ lanes
+
+-- the gate of a market of the start: it was opened with these accounts and no call, and has a pass for each lane
+abbrev pub IsMarketGate : PlainScript → PlainMarketAccounts → GateView (Stamped Call) MarketOrigin → Type 0
+IsMarketGate script start gate = IsGate {O = MarketOrigin} script.lanes (record { start = start; script = script }) gate
+
+-- the gate of a wallet of the start
+abbrev pub IsWalletGate : PlainScript → PlainAccount → GateView (Stamped WalletEntry) WalletOrigin → Type 0
+IsWalletGate script start gate = IsGate {O = WalletOrigin} script.lanes (record { start = start; script = script }) gate
+
+-- what always holds of a bank
+pub record IsBank (bank : BankState) : Type 0 where
+  pub script : IsScript bank.script
+  pub markets : AllZip (IsMarketGate bank.script) bank.script.start.markets bank.markets
+  pub wallets : AllZip (IsWalletGate bank.script) bank.script.start.wallets bank.wallets
+
+-- the addresses of a script's markets, in declared order
+abbrev pub market_addresses : PlainScript → List Address
+market_addresses script = map (λ (accounts : PlainMarketAccounts). accounts.address) script.start.markets
+
+-- the addresses of a script's wallets, in declared order
+abbrev pub wallet_addresses : PlainScript → List Address
+wallet_addresses script = map (λ (account : PlainAccount). account.address) script.start.wallets
+
+-- the address stands at this place
+pub record IsPlace (address : Address) (addresses : List Address) (place : ℕ) : Type 0 where
+  pub within : place < length addresses
+  pub here : (default : Address) → slice_index_or addresses place default ≡ address

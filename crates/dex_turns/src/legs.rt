@@ -1,0 +1,113 @@
+//! The two legs of a swap, under the turns of all that they act on.
+
+ghost use Rattle.std.specs.Prelude.{max};
+ghost use Rattle.dex_types.specs.Rows.{row_of};
+ghost use Rattle.dex_turns.specs.Legs.{legs_written, one_made, two_made};
+ghost use Rattle.dex_turns.specs.Turns.{AreLegsPlaced, HaveLegsActed, MayCallBoth, leg_wallets};
+
+use crate::acts::Acts;
+use crate::bank::Bank;
+use crate::placing::place_in;
+use crate::stamped_record::StampedRecord;
+use crate::waiting::{act_or_wait, is_refused, waits};
+use dex_io::Pace;
+use dex_journals::BankMarket;
+use dex_stamps::Stamp;
+use dex_types::{Address, Row, RowPlaces};
+use dex_wallet::WalletCell;
+
+/// The markets of the legs.
+pub(crate) struct TwoMarkets {
+    pub(crate) first: BankMarket,
+    pub(crate) second: BankMarket,
+}
+
+/// What is told of the legs.
+#[derive(Drop)]
+pub(crate) struct TwoRecords {
+    pub(crate) first: StampedRecord,
+    pub(crate) second: StampedRecord,
+}
+
+/// The two legs of a swap.
+#[derive(Drop)]
+pub(crate) struct SwapLegs<'a, P> {
+    pub(crate) first: &'a Row,
+    pub(crate) second: &'a Row,
+    pub(crate) first_places: &'a RowPlaces,
+    pub(crate) second_places: &'a RowPlaces,
+    pub(crate) pace: &'a P,
+}
+
+impl<'a, P: Pace> Acts for SwapLegs<'a, P> {
+    type Markets = TwoMarkets;
+
+    type Made = TwoRecords;
+
+    ghost lane = { λ it. it.first.now.lane };
+
+    ghost named = { λ it. leg_wallets (row_of it.first.now) (row_of it.second.now) };
+
+    ghost placed = { λ it script. AreLegsPlaced script (row_of it.first.now) (row_of it.second.now)
+        it.first_places.now it.second_places.now };
+
+    ghost ready = { λ it markets. MayCallBoth (row_of it.first.now) (row_of it.second.now) markets };
+
+    ghost last = { λ it markets. max markets.first.last markets.second.last };
+
+    ghost written = { λ it made. legs_written it.first.now it.second.now made };
+
+    ghost did = { λ it script made before after.
+        HaveLegsActed script (one_made it.first.now made) (two_made it.second.now made) before after };
+
+    fn place(&self, address: Address) -> usize {
+        match place_in(self.first, self.first_places, address) {
+            Some(place) => place,
+            None => match place_in(self.second, self.second_places, address) {
+                Some(place) => place,
+                None => unreachable!(),
+            },
+        }
+    }
+
+    // Both legs are looked at, and decided, before either acts.
+    fn act(
+        &self,
+        bank: &Bank,
+        markets: &mut TwoMarkets,
+        hands: &mut Vec<WalletCell>,
+        stamp: &Stamp,
+    ) -> TwoRecords {
+        self.pace.inside(self.first.lane, self.first.number);
+        let first_seen = bank.seen_by(hands, self.first);
+        let second_seen = bank.seen_by(hands, self.second);
+        let first_refused = is_refused(&markets.first, self.first, &first_seen);
+        let second_refused = is_refused(&markets.second, self.second, &second_seen);
+        let one_stamp = stamp.next();
+        let two_stamp = stamp.next();
+        let one = act_or_wait(
+            &mut markets.first,
+            hands,
+            self.first,
+            first_seen,
+            waits(second_refused, first_refused),
+            one_stamp,
+        );
+        let two = act_or_wait(
+            &mut markets.second,
+            hands,
+            self.second,
+            second_seen,
+            waits(first_refused, second_refused),
+            two_stamp,
+        );
+        TwoRecords {
+            first: one,
+            second: two,
+        }
+    }
+
+    fn stamp<'m>(&self, made: &'m TwoRecords) -> &'m Stamp {
+        &made.first.stamp
+    }
+}

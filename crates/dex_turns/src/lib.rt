@@ -1,0 +1,20 @@
+//! The items of lanes at a bank: each market and each wallet has a gate, and an item acts when it has the turns of all that it names.
+#![tactic(auto)]
+
+mod acts;
+mod alone;
+mod bank;
+mod legs;
+mod outline;
+mod placing;
+mod seat;
+mod seeing;
+mod stamped_record;
+mod submitting;
+mod turns;
+mod two_turns;
+mod waiting;
+
+pub use bank::{Bank, BankParts};
+pub use outline::Outline;
+pub use seat::LaneSeat;

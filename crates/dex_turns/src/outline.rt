@@ -1,0 +1,158 @@
+//! What a bank keeps of its script.
+
+ghost use Rattle.std.specs.Prelude.{◌≡◌, ◌<◌, ◌≤◌, IfOk, IfSome, Some, length, map, true};
+ghost use Rattle.std.specs.List.{list_any, position};
+ghost use Rattle.dex_types.specs.Accounts.{PlainAccount, PlainMarketAccounts, market_accounts_of, named_of};
+ghost use Rattle.dex_types.specs.Addresses.{is_same};
+ghost use Rattle.dex_types.specs.Rows.{row_of};
+ghost use Rattle.dex_script.specs.Facts.{IsRowOf};
+ghost use Rattle.dex_script.specs.Known.{has_market, is_known_role};
+ghost use Rattle.dex_script.specs.Places.{IsPlaced, IsRolePlaced, market_place};
+
+use dex_script::Script;
+use dex_stamps::Kept;
+use dex_types::{Address, MarketAccounts, Named, NoMemory, Program, Row, RowPlaces, is_same};
+use std::alloc::Global;
+use std::marker::Model;
+
+/// What a bank keeps of its script beside the cells: how many lanes it has, which mints are SRM and MSRM, its program, and the
+/// addresses of its markets and wallets.
+#[derive(Drop)]
+pub struct Outline {
+    pub(crate) lanes: u32,
+    pub(crate) srm: Option<Address>,
+    pub(crate) msrm: Option<Address>,
+    pub(crate) program: Program,
+    pub(crate) markets: Vec<Address>,
+    pub(crate) wallets: Vec<Address>,
+    pub(crate) script: Kept<Script>,
+}
+
+impl Model for Outline {
+    ghost use Rattle.dex_script.specs.Drafts.{PlainScript};
+    ghost use Rattle.dex_turns.specs.Outline.{IsOutline, outlined};
+
+    ghost Value = { PlainScript };
+
+    ghost view = { outlined };
+
+    ghost invariant = { IsOutline };
+}
+
+impl Outline {
+    /// The outline of a script. Asks memory.
+    pub fn of(alloc: Global, script: &Script) -> Result<Outline, NoMemory>
+        ensures { IfOk result (λ outline. outline ≡ script.now) }
+    {
+        let markets = addresses_of_markets(alloc, &script.start.markets)?;
+        let wallets = addresses_of_wallets(alloc, &script.start.wallets)?;
+        Ok(Outline {
+            lanes: script.lanes,
+            srm: script.start.srm,
+            msrm: script.start.msrm,
+            program: script.program,
+            markets,
+            wallets,
+            script: Kept::of(script),
+        })
+    }
+
+    /// How many lanes the script has.
+    pub fn lanes(&self) -> u32
+        ensures lanes { result ≡ self.now.lanes }
+        ensures some { 1 ≤ result }
+        ensures few { result ≤ 16 }
+    {
+        self.lanes
+    }
+
+    /// The script, for clauses.
+    pub fn kept(&self) -> Kept<Script>
+        ensures { result.value ≡ self.now }
+    {
+        self.script.same()
+    }
+
+    /// The places of a row's market and wallets among those of the script.
+    pub(crate) fn places_of(&self, row: &Row) -> RowPlaces
+        requires { IsRowOf self.now.start (row_of row.now) }
+        ensures { IsPlaced self.now.start (row_of row.entry.now) result }
+    {
+        RowPlaces {
+            market: self.market_of(row.market),
+            coin: self.wallet_of(row.coin),
+            pc: self.wallet_of(row.pc),
+            discount: self.wallet_of(row.discount),
+            referrer: self.wallet_of(row.referrer),
+        }
+    }
+
+    // The place of the market of an address.
+    fn market_of(&self, address: Address) -> u16
+        requires { has_market address self.now.start.markets ≡ true }
+        ensures { market_place address self.now.start.markets ≡ Some result }
+    {
+        place_among(&self.markets, address)
+    }
+
+    // The place of the wallet of a role, if it names one.
+    fn wallet_of(&self, role: Option<Address>) -> u16
+        requires { is_known_role self.now.start.wallets role ≡ true }
+        ensures { IsRolePlaced self.now.start.wallets role result }
+    {
+        match role {
+            Some(address) => place_among(&self.wallets, address),
+            None => 0,
+        }
+    }
+}
+
+/// The addresses of markets.
+fn addresses_of_markets(alloc: Global, markets: &[MarketAccounts]) -> Result<Vec<Address>, NoMemory>
+    ensures { IfOk result (λ addresses. addresses.items
+        ≡ map (λ (accounts : PlainMarketAccounts). accounts.address) (map market_accounts_of markets.now)) }
+{
+    let mut addresses = Vec::new(alloc);
+    for accounts in markets {
+        match addresses.push(accounts.address) {
+            Ok(()) => {}
+            Err(_) => return Err(NoMemory),
+        }
+    }
+    Ok(addresses)
+}
+
+/// The addresses of wallets.
+fn addresses_of_wallets(alloc: Global, wallets: &[Named]) -> Result<Vec<Address>, NoMemory>
+    ensures { IfOk result (λ addresses. addresses.items
+        ≡ map (λ (account : PlainAccount). account.address) (map named_of wallets.now)) }
+{
+    let mut addresses = Vec::new(alloc);
+    for account in wallets {
+        match addresses.push(account.address) {
+            Ok(()) => {}
+            Err(_) => return Err(NoMemory),
+        }
+    }
+    Ok(addresses)
+}
+
+/// The place of an address that is among these.
+fn place_among(addresses: &[Address], address: Address) -> u16
+    requires known { list_any (is_same address) addresses.now ≡ true }
+    requires few { length addresses.now ≤ 256 }
+    ensures { position (is_same address) addresses.now ≡ Some result }
+{
+    match find(addresses, address) {
+        Some(place) => place as u16,
+        None => unreachable!(),
+    }
+}
+
+/// The place of an address among these.
+fn find(addresses: &[Address], address: Address) -> Option<usize>
+    ensures within { IfSome result (λ place. place < length addresses.now) }
+    ensures place { result ≡ position (is_same address) addresses.now }
+{
+    addresses.iter().position(|other| is_same(address, *other))
+}

@@ -1,0 +1,131 @@
+//! The turns of gates: waited for, and left.
+
+ghost use Rattle.std.specs.Prelude.{◌≡◌, ◌<◌, ◌≤◌, ◌++◌, ◌∷◌, [], Some, length, max, vec_capacity};
+ghost use Rattle.dex_gate.specs.declared.stage.Stage.TheVariants.{Idle, Out};
+ghost use Rattle.dex_gate.specs.History.{Extends, added, of_lane};
+ghost use Rattle.dex_journals.specs.Journals.{IsBankMarket, left_by, market_calls, wallet_entries};
+ghost use Rattle.dex_turns.specs.Submitted.{Written};
+ghost use Rattle.dex_turns.specs.Turns.{HasLeft, IsMarketOut, IsOut, MayLeave, first_in};
+
+use dex_gate::{Away, Gate, Journaled, Pass, Turn};
+use dex_journals::{BankMarket, BankWallet, WalletTrail};
+use dex_stamps::Stamp;
+use dex_types::Address;
+use dex_wallet::WalletCell;
+use std::sync::Wait;
+
+/// Draws a ticket at a gate, and waits for its turn.
+pub(crate) fn turn_at<V: Journaled, R: Wait>(rt: &R, gate: &Gate<V>, pass: &mut Pass<V>) -> Turn<V>
+    requires gate { pass.old.gate ≡ Some gate.now }
+    requires idle { pass.old.stage ≡ Idle }
+    ensures pass { pass.new ≡ record pass.old { stage = Out (V.entries result.value) } }
+    ensures turn { (result.gate ≡ Some gate.now) × (result.number ≡ pass.old.number)
+        × (result.start ≡ V.entries result.value) }
+    ensures origin { V.origin result.value ≡ gate.now.origin }
+    ensures seen { Extends pass.old.seen (V.entries result.value) }
+    ensures mine { of_lane V.lane pass.old.number (added gate.now.opening (V.entries result.value))
+        ≡ pass.old.mine }
+{
+    gate.draw(pass);
+    gate.wait_turn(rt, pass)
+}
+
+/// Waits for the turn of a market, and takes it out. The stamp is the later of this one and the market's last.
+pub(crate) fn take_market<R: Wait>(
+    rt: &R,
+    gate: &Gate<BankMarket>,
+    pass: &mut Pass<BankMarket>,
+    last: &Stamp,
+) -> (BankMarket, Away<BankMarket>, Stamp)
+    requires gate { pass.old.gate ≡ Some gate.now }
+    requires idle { pass.old.stage ≡ Idle }
+    ensures out { IsMarketOut gate.now pass.old pass.new result.0 }
+    ensures away { result.1 ≡ record {
+      gate = Some gate.now;
+      number = pass.old.number;
+      start = market_calls result.0;
+    } }
+    ensures stamp { result.2.number ≡ max result.0.last last.now.number }
+{
+    let (market, away) = turn_at(rt, gate, pass).take();
+    let stamp = market_stamp(&market, last);
+    (market, away, stamp)
+}
+
+/// The later of a stamp and a market's last.
+fn market_stamp(market: &BankMarket, last: &Stamp) -> Stamp
+    ensures later { result.number ≡ max market.now.last last.now.number }
+    ensures kept { IsBankMarket market.now }
+{
+    let _cell = market.cell();
+    market.later(last)
+}
+
+/// Waits for the turn of a wallet, and takes its cell out.
+pub(crate) fn take_wallet<R: Wait>(
+    rt: &R,
+    gate: &Gate<BankWallet>,
+    pass: &mut Pass<BankWallet>,
+) -> (WalletCell, WalletTrail, Away<BankWallet>)
+    requires gate { pass.old.gate ≡ Some gate.now }
+    requires idle { pass.old.stage ≡ Idle }
+    ensures cell { result.0 ≡ result.1.before }
+    ensures out { IsOut gate.now pass.old pass.new result.1 }
+    ensures away { result.2 ≡ record {
+      gate = Some gate.now;
+      number = pass.old.number;
+      start = wallet_entries (left_by result.1);
+    } }
+{
+    let (wallet, away) = turn_at(rt, gate, pass).take();
+    let (cell, trail) = wallet.into_parts();
+    (cell, trail, away)
+}
+
+/// Puts the cell of a wallet back with an item's entry, and leaves the turn.
+pub(crate) fn leave_wallet(
+    gate: &Gate<BankWallet>,
+    pass: &mut Pass<BankWallet>,
+    cell: WalletCell,
+    trail: WalletTrail,
+    away: Away<BankWallet>,
+    stamp: &Stamp,
+)
+    requires entry { (written : Written) × (written.stamp ≡ stamp.now.number)
+        × MayLeave written gate.now pass.old trail cell }
+    requires away { away ≡ record {
+      gate = Some gate.now;
+      number = pass.old.number;
+      start = wallet_entries (left_by trail);
+    } }
+    ensures { (written : Written) → written.stamp ≡ stamp.now.number
+        → MayLeave written gate.now pass.old trail cell → HasLeft written trail pass.old pass.new }
+{
+    let wallet = trail.with(cell, stamp);
+    gate.leave(pass, away.put(wallet));
+}
+
+/// The first of the wallets that are still to come.
+pub(crate) fn first_of(others: &[Option<Address>]) -> Option<Address>
+    ensures { result ≡ first_in others.now }
+{
+    if others.len() == 0 { None } else { others[0] }
+}
+
+/// Puts a cell behind those in hand, for which there is room.
+pub(crate) fn put_in_hand(hands: &mut Vec<WalletCell>, cell: WalletCell)
+    requires { length hands.old.items < vec_capacity hands.old }
+    ensures items { hands.new.items ≡ hands.old.items ++ cell ∷ [] }
+    ensures room { vec_capacity hands.old ≤ vec_capacity hands.new }
+{
+    hands.push(cell).unwrap();
+}
+
+/// Takes the last of the cells in hand.
+pub(crate) fn take_from_hand(hands: &mut Vec<WalletCell>) -> WalletCell
+    requires { 0 < length hands.old.items }
+    ensures items { hands.old.items ≡ hands.new.items ++ result ∷ [] }
+    ensures room { vec_capacity hands.old ≤ vec_capacity hands.new }
+{
+    hands.pop().unwrap()
+}
