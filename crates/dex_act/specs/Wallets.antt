@@ -257,10 +257,6 @@ cell_paid row seen t cell =
 abbrev pub cell_acted : PlainRow → Seen → Transfers → CellState → CellState
 cell_acted row seen t cell = moves_probed row (front (places (movements seen t))) (cell_paid row seen t cell)
 
--- the cells of wallets after what a row takes from them and brings to them, where its market's cell is this
-abbrev pub cells_paid : Row → Seen → MarketCellState → List CellState → List CellState
-cells_paid row seen market cells = map (cell_paid (row_of row) seen (step_on row seen market).transfers) cells
-
 -- the cells of wallets after a row, where its market's cell is this
 abbrev pub cells_acted : Row → Seen → MarketCellState → List CellState → List CellState
 cells_acted row seen market cells = map (cell_acted (row_of row) seen (step_on row seen market).transfers) cells
