@@ -199,16 +199,16 @@ cell_credited row seen coin pc referrer cell =
     moved_some row Credit (amount_at cell.address seen.coin coin + got_at seen pc referrer cell) cell
 
 -- the parcels of the quote token are of one mint, and each wallet that a row sees can take in what it gets of them
-pub record CanGetPc (seen : Seen) (places : WalletPlaces) (pc referrer : Option TokenAmount) (cells : List CellState) : Type 0
-  where
-    pub mint : Address
-    pub pc_is : pc ≡ parcel_of mint (amount_in pc)
-    pub referrer_is : referrer ≡ parcel_of mint (amount_in referrer)
-    pub apart : AreApart cells
-    pub at : AreSeenAt cells seen places
-    pub pc_named : NamesFor (amount_in pc) seen.pc
-    pub referrer_named : NamesFor (amount_in referrer) seen.referrer
-    pub each : All (λ (cell : CellState). CanPut mint (got_at seen (amount_in pc) (amount_in referrer) cell) cell) cells
+pub record CanGetPc (seen : Seen) (places : WalletPlaces) (pc referrer : Option TokenAmount)
+    (cells : List CellState) : Type 0 where
+  pub mint : Address
+  pub pc_is : pc ≡ parcel_of mint (amount_in pc)
+  pub referrer_is : referrer ≡ parcel_of mint (amount_in referrer)
+  pub apart : AreApart cells
+  pub at : AreSeenAt cells seen places
+  pub pc_named : NamesFor (amount_in pc) seen.pc
+  pub referrer_named : NamesFor (amount_in referrer) seen.referrer
+  pub each : All (λ (cell : CellState). CanPut mint (got_at seen (amount_in pc) (amount_in referrer) cell) cell) cells
 
 -- a cell gets of one token alone, and can take it in
 abbrev pub CanGet : Address → Address → ℕ → ℕ → CellState → Type 0
@@ -256,10 +256,6 @@ cell_paid row seen t cell =
 -- a cell after a row: what it takes and brings, and then its probes of the cell
 abbrev pub cell_acted : PlainRow → Seen → Transfers → CellState → CellState
 cell_acted row seen t cell = moves_probed row (front (places (movements seen t))) (cell_paid row seen t cell)
-
--- the cells of wallets after what a row takes from them and brings to them, where its market's cell is this
-abbrev pub cells_paid : Row → Seen → MarketCellState → List CellState → List CellState
-cells_paid row seen market cells = map (cell_paid (row_of row) seen (step_on row seen market).transfers) cells
 
 -- the cells of wallets after a row, where its market's cell is this
 abbrev pub cells_acted : Row → Seen → MarketCellState → List CellState → List CellState
@@ -312,7 +308,8 @@ pub record CanLookAs (seen : Seen) (t : Transfers) (role : Option WalletSeen) (l
   pub spare : All (λ (cell : CellState). role_looks seen t role later cell.address ≡ true → HasSpare cell) cells
 
 -- a cell after a row looked at the wallet of one role
-abbrev pub role_looked : PlainRow → Seen → Transfers → Option WalletSeen → List (Option WalletSeen) → CellState → CellState
+abbrev pub role_looked :
+    PlainRow → Seen → Transfers → Option WalletSeen → List (Option WalletSeen) → CellState → CellState
 role_looked row seen t role later cell =
     if role_looks seen t role later cell.address then cell_moved row Probe 0 cell else cell
 

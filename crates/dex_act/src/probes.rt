@@ -58,8 +58,8 @@ fn probe(
     second: &Option<WalletSeen>,
     third: &Option<WalletSeen>,
 )
-    requires { CanLookAs seen.now (transfers_of amounts.now) role.now (first.now ∷ second.now ∷ third.now ∷ []) place
-        cells.old }
+    requires { CanLookAs seen.now (transfers_of amounts.now) role.now
+        (first.now ∷ second.now ∷ third.now ∷ []) place cells.old }
     ensures { cells.new ≡ map (role_looked (row_of row.entry.now) seen.now (transfers_of amounts.now) role.entry.now
         (first.entry.now ∷ second.entry.now ∷ third.entry.now ∷ [])) cells.old }
 {

@@ -21,8 +21,8 @@ use dex_movements::Amounts;
 use dex_types::{Reply, Row, Seen};
 use dex_wallet::WalletCell;
 
-/// Does a row as it was decided: its deposits leave its wallets, its market makes its step, and its payouts enter its
-/// wallets.
+/// Does a row as it was decided: its deposits leave its wallets, its market makes its step, its payouts enter its wallets, and it
+/// looks at the others that it names.
 fn accept(
     market: &mut MarketCell,
     wallets: &mut [WalletCell],

@@ -28,7 +28,7 @@ module _ (rows : List PlainRow) where
   first-opened address (first ∷ others) place is =
       let told = position-Some (λ (market : PlainMarketAccounts). is_same address market.address) (first ∷ others) place first is in
       let cell : (k : ℕ) (default : MarketCellState) → k < length (first ∷ others)
-          → get_or (map (market_opened rows) (first ∷ others)) k default ≡ market_opened rows (get_or (first ∷ others) k first) =
+      → get_or (map (market_opened rows) (first ∷ others)) k default ≡ market_opened rows (get_or (first ∷ others) k first) =
       λ k default within. get_or-map (market_opened rows) (first ∷ others) k first default within in
       record {
         within = omega (arith, told.0, length-map (first ∷ others) (market_opened rows));

@@ -27,12 +27,7 @@ use dex_types::{Address, Reply, Row, Seen, WalletSeen};
 use dex_wallet::WalletCell;
 
 /// Writes down what a row sees of the wallet that a role names, which stands at the place, where there was nothing.
-fn look(
-    wallets: &[WalletCell],
-    role: &Option<Address>,
-    place: usize,
-    seen: &mut Option<WalletSeen>,
-)
+fn look(wallets: &[WalletCell], role: &Option<Address>, place: usize, seen: &mut Option<WalletSeen>)
     requires nothing { seen.old ≡ None }
     requires here { IsRoleAt wallets.now role.now place }
     requires apart { AreApart wallets.now }
@@ -62,8 +57,18 @@ fn seen_by(cells: &Cells, row: &Row, places: &WalletPlaces) -> Seen
     };
     look(&cells.wallets, &row.coin, places.coin, &mut seen.coin);
     look(&cells.wallets, &row.pc, places.pc, &mut seen.pc);
-    look(&cells.wallets, &row.discount, places.discount, &mut seen.discount);
-    look(&cells.wallets, &row.referrer, places.referrer, &mut seen.referrer);
+    look(
+        &cells.wallets,
+        &row.discount,
+        places.discount,
+        &mut seen.discount,
+    );
+    look(
+        &cells.wallets,
+        &row.referrer,
+        places.referrer,
+        &mut seen.referrer,
+    );
     seen
 }
 

@@ -98,14 +98,6 @@ step_on row seen cell = row_step (row_of row) seen (market_at cell)
 abbrev pub call_on : Row → Seen → MarketCellState → Call
 call_on row seen cell = call_made (row_of row) seen (market_at cell)
 
--- the entry that a row makes there
-abbrev pub entry_on : Row → Seen → MarketCellState → Entry
-entry_on row seen cell = (call_on row seen cell).entry
-
--- the entry of a row that is held back there
-abbrev pub entry_held : Row → Seen → MarketCellState → Entry
-entry_held row seen cell = (held_made (row_of row) seen).entry
-
 -- the cell after a row was written down with this reply that moves nothing
 abbrev pub noted_on : Row → Seen → Reply → MarketCellState → MarketCellState
 noted_on row seen reply cell = record cell {

@@ -4,7 +4,10 @@ use Rattle.dex_fold.proofs.Common.{All-filter, All-map, get_or-map, length-map, 
 use Rattle.dex_replay.proofs.Common.{AreLegs, AreRows, PlainScript}
 use Rattle.std.specs.List.{All}
 use Rattle.dex_fold.proofs.MappedLists.{same-get}
-use Rattle.dex_run.proofs.Common.{AreNext, IsDone, IsNext, SeatState}
+use Rattle.dex_run.proofs.Common.{AreNext, BankState, CanRun, IsDone, IsNext, SeatState}
+use Rattle.dex_types.specs.declared.rows.RowPlaces.{RowPlaces}
+use Rattle.dex_script.specs.Places.{IsPlaced}
+use Rattle.dex_script.proofs.PlacedLaws.{placed-at, placed-long}
 use Rattle.std.proofs.lemmas.Bool.{cases_lt}
 use Rattle.std.proofs.lemmas.List.{append_assoc, drop_more, get_or-drop, take-append-drop, get_or-take, length-append, length-take-le, map-append}
 
@@ -233,3 +236,16 @@ all-done rows i before after all are lane script so_far =
     ∙ ap (λ (l : List PlainRow). length (rows_of_lane before.lane l)) are
     ∙ ap (λ (n : ℕ). length (rows_of_lane n before.script.rows)) (sym lane)
     ∙ ap (λ (s : PlainScript). length (rows_of_lane after.lane s.rows)) (sym script)
+
+-- ---- places
+
+module _ (bank : BankState) (rows : List Row) (places : List RowPlaces) (seat : SeatState) (can : CanRun bank rows places seat) where
+  pub places-long : length places ≡ length rows
+  places-long = placed-long seat.script.start (map row_of rows) places can.placed ∙ length-map rows row_of
+
+  -- a row has its places beside it
+  pub row-placed : (i : ℕ) (row : Row) (default : RowPlaces) → i < length rows → row ≡ get_or rows i row → IsPlaced bank.script.start (row_of row) (get_or places i default)
+  row-placed i row default within at =
+      subst (λ (script : PlainScript). IsPlaced script.start (row_of row) (get_or places i default)) can.of_bank.script
+      (subst (λ (r : PlainRow). IsPlaced seat.script.start r (get_or places i default)) (get_or-map row_of rows i row (row_of row) within ∙ ap row_of (sym at))
+      (placed-at seat.script.start (map row_of rows) places can.placed i (row_of row) default (omega (arith, within, length-map rows row_of))))

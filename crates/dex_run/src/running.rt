@@ -15,7 +15,7 @@ use dex_lanes::run_jobs;
 use dex_report::Outcome;
 use dex_script::Script;
 use dex_turns::{Bank, LaneSeat, Outline};
-use dex_types::{NoMemory, Row};
+use dex_types::{NoMemory, Row, RowPlaces};
 use std::alloc::Global;
 use std::marker::Sync;
 use std::sync::Wait;
@@ -28,9 +28,10 @@ fn jobs_of<'a, R: Wait, P: Pace>(
     bank: &'a Bank,
     seats: Vec<LaneSeat>,
     rows: &'a [Row],
+    places: &'a [RowPlaces],
     pace: &'a P,
 ) -> Result<Vec<LaneJob<'a, R, P>>, NoMemory>
-    ensures { IfOk result (λ jobs. AllZip (IsJobOf bank.now rows.now) seats.items jobs.items) }
+    ensures { IfOk result (λ jobs. AllZip (IsJobOf bank.now rows.now places.now) seats.items jobs.items) }
 {
     let mut jobs = Vec::new(alloc);
     for seat in seats {
@@ -39,6 +40,7 @@ fn jobs_of<'a, R: Wait, P: Pace>(
             bank,
             seat,
             rows,
+            places,
             pace,
         };
         match jobs.push(job) {
@@ -63,6 +65,7 @@ fn seats_back<'a, R: Wait, P: Pace>(
             bank: _,
             seat,
             rows: _,
+            places: _,
             pace: _,
         } = job;
         seats.push_reserved(seat);
@@ -77,15 +80,16 @@ fn run_all<R: Threads + Wait + Sync, P: Pace + Sync>(
     bank: &Bank,
     seats: Vec<LaneSeat>,
     rows: &[Row],
+    places: &[RowPlaces],
     pace: &P,
 ) -> Result<Vec<LaneSeat>, NoMemory>
-    requires { All (CanRun bank.now rows.now) seats.items }
+    requires { All (CanRun bank.now rows.now places.now) seats.items }
     ensures { IfOk result (λ after. AllZip (HasRun bank.now) seats.items after.items) }
 {
     let Ok(room) = Vec::with_capacity(alloc, seats.len()) else {
         return Err(NoMemory);
     };
-    let mut jobs = jobs_of(rt, alloc, bank, seats, rows, pace)?;
+    let mut jobs = jobs_of(rt, alloc, bank, seats, rows, places, pace)?;
     run_jobs(rt, &mut jobs);
     Ok(seats_back(jobs, room))
 }
@@ -102,9 +106,9 @@ pub fn run<R: Threads + Wait + Sync, P: Pace + Sync>(
     ensures one_order { IfOk result (λ outcome. IsOneOrder script (outcome_of outcome)) }
 {
     let outline = Outline::of(alloc, &script)?;
-    let (cells, rows) = Cells::of_script(alloc, script)?;
+    let (cells, rows, places) = Cells::of_script(alloc, script)?;
     let (bank, seats) = bank_over(alloc, outline, cells)?;
-    let seats = run_all(rt, alloc, &bank, seats, &rows, pace)?;
+    let seats = run_all(rt, alloc, &bank, seats, &rows, &places, pace)?;
     match close(alloc, bank, seats) {
         Ok(outcome) => Ok(outcome),
         Err(_) => Err(NoMemory),

@@ -1,6 +1,8 @@
 use Rattle.std.proofs.Common.{List, ap, map, sym, subst, ◌∙◌}
 use Rattle.dex_fold.proofs.Common.{Row, range_with_len, row_of}
 use Rattle.dex_replay.proofs.Common.{IsOneOrder, IsRunOf, IsScript, PlainScript, outcome_of}
+use Rattle.dex_types.specs.declared.rows.RowPlaces.{RowPlaces}
+use Rattle.dex_script.specs.Places.{ArePlaced}
 use Rattle.dex_run.proofs.Jobs.{after-done, after-lanes, after-of_bank}
 use Rattle.dex_run.proofs.running.run.Goals as goal
 
@@ -14,6 +16,10 @@ run_all-requires-after_bounds g c κs bounds = λ k d within.
       of_bank = here;
       fresh = c.in_ok-bank.ensures.fresh k d within;
       rows_are = ap (λ (rows : List Row). map row_of rows) c.deref.ensures.value ∙ c.in_ok-cells.ensures.rows ∙ ap (λ (s : PlainScript). s.rows) (sym script_is);
+      placed =
+          subst (λ (s : PlainScript). ArePlaced s.start (map row_of c.deref.result.now) c.deref-2.result.now) (sym script_is)
+          (subst (λ (rows : List Row). ArePlaced c.args.script.start (map row_of rows) c.deref-2.result.now) (sym c.deref.ensures.value)
+          (subst (λ (places : List RowPlaces). ArePlaced c.args.script.start (map row_of c.in_ok-cells.rows.items) places) (sym c.deref-2.ensures.value) c.in_ok-cells.ensures.placed));
     }
 
 pub close-requires-clause-seats : goal.close-requires-clause-seats
