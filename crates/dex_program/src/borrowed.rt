@@ -2,7 +2,7 @@
 
 use dex_bank::Cells;
 use dex_report::{Outcome, report_text};
-use dex_run::build;
+use dex_run::{build, close};
 use dex_script::{Script, read_script};
 use std::alloc::Global;
 use std::test::Fail;
@@ -37,7 +37,7 @@ fn left(alloc: Global, cells: Cells) -> Result<Outcome, Fail> {
 
 // The report of what is left when the script's own accounts went into the cells.
 fn wanted(alloc: Global, script: Script) -> Result<Vec<u8>, Fail> {
-    let (cells, rows) = Cells::of_script(alloc, script)?;
+    let (cells, rows, _) = Cells::of_script(alloc, script)?;
     if rows.len() != 3 {
         return Err(Fail::new("not three rows"));
     }
@@ -59,7 +59,7 @@ fn a_bank_is_built(rt: HostRuntime) -> Result<(), Fail> {
     let script = script(alloc)?;
     let (bank, seats) = build(alloc, &script)?;
     assert_eq!(rt; seats.len(), 2);
-    let Ok(outcome) = bank.close(alloc, seats) else {
+    let Ok(outcome) = close(alloc, bank, seats) else {
         return Err(Fail::new("no memory"));
     };
     assert_eq!(rt; report_text(alloc, &outcome, 0)?, wanted(alloc, script)?);

@@ -1,5 +1,5 @@
 -- The first word of a field, and the words behind it.
-use Rattle.std.proofs.Common.{◌≡◌, ◌+◌, ◌-◌, ◌∙◌, ◌≤◌, ◌<◌, ◌++◌, ◌∷◌, [], ℕ, Bor, set, nat_lt, if◌then◌else◌, Bool, true, false, List, Option, Some, None, length, take, drop, arith, refl, sym, ap}
+use Rattle.std.proofs.Common.{◌≡◌, ◌+◌, ◌-◌, ◌∙◌, ◌≤◌, ◌<◌, ◌++◌, ◌∷◌, [], ℕ, Bor, set, nat_lt, if◌then◌else◌, Bool, true, false, List, Some, None, length, take, drop, arith, refl, ap}
 use Rattle.std.proofs.lemmas.List.{length-drop, map-append, take_all, take_more_set}
 use Rattle.dex_statement.specs.Words.{texts}
 use Rattle.std.specs.List.{onto_first, position, position_or_len, slice_split}

@@ -1,5 +1,5 @@
 -- Whom an instruction row names.
-use Rattle.std.specs.Prelude.{ℕ, if◌then◌else◌, List, [], ◌∷◌, ◌++◌, bytes_eq, codes, Option, Result, Ok}
+use Rattle.std.specs.Prelude.{ℕ, if◌then◌else◌, List, [], ◌∷◌, ◌++◌, bytes_eq, codes, Result, Ok}
 use Rattle.dex_types.specs.declared.addresses.Address.{Address}
 use Rattle.dex_rows.specs.Addresses.{address_of, role_of}
 use Rattle.dex_statement.specs.declared.faults.FaultKind.{FaultKind}

@@ -1,5 +1,5 @@
 -- What a row states by itself, or the lowest fault that it has by itself.
-use Rattle.std.specs.Prelude.{ℕ, ◌^◌, not, ◌==◌, length, Result, Ok}
+use Rattle.std.specs.Prelude.{◌^◌, not, ◌==◌, length, Result, Ok}
 use Rattle.dex_rows.specs.Base64.{base64_of}
 use Rattle.dex_rows.specs.Numbers.{number_of}
 use Rattle.dex_rows.specs.Printable.{row_is_printable}

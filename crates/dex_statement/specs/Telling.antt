@@ -1,5 +1,5 @@
 -- What the answer of a call about a row tells.
-use Rattle.std.specs.Prelude.{◌≡◌, List, Result, Ok, Err}
+use Rattle.std.specs.Prelude.{◌≡◌, Result, Ok, Err}
 use Rattle.dex_statement.specs.declared.faults.FaultKind.{FaultKind}
 use Rattle.dex_statement.specs.declared.faults.RowError.{RowError}
 use Rattle.dex_statement.specs.declared.faults.RowError.TheVariants.{Fault, NoMemory}

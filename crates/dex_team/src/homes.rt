@@ -1,14 +1,15 @@
 //! The leader's cells, of which some are out.
 
-ghost use Rattle.std.specs.Prelude.{◌≡◌, ◌+◌, ◌<◌, ◌^◌, ◌∷◌, [], ℕ, true, All, IfNone, IfOk, IfSome, IsTrue, length};
+ghost use Rattle.std.specs.Prelude.{◌≡◌, ◌+◌, ◌<◌, ◌^◌, ◌∷◌, [], ℕ, true, All, length};
+ghost use Rattle.std.specs.Prelude.{IfNone, IfOk, IfSome, IsTrue};
 ghost use Rattle.dex_types.specs.declared.addresses.Address.{Address as AddressOf};
 ghost use Rattle.dex_types.specs.Rows.{row_of};
 ghost use Rattle.dex_fold.specs.Fold.{is_role, names};
 ghost use Rattle.dex_stage.specs.Stages.{IsMarketAt, IsWalletAt};
 ghost use Rattle.dex_team.specs.Closing.{AreFirstMarkets, AreFirstWallets, AreOpened};
 ghost use Rattle.dex_team.specs.Lists.{AreLists, IsNext};
-ghost use Rattle.dex_team.specs.Slots.{AreInHand, AreLent, AreWalletsAt, IsHeld, IsLent, IsPlace, IsWalletLent, KeepsOut};
-ghost use Rattle.dex_team.specs.Slots.{listed, market_addresses, wallet_addresses};
+ghost use Rattle.dex_team.specs.Slots.{AreInHand, AreLent, AreWalletsAt, IsHeld, IsLent, IsWalletLent, KeepsOut};
+ghost use Rattle.dex_team.specs.Slots.{IsPlace, listed, market_addresses, wallet_addresses};
 
 use crate::ahead::Ahead;
 use crate::desk::{Desk, Next};
@@ -334,7 +335,8 @@ impl<J: Naming> Homes<J> {
         cells: &mut Vec<WalletCell>,
         ahead: &mut Ahead<J>,
     ) -> Result<usize, NoMemory>
-        requires named { All (λ (address : AddressOf). names (row_of next.row.now) address ≡ true) (listed (wallet ∷ [])) }
+        requires named { All (λ (address : AddressOf). names (row_of next.row.now) address ≡ true)
+            (listed (wallet ∷ [])) }
         requires next { (count : ℕ) × IsNext J.script count next }
         requires room { self.old.next + 1 < 2 ^ 64 }
         requires lists { AreLists J.script desk.now.lists }
@@ -356,7 +358,8 @@ impl<J: Naming> Homes<J> {
         cells: &mut Vec<WalletCell>,
         ahead: &mut Ahead<J>,
     ) -> Result<[usize; 4], NoMemory>
-        requires named { All (λ (address : AddressOf). names (row_of next.row.now) address ≡ true) (listed wallets.now) }
+        requires named { All (λ (address : AddressOf). names (row_of next.row.now) address ≡ true)
+            (listed wallets.now) }
         requires next { (count : ℕ) × IsNext J.script count next }
         requires room { self.old.next + 1 < 2 ^ 64 }
         requires lists { AreLists J.script desk.now.lists }

@@ -1,4 +1,4 @@
-use Rattle.std.proofs.Common.{◌≡◌, length, arith, rules}
+use Rattle.std.proofs.Common.{◌≡◌, length, arith}
 use Rattle.dex_statement.proofs.CancelLaws.{asked}
 use Rattle.dex_statement.proofs.order_words.cancels_of.Goals as goal
 

@@ -1,8 +1,8 @@
-use Rattle.std.proofs.Common.{◌≡◌, ◌∙◌, ◌+◌, ◌==◌, length, take, arith, sym}
+use Rattle.std.proofs.Common.{◌≡◌, ◌∙◌, ◌==◌, length, take, arith, sym}
 use Rattle.std.proofs.lemmas.Bool.Decides.{nat_tests}
 use Rattle.std.proofs.lemmas.List.{length-set, take_all}
 use Rattle.dex_rows.proofs.SplitLemmas.{part_cut, part_end, part_more}
-use Rattle.dex_statement.specs.Words.{texts, words_of}
+use Rattle.dex_statement.specs.Words.{texts}
 use Rattle.dex_statement.proofs.WordLaws.{word_more}
 use Rattle.dex_statement.proofs.words.few_words.Goals.{then-field-place-eq32+else-count, else-field-place-eq32}
 use Rattle.dex_statement.proofs.words.few_words.Goals as goal
@@ -14,9 +14,11 @@ bytes-preserved c =
     let here = c.bytes.invariant.2 in
     elim c.if-field-place-eq32.branch [
       | then-field-place-eq32+else-count w ↦
-          rw (w.words-is, w.start-is, w.count-is)
-          (omega arith, length-set c.bytes.words c.bytes.count _ ∙ c.bytes.invariant.1,
-            rw (word_more c.bytes.words c.bytes.count _ (omega arith)) (part_cut (λ byte. byte == 32) field c.bytes.start c.bytes.place done c.bytes-test.true (grind (arith, nat_tests)) here))
+          rw (w.words-is, w.start-is, w.count-is) (
+            omega arith,
+            length-set c.bytes.words c.bytes.count _ ∙ c.bytes.invariant.1,
+            rw (word_more c.bytes.words c.bytes.count _ (omega arith)) (part_cut (λ byte. byte == 32) field c.bytes.start c.bytes.place done c.bytes-test.true (grind (arith, nat_tests)) here),
+          )
       | else-field-place-eq32 w ↦
           rw (w.words-is, w.start-is, w.count-is)
           (c.bytes.invariant.0, c.bytes.invariant.1, part_more (λ byte. byte == 32) field c.bytes.start c.bytes.place done c.bytes-test.true (grind (arith, nat_tests)) here)

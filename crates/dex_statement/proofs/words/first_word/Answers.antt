@@ -1,4 +1,4 @@
-use Rattle.std.proofs.Common.{◌==◌, ◌∙◌, sym}
+use Rattle.std.proofs.Common.{◌∙◌, sym}
 use Rattle.dex_statement.proofs.WordLaws.{behind_shorter, cut_behind, uncut}
 use Rattle.dex_statement.proofs.words.first_word.Goals as goal
 

@@ -89,27 +89,27 @@ with_wallets-made-requires g t c κs within =
               (
                 c.requires.bank,
                 (
-                c.requires.placed,
-                (
-                c.requires.named,
-                (
-                  c.requires.ready,
+                  c.requires.placed,
                   (
-                    omega (arith, c.requires.below, c.later-later.ensures, le-max_right c.take_wallet-cell.result.1.last c.args.stamp.now.number),
+                    c.requires.named,
                     (
-                      subst (AreInHand c.args.self.now.script (g.A.Acts.named c.args.item.now) (front (rest_of c.args.others.now)))
-                          (sym (c.put_in_hand.ensures.items ∙ ap (λ (x : CellState). c.args.hands.now.items ++ x ∷ []) c.take_wallet-cell.ensures.cell))
-                          (facts-hand c.args.self.now (g.A.Acts.named c.args.item.now) (g.A.Acts.lane c.args.item.now) c.in-Some.address (front (rest_of c.args.others.now)) c.args.hands.now.items c.args.passes.now.items c.place-place.result c.wallet_gate-gate.result.now
-                          c.index_mut.result.now c.take_wallet-cell.new.pass c.take_wallet-cell.result.1 facts),
+                      c.requires.ready,
                       (
-                        facts-ready c.args.self.now (g.A.Acts.named c.args.item.now) (g.A.Acts.lane c.args.item.now) c.in-Some.address (front (rest_of c.args.others.now)) c.args.hands.now.items c.args.passes.now.items c.place-place.result c.wallet_gate-gate.result.now
-                            c.index_mut.result.now c.take_wallet-cell.new.pass c.take_wallet-cell.result.1 facts,
-                        omega (arith, long, hands_long, c.requires.room, c.put_in_hand.ensures.room),
+                        omega (arith, c.requires.below, c.later-later.ensures, le-max_right c.take_wallet-cell.result.1.last c.args.stamp.now.number),
+                        (
+                          subst (AreInHand c.args.self.now.script (g.A.Acts.named c.args.item.now) (front (rest_of c.args.others.now)))
+                              (sym (c.put_in_hand.ensures.items ∙ ap (λ (x : CellState). c.args.hands.now.items ++ x ∷ []) c.take_wallet-cell.ensures.cell))
+                              (facts-hand c.args.self.now (g.A.Acts.named c.args.item.now) (g.A.Acts.lane c.args.item.now) c.in-Some.address (front (rest_of c.args.others.now)) c.args.hands.now.items c.args.passes.now.items c.place-place.result c.wallet_gate-gate.result.now
+                              c.index_mut.result.now c.take_wallet-cell.new.pass c.take_wallet-cell.result.1 facts),
+                          (
+                            facts-ready c.args.self.now (g.A.Acts.named c.args.item.now) (g.A.Acts.lane c.args.item.now) c.in-Some.address (front (rest_of c.args.others.now)) c.args.hands.now.items c.args.passes.now.items c.place-place.result c.wallet_gate-gate.result.now
+                                c.index_mut.result.now c.take_wallet-cell.new.pass c.take_wallet-cell.result.1 facts,
+                            omega (arith, long, hands_long, c.requires.room, c.put_in_hand.ensures.room),
+                          ),
+                        ),
                       ),
                     ),
                   ),
-                ),
-                ),
                 ),
               ),
             ),
