@@ -11,7 +11,7 @@ returns-in_ok-outcome-in-Ok c =
     let script : PlainScript = c.in-Ok.script in
     let outcome : PlainOutcome = outcome_of c.in_ok-outcome-in-Ok.outcome in
     let left = c.in_ok-outcome-in-Ok.ensures in
-    let is : IsScript script = subst IsScript c.script.view_is c.script.invariant in
+    let is : IsScript script = subst IsScript c.script.view_is c.script.invariant.0 in
     let counted = rw c.deref.ensures.value at c.items_in-rows.ensures in
     let told = subst (λ (one : PlainScript). c.items_in-rows.result ≡ rows_told one) c.script.view_is counted in
     (script, c.in-Ok.ensures.told, played script outcome is left.outcome left.run (c.without_swaps_rows_act_one_by_one.ensures.replay script outcome), told)

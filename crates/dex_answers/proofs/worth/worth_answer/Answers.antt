@@ -22,7 +22,7 @@ pub returns-in_ok-outcome-in-Ok : goal.returns-in_ok-outcome-in-Ok
 returns-in_ok-outcome-in-Ok c =
     let script : PlainScript = c.in-Ok.script in
     let outcome : PlainOutcome = outcome_of c.in_ok-outcome-in-Ok.outcome in
-    let is : IsScript script = subst IsScript c.script.view_is c.script.invariant in
+    let is : IsScript script = subst IsScript c.script.view_is c.script.invariant.0 in
     let run : IsRunOf script outcome = c.in_ok-outcome-in-Ok.ensures.run in
     let left : IsPlayed script outcome =
     played script outcome is c.in_ok-outcome-in-Ok.ensures.outcome run (c.without_swaps_rows_act_one_by_one.ensures.replay script outcome) in

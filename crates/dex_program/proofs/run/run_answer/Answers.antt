@@ -19,7 +19,7 @@ returns-in_ok-outcome-in-Ok g c =
     let script : PlainScript = c.in-Ok.script in
     let outcome : PlainOutcome = outcome_of c.in_ok-outcome-in-Ok.outcome in
     let left = c.in_ok-outcome-in-Ok.ensures in
-    let is : IsScript script = subst IsScript c.script.view_is c.script.invariant in
+    let is : IsScript script = subst IsScript c.script.view_is c.script.invariant.0 in
     let counted = rw c.deref.ensures.value at c.items_in-rows.ensures in
     let told = subst (λ (one : PlainScript). c.items_in-rows.result ≡ rows_told one) c.script.view_is counted in
     says-more _ (AnswersRun c.args.bytes.now) status.Ok _ (FitOutcome outcome) c.report_of.ensures.text c.report_of.ensures.fits
