@@ -19,9 +19,9 @@ of-first P markets first some is all =
 pub new-requires-clause-accepted : goal.new-requires-clause-accepted
 new-requires-clause-accepted c =
     of-first IsAccepted c.script.inside.start.markets.items c.index.result.now (omega (arith, c.if-len-eq0.false, c.len.ensures)) c.index.ensures
-    c.script.invariant.start.accepted.markets
+    c.script.invariant.0.start.accepted.markets
 
 pub new-requires-clause-sound : goal.new-requires-clause-sound
 new-requires-clause-sound c =
     of-first AreSound c.script.inside.start.markets.items c.index.result.now (omega (arith, c.if-len-eq0.false, c.len.ensures)) c.index.ensures
-    c.script.invariant.start.sound
+    c.script.invariant.0.start.sound
