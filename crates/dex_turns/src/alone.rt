@@ -61,7 +61,7 @@ impl<'a, P: Pace> Acts for RowAlone<'a, P> {
     ) -> StampedRecord {
         self.pace.inside(self.row.lane, self.row.number);
         let seen = bank.seen_by(hands, self.row);
-        act_or_wait(market, hands, self.row, seen, false, stamp.next())
+        act_or_wait(market, hands, self.row, &seen, false, stamp.next())
     }
 
     fn stamp<'m>(&self, made: &'m StampedRecord) -> &'m Stamp {

@@ -89,7 +89,7 @@ impl<'a, P: Pace> Acts for SwapLegs<'a, P> {
             &mut markets.first,
             hands,
             self.first,
-            first_seen,
+            &first_seen,
             waits(second_refused, first_refused),
             one_stamp,
         );
@@ -97,7 +97,7 @@ impl<'a, P: Pace> Acts for SwapLegs<'a, P> {
             &mut markets.second,
             hands,
             self.second,
-            second_seen,
+            &second_seen,
             waits(first_refused, second_refused),
             two_stamp,
         );
