@@ -1,6 +1,6 @@
 //! A market that threads share.
 
-ghost use Rattle.std.specs.Prelude.{◌≡◌, ◌<◌, ◌++◌, ◌∷◌, [], All, length, map, max};
+ghost use Rattle.std.specs.Prelude.{◌≡◌, ◌<◌, ◌++◌, ◌∷◌, [], All, IfOk, length, map, max};
 ghost use Rattle.dex_types.specs.declared.refusals.Refusal.{Refusal};
 ghost use Rattle.dex_types.specs.declared.replies.Reply.TheVariants.{Done, Refused};
 ghost use Rattle.dex_types.specs.Rows.{row_of};
@@ -20,16 +20,17 @@ use dex_cell::MarketCell;
 use dex_gate::Journaled;
 use dex_script::Script;
 use dex_stamps::{Kept, Stamp};
-use dex_types::{Reply, Row, Seen};
+use dex_types::{NoMemory, Reply, Row, Seen};
 use dex_wallet::WalletCell;
 use http_server::Log as StampLog;
+use std::alloc::Global;
 use std::marker::Model;
 
 /// A market's cell with its journal's stamps, as the value of a gate. Each lane makes at most as many calls as it has rows on
-/// the market, and there is room for all rows on it.
+/// the market, and there is room for all rows on it. The cell stays where it is when the market goes into a turn and out of it.
 #[derive(Drop)]
 pub struct BankMarket {
-    cell: MarketCell,
+    cell: Box<MarketCell>,
     stamps: StampLog<Stamp, ()>,
     last: Stamp,
     script: Kept<Script>,
@@ -65,17 +66,25 @@ impl Journaled for BankMarket {
 }
 
 impl BankMarket {
-    /// A market of a script, of whose rows none has acted.
-    pub fn open(cell: MarketCell, script: Kept<Script>) -> BankMarket
+    /// A market of a script, of whose rows none has acted. Where there is no memory for it, the cell is given up.
+    pub fn open(
+        alloc: Global,
+        cell: MarketCell,
+        script: Kept<Script>,
+    ) -> Result<BankMarket, NoMemory>
         requires fresh { cell.calls ≡ [] }
         requires room { cell.room ≡ rows_on cell.start.address script.value.rows }
-        ensures { result ≡ record { cell = cell; stamps = []; last = 0; script = script.value } }
+        ensures { IfOk result (λ market. market
+            ≡ record { cell = cell; stamps = []; last = 0; script = script.value }) }
     {
-        BankMarket {
-            cell,
-            stamps: StampLog::new(),
-            last: Stamp::first(),
-            script,
+        match Box::new(alloc, cell) {
+            Ok(cell) => Ok(BankMarket {
+                cell,
+                stamps: StampLog::new(),
+                last: Stamp::first(),
+                script,
+            }),
+            Err(_) => Err(NoMemory),
         }
     }
 
@@ -84,7 +93,7 @@ impl BankMarket {
         ensures cell { result.now ≡ self.now.cell }
         ensures kept { IsBankMarket self.now }
     {
-        &self.cell
+        self.cell.as_ref()
     }
 
     /// The later of a stamp and the last of the journal's.
@@ -125,7 +134,7 @@ impl BankMarket {
         ensures kept { IsBankMarket self.new }
     {
         let places = places_in(wallets, row);
-        let reply = act(&mut self.cell, wallets, row, seen, &places);
+        let reply = act(self.cell.as_mut(), wallets, row, seen, &places);
         self.stamps = self.stamps.and(stamp, &());
         self.last = stamp.later(stamp);
         reply
@@ -161,7 +170,7 @@ impl BankMarket {
         ensures kept { IsBankMarket self.new }
     {
         let places = places_in(wallets, row);
-        let reply = hold(&mut self.cell, wallets, row, seen, &places);
+        let reply = hold(self.cell.as_mut(), wallets, row, seen, &places);
         self.stamps = self.stamps.and(stamp, &());
         self.last = stamp.later(stamp);
         reply
@@ -178,6 +187,6 @@ impl BankMarket {
             last: _,
             script: _,
         } = self;
-        cell
+        Box::into_inner(cell)
     }
 }

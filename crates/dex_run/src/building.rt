@@ -48,11 +48,8 @@ fn market_gate(
     ensures gate { IfOk result (λ made. IsMarketGate outline.now cell.start made.0) }
     ensures pass { IfOk result (λ made. made.1 ≡ first_pass made.0) }
 {
-    match Gate::open(
-        alloc,
-        BankMarket::open(cell, outline.kept()),
-        outline.lanes(),
-    ) {
+    let market = BankMarket::open(alloc, cell, outline.kept())?;
+    match Gate::open(alloc, market, outline.lanes()) {
         Ok(made) => Ok(made),
         Err(_) => Err(NoMemory),
     }
