@@ -170,9 +170,22 @@ impl Reader {
         ensures places { IfOk result (λ found. found ≡ places_of self.old.script.start parties.now) }
         ensures same { self.new ≡ self.old }
     {
-        if let Some(names) = &self.names {
-            return Ok(names.places_of(parties));
+        match &self.names {
+            Some(names) => Ok(names.places_of(parties)),
+            None => self.first_places_of(alloc, parties),
         }
+    }
+
+    /// The same, where the names are not there yet. It is not inlined: it has room for them.
+    #[inline(never)]
+    fn first_places_of(
+        &mut self,
+        alloc: Global,
+        parties: &Parties,
+    ) -> Result<Option<RowPlaces>, NoMemory>
+        ensures places { IfOk result (λ found. found ≡ places_of self.old.script.start parties.now) }
+        ensures same { self.new ≡ self.old }
+    {
         let names = Names::of(alloc, &self.draft.start)?;
         let found = names.places_of(parties);
         self.names = Some(names);
