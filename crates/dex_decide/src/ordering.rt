@@ -98,12 +98,32 @@ fn wallet_reason(
         bytes: acting.bytes,
     };
     let paying = payer_seen(side, seen);
-    missing(*paying)
-        .or(not_owner(orders.owner(), row.signer))
-        .or(other_mint(payer_mint(accounts, side), *paying))
-        .or(other_discount_mint(seen, seen.discount))
-        .or(not_signed(row.signer, *paying))
-        .or(not_signed(row.signer, seen.discount))
+    if let Some(why) = missing(*paying) {
+        return Some(why);
+    }
+    if let Some(why) = not_owner(orders.owner(), row.signer) {
+        return Some(why);
+    }
+    if let Some(why) = other_mint(payer_mint(accounts, side), *paying) {
+        return Some(why);
+    }
+    if let Some(why) = discount_mint_reason(seen) {
+        return Some(why);
+    }
+    if let Some(why) = not_signed(row.signer, *paying) {
+        return Some(why);
+    }
+    not_signed(row.signer, seen.discount)
+}
+
+/// Why the discount wallet, where one is named, is of another mint. It is not handed on where there is none.
+fn discount_mint_reason(seen: &Seen) -> Option<Refusal>
+    ensures { result ≡ each.other_discount_mint seen.now seen.now.discount }
+{
+    match seen.discount {
+        None => None,
+        Some(_) => other_discount_mint(seen, seen.discount),
+    }
 }
 
 /// What the order does, or why it is refused, apart from wallets and the signer.
