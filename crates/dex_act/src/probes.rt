@@ -3,7 +3,8 @@
 ghost use Rattle.std.specs.Prelude.{◌≡◌, ◌<◌, ◌∷◌, [], length, map, slice_set};
 ghost use Rattle.dex_types.specs.declared.movements.MoveKind.TheVariants.{Probe};
 ghost use Rattle.dex_types.specs.Rows.{row_of};
-ghost use Rattle.dex_movements.specs.Amounts.{transfers_of};
+ghost use Rattle.dex_movements.specs.Amounts.{SeesTwo, transfers_of};
+ghost use Rattle.dex_types.specs.declared.rows.WalletSeen.{WalletSeen as WalletSeenOf};
 ghost use Rattle.dex_wallet.specs.CellState.{HasSpare};
 ghost use Rattle.dex_act.specs.Wallets.{AtPlace, CanLook, CanLookAs, any_hit, cell_looked, cell_moved, hits};
 ghost use Rattle.dex_act.specs.Wallets.{role_looked, roles_of};
@@ -76,6 +77,52 @@ fn probe(
 
 /// A row looks at each wallet that it names and does not move, once.
 pub(crate) fn probes(
+    cells: &mut [WalletCell],
+    row: &Row,
+    seen: &Seen,
+    places: &WalletPlaces,
+    amounts: &Amounts,
+)
+    requires { CanLook seen.now places.now (transfers_of amounts.now) cells.old }
+    ensures { cells.new
+        ≡ map (cell_looked (row_of row.entry.now) seen.now (transfers_of amounts.now) (roles_of seen.now)) cells.old }
+{
+    match (&seen.coin, &seen.pc, &seen.discount, &seen.referrer) {
+        (Some(coin), Some(pc), None, None) => {
+            if is_same(coin.address, pc.address) {
+                probes_of_any(cells, row, seen, places, amounts);
+            } else {
+                probes_of_two(cells, row, seen, places, amounts);
+            }
+        }
+        _ => probes_of_any(cells, row, seen, places, amounts),
+    }
+}
+
+/// The same for the two wallets of nearly all rows: no wallet is compared with another one.
+fn probes_of_two(
+    cells: &mut [WalletCell],
+    row: &Row,
+    seen: &Seen,
+    places: &WalletPlaces,
+    amounts: &Amounts,
+)
+    requires two { (coin : WalletSeenOf) × (pc : WalletSeenOf) × SeesTwo seen.now coin pc }
+    requires look { CanLook seen.now places.now (transfers_of amounts.now) cells.old }
+    ensures { cells.new
+        ≡ map (cell_looked (row_of row.entry.now) seen.now (transfers_of amounts.now) (roles_of seen.now)) cells.old }
+{
+    if amounts.pc_in == 0 && amounts.pc_out == 0 {
+        probe_at(cells, places.pc, row);
+    }
+    if amounts.coin_in == 0 && amounts.coin_out == 0 {
+        probe_at(cells, places.coin, row);
+    }
+}
+
+/// The same for the wallets of any roles.
+#[inline(never)]
+fn probes_of_any(
     cells: &mut [WalletCell],
     row: &Row,
     seen: &Seen,
