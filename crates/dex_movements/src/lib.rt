@@ -7,4 +7,4 @@ mod places;
 
 pub use amounts::Amounts;
 pub use movement::is_moved;
-pub use places::moves_of;
+pub use places::put_moves;
