@@ -31,10 +31,14 @@ cells_of line = slice_split (λ byte. byte == 44) line
 abbrev pub texts : List (Bor (List ℕ)) → List (List ℕ)
 texts fields = map (λ (field : Bor (List ℕ)). field.now) fields
 
+-- a row's first twelve fields, and how many there are
+pub record AreCut (bytes : List ℕ) (count : ℕ) (fields : List (Bor (List ℕ))) : Type 0 where
+  pub count : count ≡ length (cells_of bytes)
+  pub kept : texts (take count fields) ≡ take 12 (cells_of bytes)
+
 -- a row with its first twelve fields, and how many there are
-pub record IsCut (line : Line) : Type 0 where
-  pub count : line.count ≡ length (cells_of line.bytes.now)
-  pub kept : texts (take line.count line.fields) ≡ take 12 (cells_of line.bytes.now)
+abbrev pub IsCut : Line → Type 0
+IsCut line = AreCut line.bytes.now line.count line.fields
 
 -- a row that stands at the front of a text, up to a line end or the text's
 pub record IsFront (text line : List ℕ) : Type 0 where

@@ -19,7 +19,7 @@ use crate::reader::Reader;
 use crate::script::Script;
 use dex_audit::audit;
 use dex_dump::{DumpError, DumpRead, is_first_row};
-use dex_rows::records::Rows;
+use dex_rows::records::{Fields, Rows};
 use dex_statement::{FaultKind, RowError};
 use dex_types::NoMemory;
 use std::alloc::Global;
@@ -95,10 +95,9 @@ fn read_dump(alloc: Global, rows: &mut Rows<'_>) -> Result<DumpRead, ScriptError
 fn begins_with_dump(alloc: Global, bytes: &[u8]) -> Result<bool, NoMemory>
     ensures { IfOk result (λ begins. begins ≡ begins_with_dump (rows_of bytes.now)) }
 {
-    match Rows::new(alloc, bytes).next_row()? {
-        Some(row) => Ok(is_first_row(&row)),
-        None => Ok(false),
-    }
+    let mut row = Fields::new();
+    let found = Rows::new(alloc, bytes).next_row(&mut row)?;
+    Ok(found && is_first_row(&row))
 }
 
 /// The draft behind the rows that are left, the first of which has this number, or the first faulty one.
@@ -112,7 +111,8 @@ fn read_rows(
 {
     let mut reader = before;
     let mut number = first;
-    'rows: while let Some(row) = rows.next_row()? {
+    let mut row = Fields::new();
+    'rows: while rows.next_row(&mut row)? {
         match reader.add_row(alloc, number, &row) {
             Ok(()) => {}
             Err(RowError::Fault(kind)) => return Err(row_error(number, kind)),
