@@ -29,3 +29,7 @@ address_of word = if is_label word then Some (label_address word) else prefixed_
 -- the wallet that a word gives to a role: none where it is `-`, else the address that it names
 unfoldable pub role_of : List ℕ → Option (Option Address)
 role_of word = if bytes_eq word (codes "-") then Some None else option_map Some (address_of word)
+
+-- a value was put where it is to stand, where the word has one
+abbrev pub IsRead : {A : Type 0} → Bool → Option A → A → Type 0
+IsRead read meant left = if read then meant ≡ Some left else meant ≡ None

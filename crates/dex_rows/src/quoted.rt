@@ -1,6 +1,6 @@
 //! Rows of a text with quotes, read by `csv`.
 
-ghost use Rattle.std.specs.Prelude.{◌≡◌, ◌<◌, [], ◌∷◌, IfOk, IsTrue, OnErr, false, length, slice_index_or, true};
+ghost use Rattle.std.specs.Prelude.{◌≡◌, ◌<◌, [], ◌∷◌, IfOk, IsSomeAnd, IsTrue, OnErr, false, length, slice_index_or, true};
 ghost use Rattle.csv.specs.Records.{fields_of};
 ghost use Rattle.dex_rows.specs.Records.{rows_of};
 ghost use Rattle.dex_rows.specs.RowReader.{GivesRows, rows_left};
@@ -49,7 +49,7 @@ impl<'a> QuotedRows<'a> {
     /// of memory there are no more rows.
     pub(crate) fn next_row(&mut self, row: &mut Option<ByteRecord>) -> Result<bool, NoMemory>
         ensures next { IfOk result (λ found. found ≡ true
-            → IsSomeOf row.new (λ record. self.old ≡ fields_of record ∷ self.new)) }
+            → IsSomeAnd row.new (λ record. self.old ≡ fields_of record ∷ self.new)) }
         ensures end { IfOk result (λ found. found ≡ false → self.old ≡ []) }
         ensures stopped { OnErr result (self.new ≡ []) }
     {

@@ -27,16 +27,16 @@ impl Draft {
         &mut self,
         places: &mut Vec<RowPlaces>,
         number: u32,
-        words: InstructionWords,
+        words: &mut InstructionWords,
         at: RowPlaces,
     ) -> Result<(), RowError>
         requires reading { IsReading (draft_of self.old) places.old.items }
-        requires at { StandAt (start_of self.old.start) words.parties at }
-        ensures row { TellsIn result (draft_of self.new) (spec.with_known (draft_of self.old) number words) }
+        requires at { StandAt (start_of self.old.start) words.old.parties at }
+        ensures row { TellsIn result (draft_of self.new) (spec.with_known (draft_of self.old) number words.old) }
         ensures reading { IsReading (draft_of self.new) places.new.items }
         ensures start { start_of self.new.start ≡ start_of self.old.start }
     {
-        if self.is_full(number) || exceeds_row(&words) {
+        if self.is_full(number) || exceeds_row(words) {
             return Err(RowError::Fault(FaultKind::OverLimit));
         }
         self.lanes = self.lanes.max(words.lane + 1);
@@ -52,8 +52,8 @@ impl Draft {
         &mut self,
         places: &mut Vec<RowPlaces>,
         number: u32,
-        first: InstructionWords,
-        second: InstructionWords,
+        mut first: InstructionWords,
+        mut second: InstructionWords,
         first_at: RowPlaces,
         second_at: RowPlaces,
     ) -> Result<(), RowError>
@@ -77,8 +77,8 @@ impl Draft {
         self.is_first = false;
         self.is_late = true;
         self.items += 1;
-        self.push_row(places, number, first, first_at)?;
-        self.push_row(places, number, second, second_at)
+        self.push_row(places, number, &mut first, first_at)?;
+        self.push_row(places, number, &mut second, second_at)
     }
 
     /// One more row of this number, at these places. Where memory is wanting the rows stay.
@@ -86,63 +86,55 @@ impl Draft {
         &mut self,
         places: &mut Vec<RowPlaces>,
         number: u32,
-        words: InstructionWords,
+        words: &mut InstructionWords,
         at: RowPlaces,
     ) -> Result<(), RowError>
         requires reading { IsReading (draft_of self.old) places.old.items }
         requires late { self.old.is_late ≡ true }
-        requires at { StandAt (start_of self.old.start) words.parties at }
+        requires at { StandAt (start_of self.old.start) words.old.parties at }
         ensures memory { IfErr result (λ error. error ≡ RowError.NoMemory) }
         ensures row { OnOk result (draft_of self.new
-            ≡ spec.with_one (draft_of self.old) (spec.instruction_row number self.old.clock words)) }
+            ≡ spec.with_one (draft_of self.old) (spec.instruction_row number self.old.clock words.old)) }
         ensures reading { IsReading (draft_of self.new) places.new.items }
         ensures start { start_of self.new.start ≡ start_of self.old.start }
     {
-        push(
-            &mut self.rows,
-            places,
-            instruction_row(number, self.clock, words),
-            at,
-        )
+        push(&mut self.rows, places, number, self.clock, words, at)
     }
 }
 
-/// One more row, at these places. Where memory is wanting both lists stay.
+/// One more row, at these places: what the words say, whose buffers go into it. Where memory is wanting both lists stay.
 fn push(
     rows: &mut Vec<Row>,
     places: &mut Vec<RowPlaces>,
-    row: Row,
+    number: u32,
+    now: i64,
+    words: &mut InstructionWords,
     at: RowPlaces,
 ) -> Result<(), RowError>
     ensures memory { IfErr result (λ error. error ≡ RowError.NoMemory) }
-    ensures row { OnOk result (map row_of rows.new.items ≡ map row_of rows.old.items ++ (row_of row ∷ [])) }
-    ensures placed { (start : PlainAccounts) → IsPlaced start (row_of row) at
+    ensures row { OnOk result (map row_of rows.new.items
+        ≡ map row_of rows.old.items ++ (spec.instruction_row number now words.old ∷ [])) }
+    ensures placed { (start : PlainAccounts) → IsPlaced start (spec.instruction_row number now words.old) at
         → ArePlaced start (map row_of rows.old.items) places.old.items
         → ArePlaced start (map row_of rows.new.items) places.new.items }
 {
     rows.reserve(1)?;
     places.push(at)?;
-    rows.push(row).unwrap();
-    Ok(())
-}
-
-/// The row of this number, at this time.
-fn instruction_row(number: u32, now: i64, words: InstructionWords) -> Row
-    ensures { row_of result ≡ spec.instruction_row number now words }
-{
-    Row {
+    rows.push(Row {
         lane: words.lane,
         number,
         market: words.parties.market,
         signer: words.parties.signer,
-        named: words.parties.named,
+        named: words.parties.take_named(),
         coin: words.parties.coin,
         pc: words.parties.pc,
         discount: words.parties.discount,
         referrer: words.parties.referrer,
-        bytes: words.bytes,
+        bytes: words.take_bytes(),
         now,
-    }
+    })
+    .unwrap();
+    Ok(())
 }
 
 /// Whether an instruction row passes a limit: 16 lanes, 16 named accounts, 256 bytes of data.

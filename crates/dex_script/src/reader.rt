@@ -13,7 +13,8 @@ use crate::names::Names;
 use crate::script::Script;
 use dex_rows::records::Fields;
 use dex_statement::{
-    FaultKind, InstructionWords, Parties, RowError, Statement, SwapWords, statement_of,
+    FaultKind, InstructionWords, Parties, RowError, Statement, SwapWords, read_instruction,
+    statement_of,
 };
 use dex_types::{NoMemory, RowPlaces};
 use std::alloc::Global;
@@ -70,46 +71,39 @@ impl Reader {
         self.draft.into_script(self.places)
     }
 
-    /// Adds what the row of this number states. Behind a fault, what is left does not matter.
+    /// Adds what the row of this number states. Behind a fault, what is left does not matter. The words are a buffer for those
+    /// of `do` rows.
     #[tactic(auto, unfolding(crate::specs::Rows::with_row))]
     pub(crate) fn add_row(
         &mut self,
         alloc: Global,
         number: u32,
         row: &Fields<'_>,
+        words: &mut InstructionWords,
     ) -> Result<(), RowError>
         ensures added { TellsIn result self.new (spec.with_row self.old number row.now) }
     {
-        match statement_of(alloc, row)? {
-            Statement::Instruction(words) => self.add_instruction(alloc, number, words),
-            statement => self.add_stated(alloc, number, statement),
+        if read_instruction(alloc, row, words)? {
+            self.add_instruction(alloc, number, words)
+        } else {
+            self.add_stated(alloc, number, row)
         }
     }
 
-    /// Adds what a row of any kind states. It is not inlined: a script is nearly all instruction rows.
+    /// Adds what a row of any kind states. It is not inlined: a script is nearly all `do` rows.
     #[inline(never)]
-    fn add_stated(
-        &mut self,
-        alloc: Global,
-        number: u32,
-        statement: Statement,
-    ) -> Result<(), RowError>
-        ensures { TellsIn result self.new (spec.with_statement self.old number statement) }
+    #[tactic(auto, unfolding(crate::specs::Rows::with_row))]
+    fn add_stated(&mut self, alloc: Global, number: u32, row: &Fields<'_>) -> Result<(), RowError>
+        ensures { TellsIn result self.new (spec.with_row self.old number row.now) }
     {
-        match statement {
-            Statement::Instruction(words) => self.add_instruction(alloc, number, words),
+        match statement_of(alloc, row)? {
+            Statement::Instruction(mut words) => self.add_instruction(alloc, number, &mut words),
             Statement::Swap(words) => self.add_swap(alloc, number, words),
             Statement::Clock(now) => {
                 self.set_clock(now);
                 Ok(())
             }
-            Statement::Program(_)
-            | Statement::Mint { .. }
-            | Statement::Srm(_)
-            | Statement::Msrm(_)
-            | Statement::Wallet { .. }
-            | Statement::Market(_)
-            | Statement::Orders { .. } => self.add_setup(alloc, statement),
+            setup => self.add_setup(alloc, setup),
         }
     }
 
@@ -134,9 +128,9 @@ impl Reader {
         &mut self,
         alloc: Global,
         number: u32,
-        words: InstructionWords,
+        words: &mut InstructionWords,
     ) -> Result<(), RowError>
-        ensures { TellsIn result self.new (spec.with_instruction self.old number words) }
+        ensures { TellsIn result self.new (spec.with_instruction self.old number words.old) }
     {
         match self.places_of(alloc, &words.parties)? {
             Some(at) => self.draft.add_known(&mut self.places, number, words, at),

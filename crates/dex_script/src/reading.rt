@@ -20,7 +20,7 @@ use crate::script::Script;
 use dex_audit::audit;
 use dex_dump::{DumpError, DumpRead, is_first_row};
 use dex_rows::records::{Fields, Rows};
-use dex_statement::{FaultKind, RowError};
+use dex_statement::{FaultKind, InstructionWords, RowError};
 use dex_types::NoMemory;
 use std::alloc::Global;
 
@@ -112,8 +112,9 @@ fn read_rows(
     let mut reader = before;
     let mut number = first;
     let mut row = Fields::new();
+    let mut words = InstructionWords::none(alloc);
     'rows: while rows.next_row(&mut row)? {
-        match reader.add_row(alloc, number, &row) {
+        match reader.add_row(alloc, number, &row, &mut words) {
             Ok(()) => {}
             Err(RowError::Fault(kind)) => return Err(row_error(number, kind)),
             Err(RowError::NoMemory) => return Err(ScriptError::NoMemory),

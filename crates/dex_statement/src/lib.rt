@@ -16,7 +16,7 @@ mod words;
 
 pub use faults::{FaultKind, RowError, SetupCode};
 pub use forms::Form;
-pub use instruction::InstructionWords;
+pub use instruction::{InstructionWords, read_instruction};
 pub use parties::Parties;
 pub use setup::MarketWords;
 pub use statement::{Statement, statement_of};

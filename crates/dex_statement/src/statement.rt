@@ -67,20 +67,8 @@ pub fn statement_of(alloc: Global, row: &Fields<'_>) -> Result<Statement, RowErr
     }
 }
 
-/// What a row of a form states. A script is nearly all `do` rows, so these go their own way.
+/// What a row of a form states.
 fn stated(alloc: Global, form: Form, row: &Fields<'_>) -> Result<Statement, RowError>
-    ensures { Tells result (statements.stated form row.now) }
-{
-    if form == Form::Words {
-        words_row(alloc, row)
-    } else {
-        stated_by_form(alloc, form, row)
-    }
-}
-
-/// What a row of any form states. It is not inlined: it has room for every kind of row.
-#[inline(never)]
-fn stated_by_form(alloc: Global, form: Form, row: &Fields<'_>) -> Result<Statement, RowError>
     ensures { Tells result (statements.stated form row.now) }
 {
     match form {
