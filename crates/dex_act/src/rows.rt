@@ -18,7 +18,7 @@ use crate::probes::probes;
 use crate::wallets::{credits, debits};
 use dex_cell::{MarketCell, Plan, amounts_of};
 use dex_movements::Amounts;
-use dex_types::{Reply, Row, Seen};
+use dex_types::{Refusal, Reply, Row, Seen};
 use dex_wallet::WalletCell;
 
 /// Does a row as it was decided: its deposits leave its wallets, its market makes its step, its payouts enter its wallets, and it
@@ -63,7 +63,9 @@ fn answer(
     ensures taken { HasTaken row.entry.now seen.now market.old market.new }
     ensures wallets { wallets.new ≡ cells_acted row.entry.now seen.now market.old wallets.old }
 {
-    match &market.decide(row, seen) {
+    let mut decided = Err(Refusal::NoAccount);
+    market.decide_into(row, seen, &mut decided);
+    match &decided {
         Ok(plan) => accept(market, wallets, row, seen, places, plan),
         Err(refusal) => {
             market.refuse(row, seen, *refusal);

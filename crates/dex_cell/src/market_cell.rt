@@ -156,6 +156,14 @@ impl MarketCell {
         dex_decide::decide(&self.accounts, row, seen, &self.pending)
     }
 
+    /// The same, written where it is wanted.
+    pub fn decide_into(&self, row: &Row, seen: &Seen, answer: &mut Result<Plan, Refusal>)
+        requires { IsFor row.now seen.now self.now }
+        ensures { answer.new ≡ answer_on row.entry.now seen.now self.now }
+    {
+        dex_decide::decide_into(&self.accounts, row, seen, &self.pending, answer);
+    }
+
     /// Does a row as it was decided, with the parcels of the plan's deposit, and answers its reply, which is no refusal, and
     /// the parcels that it pays out. The journal has one entry more.
     pub fn apply(
