@@ -21,15 +21,15 @@ pub(crate) fn replay_answer(alloc: Global, bytes: &[u8]) -> Result<StatusText, N
     ensures { IfOk result (λ told. Answers Replay bytes.now told.status told.text.items) }
 {
     match play_script(alloc, bytes)? {
-        Played::AllRows { rows, outcome } => report_of(alloc, &outcome, rows),
+        Played::AllRows { rows, outcome } => report_of(alloc, outcome, rows),
         Played::Refused(told) => Ok(told),
     }
 }
 
-/// The report of an outcome that tells of so many rows. All values that it tells fit.
-pub fn report_of(alloc: Global, outcome: &Outcome, rows: u32) -> Result<StatusText, NoMemory>
-    ensures fits { IfOk result (λ told. FitOutcome (outcome_of outcome.now)) }
-    ensures text { IfOk result (λ told. IsText told status.Ok (report_text (outcome_of outcome.now) rows)) }
+/// The report of an outcome, which is given up, that tells of so many rows. All values that it tells fit.
+pub fn report_of(alloc: Global, outcome: Outcome, rows: u32) -> Result<StatusText, NoMemory>
+    ensures fits { IfOk result (λ told. FitOutcome (outcome_of outcome)) }
+    ensures text { IfOk result (λ told. IsText told status.Ok (report_text (outcome_of outcome) rows)) }
 {
     let text = report_text(alloc, outcome, rows)?;
     Ok(StatusText {

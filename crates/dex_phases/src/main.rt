@@ -67,7 +67,7 @@ fn check<R: Print + Input + Clock + AllocGlobal>(rt: &R) -> Result<(), Error> {
         report,
     } = replay::round(rt, &bytes)?;
     let script = read_script(alloc, &bytes, false)?;
-    let whole = report_text(alloc, &replay(alloc, script)?, rows)?;
+    let whole = report_text(alloc, replay(alloc, script)?, rows)?;
     let told = report.len();
     println!(rt; "{rows} rows in {lanes} lanes: a report of {told} bytes")?;
     println!(rt; "the report of replay: {}", report == whole)?;

@@ -67,9 +67,8 @@ pub fn round<R: Clock + AllocGlobal>(rt: &R, bytes: &[u8]) -> Result<Replayed, E
         return Err(Error::from(NoMemory));
     };
     let closing = watch.lap(rt)?;
-    let text = report_text(alloc, &outcome, count)?;
+    let text = report_text(alloc, outcome, count)?;
     let report = watch.lap(rt)?;
-    drop(outcome);
     drop(of_script);
     drop(places);
     let dropping = watch.lap(rt)?;

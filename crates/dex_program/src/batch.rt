@@ -31,7 +31,7 @@ pub fn batch_answer<R: Threads + Wait + Sync, P: Pace + Sync>(
             let rows = items_in(&script.rows);
             let outcome = run_batch(rt, alloc, script, workers, pace)?;
             without_swaps_rows_act_one_by_one();
-            report_of(alloc, &outcome, rows)
+            report_of(alloc, outcome, rows)
         }
         Err(error) => no_script(alloc, error),
     }

@@ -29,7 +29,7 @@ pub fn run_answer<R: Threads + Wait + Sync, P: Pace + Sync>(
             let rows = items_in(&script.rows);
             let outcome = run(rt, alloc, script, pace)?;
             without_swaps_rows_act_one_by_one();
-            report_of(alloc, &outcome, rows)
+            report_of(alloc, outcome, rows)
         }
         Err(error) => no_script(alloc, error),
     }

@@ -16,9 +16,11 @@ use std::alloc::{AllocError, Global};
 /// The report of an outcome of so many rows, in one buffer: the number of rows, each market's journal, each wallet's,
 /// the dump of the last accounts, and the end. All values that it tells fit: addresses 32 bytes,
 /// amounts of movements 64 bits, and numbers of replies 128.
-pub fn report_text(alloc: Global, outcome: &Outcome, rows: u32) -> Result<Vec<u8>, NoMemory>
-    ensures fits { IfOk result (λ text. FitOutcome (outcome_of outcome.now)) }
-    ensures text { IfOk result (λ text. text.items ≡ texts.report_text (outcome_of outcome.now) rows) }
+///
+/// The outcome is given up: each journal is let go when its lines are written, so that journals and lines are not there together.
+pub fn report_text(alloc: Global, outcome: Outcome, rows: u32) -> Result<Vec<u8>, NoMemory>
+    ensures fits { IfOk result (λ text. FitOutcome (outcome_of outcome)) }
+    ensures text { IfOk result (λ text. text.items ≡ texts.report_text (outcome_of outcome) rows) }
 {
     match report(alloc, outcome, rows) {
         Ok(text) => Ok(text),
@@ -26,16 +28,21 @@ pub fn report_text(alloc: Global, outcome: &Outcome, rows: u32) -> Result<Vec<u8
     }
 }
 
-fn report(alloc: Global, outcome: &Outcome, rows: u32) -> Result<Vec<u8>, AllocError>
-    ensures fits { IfOk result (λ text. FitOutcome (outcome_of outcome.now)) }
-    ensures text { IfOk result (λ text. text.items ≡ texts.report_text (outcome_of outcome.now) rows) }
+fn report(alloc: Global, outcome: Outcome, rows: u32) -> Result<Vec<u8>, AllocError>
+    ensures fits { IfOk result (λ text. FitOutcome (outcome_of outcome)) }
+    ensures text { IfOk result (λ text. text.items ≡ texts.report_text (outcome_of outcome) rows) }
 {
-    let mut text = Vec::with_capacity(alloc, room_of(outcome))?;
+    let mut text = Vec::with_capacity(alloc, room_of(&outcome))?;
     let mut line = [0; LINE];
+    let Outcome {
+        accounts,
+        markets,
+        wallets,
+    } = outcome;
     write_head(&mut text, b"report", None, rows as u64)?;
-    write_markets(&mut text, &mut line, &outcome.markets)?;
-    write_wallets(&mut text, &mut line, &outcome.wallets)?;
-    append_dump(&mut text, &outcome.accounts)?;
+    write_markets(&mut text, &mut line, markets)?;
+    write_wallets(&mut text, &mut line, wallets)?;
+    append_dump(&mut text, &accounts)?;
     text.extend_from_slice(b"end\n")?;
     Ok(text)
 }
@@ -79,14 +86,14 @@ fn room_of_market(accounts: &MarketAccounts) -> usize {
 fn write_markets(
     text: &mut Vec<u8>,
     line: &mut [u8; LINE],
-    journals: &[MarketJournal],
+    journals: Vec<MarketJournal>,
 ) -> Result<(), AllocError>
-    ensures fits { OnOk result (All FitMarket (map market_journal_of journals.now)) }
-    ensures text { let lines = flat_map texts.market_lines (map market_journal_of journals.now) in
+    ensures fits { OnOk result (All FitMarket (map market_journal_of journals.items)) }
+    ensures text { let lines = flat_map texts.market_lines (map market_journal_of journals.items) in
         OnOk result (text.new.items ≡ text.old.items ++ lines) }
 {
     'markets: for journal in journals {
-        write_market(text, line, journal)?;
+        write_market(text, line, &journal)?;
     }
     Ok(())
 }
@@ -112,14 +119,14 @@ fn write_market(
 fn write_wallets(
     text: &mut Vec<u8>,
     line: &mut [u8; LINE],
-    journals: &[WalletJournal],
+    journals: Vec<WalletJournal>,
 ) -> Result<(), AllocError>
-    ensures fits { OnOk result (All IsToldWallet (map wallet_journal_of journals.now)) }
-    ensures text { let lines = flat_map texts.wallet_lines (map wallet_journal_of journals.now) in
+    ensures fits { OnOk result (All IsToldWallet (map wallet_journal_of journals.items)) }
+    ensures text { let lines = flat_map texts.wallet_lines (map wallet_journal_of journals.items) in
         OnOk result (text.new.items ≡ text.old.items ++ lines) }
 {
     'wallets: for journal in journals {
-        write_wallet(text, line, journal)?;
+        write_wallet(text, line, &journal)?;
     }
     Ok(())
 }
