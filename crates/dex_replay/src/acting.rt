@@ -1,6 +1,6 @@
 //! All items of a script act on its cells, one after the other.
 
-ghost use Rattle.std.specs.Prelude.{◌≡◌, ◌+◌, ◌<◌, length, map, slice_index_or, true, false};
+ghost use Rattle.std.specs.Prelude.{◌≡◌, ◌+◌, ◌<◌, length, map, slice_index_or, take, true, false};
 ghost use Rattle.dex_types.specs.declared.rows.Row.{Row as PlainBuffer};
 ghost use Rattle.dex_types.specs.Rows.{row_of};
 ghost use Rattle.dex_fold.specs.Items.{items_of};
@@ -48,4 +48,47 @@ pub fn act_all(cells: Cells, rows: &[Row], places: &[RowPlaces]) -> Cells
         }
     }
     cells
+}
+
+/// The same with the rows given up. Each is let go when its item has acted, and their memory is given back piece by piece, since
+/// journals grow meanwhile. For that the rows stand from the last to the first.
+pub(crate) fn use_up(cells: Cells, rows: Vec<Row>, places: Vec<RowPlaces>) -> Cells
+    requires script { (script : PlainScript) × IsScript script × (cells ≡ opened script)
+        × (map row_of rows.items ≡ script.rows) }
+    requires places { ArePlacedIn cells (map row_of rows.items) places.items }
+    ensures acted { (script : PlainScript) → IsScript script → cells ≡ opened script
+        → map row_of rows.items ≡ script.rows → world_of result ≡ world_after script (items_of script.rows) }
+    ensures kept { opened_of result ≡ opened_of cells }
+{
+    let mut cells = cells;
+    let mut rows = rows;
+    let mut places = places;
+    rows.reverse();
+    places.reverse();
+    'item: while !rows.is_empty() {
+        let last = rows.len() - 1;
+        let left = if 0 < last && rows[last].number == rows[last - 1].number {
+            let next = last - 1;
+            cells.step_two_at(&rows[last], &rows[next], &places[last], &places[next]);
+            next
+        } else {
+            cells.step_at(&rows[last], &places[last]);
+            last
+        };
+        let_go(&mut rows, left);
+    }
+    cells
+}
+
+/// How many rows are let go before their memory is given back.
+const PIECE: usize = 2048;
+
+/// Lets the rows from a place on go.
+fn let_go(rows: &mut Vec<Row>, left: usize)
+    ensures { rows.new.items ≡ take left rows.old.items }
+{
+    rows.truncate(left);
+    if PIECE < rows.capacity() - left {
+        rows.shrink_to_fit();
+    }
 }
