@@ -9,7 +9,7 @@ use crate::bulk::bulk_answer;
 use crate::dump::dump_answer;
 use crate::make::make_answer;
 use crate::migrate::migrate_answer;
-use crate::replay::replay_answer;
+use crate::replay::{replay_answer, replay_taken};
 use crate::told::StatusText;
 use crate::worth::worth_answer;
 use dex_types::NoMemory;
@@ -32,5 +32,17 @@ pub fn answer_to(alloc: Global, command: Command, bytes: &[u8]) -> Result<Status
         Command::Make { number, rows } => make_answer(alloc, number, rows),
         Command::Bulk { number, rows } => bulk_answer(alloc, number, rows),
         Command::Migrate { nodes, events } => migrate_answer(alloc, bytes, nodes, events),
+    }
+}
+
+/// The same of bytes that are given up: a replay lets them go before the first row acts.
+pub fn answer_taking(alloc: Global, command: Command, bytes: Vec<u8>) -> Result<StatusText, NoMemory>
+    requires within { IsWithin command }
+    requires plain { IsPlain command }
+    ensures { IfOk result (λ told. Answers command bytes.items told.status told.text.items) }
+{
+    match command {
+        Command::Replay => replay_taken(alloc, bytes),
+        other => answer_to(alloc, other, &bytes),
     }
 }

@@ -17,7 +17,7 @@ mod status;
 mod told;
 mod worth;
 
-pub use answer::answer_to;
+pub use answer::{answer_taking, answer_to};
 pub use counting::items_in;
 pub use laws::{both_legs_of_a_swap_take_or_neither, what_suits_a_command_is_answered};
 pub use played::no_script;

@@ -9,7 +9,7 @@ ghost use Rattle.dex_answers.specs.Answers.{Answers};
 ghost use Rattle.dex_answers.specs.Telling.{IsText};
 ghost use Rattle.dex_answers.specs.declared.status.Status.TheVariants as status;
 
-use crate::played::{Played, play_script};
+use crate::played::{Played, play_script, play_taken};
 use crate::status::Status;
 use crate::told::StatusText;
 use dex_report::{Outcome, report_text};
@@ -21,6 +21,16 @@ pub(crate) fn replay_answer(alloc: Global, bytes: &[u8]) -> Result<StatusText, N
     ensures { IfOk result (λ told. Answers Replay bytes.now told.status told.text.items) }
 {
     match play_script(alloc, bytes)? {
+        Played::AllRows { rows, outcome } => report_of(alloc, outcome, rows),
+        Played::Refused(told) => Ok(told),
+    }
+}
+
+/// The same of bytes that are given up.
+pub(crate) fn replay_taken(alloc: Global, bytes: Vec<u8>) -> Result<StatusText, NoMemory>
+    ensures { IfOk result (λ told. Answers Replay bytes.items told.status told.text.items) }
+{
+    match play_taken(alloc, bytes)? {
         Played::AllRows { rows, outcome } => report_of(alloc, outcome, rows),
         Played::Refused(told) => Ok(told),
     }
