@@ -36,7 +36,11 @@ pub fn answer_to(alloc: Global, command: Command, bytes: &[u8]) -> Result<Status
 }
 
 /// The same of bytes that are given up: a replay lets them go before the first row acts.
-pub fn answer_taking(alloc: Global, command: Command, bytes: Vec<u8>) -> Result<StatusText, NoMemory>
+pub fn answer_taking(
+    alloc: Global,
+    command: Command,
+    bytes: Vec<u8>,
+) -> Result<StatusText, NoMemory>
     requires within { IsWithin command }
     requires plain { IsPlain command }
     ensures { IfOk result (λ told. Answers command bytes.items told.status told.text.items) }

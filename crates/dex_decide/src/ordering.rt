@@ -20,9 +20,7 @@ use dex_match::{Decided, Taker, decide_order_with_pending};
 use dex_meet::PendingFills;
 use dex_orders::OrdersRef;
 use dex_plan::Plan;
-use dex_reasons::{
-    is_mint, missing, not_owner, not_signed, other_discount_mint, other_mint,
-};
+use dex_reasons::{is_mint, missing, not_owner, not_signed, other_discount_mint, other_mint};
 use dex_ring::RingRef;
 use dex_slab::SlabRef;
 use dex_types::{Address, MarketAccounts, Refusal, Row, Seen, Side, Tier, WalletSeen};
@@ -224,7 +222,16 @@ fn decide_order_by(
     match payer_seen(taker.id_side, seen) {
         None => *answer = Err(Refusal::NoAccount),
         Some(wallet) => {
-            decide_order_paid(accounts, row, seen, acting, taker, wallet.balance, pending, answer);
+            decide_order_paid(
+                accounts,
+                row,
+                seen,
+                acting,
+                taker,
+                wallet.balance,
+                pending,
+                answer,
+            );
         }
     }
 }

@@ -25,12 +25,7 @@ fn moved_at(seen: &Seen, amounts: &Amounts, place: Option<Address>) -> Option<Mo
 /// Puts the movements of a row that moves these amounts into empty places: one for each wallet that it names, under whichever roles, by rising address,
 /// from the front. Each is a debit of all that is taken from the wallet, else a credit of all that is brought to it, else a
 /// probe of nothing, and has the balance that the row saw.
-pub fn put_moves(
-    row: &Row,
-    seen: &Seen,
-    amounts: &Amounts,
-    moves: &mut [Option<Movement>; 4],
-)
+pub fn put_moves(row: &Row, seen: &Seen, amounts: &Amounts, moves: &mut [Option<Movement>; 4])
     requires empty { moves.old ≡ places [] }
     requires sees { Sees (asked_of (row_of row.now)) seen.now }
     requires moves { CanMoveEach seen.now (transfers_of amounts.now) }
@@ -82,12 +77,7 @@ fn put_moves_of_two(
 
 /// The movements of the wallets of any roles.
 #[inline(never)]
-fn put_moves_of_any(
-    row: &Row,
-    seen: &Seen,
-    amounts: &Amounts,
-    moves: &mut [Option<Movement>; 4],
-)
+fn put_moves_of_any(row: &Row, seen: &Seen, amounts: &Amounts, moves: &mut [Option<Movement>; 4])
     requires sees { Sees (asked_of (row_of row.now)) seen.now }
     requires moves { CanMoveEach seen.now (transfers_of amounts.now) }
     ensures { moves.new ≡ places (wallets.movements seen.now (transfers_of amounts.now)) }

@@ -49,7 +49,7 @@ impl<'a> QuotedRows<'a> {
     /// of memory there are no more rows.
     pub(crate) fn next_row(&mut self, row: &mut Option<ByteRecord>) -> Result<bool, NoMemory>
         ensures next { IfOk result (λ found. found ≡ true
-            → IsSomeAnd row.new (λ record. self.old ≡ fields_of record ∷ self.new)) }
+            → IsSomeAnd row.new (λ kept. self.old ≡ fields_of kept ∷ self.new)) }
         ensures end { IfOk result (λ found. found ≡ false → self.old ≡ []) }
         ensures stopped { OnErr result (self.new ≡ []) }
     {

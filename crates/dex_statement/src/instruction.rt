@@ -101,11 +101,7 @@ pub fn read_instruction(
 /// Reads a `do` row into words.
 #[inline(never)]
 #[tactic(auto, unfolding(crate::specs::Statements::words_row))]
-fn read_words(
-    alloc: Global,
-    row: &Fields<'_>,
-    words: &mut InstructionWords,
-) -> Result<(), RowError>
+fn read_words(alloc: Global, row: &Fields<'_>, words: &mut InstructionWords) -> Result<(), RowError>
     ensures { TellsIn result words.new (statements.words_row row.now) }
 {
     if field_count(row) != 10 {

@@ -44,8 +44,7 @@ impl Model for Parties {
 
 impl Parties {
     /// Nobody, to be filled. It takes no memory.
-    pub fn none(alloc: Global) -> Parties
-    {
+    pub fn none(alloc: Global) -> Parties {
         Parties {
             market: Address([0; 32]),
             signer: Address([0; 32]),
