@@ -1,12 +1,12 @@
 //! The command `replay`.
 
-ghost use Rattle.std.specs.Prelude.{IfOk};
+ghost use Rattle.std.specs.Prelude.{ℕ, IfOk, List};
 ghost use Rattle.dex_words.specs.declared.command.Command.TheVariants.{Replay};
 ghost use Rattle.dex_report.specs.Outcomes.{outcome_of};
 ghost use Rattle.dex_report.specs.Report.{report_text};
 ghost use Rattle.dex_report.specs.Telling.{FitOutcome};
 ghost use Rattle.dex_answers.specs.Answers.{Answers};
-ghost use Rattle.dex_answers.specs.Telling.{IsText};
+ghost use Rattle.dex_answers.specs.Telling.{IsText, TellsPlayed};
 ghost use Rattle.dex_answers.specs.declared.status.Status.TheVariants as status;
 
 use crate::played::{Played, play_script, play_taken};
@@ -20,17 +20,22 @@ use std::alloc::Global;
 pub(crate) fn replay_answer(alloc: Global, bytes: &[u8]) -> Result<StatusText, NoMemory>
     ensures { IfOk result (λ told. Answers Replay bytes.now told.status told.text.items) }
 {
-    match play_script(alloc, bytes)? {
-        Played::AllRows { rows, outcome } => report_of(alloc, outcome, rows),
-        Played::Refused(told) => Ok(told),
-    }
+    told_of(alloc, play_script(alloc, bytes)?)
 }
 
 /// The same of bytes that are given up.
 pub(crate) fn replay_taken(alloc: Global, bytes: Vec<u8>) -> Result<StatusText, NoMemory>
     ensures { IfOk result (λ told. Answers Replay bytes.items told.status told.text.items) }
 {
-    match play_taken(alloc, bytes)? {
+    told_of(alloc, play_taken(alloc, bytes)?)
+}
+
+/// The report of what a script came to.
+fn told_of(alloc: Global, played: Played) -> Result<StatusText, NoMemory>
+    ensures { (bytes : List ℕ) → TellsPlayed played bytes
+        → IfOk result (λ told. Answers Replay bytes told.status told.text.items) }
+{
+    match played {
         Played::AllRows { rows, outcome } => report_of(alloc, outcome, rows),
         Played::Refused(told) => Ok(told),
     }
