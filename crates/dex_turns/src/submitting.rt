@@ -93,11 +93,12 @@ impl Bank {
         seat.calls = seat.calls.and(row, &made);
         let StampedRecord {
             seen: _,
-            entry,
+            entry: _,
+            reply,
             stamp,
         } = made;
         seat.last = stamp;
-        entry.reply
+        reply
     }
 
     /// The two legs of a swap of the seat's lane act, both or neither: they draw and wait for the turns of their markets, by rising
@@ -168,11 +169,12 @@ impl Bank {
         seat.calls = seat.calls.and(first, &one).and(second, &two);
         let StampedRecord {
             seen: _,
-            entry,
+            entry: _,
+            reply,
             stamp: last,
         } = one;
         seat.last = last;
-        (entry.reply, two.entry.reply)
+        (reply, two.reply)
     }
 
     // A row acts when it has the turn of its market.

@@ -15,7 +15,7 @@ ghost use Rattle.dex_turns.specs.Turns.{HasCall, made_by};
 
 use crate::stamped_record::StampedRecord;
 use dex_journals::BankMarket;
-use dex_stamps::{Kept, Stamp};
+use dex_stamps::Stamp;
 use dex_types::{Row, Seen};
 use dex_wallet::WalletCell;
 
@@ -88,9 +88,5 @@ pub(crate) fn act_or_wait(
     ensures room { vec_capacity hands.old ≤ vec_capacity hands.new }
 {
     act_or_hold(market, hands, row, seen, waits, &stamp);
-    StampedRecord {
-        seen: Kept::of(seen),
-        entry: *market.cell().last(),
-        stamp,
-    }
+    StampedRecord::of(seen, market.cell().last(), stamp)
 }
