@@ -20,9 +20,10 @@ impl<'a> Line<'a> {
     pub(crate) fn empty() -> Line<'a>
         ensures { IsCut result }
     {
+        let none: &[u8] = &[];
         Line {
-            bytes: &[],
-            fields: [&[], &[], &[], &[], &[], &[], &[], &[], &[], &[], &[], &[]],
+            bytes: none,
+            fields: [none; KEPT],
             count: 1,
         }
     }
