@@ -36,6 +36,43 @@ pub fn named_at<B: SideRead, A: SideRead>(
     Some(Found { side, order })
 }
 
+/// Whether a slot has the client id and names an order.
+fn is_named_at<B: SideRead, A: SideRead>(
+    orders: &OrdersRef<'_>,
+    bids: &B,
+    asks: &A,
+    slot: u8,
+    client: u64,
+) -> bool
+    requires open { IsOpen orders.now.bytes.now }
+    requires bids { B.holds bids.now }
+    requires asks { A.holds asks.now }
+    requires slot { slot < 128 }
+    ensures { let held = slice_index_or (slots_in orders.now) slot None in
+        result ≡ is_some (first_in (named_by_slot (has_client client) (B.orders bids.now) (A.orders asks.now) held)) }
+{
+    client_at(orders, slot) == client && names_order(orders, bids, asks, slot, client)
+}
+
+/// The same by the order itself. It is not inlined: it has room for an order, which no slot of another client id needs.
+#[inline(never)]
+fn names_order<B: SideRead, A: SideRead>(
+    orders: &OrdersRef<'_>,
+    bids: &B,
+    asks: &A,
+    slot: u8,
+    client: u64,
+) -> bool
+    requires open { IsOpen orders.now.bytes.now }
+    requires bids { B.holds bids.now }
+    requires asks { A.holds asks.now }
+    requires slot { slot < 128 }
+    ensures { let held = slice_index_or (slots_in orders.now) slot None in
+        result ≡ is_some (first_in (named_by_slot (has_client client) (B.orders bids.now) (A.orders asks.now) held)) }
+{
+    named_at(orders, bids, asks, slot, client).is_some()
+}
+
 /// The account's order of the client id that has the least sequence number.
 pub fn find_oldest<B: SideRead, A: SideRead>(
     account: Address,
@@ -78,7 +115,7 @@ pub fn has_any<B: SideRead, A: SideRead>(
     let end = taken_end(orders);
     let mut slot = 0;
     'slots: while slot < end {
-        if named_at(orders, bids, asks, slot, client).is_some() {
+        if is_named_at(orders, bids, asks, slot, client) {
             return true;
         }
         slot += 1;
