@@ -1,6 +1,6 @@
 //! Orders that the slots of an account name by their client id.
 
-ghost use Rattle.std.specs.Prelude.{◌≡◌, ◌<◌, None, is_some, slice_index_or};
+ghost use Rattle.std.specs.Prelude.{◌≡◌, ◌<◌, [], None, false, is_some, slice_index_or, true};
 ghost use Rattle.dex_types.specs.Cancel.{all_orders_of, at_most_one, oldest};
 ghost use Rattle.dex_orders.specs.OrdersAccount.{IsOpen};
 ghost use Rattle.dex_cancel.specs.Finding.{maybe_resting};
@@ -48,8 +48,10 @@ fn is_named_at<B: SideRead, A: SideRead>(
     requires bids { B.holds bids.now }
     requires asks { A.holds asks.now }
     requires slot { slot < 128 }
-    ensures { let held = slice_index_or (slots_in orders.now) slot None in
-        result ≡ is_some (first_in (named_by_slot (has_client client) (B.orders bids.now) (A.orders asks.now) held)) }
+    ensures yes { let held = slice_index_or (slots_in orders.now) slot None in result ≡ true
+        → named_by_slot (has_client client) (B.orders bids.now) (A.orders asks.now) held ≡ [] → ⊥ }
+    ensures no { let held = slice_index_or (slots_in orders.now) slot None in result ≡ false
+        → named_by_slot (has_client client) (B.orders bids.now) (A.orders asks.now) held ≡ [] }
 {
     client_at(orders, slot) == client && names_order(orders, bids, asks, slot, client)
 }
@@ -67,8 +69,10 @@ fn names_order<B: SideRead, A: SideRead>(
     requires bids { B.holds bids.now }
     requires asks { A.holds asks.now }
     requires slot { slot < 128 }
-    ensures { let held = slice_index_or (slots_in orders.now) slot None in
-        result ≡ is_some (first_in (named_by_slot (has_client client) (B.orders bids.now) (A.orders asks.now) held)) }
+    ensures yes { let held = slice_index_or (slots_in orders.now) slot None in result ≡ true
+        → named_by_slot (has_client client) (B.orders bids.now) (A.orders asks.now) held ≡ [] → ⊥ }
+    ensures no { let held = slice_index_or (slots_in orders.now) slot None in result ≡ false
+        → named_by_slot (has_client client) (B.orders bids.now) (A.orders asks.now) held ≡ [] }
 {
     named_at(orders, bids, asks, slot, client).is_some()
 }
