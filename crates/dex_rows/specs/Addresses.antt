@@ -1,5 +1,5 @@
 -- Words that name accounts.
-use Rattle.std.specs.Prelude.{ℕ, Bool, ◌&&◌, ◌||◌, ◌==◌, if◌then◌else◌, List, ◌∷◌, bytes_eq, codes, Option, Some, None, option_map}
+use Rattle.std.specs.Prelude.{◌≡◌, ℕ, Bool, true, false, ◌&&◌, ◌||◌, ◌==◌, if◌then◌else◌, List, ◌∷◌, bytes_eq, codes, Option, Some, None, option_map}
 use Rattle.std.specs.Char.{is_ascii_digit}
 use Rattle.std.specs.Int.{is_in_range}
 use Rattle.std.specs.List.{list_all}
@@ -32,4 +32,5 @@ role_of word = if bytes_eq word (codes "-") then Some None else option_map Some 
 
 -- a value was put where it is to stand, where the word has one
 abbrev pub IsRead : {A : Type 0} → Bool → Option A → A → Type 0
-IsRead read meant left = if read then meant ≡ Some left else meant ≡ None
+IsRead true meant left = meant ≡ Some left
+IsRead false meant left = meant ≡ None

@@ -1,5 +1,5 @@
 ghost use Rattle.std.specs.Prelude.{◌≡◌, Some, true};
-ghost use Rattle.std.specs.Option.{map as map_option};
+ghost use Rattle.std.specs.Option.{option_map};
 ghost use Rattle.std.specs.List.{list_all};
 ghost use Rattle.dex_types.specs.Text.{is_label, is_label_character, label_address};
 ghost use Rattle.dex_rows.specs.Addresses.{IsRead, address_of, digits_address, is_lower_hexdigit, prefixed_address, role_of};
@@ -54,7 +54,7 @@ pub fn read_role(text: &[u8], role: &mut Option<Address>) -> bool
 
 // The same of a word that is to name a wallet: its bytes are written where they stay.
 fn read_wallet(text: &[u8], role: &mut Option<Address>) -> bool
-    ensures { IsRead result (map_option (λ address. Some address) (address_of text.now)) role.new }
+    ensures { IsRead result (option_map Some (address_of text.now)) role.new }
 {
     *role = Some(Address([0; 32]));
     match role {
