@@ -21,7 +21,7 @@ use std::alloc::Global;
 ///
 /// That a made script is one, and that its outcome is of its two markets, is tested and not proved: where it were
 /// otherwise, the answer is want of memory.
-pub(crate) fn bulk_answer(alloc: Global, number: u64, rows: u32) -> Result<StatusText, NoMemory>
+pub fn bulk_answer(alloc: Global, number: u64, rows: u32) -> Result<StatusText, NoMemory>
     requires { AreMade number rows }
     ensures { IfOk result (λ told. Answers (Bulk number rows) [] told.status told.text.items) }
 {

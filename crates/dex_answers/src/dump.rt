@@ -16,7 +16,7 @@ use dex_types::{Accounts, NoMemory};
 use std::alloc::Global;
 
 /// The dump of the accounts when all rows of a script have acted, or why the bytes are no script.
-pub(crate) fn dump_answer(alloc: Global, bytes: &[u8]) -> Result<StatusText, NoMemory>
+pub fn dump_answer(alloc: Global, bytes: &[u8]) -> Result<StatusText, NoMemory>
     ensures { IfOk result (λ told. Answers Dump bytes.now told.status told.text.items) }
 {
     match play_script(alloc, bytes)? {

@@ -20,7 +20,7 @@ use std::alloc::Global;
 
 /// The dump of the accounts with sides of so many nodes and event queues for so many events; or what would not fit; or
 /// the findings of the accounts, or the first faulty row of the dump.
-pub(crate) fn migrate_answer(
+pub fn migrate_answer(
     alloc: Global,
     bytes: &[u8],
     nodes: u32,

@@ -17,14 +17,14 @@ use dex_types::NoMemory;
 use std::alloc::Global;
 
 /// The report of what is left when all rows of a script have acted, or why the bytes are no script.
-pub(crate) fn replay_answer(alloc: Global, bytes: &[u8]) -> Result<StatusText, NoMemory>
+pub fn replay_answer(alloc: Global, bytes: &[u8]) -> Result<StatusText, NoMemory>
     ensures { IfOk result (λ told. Answers Replay bytes.now told.status told.text.items) }
 {
     told_of(alloc, play_script(alloc, bytes)?)
 }
 
 /// The same of bytes that are given up.
-pub(crate) fn replay_taken(alloc: Global, bytes: Vec<u8>) -> Result<StatusText, NoMemory>
+pub fn replay_taken(alloc: Global, bytes: Vec<u8>) -> Result<StatusText, NoMemory>
     ensures { IfOk result (λ told. Answers Replay bytes.items told.status told.text.items) }
 {
     told_of(alloc, play_taken(alloc, bytes)?)

@@ -8,10 +8,10 @@ use Rattle.std.proofs.lemmas.List.{get_or-map, get_or-replicate, length-replicat
 use Rattle.std.proofs.lemmas.List.Quantifiers.{position-Some}
 use Rattle.std.proofs.lemmas.List.Sums.{count_by-le-length}
 use Rattle.dex_types.specs.declared.rows.RowPlaces.{RowPlaces}
-use Rattle.dex_script.specs.Facts.{IsStart}
-use Rattle.dex_script.specs.Places.{ArePlaced, IsPlaced, IsRolePlaced}
-use Rattle.dex_script.proofs.Apart.{AreDistinct, markets-distinct, wallets-distinct}
-use Rattle.dex_script.proofs.PlacedLaws.{placed-at}
+use Rattle.dex_script_facts.specs.Facts.{IsStart}
+use Rattle.dex_script_facts.specs.Places.{ArePlaced, IsPlaced, IsRolePlaced}
+use Rattle.dex_script_facts.proofs.Apart.{AreDistinct, markets-distinct, wallets-distinct}
+use Rattle.dex_script_facts.proofs.PlacedLaws.{placed-at}
 use Rattle.dex_fold.proofs.MappedLists.{map-map}
 use Rattle.dex_bank.specs.Opened.{market_rooms, rows_naming, rows_on, wallet_rooms}
 use Rattle.dex_bank.specs.Counts.{AreCounted, HaveSpare, IsWithin, is_there, is_told, one, role_place, wallets_told}

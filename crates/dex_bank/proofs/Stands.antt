@@ -8,7 +8,7 @@ use Rattle.std.proofs.lemmas.List.Quantifiers.{position-Some}
 use Rattle.dex_types.specs.declared.rows.RowPlaces.{RowPlaces}
 use Rattle.dex_types.specs.declared.terms.Program.{Program}
 use Rattle.dex_wallet.specs.CellState.{seen_of}
-use Rattle.dex_script.specs.Places.{ArePlaced, IsPlaced, IsRolePlaced, market_place}
+use Rattle.dex_script_facts.specs.Places.{ArePlaced, IsPlaced, IsRolePlaced, market_place}
 use Rattle.dex_act.specs.declared.places.WalletPlaces.{WalletPlaces}
 use Rattle.dex_act.specs.Wallets.{AreApart, IsAt, IsRoleAt, wallet_places}
 use Rattle.dex_fold.proofs.MappedLists.{map-agree, map-map}

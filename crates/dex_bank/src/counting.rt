@@ -4,8 +4,8 @@ ghost use Rattle.std.specs.Prelude.{◌≡◌, ◌&&◌, not, ℕ, IfOk, length,
 ghost use Rattle.std.specs.List.{All};
 ghost use Rattle.dex_types.specs.Accounts.{accounts_of};
 ghost use Rattle.dex_types.specs.Rows.{row_of};
-ghost use Rattle.dex_script.specs.Facts.{IsStart};
-ghost use Rattle.dex_script.specs.Places.{ArePlaced};
+ghost use Rattle.dex_script_facts.specs.Facts.{IsStart};
+ghost use Rattle.dex_script_facts.specs.Places.{ArePlaced};
 ghost use Rattle.dex_bank.specs.Counts as spec;
 ghost use Rattle.dex_bank.specs.Counts.{AreCounted, HaveSpare, IsWithin};
 ghost use Rattle.dex_bank.specs.Opened as first;

@@ -5,14 +5,14 @@ ghost use Rattle.dex_types.specs.Accounts.{PlainAccount, PlainMarketAccounts, ma
 ghost use Rattle.dex_report.specs.Outcomes.{outcome_of};
 ghost use Rattle.dex_replay.specs.Replays.{IsReplayOf};
 ghost use Rattle.dex_replay.specs.Runs.{IsRunOf};
-ghost use Rattle.dex_script.specs.Facts.{HasNoSwap, IsScript};
+ghost use Rattle.dex_script_facts.specs.Facts.{HasNoSwap, IsScript};
 
 use crate::closing::left_by;
 use dex_bank::Cells;
 use dex_io::Pace;
 use dex_replay::laws::{a_replay_is_in_one_order, what_one_order_leaves_is_a_run};
 use dex_report::Outcome;
-use dex_script::Script;
+use dex_script_facts::Script;
 use dex_stage::Terms;
 use dex_team::{Lists, Naming, work_all};
 use dex_types::{Address, MarketAccounts, Named, NoMemory};

@@ -10,7 +10,7 @@ use Rattle.dex_types.specs.Addresses.{is_same}
 use Rattle.dex_types.specs.Rows.{PlainRow, row_of}
 use Rattle.dex_history.specs.Journal.{Call}
 use Rattle.dex_cell.specs.CellState.{HasActed, HasSpare, IsMarketCell, MarketCellState, call_on, held_made, held_on}
-use Rattle.dex_script.specs.Drafts.{PlainScript}
+use Rattle.dex_script_facts.specs.PlainScript.{PlainScript}
 use Rattle.dex_fold.specs.RowsOf.{rows_of_market, rows_on}
 use Rattle.dex_stamps.specs.Stamped.{AreRising, items_of, stamped}
 use Rattle.dex_journals.specs.Journals.{BankMarketState, IsBankMarket, calls_by, market_calls}

@@ -8,7 +8,7 @@ use Rattle.dex_types.specs.declared.movements.WalletEntry.{WalletEntry}
 use Rattle.dex_types.specs.Rows.{PlainRow}
 use Rattle.dex_fold.specs.Fold.{names}
 use Rattle.dex_wallet.specs.CellState.{CellState, HasSpare, IsWalletCell}
-use Rattle.dex_script.specs.Drafts.{PlainScript}
+use Rattle.dex_script_facts.specs.PlainScript.{PlainScript}
 use Rattle.dex_fold.specs.RowsOf.{rows_naming, rows_of_wallet}
 use Rattle.dex_stamps.specs.Stamped.{AreRising, items_of, stamped}
 use Rattle.dex_journals.specs.Journals.{AddsEntry, BankWalletState, IsBankWallet, MayComeBack, TrailState}

@@ -18,7 +18,7 @@ use crate::items::{MarketStart, StampedCall};
 use dex_act::{act, hold, places_in};
 use dex_cell::MarketCell;
 use dex_gate::Journaled;
-use dex_script::Script;
+use dex_script_facts::Script;
 use dex_stamps::{Kept, Stamp};
 use dex_types::{NoMemory, Reply, Row, Seen};
 use dex_wallet::WalletCell;

@@ -6,7 +6,7 @@ ghost use Rattle.dex_journals.specs.Journals.{IsBankWallet, MayComeBack, left_by
 
 use crate::items::{StampedEntry, WalletStart};
 use dex_gate::Journaled;
-use dex_script::Script;
+use dex_script_facts::Script;
 use dex_stamps::{Kept, Stamp};
 use dex_wallet::WalletCell;
 use http_server::Log as StampLog;

@@ -13,7 +13,7 @@ use Rattle.dex_act.specs.Wallets.{wallet_places}
 use Rattle.dex_bank.specs.Cells.{CanActBoth, IsTakeOrRefused}
 use Rattle.dex_bank.specs.Places.{ArePlacedIn, ArePlacesIn}
 use Rattle.dex_bank.proofs.Stands.{stand-at, stands-still}
-use Rattle.dex_script.specs.Facts.{IsLeg}
+use Rattle.dex_script_facts.specs.Facts.{IsLeg}
 use Rattle.dex_replay.proofs.Counting.{IsCounted, run-counted}
 use Rattle.dex_replay.proofs.Items.{HaveAllRun, items-run, row_told, take-or-refused}
 use Rattle.dex_replay.proofs.MappedLists.{All-front, same-get}

@@ -9,7 +9,7 @@ use Rattle.dex_act.proofs.CellLists.{is_among-any}
 use Rattle.dex_replay.proofs.Counting.{HasFew, HasFewMoves, IsCounted}
 use Rattle.dex_replay.proofs.LastAccounts.{listing-in}
 use Rattle.dex_replay.proofs.MappedLists.{All-unmap, list_any-map}
-use Rattle.dex_script.proofs.Roles.{roles-all}
+use Rattle.dex_script_facts.proofs.Roles.{roles-all}
 use Rattle.dex_replay.proofs.Starts.{AreOfScript, HasItsAddress, market-addresses, wallet-addresses}
 
 module _ (script : PlainScript) (cells : CellsState) (own : AreOfScript script cells) (its : All HasItsAddress cells.markets) where

@@ -7,8 +7,8 @@ ghost use Rattle.dex_fold.specs.Items.{items_of};
 ghost use Rattle.dex_bank.specs.Cells.{opened_of, world_of};
 ghost use Rattle.dex_bank.specs.Opened.{opened};
 ghost use Rattle.dex_bank.specs.Places.{ArePlacedIn};
-ghost use Rattle.dex_script.specs.Drafts.{PlainScript};
-ghost use Rattle.dex_script.specs.Facts.{IsScript};
+ghost use Rattle.dex_script_facts.specs.PlainScript.{PlainScript};
+ghost use Rattle.dex_script_facts.specs.Facts.{IsScript};
 ghost use Rattle.dex_replay.specs.Replays.{world_after};
 
 use dex_bank::Cells;

@@ -19,7 +19,7 @@ use dex_bank::Cells;
 use dex_cell::MarketCell;
 use dex_gate::{Gate, Journaled, Pass};
 use dex_journals::{BankMarket, BankWallet};
-use dex_script::Script;
+use dex_script_facts::Script;
 use dex_turns::{Bank, LaneSeat, Outline};
 use dex_types::NoMemory;
 use dex_wallet::WalletCell;

@@ -4,6 +4,7 @@
 mod building;
 mod closing;
 mod columns;
+mod index;
 mod lane;
 mod running;
 

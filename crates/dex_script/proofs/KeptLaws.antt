@@ -14,9 +14,9 @@ use Rattle.dex_statement.specs.declared.faults.SetupCode.TheVariants as code
 use Rattle.dex_statement.specs.declared.statement.Statement.{Statement}
 use Rattle.dex_statement.specs.declared.statement.Statement.TheVariants as row
 use Rattle.dex_statement.specs.Stated.{PlainMarketWords}
+use Rattle.dex_script_facts.specs.Places.{ArePlaced}
 use Rattle.dex_script.specs.Drafts.{PlainDraft}
 use Rattle.dex_script.specs.Names.{AreFew, IsReading}
-use Rattle.dex_script.specs.Places.{ArePlaced}
 use Rattle.dex_script.specs.Rows.{IsSetup, with_clock, with_market, with_mint, with_msrm, with_orders_row, with_program, with_srm, with_statement, with_wallet}
 use Rattle.dex_script.proofs.FaultLaws.{differ, ok-same, unless-ok}
 use Rattle.dex_script.proofs.StartOrders.{length-grown}

@@ -19,9 +19,10 @@ use Rattle.dex_statement.specs.declared.statement.Statement.TheVariants as row
 use Rattle.dex_statement.specs.Stated.{PlainInstruction, PlainSwap}
 use Rattle.dex_statement.specs.Statements.{statement_of}
 use Rattle.dex_statement.specs.Words.{Fields}
-use Rattle.dex_script.specs.Drafts.{PlainDraft, PlainScript, behind_dump, no_rows}
-use Rattle.dex_script.specs.Facts.{AreLegs, AreRows, HasNoSwap, IsRowOf, lanes_of}
-use Rattle.dex_script.specs.Known.{has_market, is_known_role}
+use Rattle.dex_script_facts.specs.PlainScript.{PlainScript}
+use Rattle.dex_script_facts.specs.Facts.{AreLegs, AreRows, HasNoSwap, IsRowOf, lanes_of}
+use Rattle.dex_script_facts.specs.Known.{has_market, is_known_role}
+use Rattle.dex_script.specs.Drafts.{PlainDraft, behind_dump, no_rows}
 use Rattle.dex_script.specs.Rows.{exceeds_row, instruction_row, is_full, is_unknown, with_instruction, with_item, with_row, with_statement, with_swap}
 use Rattle.dex_script.specs.Scripts.{AnswersBy, Reads, Refusal, begins_with_dump, behind, draft_after, fault_in, script_from, unless_found}
 use Rattle.dex_script.proofs.FaultLaws.{bind-ok, differ, no-error, ok-same, or-none}

@@ -15,8 +15,9 @@ use Rattle.dex_statement.specs.declared.faults.FaultKind.TheVariants.{UnknownLab
 use Rattle.dex_statement.specs.declared.faults.SetupCode.TheVariants as code
 use Rattle.dex_statement.specs.Faults.{◌>>=◌, found_or, unless}
 use Rattle.dex_statement.specs.Stated.{PlainMarketWords}
+use Rattle.dex_script_facts.specs.Known.{has_account}
 use Rattle.dex_script.specs.Drafts.{PlainDraft}
-use Rattle.dex_script.specs.Known.{has_account, is_any_among, made_addresses, mint_at, orders_at, with_supply}
+use Rattle.dex_script.specs.Known.{is_any_among, made_addresses, mint_at, orders_at, with_supply}
 use Rattle.dex_script.specs.Rows.{checked_name, exceeds_market, set_of, with_market, with_mint, with_msrm, with_orders_row, with_srm, with_start, with_wallet}
 use Rattle.dex_script.proofs.FaultLaws.{bind-ok, found-ok, ok-same, or-none, unless-ok}
 

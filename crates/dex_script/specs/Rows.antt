@@ -26,8 +26,9 @@ use Rattle.dex_statement.specs.Faults.{◌>>=◌, found_or, unless}
 use Rattle.dex_statement.specs.Stated.{PlainInstruction, PlainMarketWords, PlainParties, PlainSwap, leg_words}
 use Rattle.dex_statement.specs.Statements.{statement_of}
 use Rattle.dex_statement.specs.Words.{Fields}
+use Rattle.dex_script_facts.specs.Known.{has_account, has_market, is_known_role}
 use Rattle.dex_script.specs.Drafts.{PlainDraft}
-use Rattle.dex_script.specs.Known.{has_account, has_market, is_any_among, is_known_role, made_addresses, mint_at, orders_at, with_supply}
+use Rattle.dex_script.specs.Known.{is_any_among, made_addresses, mint_at, orders_at, with_supply}
 
 -- the same script with other accounts, behind a setup row that declares these addresses
 abbrev pub with_start : PlainDraft → List Address → PlainAccounts → PlainDraft

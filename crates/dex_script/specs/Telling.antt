@@ -11,11 +11,11 @@ use Rattle.dex_statement.specs.declared.faults.FaultKind.{FaultKind}
 use Rattle.dex_statement.specs.declared.faults.RowError.{RowError}
 use Rattle.dex_statement.specs.declared.faults.RowError.TheVariants.{Fault, NoMemory}
 use Rattle.dex_statement.specs.Faults.{code_of, kind_number}
+use Rattle.dex_script_facts.specs.PlainScript.{PlainScript}
 use Rattle.dex_script.specs.declared.draft.Draft.{Draft}
 use Rattle.dex_script.specs.declared.draft.Start.{Start}
 use Rattle.dex_script.specs.declared.fault.ScriptError.{ScriptError}
 use Rattle.dex_script.specs.declared.fault.ScriptError.TheVariants as script
-use Rattle.dex_script.specs.declared.script.Script.{Script}
 use Rattle.dex_script.specs.Drafts.{PlainDraft}
 use Rattle.dex_script.specs.Scripts.{IsRefused, Reads, Refusal}
 use Rattle.dex_script.specs.Scripts.Refusal.{AtRow, InAudit, InDump}
@@ -86,6 +86,6 @@ TellsText (Ok draft) batch text = Reads batch text draft.script
 TellsText (Err error) batch text = TellsError error batch text
 
 -- the text is this script, or it is none for this reason
-abbrev pub TellsScript : Result Script ScriptError → Bool → List ℕ → Type 0
+abbrev pub TellsScript : Result PlainScript ScriptError → Bool → List ℕ → Type 0
 TellsScript (Ok script) batch text = Reads batch text script
 TellsScript (Err error) batch text = TellsError error batch text

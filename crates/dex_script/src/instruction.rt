@@ -3,8 +3,8 @@
 ghost use Rattle.std.specs.Prelude.{◌≡◌, [], ◌∷◌, ◌++◌, true, IfErr, OnOk, map};
 ghost use Rattle.dex_types.specs.Accounts.{PlainAccounts};
 ghost use Rattle.dex_types.specs.Rows.{row_of};
+ghost use Rattle.dex_script_facts.specs.Places.{ArePlaced, IsPlaced};
 ghost use Rattle.dex_script.specs.Names.{IsReading, StandAt};
-ghost use Rattle.dex_script.specs.Places.{ArePlaced, IsPlaced};
 ghost use Rattle.dex_script.specs.Rows as spec;
 ghost use Rattle.dex_script.specs.Telling.{TellsIn, draft_of, start_of};
 

@@ -1,8 +1,8 @@
 //! A script as far as it is read, one row after the other.
 
 ghost use Rattle.std.specs.Prelude.{◌≡◌, ℕ, [], IfOk};
+ghost use Rattle.dex_script_facts.specs.Facts.{IsScript};
 ghost use Rattle.dex_script.specs.Drafts.{no_rows};
-ghost use Rattle.dex_script.specs.Facts.{IsScript};
 ghost use Rattle.dex_script.specs.Names.{IsReading, places_of};
 ghost use Rattle.dex_script.specs.Rows as spec;
 ghost use Rattle.dex_script.specs.Rows.{IsSetup};
@@ -10,8 +10,8 @@ ghost use Rattle.dex_script.specs.Telling.{TellsIn, draft_of};
 
 use crate::draft::Draft;
 use crate::names::Names;
-use crate::script::Script;
 use dex_rows::records::Fields;
+use dex_script_facts::Script;
 use dex_statement::{
     FaultKind, InstructionWords, Parties, RowError, Statement, SwapWords, read_instruction,
     statement_of,

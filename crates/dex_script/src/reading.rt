@@ -6,7 +6,7 @@ ghost use Rattle.dex_dump.specs.Accepted.{AreAccepted};
 ghost use Rattle.dex_dump.specs.Answers.{next_number};
 ghost use Rattle.dex_statement.specs.Faults.{code_of, kind_number};
 ghost use Rattle.dex_rows.specs.Records.{rows_of};
-ghost use Rattle.dex_script.specs.Facts.{HasNoSwap};
+ghost use Rattle.dex_script_facts.specs.Facts.{HasNoSwap};
 ghost use Rattle.dex_script.specs.Scripts.{begins_with_dump, draft_after};
 ghost use Rattle.dex_script.specs.Telling.{TellsDraft, TellsScript, TellsStart, TellsText};
 
@@ -16,10 +16,10 @@ use crate::laws::{
     a_script_for_batches_has_no_swap, a_script_starts_sound, rows_of_a_script_are_in_order,
 };
 use crate::reader::Reader;
-use crate::script::Script;
 use dex_audit::audit;
 use dex_dump::{DumpError, DumpRead, is_first_row};
 use dex_rows::records::{Fields, Rows};
+use dex_script_facts::Script;
 use dex_statement::{FaultKind, InstructionWords, RowError};
 use dex_types::NoMemory;
 use std::alloc::Global;

@@ -16,11 +16,11 @@ use Rattle.dex_wallet.specs.CellState.{CellState}
 use Rattle.dex_fold.specs.Fold.{names}
 use Rattle.dex_fold.specs.World.{MarketState, WalletState}
 use Rattle.dex_locks.specs.Places.{AreFree, StandInFront, front}
-use Rattle.dex_script.specs.Drafts.{PlainScript}
-use Rattle.dex_script.specs.Facts.{IsScript}
-use Rattle.dex_script.specs.Places.{IsPlaced}
-use Rattle.dex_script.proofs.Apart.{markets-distinct, wallets-distinct}
-use Rattle.dex_script.proofs.PlacedLaws.{placed-at}
+use Rattle.dex_script_facts.specs.PlainScript.{PlainScript}
+use Rattle.dex_script_facts.specs.Facts.{IsScript}
+use Rattle.dex_script_facts.specs.Places.{IsPlaced}
+use Rattle.dex_script_facts.proofs.Apart.{markets-distinct, wallets-distinct}
+use Rattle.dex_script_facts.proofs.PlacedLaws.{placed-at}
 use Rattle.dex_stage.proofs.Frames.{market-stays, wallet-stays}
 use Rattle.dex_stage.specs.Stages.{AreReady, IsMarketAt, IsRowAt, IsWalletAt, world_at}
 use Rattle.dex_team.specs.Lists.{AreLists, IsNext}

@@ -14,10 +14,10 @@ use Rattle.dex_cell.specs.CellState.{MarketCellState}
 use Rattle.dex_wallet.specs.CellState.{CellState}
 use Rattle.dex_fold.specs.Fold.{is_role, names}
 use Rattle.dex_fold.proofs.NameLaws.{names-roles}
-use Rattle.dex_script.specs.Drafts.{PlainScript}
-use Rattle.dex_script.specs.Places.{IsPlaced, IsRolePlaced, wallet_place}
-use Rattle.dex_script.proofs.Apart.{AreDistinct}
-use Rattle.dex_script.proofs.PlacedLaws as found
+use Rattle.dex_script_facts.specs.PlainScript.{PlainScript}
+use Rattle.dex_script_facts.specs.Places.{IsPlaced, IsRolePlaced, wallet_place}
+use Rattle.dex_script_facts.proofs.Apart.{AreDistinct}
+use Rattle.dex_script_facts.proofs.PlacedLaws as found
 use Rattle.dex_stage.specs.Stages.{IsMarketAt, IsWalletAt}
 use Rattle.dex_team.specs.Slots.{IsPlace, market_addresses, wallet_addresses}
 

@@ -6,8 +6,8 @@ use Rattle.std.proofs.lemmas.List.{get_or_append_left, get_or_default, get_or_pu
 use Rattle.dex_types.specs.declared.addresses.Address.{Address}
 use Rattle.dex_cell.specs.CellState.{MarketCellState}
 use Rattle.dex_wallet.specs.CellState.{CellState}
-use Rattle.dex_script.specs.Drafts.{PlainScript}
-use Rattle.dex_script.proofs.Apart.{markets-distinct, wallets-distinct}
+use Rattle.dex_script_facts.specs.PlainScript.{PlainScript}
+use Rattle.dex_script_facts.proofs.Apart.{markets-distinct, wallets-distinct}
 use Rattle.dex_stage.specs.Stages.{IsMarketAt, IsWalletAt}
 use Rattle.dex_team.specs.Slots.{AreHomes, HomesState, IsLent, IsOut, IsPlace, IsPut, IsWalletLent, KeepsOut, MarketFits, StaysOut, WalletFits, market_addresses, wallet_addresses}
 use Rattle.dex_team.specs.declared.slots.Slot.{Slot}

@@ -8,8 +8,8 @@ use Rattle.dex_types.specs.Wallets.{row_wallets}
 use Rattle.dex_cell.specs.CellState.{MarketCellState}
 use Rattle.dex_wallet.specs.CellState.{CellState}
 use Rattle.dex_fold.specs.World.{MarketState, WalletState}
-use Rattle.dex_script.specs.Drafts.{PlainScript}
-use Rattle.dex_script.specs.Facts.{IsScript}
+use Rattle.dex_script_facts.specs.PlainScript.{PlainScript}
+use Rattle.dex_script_facts.specs.Facts.{IsScript}
 use Rattle.dex_stage.specs.Stages.{AreReady, IsMarketAt, IsWalletAt, world_at}
 use Rattle.dex_team.specs.declared.slots.Slot.{Slot}
 

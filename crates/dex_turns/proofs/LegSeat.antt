@@ -5,7 +5,7 @@ use Rattle.dex_turns.proofs.Common.{AllThree, AreNext, BankState, GateView, HasC
 use Rattle.std.specs.List.{All}
 use Rattle.std.proofs.lemmas.List.{append-nil, append_assoc, set-get_or}
 use Rattle.dex_stamps.specs.Stamped.{items_of}
-use Rattle.dex_script.specs.Facts.{AreLegs}
+use Rattle.dex_script_facts.specs.Facts.{AreLegs}
 use Rattle.dex_journals.proofs.LaneGrowth.{lane-more}
 use Rattle.dex_turns.specs.Submitted.{HasMade, LegMarketGrows, LegWalletGrows, MarketGrows, WhereEither, written_by_two}
 use Rattle.dex_turns.specs.Turns.{HaveLegsTold, leg_wallets}

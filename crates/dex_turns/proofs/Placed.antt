@@ -5,7 +5,7 @@ use Rattle.std.proofs.lemmas.Iterator.Adapters.{position_from-zero}
 use Rattle.std.proofs.lemmas.List.Quantifiers.{position-Some}
 use Rattle.dex_fold.proofs.Common.{Address, PlainAccount, PlainMarketAccounts, false≢true, is_same, is_same-true, list_any}
 use Rattle.dex_turns.proofs.Common.{IsPlace, PlainScript}
-use Rattle.dex_script.specs.Places.{market_place, wallet_place}
+use Rattle.dex_script_facts.specs.Places.{market_place, wallet_place}
 use Rattle.dex_turns.specs.Bank.{market_addresses, wallet_addresses}
 
 module _ {A : Type 0} (key : A → Address) (address : Address) where

@@ -2,8 +2,8 @@
 use Rattle.std.specs.Prelude.{◌≡◌}
 use Rattle.dex_turns.specs.declared.outline.Outline.TheInside as outline
 use Rattle.dex_turns.specs.Bank.{market_addresses, wallet_addresses}
-use Rattle.dex_script.specs.Drafts.{PlainScript}
-use Rattle.dex_script.specs.Facts.{IsScript}
+use Rattle.dex_script_facts.specs.PlainScript.{PlainScript}
+use Rattle.dex_script_facts.specs.Facts.{IsScript}
 
 -- the script that the fields are of
 abbrev pub outlined : outline.Inside → PlainScript

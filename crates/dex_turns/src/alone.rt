@@ -2,7 +2,7 @@
 
 ghost use Rattle.dex_types.specs.Rows.{row_of};
 ghost use Rattle.dex_types.specs.Wallets.{row_wallets};
-ghost use Rattle.dex_script.specs.Places.{IsPlaced};
+ghost use Rattle.dex_script_facts.specs.Places.{IsPlaced};
 ghost use Rattle.dex_turns.specs.Inside.{call_made, written_of};
 ghost use Rattle.dex_turns.specs.Turns.{HasRowActed, MayCall};
 

@@ -5,11 +5,11 @@ ghost use Rattle.std.specs.List.{list_any, position};
 ghost use Rattle.dex_types.specs.Accounts.{PlainAccount, PlainMarketAccounts, market_accounts_of, named_of};
 ghost use Rattle.dex_types.specs.Addresses.{is_same};
 ghost use Rattle.dex_types.specs.Rows.{row_of};
-ghost use Rattle.dex_script.specs.Facts.{IsRowOf};
-ghost use Rattle.dex_script.specs.Known.{has_market, is_known_role};
-ghost use Rattle.dex_script.specs.Places.{IsPlaced, IsRolePlaced, market_place};
+ghost use Rattle.dex_script_facts.specs.Facts.{IsRowOf};
+ghost use Rattle.dex_script_facts.specs.Known.{has_market, is_known_role};
+ghost use Rattle.dex_script_facts.specs.Places.{IsPlaced, IsRolePlaced, market_place};
 
-use dex_script::Script;
+use dex_script_facts::Script;
 use dex_stamps::Kept;
 use dex_types::{Address, MarketAccounts, Named, NoMemory, Program, Row, RowPlaces, is_same};
 use std::alloc::Global;
@@ -29,7 +29,7 @@ pub struct Outline {
 }
 
 impl Model for Outline {
-    ghost use Rattle.dex_script.specs.Drafts.{PlainScript};
+    ghost use Rattle.dex_script_facts.specs.PlainScript.{PlainScript};
     ghost use Rattle.dex_turns.specs.Outline.{IsOutline, outlined};
 
     ghost Value = { PlainScript };

@@ -4,7 +4,7 @@ ghost use Rattle.std.specs.Prelude.{◌≡◌, IfSome, None, Some, false};
 ghost use Rattle.dex_types.specs.Accounts.{PlainAccounts};
 ghost use Rattle.dex_types.specs.Rows.{row_of};
 ghost use Rattle.dex_fold.specs.Fold as fold;
-ghost use Rattle.dex_script.specs.Places.{IsPlaced, wallet_place};
+ghost use Rattle.dex_script_facts.specs.Places.{IsPlaced, wallet_place};
 
 use dex_types::{Address, Row, RowPlaces, is_same};
 

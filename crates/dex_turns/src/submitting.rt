@@ -4,8 +4,8 @@ ghost use Rattle.std.specs.Prelude.{◌≡◌, ◌≤◌, ◌<◌, ◌+◌, [], 
 ghost use Rattle.std.specs.List.{All, AllZip};
 ghost use Rattle.dex_types.specs.Rows.{row_of};
 ghost use Rattle.dex_types.specs.Wallets.{row_wallets};
-ghost use Rattle.dex_script.specs.Facts.{AreLegs};
-ghost use Rattle.dex_script.specs.Places.{IsPlaced};
+ghost use Rattle.dex_script_facts.specs.Facts.{AreLegs};
+ghost use Rattle.dex_script_facts.specs.Places.{IsPlaced};
 ghost use Rattle.dex_locks.specs.Places.{front};
 ghost use Rattle.dex_fold.specs.World as world;
 ghost use Rattle.dex_act.specs.Wallets.{Fits, roles_of};

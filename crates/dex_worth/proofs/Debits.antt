@@ -20,7 +20,7 @@ use Rattle.dex_history.specs.Mints.{MeetVaults, all_debited, debited, is_mint_in
 use Rattle.dex_history.proofs.HeldLaws.{acted-sees}
 use Rattle.dex_history.proofs.StepMints.{row-meets}
 use Rattle.dex_history.proofs.WalletLaws.{places-movements, wallet-movement_by}
-use Rattle.dex_worth.specs.Debits.{debits_in}
+use Rattle.dex_replay.specs.Debits.{debits_in}
 
 -- ---- the mint of a wallet that is seen
 

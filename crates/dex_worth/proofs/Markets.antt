@@ -18,13 +18,14 @@ use Rattle.dex_history.specs.Journal.{Call, market_after}
 use Rattle.dex_history.proofs.PriceLaws.{calls-sound}
 use Rattle.dex_orders.specs.StandsFor.{traders_of}
 use Rattle.dex_report.specs.Outcomes.{PlainMarketJournal}
-use Rattle.dex_script.specs.Drafts.{PlainScript}
+use Rattle.dex_script_facts.specs.PlainScript.{PlainScript}
 use Rattle.dex_worth.specs.declared.amounts.Amounts.{Amounts}
 use Rattle.dex_worth.specs.Amounts.{AreWithin, IsWithin}
 use Rattle.dex_worth.specs.Entries.{all_in, all_out}
 use Rattle.dex_worth.specs.Holdings.{held_amounts}
-use Rattle.dex_worth.specs.Rows.{PlainWorthRow, row_by}
-use Rattle.dex_worth.specs.Tables.{IsTold, row_told, rows_told}
+use Rattle.dex_replay.specs.WorthTold.{PlainWorthRow, row_told, rows_told}
+use Rattle.dex_worth.specs.Rows.{row_by}
+use Rattle.dex_worth.specs.Tables.{IsTold}
 use Rattle.dex_worth.proofs.Holding.{held-small}
 use Rattle.dex_worth.proofs.Outcomes.{calls-are}
 

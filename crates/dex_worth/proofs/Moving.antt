@@ -11,15 +11,15 @@ use Rattle.dex_types.specs.Rows.{PlainRow, row_of}
 use Rattle.dex_history.specs.Journal.{Call, asked_of}
 use Rattle.dex_instruction.specs.Reading.{decoded}
 use Rattle.dex_eager.specs.Worth.{is_first}
-use Rattle.dex_script.specs.Drafts.{PlainScript}
-use Rattle.dex_script.specs.Firsts.{first_of}
+use Rattle.dex_script_facts.specs.PlainScript.{PlainScript}
+use Rattle.dex_script_facts.specs.Firsts.{first_of}
 use Rattle.dex_replay.specs.EntryCalls.{call_by, call_told, is_row_on}
 use Rattle.dex_worth.specs.declared.amounts.Amounts.{Amounts}
 use Rattle.dex_worth.specs.declared.entries.Moved.{Moved}
 use Rattle.dex_worth.specs.Amounts.{none}
-use Rattle.dex_worth.specs.Debits.{debits_in}
+use Rattle.dex_replay.specs.Debits.{debits_in}
 use Rattle.dex_worth.specs.Entries.{AreMoved, deposited_in, entered, for_first, one_in, one_out, settled_by, settled_in}
-use Rattle.dex_worth.specs.Told.{entering, side_of}
+use Rattle.dex_replay.specs.Told.{entering, side_of}
 use Rattle.dex_worth.proofs.Sums.{pair}
 
 -- ---- the row of a call

@@ -18,11 +18,11 @@ use Rattle.dex_eager.specs.Worth.{Worth, no_moves}
 use Rattle.dex_eager.proofs.DelayLaws.{deals-after, history-fills, history-market}
 use Rattle.dex_replay.specs.Lawful.{AllThree, IsLawful}
 use Rattle.dex_report.specs.Outcomes.{PlainMarketJournal, PlainOutcome}
-use Rattle.dex_script.specs.Drafts.{PlainScript}
-use Rattle.dex_script.specs.Facts.{IsScript}
+use Rattle.dex_script_facts.specs.PlainScript.{PlainScript}
+use Rattle.dex_script_facts.specs.Facts.{IsScript}
 use Rattle.dex_replay.specs.EntryCalls.{TellsHistory, calls_told}
-use Rattle.dex_worth.specs.Rows.{PlainWorthRow}
-use Rattle.dex_worth.specs.Tables.{AreToldHere, IsTold, IsToldHere, PaysAtOnce, calls_of, deals_told, row_told, rows_told, table_told, tables_told, worth_in_row, worth_told, worths_told}
+use Rattle.dex_replay.specs.WorthTold.{PlainWorthRow, calls_of, row_told, rows_told, table_told, tables_told, worth_told, worths_told}
+use Rattle.dex_worth.specs.Tables.{AreToldHere, IsTold, IsToldHere, PaysAtOnce, deals_told, worth_in_row}
 use Rattle.dex_worth.proofs.Flows.{add-up}
 use Rattle.dex_worth.proofs.Tables.{worths-told}
 

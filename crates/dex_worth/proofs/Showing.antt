@@ -7,7 +7,8 @@ use Rattle.dex_tallies.specs.Sums.{capped}
 use Rattle.dex_worth.specs.declared.amounts.Amounts.{Amounts}
 use Rattle.dex_worth.specs.declared.table.Columns.{Columns}
 use Rattle.dex_worth.specs.Amounts.{AreSums, AreWithin, IsWithin, capped_amounts, none}
-use Rattle.dex_worth.specs.Rows.{AreExact, AreLong, AreSmall, PlainWorthRow, row_by, worth_by}
+use Rattle.dex_replay.specs.WorthTold.{PlainWorthRow}
+use Rattle.dex_worth.specs.Rows.{AreExact, AreLong, AreSmall, row_by, worth_by}
 
 sum-at : (amounts : Address → Amounts) (owners : List Address) (sums : List Amounts) (k : ℕ) (a : Address) → AreSums amounts owners sums → k < length owners
     → get_or sums k none ≡ capped_amounts (amounts (get_or owners k a))

@@ -15,8 +15,8 @@ use Rattle.dex_eager.specs.Eager.{Eager}
 use Rattle.dex_eager.specs.Histories.{eager_end, moves_of}
 use Rattle.dex_eager.specs.Worth.{Worth, held_for, no_moves, worth_in, worth_of}
 use Rattle.dex_eager.proofs.DelayLaws.{history-market}
-use Rattle.dex_worth.specs.Tables.{told_of, worth_told, worths_told}
-use Rattle.dex_worth.specs.Told.{told_in, told_out}
+use Rattle.dex_replay.specs.WorthTold.{told_of, worth_told, worths_told}
+use Rattle.dex_replay.specs.Told.{told_in, told_out}
 use Rattle.dex_worth.proofs.Told.{all-told}
 
 module _ (m : Market) (calls : List Call) (last : PlainMarketAccounts) (sound : IsSound m) (legal : IsLegal m calls) (stands : StandsFor last (market_after m calls)) where

@@ -25,8 +25,8 @@ use Rattle.dex_history.proofs.HeldLaws.{acted-priced}
 use Rattle.dex_history.proofs.PriceLaws.{asked-sound}
 use Rattle.dex_eager.specs.Histories.{moves_after}
 use Rattle.dex_eager.specs.Worth.{Ledger, deposit_in, for_account, settled_in, with_step}
-use Rattle.dex_worth.specs.Debits.{debits_in}
-use Rattle.dex_worth.specs.Told.{entering, side_of, told_deposit, told_in, told_out}
+use Rattle.dex_replay.specs.Debits.{debits_in}
+use Rattle.dex_replay.specs.Told.{entering, side_of, told_deposit, told_in, told_out}
 use Rattle.dex_worth.proofs.Debits.{debits-are}
 
 -- what a step takes from a wallet for its account is told by how much it takes in all

@@ -2,7 +2,7 @@ use Rattle.std.proofs.Common.{◌+◌, List, [], ◌∷◌, Some, get_or, ℕ, a
 use Rattle.dex_fold.proofs.Common.{accounts_of, length-map, market_accounts_of, row_of, with_items_is}
 use Rattle.std.specs.List.{All}
 use Rattle.dex_types.specs.declared.rows.RowPlaces.{RowPlaces}
-use Rattle.dex_script.proofs.PlacedLaws.{placed-long}
+use Rattle.dex_script_facts.proofs.PlacedLaws.{placed-long}
 use Rattle.dex_bank.specs.Counts.{HaveSpare, IsWithin}
 use Rattle.dex_bank.proofs.OpenRooms.{AreRowsOf, markets_at, market-more, market-rooms, market-within, on, rows-spare}
 use Rattle.dex_bank.proofs.counting.rows_by_market.Goals as goal

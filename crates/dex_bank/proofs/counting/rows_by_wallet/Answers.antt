@@ -2,7 +2,7 @@ use Rattle.std.proofs.Common.{◌+◌, List, ℕ, arith, length, map, take, sym,
 use Rattle.dex_fold.proofs.Common.{accounts_of, length-map, named_of, names, row_of, with_items_is}
 use Rattle.std.specs.List.{All}
 use Rattle.dex_types.specs.declared.rows.RowPlaces.{RowPlaces}
-use Rattle.dex_script.proofs.PlacedLaws.{placed-long}
+use Rattle.dex_script_facts.proofs.PlacedLaws.{placed-long}
 use Rattle.dex_bank.specs.Counts.{HaveSpare, IsWithin}
 use Rattle.dex_bank.proofs.OpenRooms.{AreRowsOf, wallets_at, wallet-more, wallet-rooms, wallet-within, rows-spare}
 use Rattle.dex_bank.proofs.counting.rows_by_wallet.Goals as goal

@@ -1,7 +1,7 @@
 use Rattle.std.proofs.Common.{◌≡◌, ◌∙◌, ◌++◌, ◌∷◌, [], ap, map, refl}
 use Rattle.std.proofs.lemmas.List.{map-append}
 use Rattle.dex_types.specs.Rows.{row_of}
-use Rattle.dex_script.proofs.PlacedLaws.{placed-push}
+use Rattle.dex_script_facts.proofs.PlacedLaws.{placed-push}
 use Rattle.dex_script.proofs.instruction.push.Goals as goal
 
 pub returns-clause-placed : goal.returns-clause-placed

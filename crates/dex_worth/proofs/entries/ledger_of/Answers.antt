@@ -4,7 +4,7 @@ use Rattle.dex_types.specs.declared.addresses.Address.{Address}
 use Rattle.dex_types.specs.declared.movements.Entry.{Entry}
 use Rattle.dex_types.specs.Rows.{row_of}
 use Rattle.dex_history.specs.Journal.{Call}
-use Rattle.dex_script.specs.Drafts.{PlainScript}
+use Rattle.dex_script_facts.specs.PlainScript.{PlainScript}
 use Rattle.dex_replay.specs.EntryCalls.{calls_told}
 use Rattle.dex_worth.specs.Amounts.{AreSums, AreWithin, none}
 use Rattle.dex_worth.specs.Entries.{all_in, all_out}

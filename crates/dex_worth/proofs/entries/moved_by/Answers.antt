@@ -4,7 +4,7 @@ use Rattle.dex_types.specs.Rows.{PlainRow, row_of}
 use Rattle.dex_instruction.specs.Reading.{decoded}
 use Rattle.dex_worth.specs.declared.amounts.Amounts.{Amounts}
 use Rattle.dex_worth.specs.Entries.{entered, for_first}
-use Rattle.dex_worth.specs.Told.{side_of}
+use Rattle.dex_replay.specs.Told.{side_of}
 use Rattle.dex_worth.proofs.Moving.{call-is, moved-are, no-call, nothing-moved}
 use Rattle.dex_worth.proofs.entries.moved_by.Goals as goal
 

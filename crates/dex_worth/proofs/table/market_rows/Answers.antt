@@ -12,7 +12,8 @@ use Rattle.dex_report.specs.Outcomes.{PlainMarketJournal, market_journal_of}
 use Rattle.dex_worth.specs.Amounts.{AreWithin}
 use Rattle.dex_worth.specs.Entries.{all_in, all_out}
 use Rattle.dex_worth.specs.Holdings.{held_amounts}
-use Rattle.dex_worth.specs.Rows.{PlainWorthRow, plain_row}
+use Rattle.dex_replay.specs.WorthTold.{PlainWorthRow}
+use Rattle.dex_worth.specs.Rows.{plain_row}
 use Rattle.dex_worth.proofs.Markets.{few-within, held-within, market-shown, owners-are}
 use Rattle.dex_worth.proofs.Outcomes.{calls-told}
 use Rattle.dex_worth.proofs.Sums.{sums-moved}

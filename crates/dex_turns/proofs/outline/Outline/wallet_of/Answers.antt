@@ -1,8 +1,8 @@
 use Rattle.std.proofs.Common.{◌≡◌, true, List, Option, sym, ap, ◌∙◌, subst}
 use Rattle.std.specs.List.{position}
 use Rattle.dex_fold.proofs.Common.{Address, PlainAccount, is_same, list_any}
-use Rattle.dex_script.specs.Known.{is_known_role}
-use Rattle.dex_script.specs.Places.{IsRolePlaced}
+use Rattle.dex_script_facts.specs.Known.{is_known_role}
+use Rattle.dex_script_facts.specs.Places.{IsRolePlaced}
 use Rattle.dex_turns.proofs.Common.{list_any-map}
 use Rattle.dex_turns.specs.Bank.{wallet_addresses}
 use Rattle.dex_turns.proofs.Placed.{position-map}

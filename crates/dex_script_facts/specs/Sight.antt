@@ -5,7 +5,7 @@ use Rattle.dex_types.specs.declared.rows.Seen.{Seen}
 use Rattle.dex_types.specs.declared.rows.WalletSeen.{WalletSeen}
 use Rattle.dex_types.specs.Accounts.{PlainAccount}
 use Rattle.dex_token.specs.TokenAccount.{wallet_words}
-use Rattle.dex_script.specs.Drafts.{PlainScript}
+use Rattle.dex_script_facts.specs.PlainScript.{PlainScript}
 
 -- what is seen under a role is a wallet of these, with some balance
 abbrev pub IsWalletSeen : List PlainAccount → Option WalletSeen → Type 0

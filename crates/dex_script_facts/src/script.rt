@@ -17,8 +17,8 @@ pub struct Script {
 }
 
 impl Model for Script {
-    ghost use Rattle.dex_script.specs.Drafts.{PlainScript};
-    ghost use Rattle.dex_script.specs.ScriptInside.{IsKept, script_inside};
+    ghost use Rattle.dex_script_facts.specs.PlainScript.{PlainScript};
+    ghost use Rattle.dex_script_facts.specs.ScriptInside.{IsKept, script_inside};
 
     ghost Value = { PlainScript };
 

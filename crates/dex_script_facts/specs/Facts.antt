@@ -11,8 +11,8 @@ use Rattle.dex_instruction.specs.Reading.{decoded}
 use Rattle.dex_history.specs.Journal.{is_take_or_bad}
 use Rattle.dex_fold.specs.Fold.{is_role}
 use Rattle.dex_fold.specs.Items.{ShareNothing, items_of}
-use Rattle.dex_script.specs.Drafts.{PlainScript}
-use Rattle.dex_script.specs.Known.{has_market, is_known_role}
+use Rattle.dex_script_facts.specs.PlainScript.{PlainScript}
+use Rattle.dex_script_facts.specs.Known.{has_market, is_known_role}
 
 -- accounts that a script can start with: they are accepted, market by market those of a sound market, and of each mint
 -- wallets and vaults hold its supply

@@ -8,7 +8,7 @@ use Rattle.dex_types.specs.Accounts.{PlainAccount, PlainAccounts, PlainMarketAcc
 use Rattle.dex_types.specs.Addresses.{is_same}
 use Rattle.dex_types.specs.Rows.{PlainRow}
 use Rattle.dex_laws.proofs.TraderLaws.{is_same-true}
-use Rattle.dex_script.specs.Places.{ArePlaced, IsPlaced, market_place, wallet_place}
+use Rattle.dex_script_facts.specs.Places.{ArePlaced, IsPlaced, market_place, wallet_place}
 
 -- each row has places
 pub placed-long : (start : PlainAccounts) (rows : List PlainRow) (places : List RowPlaces) → ArePlaced start rows places

@@ -1,8 +1,8 @@
 -- What holds of each wallet of a start holds of each that a row of it names.
 use Rattle.std.proofs.Common.{◌≡◌, true, List, [], Option, Some, None}
 use Rattle.dex_fold.proofs.Common.{Address, All-nil, PlainAccounts, PlainRow, row_wallets}
-use Rattle.dex_script.specs.Facts.{IsRowOf}
-use Rattle.dex_script.specs.Known.{has_account, is_known_role}
+use Rattle.dex_script_facts.specs.Facts.{IsRowOf}
+use Rattle.dex_script_facts.specs.Known.{has_account, is_known_role}
 use Rattle.std.specs.List.{All}
 use Rattle.dex_types.specs.Wallets.{with_role}
 use Rattle.dex_fold.proofs.OnceLaws.{with_address-all}

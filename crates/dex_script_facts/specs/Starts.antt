@@ -4,7 +4,7 @@ use Rattle.dex_types.specs.Accounts.{PlainAccount, PlainMarketAccounts}
 use Rattle.dex_accounts.specs.Decoded.{market_in}
 use Rattle.dex_token.specs.TokenAccount.{wallet_words}
 use Rattle.dex_fold.specs.World.{MarketState, WalletState, World}
-use Rattle.dex_script.specs.Drafts.{PlainScript}
+use Rattle.dex_script_facts.specs.PlainScript.{PlainScript}
 
 -- a market with which a script starts
 abbrev pub market_state : PlainMarketAccounts → MarketState

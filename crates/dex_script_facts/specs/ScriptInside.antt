@@ -2,10 +2,10 @@
 use Rattle.std.specs.Prelude.{map}
 use Rattle.dex_types.specs.Accounts.{accounts_of}
 use Rattle.dex_types.specs.Rows.{row_of}
-use Rattle.dex_script.specs.declared.script.Script.TheInside.{Inside}
-use Rattle.dex_script.specs.Drafts.{PlainScript}
-use Rattle.dex_script.specs.Facts.{IsScript}
-use Rattle.dex_script.specs.Places.{ArePlaced}
+use Rattle.dex_script_facts.specs.declared.script.Script.TheInside.{Inside}
+use Rattle.dex_script_facts.specs.PlainScript.{PlainScript}
+use Rattle.dex_script_facts.specs.Facts.{IsScript}
+use Rattle.dex_script_facts.specs.Places.{ArePlaced}
 
 -- the script that the fields are
 abbrev pub script_inside : Inside → PlainScript

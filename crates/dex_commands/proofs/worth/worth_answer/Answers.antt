@@ -5,18 +5,18 @@ use Rattle.dex_types.specs.Accounts.{market_accounts_of}
 use Rattle.dex_types.specs.Rows.{row_of}
 use Rattle.dex_words.specs.declared.command.Command.TheVariants.{Worth}
 use Rattle.dex_report.specs.Outcomes.{PlainOutcome, outcome_of}
-use Rattle.dex_script.specs.Drafts.{PlainScript}
-use Rattle.dex_script.specs.Facts.{IsScript}
+use Rattle.dex_script_facts.specs.PlainScript.{PlainScript}
+use Rattle.dex_script_facts.specs.Facts.{IsScript}
 use Rattle.dex_replay.specs.Runs.{IsRunOf}
-use Rattle.dex_worth.specs.Tables.{table_told}
-use Rattle.dex_worth.specs.WorthText.{worth_text}
+use Rattle.dex_replay.specs.WorthTold.{table_told}
+use Rattle.dex_replay.specs.WorthText.{worth_text}
 use Rattle.dex_answers.specs.Answers.{Answers, IsPlayed}
 use Rattle.dex_answers.specs.Telling.{IsText}
 use Rattle.dex_answers.specs.declared.status.Status.TheVariants as status
 use Rattle.dex_answers.proofs.AnswerLaws.{no-worth}
 use Rattle.dex_answers.proofs.PairLaws.{played}
 use Rattle.dex_answers.proofs.TextLaws.{says}
-use Rattle.dex_answers.proofs.worth.worth_answer.Goals as goal
+use Rattle.dex_commands.proofs.worth.worth_answer.Goals as goal
 
 pub returns-in_ok-outcome-in-Ok : goal.returns-in_ok-outcome-in-Ok
 returns-in_ok-outcome-in-Ok c =

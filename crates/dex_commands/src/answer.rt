@@ -4,14 +4,11 @@ ghost use Rattle.std.specs.Prelude.{IfOk};
 ghost use Rattle.dex_words.specs.Spelling.{IsPlain, IsWithin};
 ghost use Rattle.dex_answers.specs.Answers.{Answers};
 
-use crate::audit::audit_answer;
-use crate::bulk::bulk_answer;
-use crate::dump::dump_answer;
-use crate::make::make_answer;
-use crate::migrate::migrate_answer;
-use crate::replay::{replay_answer, replay_taken};
-use crate::told::StatusText;
 use crate::worth::worth_answer;
+use dex_answers::{
+    StatusText, audit_answer, bulk_answer, dump_answer, make_answer, migrate_answer, replay_answer,
+    replay_taken,
+};
 use dex_types::NoMemory;
 use dex_words::Command;
 use std::alloc::Global;

@@ -10,7 +10,7 @@ use Rattle.dex_types.specs.Side.{Token, by_token, locked_token}
 use Rattle.dex_types.specs.Transfers.{Transfers, deposit, no_transfers}
 use Rattle.dex_history.specs.Journal.{Asked, Call}
 use Rattle.dex_eager.specs.Worth.{for_account, settled_in}
-use Rattle.dex_worth.specs.Debits.{debits_in}
+use Rattle.dex_replay.specs.Debits.{debits_in}
 
 -- the side of a new order
 abbrev pub side_of : Result Ix BadData → Option Side
