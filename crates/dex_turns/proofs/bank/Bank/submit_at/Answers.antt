@@ -6,6 +6,7 @@ use Rattle.dex_turns.specs.Inside.{seat_inside}
 use Rattle.dex_script_facts.proofs.PlacedLaws.{market-placed}
 use Rattle.dex_turns.proofs.SeatAfter.{IsAfter, enters, is-after, names-own, next-ahead, ready, within-gates, within-passes}
 use Rattle.dex_turns.proofs.bank.Bank.submit_at.Given as given
+use Rattle.dex_turns.proofs.bank.Bank.submit_at.Goals.{After-and-seat-inside}
 use Rattle.dex_turns.proofs.bank.Bank.submit_at.Goals as goal
 
 pub market_gate-requires : goal.market_gate-requires
@@ -45,7 +46,7 @@ in_market-made-requires-clause-passes g c =
 
 -- ---- the seat behind it
 
-known : (g : given.Over) (c : goal.After-stamp-1 g) → IsAfter c.args.self.now (HasSubmitted (row_of c.args.row.now) c.in_market-made.result.reply) c.args.seat.now (record {
+known : (g : given.Over) (c : After-and-seat-inside g) → IsAfter c.args.self.now (HasSubmitted (row_of c.args.row.now) c.in_market-made.result.reply) c.args.seat.now (record {
   lane = c.seat.inside.lane;
   script = c.seat.inside.script.value;
   calls = map call_made c.and-seat-inside.result.items;
@@ -65,16 +66,16 @@ known g c =
 
 pub invariant_of-seat : goal.invariant_of-seat
 invariant_of-seat g c = record {
-  seat = (known g c).kept;
+  seat = (known g (goal.at.invariant_of-seat g c).After-and-seat-inside).kept;
   hands = c.in_market-made.ensures.hands;
   room = omega (arith, c.seat.invariant.room, c.in_market-made.ensures.room);
 }
 
 pub returns-clause-submitted : goal.returns-clause-submitted
-returns-clause-submitted g c = (known g c).submitted
+returns-clause-submitted g c = (known g (goal.at.returns-clause-submitted g c).After-and-seat-inside).submitted
 
 pub returns-clause-bank : goal.returns-clause-bank
-returns-clause-bank g c = (known g c).of
+returns-clause-bank g c = (known g (goal.at.returns-clause-bank g c).After-and-seat-inside).of
 
 pub returns-clause-kept : goal.returns-clause-kept
-returns-clause-kept g c = (known g c).kept
+returns-clause-kept g c = (known g (goal.at.returns-clause-kept g c).After-and-seat-inside).kept

@@ -10,6 +10,7 @@ use Rattle.dex_turns.proofs.LegReady.{legs-ready}
 use Rattle.dex_script_facts.proofs.PlacedLaws.{market-placed}
 use Rattle.dex_turns.proofs.SeatAfter.{IsAfter, enters-at, first-ahead, passes-kept, row-fits, second-ahead}
 use Rattle.dex_turns.proofs.bank.Bank.submit_two_at.Given as given
+use Rattle.dex_turns.proofs.bank.Bank.submit_two_at.Goals.{After-and-seat-inside}
 use Rattle.dex_turns.proofs.bank.Bank.submit_two_at.Goals as goal
 
 pub in_markets-made-requires-clause-first : goal.in_markets-made-requires-clause-first
@@ -40,7 +41,7 @@ in_markets-made-requires-clause-passes g c =
 
 -- ---- the seat behind them
 
-known : (g : given.Over) (c : goal.After-last-1 g) → IsAfter c.args.self.now
+known : (g : given.Over) (c : After-and-seat-inside g) → IsAfter c.args.self.now
     (HaveSubmitted (row_of c.args.first.now) (row_of c.args.second.now) (c.in_markets-made.result.first.reply, c.in_markets-made.result.second.reply)) c.args.seat.now (record {
       lane = c.seat.inside.lane;
       script = c.seat.inside.script.value;
@@ -62,16 +63,16 @@ known g c =
 
 pub invariant_of-seat : goal.invariant_of-seat
 invariant_of-seat g c = record {
-  seat = (known g c).kept;
+  seat = (known g (goal.at.invariant_of-seat g c).After-and-seat-inside).kept;
   hands = c.in_markets-made.ensures.hands;
   room = omega (arith, c.seat.invariant.room, c.in_markets-made.ensures.room);
 }
 
 pub returns-clause-submitted : goal.returns-clause-submitted
-returns-clause-submitted g c = (known g c).submitted
+returns-clause-submitted g c = (known g (goal.at.returns-clause-submitted g c).After-and-seat-inside).submitted
 
 pub returns-clause-bank : goal.returns-clause-bank
-returns-clause-bank g c = (known g c).of
+returns-clause-bank g c = (known g (goal.at.returns-clause-bank g c).After-and-seat-inside).of
 
 pub returns-clause-kept : goal.returns-clause-kept
-returns-clause-kept g c = (known g c).kept
+returns-clause-kept g c = (known g (goal.at.returns-clause-kept g c).After-and-seat-inside).kept
