@@ -6,14 +6,12 @@ ghost use Rattle.dex_types.specs.Trader.{free_slot};
 ghost use Rattle.dex_types.specs.Upkeep.{taken_slots};
 ghost use Rattle.dex_orders.specs.OrdersAccount.{HasNoOrder, IsOpen, account_of, added, funded, funds_of, market_of, removed, told_holding, with_funds};
 
-use crate::Funds;
-use crate::orders_ref::read_funds;
-use crate::slots::{add_order, lowest_free, remove_order, slot_of, taken_of};
+use crate::slots::{add_order, remove_order};
+use crate::{Funds, OrdersRef};
 use dex_fields::open_orders::{
-    MARKET, NATIVE_COIN_FREE, NATIVE_COIN_TOTAL, NATIVE_PC_FREE, NATIVE_PC_TOTAL, OWNER,
-    REFERRER_REBATES_ACCRUED,
+    NATIVE_COIN_FREE, NATIVE_COIN_TOTAL, NATIVE_PC_FREE, NATIVE_PC_TOTAL, REFERRER_REBATES_ACCRUED,
 };
-use dex_fields::{get_addr, put_u64};
+use dex_fields::put_u64;
 use dex_types::{Address, Side};
 
 /// A trader's open account, for reading and for writing in place.
@@ -39,12 +37,19 @@ fn write_funds(bytes: &mut [u8], funds: &Funds)
 }
 
 impl OrdersView<'_> {
+    /// The account, for reading.
+    fn as_ref(&self) -> OrdersRef<'_>
+        ensures { result.bytes.now ≡ self.now.bytes.now }
+    {
+        OrdersRef { bytes: self.bytes }
+    }
+
     /// The address of the account's market.
     pub fn market(&self) -> Address
         requires { IsOpen self.now.bytes.now }
         ensures { result ≡ market_of self.now.bytes.now }
     {
-        Address(get_addr(self.bytes, MARKET))
+        self.as_ref().market()
     }
 
     /// The person whose account it is.
@@ -52,7 +57,7 @@ impl OrdersView<'_> {
         requires { IsOpen self.now.bytes.now }
         ensures { result ≡ (account_of self.now.bytes.now).person }
     {
-        Address(get_addr(self.bytes, OWNER))
+        self.as_ref().owner()
     }
 
     /// The trader's funds and the referrer part, in native amounts.
@@ -60,7 +65,7 @@ impl OrdersView<'_> {
         requires { IsOpen self.now.bytes.now }
         ensures { result ≡ funds_of (account_of self.now.bytes.now) }
     {
-        read_funds(self.bytes)
+        self.as_ref().funds()
     }
 
     /// The id, side and client id of the order in the slot; None where the slot is free, and from 128 on.
@@ -68,7 +73,7 @@ impl OrdersView<'_> {
         requires { IsOpen self.now.bytes.now }
         ensures { result ≡ option_map told_holding (slice_index_or (account_of self.now.bytes.now).slots slot None) }
     {
-        slot_of(self.bytes, slot)
+        self.as_ref().slot(slot)
     }
 
     /// How many slots are taken, of 128.
@@ -76,7 +81,7 @@ impl OrdersView<'_> {
         requires { IsOpen self.now.bytes.now }
         ensures { result ≡ taken_slots (account_of self.now.bytes.now).slots }
     {
-        taken_of(self.bytes)
+        self.as_ref().taken()
     }
 
     /// The lowest free slot; None where all 128 are taken.
@@ -87,7 +92,7 @@ impl OrdersView<'_> {
         ensures within { IfSome result (λ slot. slot < 128) }
         ensures free { IfSome result (λ slot. slice_index_or (account_of self.now.bytes.now).slots slot None ≡ None) }
     {
-        lowest_free(self.bytes)
+        self.as_ref().free_slot()
     }
 
     /// Takes a free slot for an order. It writes the slot's bits, id and client id; all other bytes stay.

@@ -57,7 +57,7 @@ fn side_in(bytes: &[u8], slot: u8) -> Side
 
 /// The order's id, side and client id, where the slot is taken.
 #[tactic(auto, unfolding(crate::specs::OrdersAccount::slot_in))]
-fn holding(bytes: &[u8], slot: u8) -> Option<(u128, Side, u64)>
+pub fn holding(bytes: &[u8], slot: u8) -> Option<(u128, Side, u64)>
     requires size { length bytes.now ≡ 3228 }
     requires slot { slot < 128 }
     ensures { result ≡ option_map told_holding (slot_in bytes.now slot) }
@@ -70,18 +70,6 @@ fn holding(bytes: &[u8], slot: u8) -> Option<(u128, Side, u64)>
             side_in(bytes, slot),
             client_in(bytes, slot),
         ))
-    }
-}
-
-/// The same of any number; there are no slots from 128 on.
-pub fn slot_of(bytes: &[u8], slot: u8) -> Option<(u128, Side, u64)>
-    requires { length bytes.now ≡ 3228 }
-    ensures { result ≡ option_map told_holding (slice_index_or (slots_of bytes.now) slot None) }
-{
-    if slot < SLOT_COUNT {
-        holding(bytes, slot)
-    } else {
-        None
     }
 }
 
@@ -98,28 +86,6 @@ pub fn hold_one(bytes: &[u8], slot: u8, other: u8) -> bool
             id == other_id && side == other_side
         }
         _ => false,
-    }
-}
-
-/// How many slots are taken.
-pub fn taken_of(bytes: &[u8]) -> u8
-    requires { length bytes.now ≡ 3228 }
-    ensures { result ≡ taken_slots (slots_of bytes.now) }
-{
-    SLOT_COUNT - get_u128(bytes, FREE_SLOT_BITS).count_ones() as u8
-}
-
-/// The lowest free slot.
-pub fn lowest_free(bytes: &[u8]) -> Option<u8>
-    requires { length bytes.now ≡ 3228 }
-    ensures none { IsNone result ↔ (taken_slots (slots_of bytes.now) ≡ 128) }
-    ensures lowest { IfSome result (λ slot. slot ≡ free_slot (slots_of bytes.now)) }
-    ensures within { IfSome result (λ slot. slot < 128) }
-    ensures free { IfSome result (λ slot. slice_index_or (slots_of bytes.now) slot None ≡ None) }
-{
-    match get_u128(bytes, FREE_SLOT_BITS) {
-        0 => None,
-        bits => Some(bits.trailing_zeros() as u8),
     }
 }
 

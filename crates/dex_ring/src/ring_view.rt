@@ -9,7 +9,7 @@ ghost use Rattle.dex_fields.specs.declared.event_queue.TheConstants.{SEQ_NUM};
 ghost use Rattle.dex_ring.specs.Ring.{IsEventQueue, popped, pushed, ring_of};
 
 use crate::places::{place, write_event};
-use crate::ring_ref::{count_of, event_at, room_of};
+use crate::ring_ref::{RingRef, event_at};
 use dex_fields::event_queue::{COUNT, HEAD, SEQ_NUM};
 use dex_fields::{get_u64, put_u64};
 use dex_types::Event;
@@ -67,12 +67,19 @@ fn set_seq_num_of(bytes: &mut [u8], value: u64)
 }
 
 impl RingView<'_> {
+    /// The queue, for reading.
+    fn as_ref(&self) -> RingRef<'_>
+        ensures { result.bytes.now ≡ self.now.bytes.now }
+    {
+        RingRef { bytes: self.bytes }
+    }
+
     /// How many events are pending.
     pub fn len(&self) -> u32
         requires { IsEventQueue self.now.bytes.now }
         ensures { result ≡ length (ring_of self.now.bytes.now).events }
     {
-        count_of(self.bytes)
+        self.as_ref().len()
     }
 
     /// Whether no event is pending.
@@ -80,7 +87,7 @@ impl RingView<'_> {
         requires { IsEventQueue self.now.bytes.now }
         ensures { IsTrue result ↔ (length (ring_of self.now.bytes.now).events ≡ 0) }
     {
-        count_of(self.bytes) == 0
+        self.as_ref().is_empty()
     }
 
     /// How many more events fit.
@@ -88,7 +95,7 @@ impl RingView<'_> {
         requires { IsEventQueue self.now.bytes.now }
         ensures { result + length (ring_of self.now.bytes.now).events ≡ (ring_of self.now.bytes.now).capacity }
     {
-        room_of(self.bytes)
+        self.as_ref().room()
     }
 
     /// The event with this number, counted from the front.
@@ -99,7 +106,7 @@ impl RingView<'_> {
             ≡ encoded_event (slice_index_or (ring_of self.now.bytes.now).events index d) }
         ensures queued { IsQueued result }
     {
-        event_at(self.bytes, index)
+        self.as_ref().at(index)
     }
 
     /// Appends an event behind the last one. It writes the event's own bytes, the count and the count of all events ever
