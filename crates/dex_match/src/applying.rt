@@ -7,7 +7,7 @@ ghost use Rattle.dex_match.specs.LentParts.{KeepAccounts, events_in, handed, ord
 ghost use Rattle.dex_match.specs.Ordering.{IsDecided};
 ghost use Rattle.dex_match.specs.OrderParts.{IsGiven, parts_of};
 ghost use Rattle.dex_match.specs.OrderTerms.{order_of};
-ghost use Rattle.dex_match.specs.Planned.{AreAccepted, CanApply, planned, planned_parts};
+ghost use Rattle.dex_match.specs.Planned.{AreAccepted, CanApply, planned, planned_list};
 ghost use Rattle.dex_ring.specs.Appended.{appended};
 ghost use Rattle.dex_ring.specs.Ring.{ring_of};
 
@@ -70,9 +70,8 @@ fn apply<B: SideBook, A: SideBook>(
         plan.now.rested }
     ensures does { handed B.orders B.room A.orders views.new
         ≡ planned taker.id_side (order_of taker) plan.now (handed B.orders B.room A.orders views.old) }
-    ensures parts { parts_of (handed B.orders B.room A.orders views.new)
-        ≡ planned_parts taker.id_side (order_of taker) plan.now
-        (parts_of (handed B.orders B.room A.orders views.old)) }
+    ensures list { ring_of views.new.ring.bytes.now
+        ≡ planned_list taker.id_side (order_of taker) plan.now (parts_of (handed B.orders B.room A.orders views.old)) }
     ensures accounts { KeepAccounts views.old views.new }
     ensures own { KeepsSide B.holds B.same_place B.side B.room views.old.own views.new.own }
     ensures opposite { KeepsSide A.holds A.same_place A.side A.room views.old.opposite views.new.opposite }
