@@ -1,23 +1,21 @@
 -- What a new order is handed by views, and what it makes of that.
 use Rattle.std.specs.Prelude.{◌≡◌, ℕ, ◌^◌, ◌<◌, ◌≤◌, List, None, Result}
+use Rattle.dex_accounts.specs.Keeps.{KeepsEvents, KeepsMarket, KeepsOpen, KeepsRequests}
 use Rattle.dex_accounts.specs.Parts.{MarketParts, with_account, with_side}
 use Rattle.dex_market.specs.declared.market_ref.MarketRef.{MarketRef}
-use Rattle.dex_market.specs.declared.market_view.MarketView.{MarketView}
 use Rattle.dex_market.specs.declared.requests.RequestRef.{RequestRef}
-use Rattle.dex_market.specs.declared.requests.RequestView.{RequestView}
 use Rattle.dex_market.specs.MarketAccount.{market_words, sizes_of}
 use Rattle.dex_orders.specs.declared.orders_ref.OrdersRef.{OrdersRef}
-use Rattle.dex_orders.specs.declared.orders_view.OrdersView.{OrdersView}
 use Rattle.dex_ring.specs.Appended.{appended, pushed_all}
 use Rattle.dex_ring.specs.Ring.{IsEventQueue, ring_of}
 use Rattle.dex_ring.specs.declared.ring_ref.RingRef.{RingRef}
-use Rattle.dex_ring.specs.declared.ring_view.RingView.{RingView}
 use Rattle.dex_types.specs.declared.orders.Order.{Order}
 use Rattle.dex_types.specs.declared.refusals.Refusal.{Refusal}
 use Rattle.dex_types.specs.declared.replies.Reply.{Reply}
 use Rattle.dex_types.specs.NewOrder.{order_reply}
 use Rattle.dex_types.specs.Side.{opposite}
 use Rattle.dex_types.specs.QueuedEvent.{QueuedEvent}
+use Rattle.dex_match.specs.declared.applying.OrderViews.{OrderViews}
 use Rattle.dex_match.specs.declared.order_plan.Decided.{Decided}
 use Rattle.dex_match.specs.declared.order_plan.OrderPlan.{OrderPlan}
 use Rattle.dex_match.specs.declared.order_terms.Taker.{Taker}
@@ -27,9 +25,16 @@ use Rattle.dex_match.specs.Ordering.{order_answer, order_outcome, order_reason}
 use Rattle.dex_match.specs.OrderTerms.{order_of}
 
 -- what doing an order is handed: by the members of both sides' traits, their orders and the room of the order's own side
-abbrev pub handed : {B A : Type 0} → (B → List Order) → (B → ℕ) → (A → List Order) → MarketView → RequestView → RingView → OrdersView → B → A → OrderGiven
-handed own_orders own_room opposing market requests ring account own opposite =
-    given_by market.bytes.now requests.bytes.now ring.bytes.now account.bytes.now (own_orders own) (own_room own) (opposing opposite)
+abbrev pub handed : {B A : Type 0} → (B → List Order) → (B → ℕ) → (A → List Order) → OrderViews B A → OrderGiven
+handed own_orders own_room opposing views = given_by views.market.bytes.now views.requests.bytes.now views.ring.bytes.now views.orders.bytes.now
+    (own_orders views.own) (own_room views.own) (opposing views.opposite)
+
+-- the views look at the same accounts, which are accepted still; the trader's is open
+pub record KeepAccounts {B A : Type 0} (before after : OrderViews B A) : Type 0 where
+  pub market : KeepsMarket before.market after.market
+  pub requests : KeepsRequests before.requests after.requests
+  pub events : KeepsEvents before.ring after.ring
+  pub account : KeepsOpen before.orders after.orders
 
 -- what deciding it is shown
 abbrev pub shown : {B A : Type 0} → (B → List Order) → (B → ℕ) → (A → List Order) → MarketRef → RequestRef → RingRef → OrdersRef → B → A → OrderGiven

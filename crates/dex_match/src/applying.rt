@@ -2,13 +2,12 @@
 
 ghost use Rattle.std.specs.Prelude.{◌≡◌, ◌≤◌, ◌<◌, ◌^◌};
 ghost use Rattle.dex_types.specs.declared.replies.Reply.TheVariants as replies;
-ghost use Rattle.dex_accounts.specs.Keeps.{KeepsEvents, KeepsMarket, KeepsOpen, KeepsRequests, KeepsSide};
-ghost use Rattle.dex_match.specs.LentParts.{events_in, handed, ordered, reply_in};
+ghost use Rattle.dex_accounts.specs.Keeps.{KeepsSide};
+ghost use Rattle.dex_match.specs.LentParts.{KeepAccounts, events_in, handed, ordered, reply_in};
 ghost use Rattle.dex_match.specs.Ordering.{IsDecided};
 ghost use Rattle.dex_match.specs.OrderParts.{IsGiven, parts_of};
 ghost use Rattle.dex_match.specs.OrderTerms.{order_of};
-ghost use Rattle.dex_match.specs.Planned.{AreAccepted, CanApply, planned, planned_parts};
-ghost use Rattle.dex_orders.specs.OrdersAccount.{market_of};
+ghost use Rattle.dex_match.specs.Planned.{AreAccepted, CanApply, planned, planned_list};
 ghost use Rattle.dex_ring.specs.Appended.{appended};
 ghost use Rattle.dex_ring.specs.Ring.{ring_of};
 
@@ -43,46 +42,52 @@ fn amounts_fit(taker: Taker)
     ensures lock { taker.lock < 2 ^ 64 }
 {}
 
+/// What a new order changes, lent: the market's words and queues, its trader's account, its own side of the book, and the
+/// side that it meets.
+#[derive(Drop)]
+pub struct OrderViews<'a, B, A> {
+    pub market: MarketView<'a>,
+    pub requests: RequestView<'a>,
+    pub ring: RingView<'a>,
+    pub orders: OrdersView<'a>,
+    pub own: B,
+    pub opposite: A,
+}
+
 /// Does a plan, where the book, the queues, the market's words and the trader's funds have room for it.
-pub(crate) fn apply<B: SideBook, A: SideBook>(
+fn apply<B: SideBook, A: SideBook>(
     plan: &OrderPlan,
     taker: Taker,
-    market: &mut MarketView<'_>,
-    requests: &mut RequestView<'_>,
-    own: &mut B,
-    opposite: &mut A,
-    ring: &mut RingView<'_>,
-    orders: &mut OrdersView<'_>,
+    views: &mut OrderViews<'_, B, A>,
 ) -> Reply
-    requires own { B.holds own.old }
-    requires opposite { A.holds opposite.old }
-    requires side { B.side own.old ≡ taker.id_side }
-    requires accepted { AreAccepted
-        (handed B.orders B.room A.orders market.old requests.old ring.old orders.old own.old opposite.old) }
+    requires own { B.holds views.old.own }
+    requires opposite { A.holds views.old.opposite }
+    requires side { B.side views.old.own ≡ taker.id_side }
+    requires accepted { AreAccepted (handed B.orders B.room A.orders views.old) }
     requires can { CanApply taker.id_side (order_of taker) plan.now
-        (parts_of (handed B.orders B.room A.orders market.old requests.old ring.old orders.old own.old opposite.old)) }
+        (parts_of (handed B.orders B.room A.orders views.old)) }
     ensures reply { result ≡ replies.Ordered plan.now.id plan.now.slot plan.now.lots plan.now.pc plan.now.fee
         plan.now.rested }
-    ensures does { handed B.orders B.room A.orders market.new requests.new ring.new orders.new own.new opposite.new
-        ≡ planned taker.id_side (order_of taker) plan.now
-        (handed B.orders B.room A.orders market.old requests.old ring.old orders.old own.old opposite.old) }
-    ensures parts { parts_of
-        (handed B.orders B.room A.orders market.new requests.new ring.new orders.new own.new opposite.new)
-        ≡ planned_parts taker.id_side (order_of taker) plan.now (parts_of
-        (handed B.orders B.room A.orders market.old requests.old ring.old orders.old own.old opposite.old)) }
-    ensures on_market { market_of orders.new.bytes.now ≡ market_of orders.old.bytes.now }
-    ensures market { KeepsMarket market.old market.new }
-    ensures requests { KeepsRequests requests.old requests.new }
-    ensures events { KeepsEvents ring.old ring.new }
-    ensures account { KeepsOpen orders.old orders.new }
-    ensures own { KeepsSide B.holds B.same_place B.side B.room own.old own.new }
-    ensures opposite { KeepsSide A.holds A.same_place A.side A.room opposite.old opposite.new }
+    ensures does { handed B.orders B.room A.orders views.new
+        ≡ planned taker.id_side (order_of taker) plan.now (handed B.orders B.room A.orders views.old) }
+    ensures list { ring_of views.new.ring.bytes.now
+        ≡ planned_list taker.id_side (order_of taker) plan.now (parts_of (handed B.orders B.room A.orders views.old)) }
+    ensures accounts { KeepAccounts views.old views.new }
+    ensures own { KeepsSide B.holds B.same_place B.side B.room views.old.own views.new.own }
+    ensures opposite { KeepsSide A.holds A.same_place A.side A.room views.old.opposite views.new.opposite }
 {
-    let sizes = market.sizes();
-    let rebates = trade(plan, sizes, taker, own, opposite, ring);
-    requests.advance();
-    take_in(intake_by(taker.id_side, plan, rebates), market);
-    pay(plan, taker, moves_by(sizes, taker, plan), orders);
+    let sizes = views.market.sizes();
+    let rebates = trade(
+        plan,
+        sizes,
+        taker,
+        &mut views.own,
+        &mut views.opposite,
+        &mut views.ring,
+    );
+    views.requests.advance();
+    take_in(intake_by(taker.id_side, plan, rebates), &mut views.market);
+    pay(plan, taker, moves_by(sizes, taker, plan), &mut views.orders);
     reply_by(plan)
 }
 
@@ -95,36 +100,25 @@ pub(crate) fn apply<B: SideBook, A: SideBook>(
 pub fn apply_order<B: SideBook, A: SideBook>(
     plan: &OrderPlan,
     taker: &Taker,
-    market: &mut MarketView<'_>,
-    requests: &mut RequestView<'_>,
-    own: &mut B,
-    opposite: &mut A,
-    ring: &mut RingView<'_>,
-    orders: &mut OrdersView<'_>,
+    views: &mut OrderViews<'_, B, A>,
 ) -> Reply
-    requires own { B.holds own.old }
-    requires opposite { A.holds opposite.old }
-    requires side { B.side own.old ≡ taker.now.id_side }
+    requires own { B.holds views.old.own }
+    requires opposite { A.holds views.old.opposite }
+    requires side { B.side views.old.own ≡ taker.now.id_side }
     requires price { 1 ≤ taker.now.price }
-    requires given { IsGiven taker.now.id_side taker.now.account
-        (handed B.orders B.room A.orders market.old requests.old ring.old orders.old own.old opposite.old) }
+    requires given { IsGiven taker.now.id_side taker.now.account (handed B.orders B.room A.orders views.old) }
     requires decided { IsDecided plan.now taker.now.id_side (order_of taker.now)
-        (parts_of (handed B.orders B.room A.orders market.old requests.old ring.old orders.old own.old opposite.old)) }
-    ensures reply { result ≡ reply_in taker.entry.now
-        (handed B.orders B.room A.orders market.old requests.old ring.old orders.old own.old opposite.old) }
-    ensures does { handed B.orders B.room A.orders market.new requests.new ring.new orders.new own.new opposite.new
-        ≡ ordered taker.entry.now
-        (handed B.orders B.room A.orders market.old requests.old ring.old orders.old own.old opposite.old) }
-    ensures list { ring_of ring.new.bytes.now ≡ appended (events_in taker.entry.now
-        (handed B.orders B.room A.orders market.old requests.old ring.old orders.old own.old opposite.old))
-        (ring_of ring.old.bytes.now) }
-    ensures market { KeepsMarket market.old market.new }
-    ensures requests { KeepsRequests requests.old requests.new }
-    ensures events { KeepsEvents ring.old ring.new }
-    ensures account { KeepsOpen orders.old orders.new }
-    ensures own { KeepsSide B.holds B.same_place B.side B.room own.old own.new }
-    ensures opposite { KeepsSide A.holds A.same_place A.side A.room opposite.old opposite.new }
+        (parts_of (handed B.orders B.room A.orders views.old)) }
+    ensures reply { result ≡ reply_in taker.entry.now (handed B.orders B.room A.orders views.old) }
+    ensures does { handed B.orders B.room A.orders views.new
+        ≡ ordered taker.entry.now (handed B.orders B.room A.orders views.old) }
+    ensures list { ring_of views.new.ring.bytes.now
+        ≡ appended (events_in taker.entry.now (handed B.orders B.room A.orders views.old))
+        (ring_of views.old.ring.bytes.now) }
+    ensures accounts { KeepAccounts views.old views.new }
+    ensures own { KeepsSide B.holds B.same_place B.side B.room views.old.own views.new.own }
+    ensures opposite { KeepsSide A.holds A.same_place A.side A.room views.old.opposite views.new.opposite }
 {
     amounts_fit(*taker);
-    apply(plan, *taker, market, requests, own, opposite, ring, orders)
+    apply(plan, *taker, views)
 }

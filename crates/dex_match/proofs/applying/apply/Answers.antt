@@ -10,7 +10,7 @@ use Rattle.dex_match.specs.declared.intake.Intake.{Intake}
 use Rattle.dex_match.specs.declared.payment.Moves.{Moves}
 use Rattle.dex_match.specs.Applying as applying
 use Rattle.dex_match.specs.OrderTerms.{meeting_with, order_of}
-use Rattle.dex_match.proofs.PartsLaws.{same-given, same-parts}
+use Rattle.dex_match.proofs.PartsLaws.{same-given}
 use Rattle.dex_match.proofs.applying.apply.Goals as goal
 
 pub returns-clause-does : goal.returns-clause-does
@@ -18,12 +18,12 @@ returns-clause-does g c =
     let side : Side = c.args.taker.id_side in
     let n : NewOrder = order_of c.args.taker in
     let plan = c.args.plan.now in
-    let own = g.B.SideRead.orders c.args.own.now in
-    let room = g.B.SideRead.room c.args.own.now in
-    let opposing = g.A.SideRead.orders c.args.opposite.now in
-    let market = c.args.market.now.bytes.now in
-    let ring = c.args.ring.now.bytes.now in
-    let account = c.args.orders.now.bytes.now in
+    let own = g.B.SideRead.orders c.args.views.now.own in
+    let room = g.B.SideRead.room c.args.views.now.own in
+    let opposing = g.A.SideRead.orders c.args.views.now.opposite in
+    let market = c.args.views.now.market.bytes.now in
+    let ring = c.args.views.now.ring.bytes.now in
+    let account = c.args.views.now.orders.bytes.now in
     let funds = funds_of (account_of account) in
     let rebates = c.trade-rebates.ensures.rebates ∙ ap (λ (s : Lots). (meeting_with s c.args.taker opposing).rebates) c.sizes-sizes.ensures in
     let intake = c.intake_by.ensures ∙ ap (λ (r : ℕ). applying.intake_by side plan.deposit plan.fee r) rebates in
@@ -38,27 +38,8 @@ returns-clause-does g c =
     c.trade-rebates.ensures.own_side.room
     opposite
 
-pub returns-clause-parts : goal.returns-clause-parts
-returns-clause-parts g c =
-    let side : Side = c.args.taker.id_side in
-    let n : NewOrder = order_of c.args.taker in
-    let plan = c.args.plan.now in
-    let own = g.B.SideRead.orders c.args.own.now in
-    let room = g.B.SideRead.room c.args.own.now in
-    let opposing = g.A.SideRead.orders c.args.opposite.now in
-    let market = c.args.market.now.bytes.now in
-    let ring = c.args.ring.now.bytes.now in
-    let account = c.args.orders.now.bytes.now in
-    let funds = funds_of (account_of account) in
-    let rebates = c.trade-rebates.ensures.rebates ∙ ap (λ (s : Lots). (meeting_with s c.args.taker opposing).rebates) c.sizes-sizes.ensures in
-    let intake = c.intake_by.ensures ∙ ap (λ (r : ℕ). applying.intake_by side plan.deposit plan.fee r) rebates in
-    let moves = c.moves_by.ensures ∙ ap (λ (s : Lots). applying.moves_by side s n plan) c.sizes-sizes.ensures in
-    let opposite = c.trade-rebates.ensures.opposite ∙ ap (λ (s : Lots). (meeting_with s c.args.taker opposing).left) c.sizes-sizes.ensures in
-    same-parts _ _ _ _ _ _ _ _ _ _ _ _ _ _
-    (c.take_in.ensures.words ∙ ap (λ (i : Intake). applying.words_with i (market_words market)) intake)
-    (search rules)
-    (c.trade-rebates.ensures.list ∙ ap (λ (s : Lots). appended (applying.trade_events side s n plan room own opposing) (ring_of ring)) c.sizes-sizes.ensures)
-    (c.pay.ensures.words ∙ ap (λ (m : Moves). with_funds (applying.funds_with side m funds) (record (account_of account) { slots = slice_set (account_of account).slots plan.slot (Some (record { id = plan.id; side = side; client = n.client })) })) moves)
-    c.trade-rebates.ensures.own
-    c.trade-rebates.ensures.own_side.room
-    opposite
+pub returns-clause-list : goal.returns-clause-list
+returns-clause-list g c =
+    c.trade-rebates.ensures.list
+    ∙ ap (λ (s : Lots). appended (applying.trade_events c.args.taker.id_side s (order_of c.args.taker) c.args.plan.now (g.B.SideRead.room c.args.views.now.own)
+    (g.B.SideRead.orders c.args.views.now.own) (g.A.SideRead.orders c.args.views.now.opposite)) (ring_of c.args.views.now.ring.bytes.now)) c.sizes-sizes.ensures

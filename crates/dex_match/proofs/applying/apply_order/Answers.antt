@@ -1,5 +1,4 @@
-use Rattle.std.proofs.Common.{ap, ◌∙◌}
-use Rattle.dex_match.specs.OrderParts.{OrderParts}
+use Rattle.std.proofs.Common.{◌∙◌}
 use Rattle.dex_match.specs.OrderTerms.{order_of}
 use Rattle.dex_match.proofs.PartsLaws.{sound-given}
 use Rattle.dex_match.proofs.PlannedLaws.{planned-list, planned-ordered}
@@ -19,4 +18,4 @@ pub returns-clause-does : goal.returns-clause-does
 returns-clause-does g c = c.apply.ensures.does ∙ planned-ordered c.args.taker.now _ c.args.plan.now (sound-given _ _ _ c.requires.given) c.requires.decided
 
 pub returns-clause-list : goal.returns-clause-list
-returns-clause-list g c = ap (λ (p : OrderParts). p.ring) c.apply.ensures.parts ∙ planned-list c.args.taker.now _ c.args.plan.now c.requires.decided
+returns-clause-list g c = c.apply.ensures.list ∙ planned-list c.args.taker.now _ c.args.plan.now c.requires.decided
