@@ -32,9 +32,9 @@ abbrev pub texts : List (Bor (List ℕ)) → List (List ℕ)
 texts fields = map (λ (field : Bor (List ℕ)). field.now) fields
 
 -- a row's first twelve fields, and how many there are
-pub record AreCut (bytes : List ℕ) (count : ℕ) (fields : List (Bor (List ℕ))) : Type 0 where
-  pub count : count ≡ length (cells_of bytes)
-  pub kept : texts (take count fields) ≡ take 12 (cells_of bytes)
+pub record AreCut (bytes : List ℕ) (n : ℕ) (fields : List (Bor (List ℕ))) : Type 0 where
+  pub count : n ≡ length (cells_of bytes)
+  pub kept : texts (take n fields) ≡ take 12 (cells_of bytes)
 
 -- a row with its first twelve fields, and how many there are
 abbrev pub IsCut : Line → Type 0

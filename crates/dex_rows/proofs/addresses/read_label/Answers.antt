@@ -2,7 +2,7 @@ use Rattle.std.proofs.Common.{◌∙◌, arith, refl, sym}
 use Rattle.std.proofs.lemmas.List.Folds.{list_all_more}
 use Rattle.dex_types.specs.Text.{is_label_character}
 use Rattle.dex_rows.proofs.AddressLemmas.{one_written}
-use Rattle.dex_rows.proofs.addresses.label_word.Goals as goal
+use Rattle.dex_rows.proofs.addresses.read_label.Goals as goal
 
 pub label-preserved : goal.label-preserved
 label-preserved c =

@@ -1,7 +1,7 @@
 use Rattle.std.proofs.Common.{◌≡◌, ◌∙◌, [], get_or, ap}
 use Rattle.dex_rows.specs.Lines.{IsCut, cells_of}
 use Rattle.dex_rows.proofs.LineLemmas.{field_kept}
-use Rattle.dex_rows.proofs.records.field.Goals as goal
+use Rattle.dex_rows.proofs.records.field_at.Goals as goal
 
 pub returns-in-Plain : goal.returns-in-Plain
 returns-in-Plain c =

@@ -2,8 +2,8 @@ use Rattle.std.proofs.Common.{◌≡◌, ◌∙◌, length, arith, refl, sym}
 use Rattle.std.proofs.lemmas.Bool.Decides.{nat_tests}
 use Rattle.std.proofs.lemmas.List.{take_all}
 use Rattle.dex_rows.proofs.LineLemmas.{count_fits, line_comma, line_end, line_more}
-use Rattle.dex_rows.proofs.lines.line_at.Goals.{then-byte-le44+then-byte-eq44, then-byte-le44+else-byte-eq44+else-ends_row, else-byte-le44}
-use Rattle.dex_rows.proofs.lines.line_at.Goals as goal
+use Rattle.dex_rows.proofs.lines.cut_at.Goals.{then-byte-le44+then-byte-eq44, then-byte-le44+else-byte-eq44+else-ends_row, else-byte-le44}
+use Rattle.dex_rows.proofs.lines.cut_at.Goals as goal
 
 pub overflow_add-count : goal.overflow_add-count
 overflow_add-count c = count_fits c.args.text.now c.bytes.start c.bytes.at c.bytes.count c.bytes.fields (omega arith) (omega arith) c.bytes.invariant.1
