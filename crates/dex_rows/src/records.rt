@@ -3,7 +3,7 @@
 ghost use Rattle.std.specs.Prelude.{◌≡◌, ◌<◌, [], ◌∷◌, IfOk, OnErr, false, length, true};
 ghost use Rattle.dex_rows.specs.Records.{field_at, rows_of};
 
-use crate::lines::{Line, next_line, without_mark};
+use crate::lines::{KEPT, Line, next_line, without_mark};
 use crate::quoted::{self, QuotedRows};
 use csv::ByteRecord;
 use dex_types::NoMemory;
@@ -37,10 +37,13 @@ impl<'a> Fields<'a> {
     pub fn new() -> Fields<'a>
         ensures { result ≡ [] ∷ [] }
     {
-        Fields {
-            line: Line::empty(),
-            quoted: None,
-        }
+        let none: &[u8] = &[];
+        let line = Line {
+            bytes: none,
+            fields: [none; KEPT],
+            count: 1,
+        };
+        Fields { line, quoted: None }
     }
 }
 

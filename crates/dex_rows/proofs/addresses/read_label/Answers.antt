@@ -9,5 +9,5 @@ label-preserved c =
     let text = c.args.text.now in
     let place = c.label.place in (
       rw (list_all_more is_label_character text place 0 c.label-test.true, c.label.invariant.0, sym c.is_label_character.ensures ∙ c.if-not-is_label_character.false) refl,
-      one_written text c.label.bytes place c.label-test.true (omega arith) c.label.invariant.1,
+      one_written text c.label.address.0 place c.label-test.true (omega arith) c.label.invariant.1,
     )
