@@ -1,6 +1,5 @@
-use Rattle.std.proofs.Common.{◌≡◌, ◌∙◌, length, arith, refl, sym}
+use Rattle.std.proofs.Common.{◌≡◌, ◌∙◌, length, arith, sym}
 use Rattle.std.proofs.lemmas.Bool.Decides.{nat_tests}
-use Rattle.std.proofs.lemmas.List.{take_all}
 use Rattle.dex_rows.proofs.LineLemmas.{count_fits, line_comma, line_end, line_more}
 use Rattle.dex_rows.proofs.lines.cut_at.Goals.{then-byte-le44+then-byte-eq44, then-byte-le44+else-byte-eq44+else-ends_row, else-byte-le44}
 use Rattle.dex_rows.proofs.lines.cut_at.Goals as goal

@@ -1,5 +1,5 @@
 use Rattle.std.proofs.Common.{◌≡◌, ◌∙◌, [], get_or, ap, arith}
-use Rattle.dex_rows.specs.Lines.{IsCut, cells_of}
+use Rattle.dex_rows.specs.Lines.{cells_of}
 use Rattle.dex_rows.proofs.LineLemmas.{field_kept}
 use Rattle.dex_rows.proofs.records.field_at.Goals as goal
 
