@@ -2,14 +2,14 @@
 
 ghost use Rattle.std.specs.Prelude.{◌≡◌, ◌<◌};
 ghost use Rattle.dex_dump_rows.specs.Lines as spec;
-ghost use Rattle.dex_dump_rows.specs.Lines.{field_at, is_first_row};
+ghost use Rattle.dex_dump_rows.specs.Lines.{is_first_row};
 ghost use Rattle.dex_dump_rows.specs.Telling.{TellsAccount, TellsLine};
 ghost use Rattle.dex_dump_rows.specs.declared.lines.LineError.TheVariants.{Grammar, NoMemory as OutOfMemory};
 
 use dex_rows::addresses::address_word;
 use dex_rows::base64_words::base64_word;
 use dex_rows::printable::row_is_printable;
-use dex_rows::records::{Fields, field, field_count};
+use dex_rows::records::{Fields, field_at, field_count};
 use dex_types::{Address, MarketAccounts, Named, NoMemory, OrdersAccount};
 use std::alloc::Global;
 use thiserror::Error;
@@ -194,16 +194,4 @@ fn account_at(alloc: Global, row: &Fields<'_>, place: usize) -> Result<Named, Li
     let address = address_word(field_at(row, place)).ok_or(LineError::Grammar)?;
     let bytes = base64_word(alloc, field_at(row, place + 1))?.ok_or(LineError::Grammar)?;
     Ok(Named { address, bytes })
-}
-
-/// The field at a place of a row, counted from 0; no bytes behind the last.
-fn field_at<'r>(row: &'r Fields<'_>, place: usize) -> &'r [u8]
-    requires { place < 12 }
-    ensures { result.now ≡ field_at row.now place }
-{
-    if place < field_count(row) {
-        field(row, place)
-    } else {
-        &[]
-    }
 }

@@ -10,11 +10,10 @@ use crate::faults::{FaultKind, RowError};
 use crate::order_words::data_in;
 use crate::parties::{Parties, read_parties};
 use crate::statement::Statement;
-use crate::words::field_at;
 use dex_rows::base64_words::base64_word;
 use dex_rows::numbers::u32_word;
 use dex_rows::printable::row_is_printable;
-use dex_rows::records::{Fields, field_count};
+use dex_rows::records::{Fields, field_at, field_count};
 use std::alloc::Global;
 use std::marker::Model;
 

@@ -6,11 +6,11 @@ ghost use Rattle.dex_statement.specs.Telling.{Tells};
 
 use crate::faults::{FaultKind, RowError};
 use crate::statement::Statement;
-use crate::words::{field_at, time_word};
+use crate::words::time_word;
 use dex_rows::addresses::address_word;
 use dex_rows::base64_words::base64_word;
 use dex_rows::numbers::{u8_word, u32_word, u64_word};
-use dex_rows::records::{Fields, field_count};
+use dex_rows::records::{Fields, field_at, field_count};
 use dex_types::{Address, Program};
 use std::alloc::Global;
 use std::marker::Model;

@@ -1,9 +1,8 @@
-use Rattle.std.proofs.Common.{◌≡◌, ◌∙◌, length, arith, refl, sym}
+use Rattle.std.proofs.Common.{◌≡◌, ◌∙◌, length, arith, sym}
 use Rattle.std.proofs.lemmas.Bool.Decides.{nat_tests}
-use Rattle.std.proofs.lemmas.List.{take_all}
 use Rattle.dex_rows.proofs.LineLemmas.{count_fits, line_comma, line_end, line_more}
-use Rattle.dex_rows.proofs.lines.line_at.Goals.{then-byte-le44+then-byte-eq44, then-byte-le44+else-byte-eq44+else-ends_row, else-byte-le44}
-use Rattle.dex_rows.proofs.lines.line_at.Goals as goal
+use Rattle.dex_rows.proofs.lines.cut_at.Goals.{then-byte-le44+then-byte-eq44, then-byte-le44+else-byte-eq44+else-ends_row, else-byte-le44}
+use Rattle.dex_rows.proofs.lines.cut_at.Goals as goal
 
 pub overflow_add-count : goal.overflow_add-count
 overflow_add-count c = count_fits c.args.text.now c.bytes.start c.bytes.at c.bytes.count c.bytes.fields (omega arith) (omega arith) c.bytes.invariant.1
@@ -35,17 +34,15 @@ bytes-preserved c =
 
 pub returns-then-ends_row-clause-cut : goal.returns-then-ends_row-clause-cut
 returns-then-ends_row-clause-cut c =
-    line_end c.args.text.now c.bytes.start c.bytes.at c.bytes.count c.bytes.fields _ c.bytes.invariant.0 refl refl c.keep-then-ends_row.ensures.kept c.bytes.invariant.1
+    line_end c.args.text.now c.bytes.start c.bytes.at c.bytes.count c.bytes.fields _ c.bytes.invariant.0 c.keep-then-ends_row.ensures.kept c.bytes.invariant.1
 
 pub returns-clause-cut : goal.returns-clause-cut
 returns-clause-cut c =
     let text = c.args.text.now in
     let end : c.bytes.at ≡ length text = omega arith in
-    line_end text c.bytes.start (length text) c.bytes.count c.bytes.fields _ c.bytes.invariant.0 (sym (take_all (length text) text (omega arith))) refl c.keep-2.ensures.kept
-    (rw end at c.bytes.invariant.1)
+    line_end text c.bytes.start (length text) c.bytes.count c.bytes.fields _ c.bytes.invariant.0 c.keep-2.ensures.kept (rw end at c.bytes.invariant.1)
 
 pub returns-clause-front : goal.returns-clause-front
 returns-clause-front c =
-    let text = c.args.text.now in
-    let all = take_all c.bytes.at text c.bytes-test.false in
-    record { fits = omega arith; is = take_all (length text) text (omega arith); whole = rw all at c.bytes.invariant.1.whole; ended = λ below. absurd (omega arith) }
+    let end : c.bytes.at ≡ length c.args.text.now = omega arith in
+    record { fits = omega arith; whole = rw end at c.bytes.invariant.1.whole; ended = λ below. absurd (omega arith) }

@@ -1,7 +1,7 @@
 use Rattle.std.proofs.Common.{◌≡◌, [], length}
 use Rattle.dex_statement.specs.Parties as parties
 use Rattle.dex_statement.specs.Words.{words_of}
-use Rattle.dex_statement.proofs.parties.named_of.Given as goal
+use Rattle.dex_statement.proofs.parties.read_named.Given as goal
 
 abbrev pub invariant-words : goal.invariant-words
 invariant-words l = parties.named_behind l.named.items (words_of l.rest) ≡ parties.named_behind [] (words_of l.fn.field)
