@@ -11,8 +11,10 @@ use Rattle.dex_types.specs.Rows.{PlainRow}
 use Rattle.dex_types.specs.Soundness.{IsSound}
 use Rattle.dex_types.specs.Transfers.{Transfers, no_transfers}
 use Rattle.dex_types.specs.declared.movements.MoveKind.TheVariants.{Debit, Credit}
-use Rattle.dex_types.specs.Wallets.{amount_at}
-use Rattle.dex_history.specs.Journal.{Sees, asked_of, idle, row_step}
+use Rattle.dex_types.specs.Wallets.{amount_at, balance_seen, brought_to, movement_of, movements, seen_wallets, taken_from}
+use Rattle.dex_types.specs.declared.movements.Movement.{Movement}
+use Rattle.dex_history.specs.Journal.{Sees, asked_of, front, idle, places, row_step}
+use Rattle.dex_history.proofs.WalletLaws.{places-movements, wallet-movement_by}
 use Rattle.dex_history.proofs.MintLaws.{IsOfMint}
 use Rattle.dex_history.proofs.StepMoves.{row-can, row-moves}
 use Rattle.dex_cell.specs.Paying.{paid_out, parcel_of}
@@ -21,13 +23,14 @@ use Rattle.dex_fold.specs.World.{WalletState}
 use Rattle.dex_fold.proofs.MappedLists.{map-map}
 use Rattle.dex_wallet.specs.CellState.{CellState, HasSpare, IsWalletCell}
 use Rattle.dex_act.specs.declared.places.WalletPlaces.{WalletPlaces}
-use Rattle.dex_act.specs.Wallets.{AreSeenAt, CanBePaid, CanGet, CanLook, CanPay, CanTake, IsOf, IsRight, NamesFor, SeesCells, amount_in, any_hit, cell_acted, cell_credited, cell_debited, cell_looked, cell_paid, got_at, looks_at, moved_some, paid_at, roles_of, wallet_state_of}
-use Rattle.dex_act.proofs.CellLists.{AreApart-map, AreSeenAt-map, KeepsAddress, all-both, map-identity, map-same, moved_some-address}
+use Rattle.dex_act.specs.Wallets.{AreSeenAt, CanBePaid, CanGet, CanPay, CanProbe, CanTake, HasRoomFor, IsOf, IsRight, NamesFor, SeesCells, amount_in, any_hit, cell_acted, cell_credited, cell_debited, cell_paid, got_at, moved_some, paid_at, roles_of, wallet_state_of}
+use Rattle.dex_act.proofs.CellLists.{AreApart-map, AreSeenAt-map, KeepsAddress, all-both, amount_at-nothing, map-identity, moved_some-address}
 use Rattle.dex_act.proofs.WalletMoves.{amount_in-parcel_of}
 use Rattle.dex_history.proofs.StepMints.{row-of}
+use Rattle.dex_act.proofs.Seeing.{seen-hit}
 use Rattle.dex_act.proofs.Sights.{named-hit}
 use Rattle.dex_act.proofs.Acting.{CellMoves, RowMoves, cell-moves, gets-after}
-use Rattle.dex_act.proofs.Acted.{acted-state, look-paid, paid-address, probed-looked}
+use Rattle.dex_act.proofs.Acted.{acted-state, paid-address, room-paid}
 
 -- what a row moves on a sound market
 pub row-moves-of : (row : PlainRow) (seen : Seen) (m : Market) → IsSound m → Sees (asked_of row) seen → RowMoves seen m (row_step row seen m).transfers
@@ -161,42 +164,33 @@ pub paid-nothing : (row : PlainRow) (seen : Seen) (t : Transfers) (cells : List 
 paid-nothing row seen t cells none =
     ap (λ (x : Transfers). map (cell_paid row seen x) cells) none ∙ map-identity (cell_paid row seen no_transfers) cells (λ cell. still cell)
   where
-    zero-at : (address : Address) (role : Option WalletSeen) → amount_at address role 0 ≡ 0
-    zero-at address None = refl
-    zero-at address (Some wallet) = either (is_same address wallet.address)
-      where
-        either : (b : Bool) → ◌≡◌ {A = ℕ} (cond b 0 0) 0
-        either true = refl
-        either false = refl
-
     still : (cell : CellState) → cell_paid row seen no_transfers cell ≡ cell
     still cell =
-        let taken : paid_at seen 0 0 cell ≡ 0 = omega (arith, zero-at cell.address seen.coin, zero-at cell.address seen.pc) in
+        let taken : paid_at seen 0 0 cell ≡ 0 = omega (arith, amount_at-nothing cell.address seen.coin, amount_at-nothing cell.address seen.pc) in
         let same : cell_debited row seen 0 0 cell ≡ cell = ap (λ (n : ℕ). moved_some row Debit n cell) taken in
         let got : amount_at cell.address seen.coin 0 + got_at seen 0 0 cell ≡ 0 =
-        omega (arith, zero-at cell.address seen.coin, zero-at cell.address seen.pc, zero-at cell.address seen.referrer) in
+        omega (arith, amount_at-nothing cell.address seen.coin, amount_at-nothing cell.address seen.pc, amount_at-nothing cell.address seen.referrer) in
         ap (cell_credited row seen 0 0 0) same ∙ ap (λ (n : ℕ). moved_some row Credit n cell) got
 
 -- ---- looks behind that
 
-pub can-look : (row : PlainRow) (seen : Seen) (m : Market) (t : Transfers) (cells : List CellState) (places : WalletPlaces) → RowMoves seen m t → SeesCells seen cells
-    → AreSeenAt cells seen places → CanLook seen places t (map (cell_paid row seen t) cells)
-can-look row seen m t cells places moves sees at =
-    let Can : CellState → Type 0 = λ cell. looks_at seen t (roles_of seen) cell.address ≡ true → HasSpare cell in
+pub can-probe : (row : PlainRow) (seen : Seen) (m : Market) (t : Transfers) (cells : List CellState) (at : WalletPlaces) → RowMoves seen m t → SeesCells seen cells
+    → AreSeenAt cells seen at → CanProbe row seen at (front (places (movements seen t))) (map (cell_paid row seen t) cells)
+can-probe row seen m t cells at moves sees here =
+    let moved : List Movement = front (places (movements seen t)) in
+    let Named : Movement → Type 0 = λ move. any_hit move.wallet (roles_of seen) ≡ true in
     record {
       apart = AreApart-map (cell_paid row seen t) cells (paid-address row seen t) sees.apart;
-      at = AreSeenAt-map (cell_paid row seen t) cells seen places (paid-address row seen t) at;
-      spare = All-map Can (cell_paid row seen t) cells
-          (All-weaker (IsSeenRight seen) (λ (cell : CellState). Can (cell_paid row seen t cell))
-          (λ cell right. look-paid row seen m t cell (cell-moves seen m t cell moves right.0 right.1) right.0 right.1) cells (seen-right seen cells sees));
+      at = AreSeenAt-map (cell_paid row seen t) cells seen at (paid-address row seen t) here;
+      named = subst (All Named) (sym (places-movements seen t))
+          (All-map Named (movement_of seen t) (seen_wallets seen)
+          (All-weaker (λ (a : Address). any_hit a (roles_of seen) ≡ true) (λ (a : Address). Named (movement_of seen t a))
+          (λ a hit. ap (λ (b : Address). any_hit b (roles_of seen)) (wallet-movement_by a (balance_seen seen a) (taken_from seen t a) (brought_to seen t a)) ∙ hit)
+          (seen_wallets seen) (seen-hit seen)));
+      room = All-map (HasRoomFor row moved) (cell_paid row seen t) cells
+          (All-weaker (IsSeenRight seen) (λ (cell : CellState). HasRoomFor row moved (cell_paid row seen t cell))
+          (λ cell right. room-paid row seen m t cell (cell-moves seen m t cell moves right.0 right.1) right.0 right.1) cells (seen-right seen cells sees));
     }
-
-pub acted-all : (row : PlainRow) (seen : Seen) (t : Transfers) (cells : List CellState)
-    → map (cell_looked row seen t (roles_of seen)) (map (cell_paid row seen t) cells) ≡ map (cell_acted row seen t) cells
-acted-all row seen t cells =
-    map-map (cell_paid row seen t) (cell_looked row seen t (roles_of seen)) cells
-    ∙ map-same (λ cell. cell_looked row seen t (roles_of seen) (cell_paid row seen t cell)) (cell_acted row seen t) cells
-    (λ cell. sym (probed-looked row seen t (cell_paid row seen t cell)))
 
 -- ---- what it is to the wallets
 

@@ -18,7 +18,7 @@ use Rattle.dex_plan.proofs.StepLaws as laws
 use Rattle.dex_history.specs.Journal.{is_refusal, request_of}
 use Rattle.dex_history.proofs.RefusalLaws.{step-refused}
 use Rattle.dex_cell.specs.CellState.{MarketCellState, answer_on, market_at, step_on}
-use Rattle.dex_cell.specs.PlanAmounts.{plan_transfers}
+use Rattle.dex_plan.specs.Owing.{plan_transfers}
 
 -- a plan that was decided moves what its row's step moves
 pub planned-moves : (plan : Plan) (request : Request) (seen : Seen) (m : Market) → Ok plan ≡ decided request seen m

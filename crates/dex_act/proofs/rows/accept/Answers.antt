@@ -1,4 +1,4 @@
-use Rattle.dex_act.proofs.Rowing.{coin-paid, done, gets, looks, pays, pc-paid}
+use Rattle.dex_act.proofs.Rowing.{behind-both, coin-paid, gets, pays, pc-paid}
 use Rattle.dex_act.proofs.rows.accept.Goals as goal
 
 pub debits-coin-requires : goal.debits-coin-requires
@@ -24,16 +24,9 @@ credits-requires c =
     c.args.places.now c.requires.places c.requires.decided c.amounts_of-amounts.result c.amounts_of-amounts.ensures
     c.debits-coin.new.cells c.debits-coin.ensures.moved c.carry_out-payouts.result c.carry_out-payouts.ensures.paid
 
-pub probes-requires : goal.probes-requires
-probes-requires c =
-    looks c.args.row.now c.args.seen.now c.args.plan.now c.args.market.now c.args.wallets.now c.requires.row c.requires.market c.requires.wallets
+pub returns-clause-wallets : goal.returns-clause-wallets
+returns-clause-wallets c =
+    behind-both c.args.row.now c.args.seen.now c.args.plan.now c.args.market.now c.args.wallets.now c.requires.row c.requires.market c.requires.wallets
     c.args.places.now c.requires.places c.requires.decided c.amounts_of-amounts.result c.amounts_of-amounts.ensures
     c.debits-coin.new.cells c.debits-coin.ensures.moved c.carry_out-payouts.result c.carry_out-payouts.ensures.paid
     c.credits.new.cells c.credits.ensures
-
-pub returns-clause-wallets : goal.returns-clause-wallets
-returns-clause-wallets c =
-    done c.args.row.now c.args.seen.now c.args.plan.now c.args.market.now c.args.wallets.now c.requires.row c.requires.market c.requires.wallets
-    c.args.places.now c.requires.places c.requires.decided c.amounts_of-amounts.result c.amounts_of-amounts.ensures
-    c.debits-coin.new.cells c.debits-coin.ensures.moved c.carry_out-payouts.result c.carry_out-payouts.ensures.paid
-    c.credits.new.cells c.credits.ensures c.probes.new.cells c.probes.ensures

@@ -5,7 +5,7 @@ use Rattle.dex_types.specs.Wallets.{movement_of}
 use Rattle.dex_history.specs.Journal.{places}
 use Rattle.dex_movements.specs.Amounts.{transfers_of}
 use Rattle.dex_movements.proofs.PlaceLaws.{places-moved, seen-wallets}
-use Rattle.dex_movements.proofs.places.moves_of_any.Goals as goal
+use Rattle.dex_movements.proofs.places.put_moves_of_any.Goals as goal
 
 pub returns : goal.returns
 returns c =
