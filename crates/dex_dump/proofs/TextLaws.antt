@@ -31,7 +31,15 @@ pub rows_more : {A B : Type 0} (rows : B → List Fields) (plain : A → B) (tex
     → x ≡ get_or xs i x → before ≡ text ++ lines_text (flat_map rows (map plain (take i xs)))
     → before ++ lines_text (rows (plain x)) ≡ text ++ lines_text (flat_map rows (map plain (take (i + 1) xs)))
 rows_more rows plain text before xs i x h here e =
-    rw (e, map_more plain xs i x, ← here, flat_map-append rows, lines_text-append) (rw append-nil (append_assoc text _ _))
+    subst (λ (most : _). before ++ lines_text (rows (plain x)) ≡ text ++ lines_text (flat_map rows (map plain most)))
+    (ap (λ (y : _). take i xs ++ y ∷ []) here ∙ sym (take_more xs i x h)) (rows-pushed rows plain text before (take i xs) x e)
+
+-- the same where an element has several rows, which stands behind others
+pub rows-pushed : {A B : Type 0} (rows : B → List Fields) (plain : A → B) (text before : List ℕ) (xs : List A) (x : A)
+    → before ≡ text ++ lines_text (flat_map rows (map plain xs))
+    → before ++ lines_text (rows (plain x)) ≡ text ++ lines_text (flat_map rows (map plain (xs ++ x ∷ [])))
+rows-pushed rows plain text before xs x e =
+    rw (e, map-append plain, flat_map-append rows, lines_text-append) (rw append-nil (append_assoc text _ _))
 
 -- pieces that are written one behind the other
 pub pieces : (t a b c d e f g h : List ℕ)
