@@ -56,18 +56,23 @@ fn parts_of(alloc: Global, outcome: Outcome, rows: u32) -> Result<Vec<Part>, All
     ensures text { IfOk result (λ parts.
         flat_map part_lines parts.items ≡ report_text (outcome_of outcome) rows) }
 {
+    let Outcome {
+        accounts,
+        markets,
+        wallets,
+    } = outcome;
     let mut head = Vec::new(alloc);
     write_head(&mut head, b"report", None, rows as u64)?;
     let mut front = Vec::new(alloc);
-    write_front(&mut front, &outcome.accounts)?;
+    write_front(&mut front, &accounts)?;
     let mut end = Vec::new(alloc);
     end.extend_from_slice(b"enddump\nend\n")?;
     let mut parts = Vec::new(alloc);
     parts.push(Part::Text(head))?;
-    add_markets(&mut parts, outcome.markets)?;
-    parts.push(Part::Wallets(outcome.wallets))?;
+    add_markets(&mut parts, markets)?;
+    parts.push(Part::Wallets(wallets))?;
     parts.push(Part::Text(front))?;
-    add_rows(&mut parts, outcome.accounts.markets)?;
+    add_rows(&mut parts, accounts.markets)?;
     parts.push(Part::Text(end))?;
     Ok(parts)
 }

@@ -76,7 +76,15 @@ fn written_by(alloc: Global, jobs: Vec<Writing>) -> Result<Vec<Vec<u8>>, AllocEr
 {
     let mut texts = Vec::with_capacity(alloc, jobs.len())?;
     for job in jobs {
-        texts.push(job.text?)?;
+        let text = text_in(job)?;
+        texts.push(text)?;
     }
     Ok(texts)
+}
+
+/// What a job wrote.
+fn text_in(job: Writing) -> Result<Vec<u8>, AllocError>
+    ensures { result ≡ job.text }
+{
+    job.text
 }
