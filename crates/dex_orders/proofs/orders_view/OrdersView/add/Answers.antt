@@ -3,11 +3,11 @@ use Rattle.dex_types.specs.Trader.{Account, Holding}
 use Rattle.dex_orders.specs.Bits.{is_set}
 use Rattle.dex_orders.specs.OrdersAccount.{AreDistinct, holding_of, slots_of}
 use Rattle.dex_orders.proofs.DistinctLaw.{AreDistinct-add}
-use Rattle.dex_orders.proofs.slots.add_order.Goals as goal
+use Rattle.dex_orders.proofs.orders_view.OrdersView.add.Goals as goal
 
 pub returns-clause-accepted : goal.returns-clause-accepted
 returns-clause-accepted c =
-    let old = c.args.bytes.now in
+    let old = c.args.self.now.bytes.now in
     let slot = c.args.slot in
     let held : Holding = record { id = c.args.id; side = c.args.side; client = c.args.client } in
     let told : holding_of (is_set c.without_bit-free_bits.result slot) (is_set c.with_side-bid_bits.result slot) c.args.id c.args.client ≡ Some held =
