@@ -1,6 +1,5 @@
 -- Cells that a row looks at, by its movements.
 use Rattle.std.proofs.Common.{◌≡◌, ℕ, zero, suc, ◌+◌, ◌<◌, ◌≤◌, ◌⊎◌, inl, inr, Bool, true, false, ◌&&◌, List, [], ◌∷◌, length, map, set, get_or, drop, Option, Some, None, refl, sym, ap, ◌∙◌, subst, arith}
-use Rattle.std.specs.List.{All}
 use Rattle.std.proofs.lemmas.List.Elements.{All-cons, All-head, All-nil, All-tail, All-map, All-weaker}
 use Rattle.std.proofs.lemmas.Bool.{and_right, cond-true, cond-false, cond_both}
 use Rattle.dex_types.specs.declared.movements.MoveKind.{MoveKind}

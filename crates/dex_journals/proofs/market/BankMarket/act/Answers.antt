@@ -1,9 +1,8 @@
-use Rattle.std.proofs.Common.{◌≡◌, arith, refl, subst, sym}
+use Rattle.std.proofs.Common.{arith, refl, subst, sym}
 use Rattle.dex_types.specs.Rows.{row_of}
 use Rattle.dex_cell.specs.CellState.{HasSpare, MarketCellState, call_on}
 use Rattle.dex_act.proofs.Sights.{sees-named}
 use Rattle.dex_journals.specs.Inside.{market_inside, numbers_in}
-use Rattle.dex_journals.specs.Journals.{BankMarketState}
 use Rattle.dex_journals.proofs.MarketLaws.{AddsCall, MayAct, acted-adds, has-more, spare-market}
 use Rattle.dex_journals.proofs.StampedLists.{numbers-more}
 use Rattle.dex_journals.proofs.market.BankMarket.act.Goals as goal
