@@ -8,7 +8,7 @@ ghost use Rattle.dex_dump.specs.Accepted.{AreAccepted, HoldBytes, IsHeldMarket};
 ghost use Rattle.dex_dump.specs.Answers.{IsReadAs};
 ghost use Rattle.dex_dump.specs.DumpText.{dump_text, lines_text, market_rows};
 
-use crate::writing::{write_end, write_front, write_market_rows};
+use crate::writing::{write_front, write_market_rows, write_word};
 use dex_types::{Accounts, MarketAccounts, NoMemory};
 use std::alloc::{AllocError, Global};
 
@@ -32,7 +32,8 @@ pub fn append_taken(text: &mut Vec<u8>, accounts: Accounts) -> Result<(), AllocE
 {
     write_front(text, &accounts)?;
     take_markets(text, accounts.markets)?;
-    write_end(text)
+    write_word(text, "enddump\n")?;
+    Ok(())
 }
 
 fn take_markets(text: &mut Vec<u8>, markets: Vec<MarketAccounts>) -> Result<(), AllocError>

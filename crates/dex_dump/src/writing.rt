@@ -8,7 +8,7 @@ ghost use Rattle.hex.specs.Hex.{IsBytes};
 ghost use Rattle.dex_dump.specs.Accepted.{AreAccepted, HoldBytes, IsAddress, IsHeld, IsHeldMarket};
 ghost use Rattle.dex_dump.specs.Answers.{IsReadAs};
 ghost use Rattle.dex_dump.specs.DumpText.{account_row, account_rows, base64_text, behind_first, dump_text, first_row, line_text, lines_text};
-ghost use Rattle.dex_dump.specs.DumpText.{last_row, market_fields, market_row, market_rows, named_rows, orders_row};
+ghost use Rattle.dex_dump.specs.DumpText.{market_fields, market_row, market_rows, named_rows, orders_row};
 
 use base64::engine::general_purpose::STANDARD;
 use dex_types::{Accounts, Address, MarketAccounts, Named, NoMemory, OrdersAccount};
@@ -39,7 +39,8 @@ pub fn append_dump(text: &mut Vec<u8>, accounts: &Accounts) -> Result<(), AllocE
 {
     write_front(text, accounts)?;
     write_markets(text, &accounts.markets)?;
-    write_end(text)
+    write_word(text, "enddump\n")?;
+    Ok(())
 }
 
 /// The rows in front of those of markets.
@@ -54,13 +55,6 @@ pub(crate) fn write_front(text: &mut Vec<u8>, accounts: &Accounts) -> Result<(),
     write_name(text, "msrm", accounts.msrm)?;
     write_accounts(text, "wallet", &accounts.wallets)?;
     Ok(())
-}
-
-/// The last row.
-pub(crate) fn write_end(text: &mut Vec<u8>) -> Result<(), AllocError>
-    ensures { OnOk result (text.new.items ≡ text.old.items ++ lines_text (last_row ∷ [])) }
-{
-    write_word(text, "enddump\n")
 }
 
 /// The rows of mints or of wallets.
@@ -96,7 +90,8 @@ pub(crate) fn write_market_rows(
     ensures held { OnOk result (IsHeldMarket (market_accounts_of market.now)) }
 {
     write_market(text, market)?;
-    write_orders(text, market.address, &market.orders)
+    write_orders(text, market.address, &market.orders)?;
+    Ok(())
 }
 
 fn write_orders(
@@ -191,7 +186,7 @@ fn write_market_fields(text: &mut Vec<u8>, market: &MarketAccounts) -> Result<()
     Ok(())
 }
 
-fn write_word(text: &mut Vec<u8>, word: &str) -> Result<(), AllocError>
+pub(crate) fn write_word(text: &mut Vec<u8>, word: &str) -> Result<(), AllocError>
     ensures { OnOk result (text.new.items ≡ text.old.items ++ word.now) }
 {
     text.extend_from_slice(word.as_bytes())
