@@ -1,6 +1,5 @@
 -- What a new order is handed by views, and what it makes of that.
 use Rattle.std.specs.Prelude.{◌≡◌, ℕ, ◌^◌, ◌<◌, ◌≤◌, List, None, Result}
-use Rattle.dex_accounts.specs.Keeps.{KeepsEvents, KeepsMarket, KeepsOpen, KeepsRequests}
 use Rattle.dex_accounts.specs.Parts.{MarketParts, with_account, with_side}
 use Rattle.dex_market.specs.declared.market_ref.MarketRef.{MarketRef}
 use Rattle.dex_market.specs.declared.requests.RequestRef.{RequestRef}
@@ -28,13 +27,6 @@ use Rattle.dex_match.specs.OrderTerms.{order_of}
 abbrev pub handed : {B A : Type 0} → (B → List Order) → (B → ℕ) → (A → List Order) → OrderViews B A → OrderGiven
 handed own_orders own_room opposing views = given_by views.market.bytes.now views.requests.bytes.now views.ring.bytes.now views.orders.bytes.now
     (own_orders views.own) (own_room views.own) (opposing views.opposite)
-
--- the views look at the same accounts, which are accepted still; the trader's is open
-pub record KeepAccounts {B A : Type 0} (before after : OrderViews B A) : Type 0 where
-  pub market : KeepsMarket before.market after.market
-  pub requests : KeepsRequests before.requests after.requests
-  pub events : KeepsEvents before.ring after.ring
-  pub account : KeepsOpen before.orders after.orders
 
 -- what deciding it is shown
 abbrev pub shown : {B A : Type 0} → (B → List Order) → (B → ℕ) → (A → List Order) → MarketRef → RequestRef → RingRef → OrdersRef → B → A → OrderGiven

@@ -2,8 +2,8 @@
 
 ghost use Rattle.std.specs.Prelude.{◌≡◌, ◌≤◌, ◌<◌, ◌^◌};
 ghost use Rattle.dex_types.specs.declared.replies.Reply.TheVariants as replies;
-ghost use Rattle.dex_accounts.specs.Keeps.{KeepsSide};
-ghost use Rattle.dex_match.specs.LentParts.{KeepAccounts, events_in, handed, ordered, reply_in};
+ghost use Rattle.dex_accounts.specs.Keeps.{KeepsEvents, KeepsMarket, KeepsOpen, KeepsRequests, KeepsSide};
+ghost use Rattle.dex_match.specs.LentParts.{events_in, handed, ordered, reply_in};
 ghost use Rattle.dex_match.specs.Ordering.{IsDecided};
 ghost use Rattle.dex_match.specs.OrderParts.{IsGiven, parts_of};
 ghost use Rattle.dex_match.specs.OrderTerms.{order_of};
@@ -72,7 +72,10 @@ fn apply<B: SideBook, A: SideBook>(
         ≡ planned taker.id_side (order_of taker) plan.now (handed B.orders B.room A.orders views.old) }
     ensures list { ring_of views.new.ring.bytes.now
         ≡ planned_list taker.id_side (order_of taker) plan.now (parts_of (handed B.orders B.room A.orders views.old)) }
-    ensures accounts { KeepAccounts views.old views.new }
+    ensures market { KeepsMarket views.old.market views.new.market }
+    ensures requests { KeepsRequests views.old.requests views.new.requests }
+    ensures events { KeepsEvents views.old.ring views.new.ring }
+    ensures account { KeepsOpen views.old.orders views.new.orders }
     ensures own { KeepsSide B.holds B.same_place B.side B.room views.old.own views.new.own }
     ensures opposite { KeepsSide A.holds A.same_place A.side A.room views.old.opposite views.new.opposite }
 {
@@ -115,7 +118,10 @@ pub fn apply_order<B: SideBook, A: SideBook>(
     ensures list { ring_of views.new.ring.bytes.now
         ≡ appended (events_in taker.entry.now (handed B.orders B.room A.orders views.old))
         (ring_of views.old.ring.bytes.now) }
-    ensures accounts { KeepAccounts views.old views.new }
+    ensures market { KeepsMarket views.old.market views.new.market }
+    ensures requests { KeepsRequests views.old.requests views.new.requests }
+    ensures events { KeepsEvents views.old.ring views.new.ring }
+    ensures account { KeepsOpen views.old.orders views.new.orders }
     ensures own { KeepsSide B.holds B.same_place B.side B.room views.old.own views.new.own }
     ensures opposite { KeepsSide A.holds A.same_place A.side A.room views.old.opposite views.new.opposite }
 {
