@@ -119,23 +119,12 @@ pub(crate) fn debits(
         → result.0 ≡ parcel_of mint amounts.now.coin_in }
     ensures pc { (mint : AddressOf) → AreOf mint asked.now.seen.now.pc amounts.now.pc_in cells.old
         → result.1 ≡ parcel_of mint amounts.now.pc_in }
-    ensures moved { cells.new
-        ≡ map (cell_debited (row_of asked.now.row.now) asked.now.seen.now amounts.now.coin_in amounts.now.pc_in) cells.old }
+    ensures moved { cells.new ≡ map (cell_debited (row_of asked.now.row.now) asked.now.seen.now
+        amounts.now.coin_in amounts.now.pc_in) cells.old }
 {
-    let coin = debit(
-        cells,
-        asked.row,
-        &asked.seen.coin,
-        asked.places.coin,
-        amounts.coin_in,
-    );
-    let pc = debit(
-        cells,
-        asked.row,
-        &asked.seen.pc,
-        asked.places.pc,
-        amounts.pc_in,
-    );
+    let Asked { row, seen, places } = asked;
+    let coin = debit(cells, row, &seen.coin, places.coin, amounts.coin_in);
+    let pc = debit(cells, row, &seen.pc, places.pc, amounts.pc_in);
     (coin, pc)
 }
 
@@ -166,21 +155,16 @@ fn join(first: Option<Parcel>, second: Option<Parcel>) -> Option<Parcel>
 /// The payouts of a row in the quote token. Where the `pc` and the `referrer` wallet are one, it is credited once.
 fn credit_pc(cells: &mut [WalletCell], asked: &Asked, pc: Option<Parcel>, referrer: Option<Parcel>)
     requires { CanGetPc asked.now.seen.now asked.now.places.now pc referrer cells.old }
-    ensures { cells.new
-        ≡ map (pc_credited (row_of asked.now.row.now) asked.now.seen.now (amount_in pc) (amount_in referrer)) cells.old }
+    ensures { cells.new ≡ map (pc_credited (row_of asked.now.row.now) asked.now.seen.now
+        (amount_in pc) (amount_in referrer)) cells.old }
 {
-    if is_one(&asked.seen.pc, &asked.seen.referrer) {
+    let Asked { row, seen, places } = asked;
+    if is_one(&seen.pc, &seen.referrer) {
         let both = join(pc, referrer);
-        credit(cells, asked.row, &asked.seen.pc, asked.places.pc, both);
+        credit(cells, row, &seen.pc, places.pc, both);
     } else {
-        credit(cells, asked.row, &asked.seen.pc, asked.places.pc, pc);
-        credit(
-            cells,
-            asked.row,
-            &asked.seen.referrer,
-            asked.places.referrer,
-            referrer,
-        );
+        credit(cells, row, &seen.pc, places.pc, pc);
+        credit(cells, row, &seen.referrer, places.referrer, referrer);
     }
 }
 
