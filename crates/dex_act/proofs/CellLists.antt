@@ -194,12 +194,6 @@ role_moved-nothing row kind role amount cells none =
     map-identity (role_moved row kind role amount) cells (λ cell.
     ap (λ (n : ℕ). role_moved row kind role n cell) none ∙ ap (λ (n : ℕ). moved_some row kind n cell) (amount_at-nothing cell.address role))
 
--- no wallet is moved where a role names none
-pub role_moved-no_one : (row : PlainRow) (kind : MoveKind) (role : Option WalletSeen) (amount : ℕ) (cells : List CellState) → role ≡ None
-    → map (role_moved row kind role amount) cells ≡ cells
-role_moved-no_one row kind role amount cells none =
-    map-identity (role_moved row kind role amount) cells (λ cell. ap (λ (r : Option WalletSeen). role_moved row kind r amount cell) none)
-
 -- the cell at the place of a role's wallet is moved
 pub moved-here : (row : PlainRow) (kind : MoveKind) (role : Option WalletSeen) (wallet : WalletSeen) (amount : ℕ) (cells new : List CellState) (place : ℕ) → role ≡ Some wallet
     → 0 < amount → AreApart cells → IsAt wallet.address cells place → ((default : CellState) → new ≡ set cells place (cell_moved row kind amount (get_or cells place default)))

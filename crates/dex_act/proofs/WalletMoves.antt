@@ -190,13 +190,6 @@ fits-together (Some wallet) second a b mint (start ∷ others) place one at each
     (λ (some : HasSpare cell × (mint ≡ (wallet_words cell.bytes).mint) × (balance_of cell.bytes + (amount_at cell.address (Some wallet) a + amount_at cell.address second b) < 2 ^ 64)). omega (arith, whole, split, some.2))
     (All-get_or P cells place start at.within each)
 
-pub credited-one : (row : PlainRow) (seen : Seen) (a b n : ℕ) (cells : List CellState) → is_one seen.pc seen.referrer ≡ true → n ≡ a + b
-    → map (role_moved row Credit seen.pc n) cells ≡ map (pc_credited row seen a b) cells
-credited-one row seen a b n cells one is =
-    map-same (role_moved row Credit seen.pc n) (pc_credited row seen a b) cells (λ cell.
-    ap (λ (x : ℕ). moved_some row Credit (amount_at cell.address seen.pc x) cell) is
-    ∙ ap (λ (x : ℕ). moved_some row Credit x cell) (one-amount cell.address seen.pc seen.referrer a b one))
-
 pub credited-apart : (row : PlainRow) (seen : Seen) (a b : ℕ) (cells : List CellState) → is_one seen.pc seen.referrer ≡ false
     → map (role_moved row Credit seen.referrer b) (map (role_moved row Credit seen.pc a) cells) ≡ map (pc_credited row seen a b) cells
 credited-apart row seen a b cells apart =
