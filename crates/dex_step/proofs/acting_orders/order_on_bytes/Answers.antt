@@ -1,17 +1,22 @@
-use Rattle.std.proofs.Common.{rules, ◌≡◌}
+use Rattle.std.proofs.Common.{rules}
 use Rattle.dex_slab.proofs.FrameKept.{account_kept}
 use Rattle.dex_slab.specs.StandsFor.{IsSideAccount}
 use Rattle.dex_types.specs.Side.{opposite}
 use Rattle.dex_step.proofs.acting_orders.order_on_bytes.Goals as goal
 
 pub returns : goal.returns
-returns c = record {
+returns c =
+    let own : IsSideAccount c.args.taker.id_side c.apply_order.new.views.own.bytes.now =
+    account_kept _ _ _ c.requires.own c.apply_order.ensures.own.place.1 c.apply_order.ensures.own.holding in
+    let met : IsSideAccount (opposite c.args.taker.id_side) c.apply_order.new.views.opposite.bytes.now =
+    account_kept _ _ _ c.requires.met c.apply_order.ensures.opposite.place.1 c.apply_order.ensures.opposite.holding in
+    record {
       reply_is = search rules;
-      does = ?;
-      list = ?;
-      queue = let x : c.args.market.now ≡ c.args.market.now = c.market-1.given.1 in ?;
-      account = let y : c.args.market.now ≡ c.args.market.now = c.views-1 in ?;
-      own = ?;
-      met = ?;
-      room = ?;
+      does = search rules;
+      list = search rules;
+      queue = search rules;
+      account = search rules;
+      own = search (rules, own);
+      met = search (rules, met);
+      room = search rules;
     }
