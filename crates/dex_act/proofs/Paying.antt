@@ -1,7 +1,7 @@
 -- The deposits and payouts of a row, and the cells that can make them.
-use Rattle.std.proofs.Common.{◌≡◌, ℕ, ◌+◌, inl, inr, true, List, [], ◌∷◌, map, Option, refl, sym, ap, ◌∙◌, subst, arith}
+use Rattle.std.proofs.Common.{◌≡◌, ℕ, ◌+◌, inl, inr, true, List, map, get_or, Option, sym, ap, ◌∙◌, subst, arith}
 use Rattle.std.specs.List.{All}
-use Rattle.std.proofs.lemmas.List.Elements.{All-nil, All-cons, All-head, All-tail, All-map, All-weaker}
+use Rattle.std.proofs.lemmas.List.Elements.{All-map, All-weaker}
 use Rattle.dex_types.specs.declared.addresses.Address.{Address}
 use Rattle.dex_types.specs.declared.rows.Seen.{Seen}
 use Rattle.dex_types.specs.declared.rows.WalletSeen.{WalletSeen}
@@ -18,12 +18,11 @@ use Rattle.dex_history.proofs.MintLaws.{IsOfMint}
 use Rattle.dex_history.proofs.StepMoves.{row-can, row-moves}
 use Rattle.dex_cell.specs.Paying.{paid_out, parcel_of}
 use Rattle.dex_fold.specs.Fold.{wallet_acted}
-use Rattle.dex_fold.specs.World.{WalletState}
-use Rattle.dex_fold.proofs.MappedLists.{map-map}
+use Rattle.dex_fold.proofs.MappedLists.{map-agree, map-map}
 use Rattle.dex_wallet.specs.CellState.{CellState, HasSpare, IsWalletCell}
 use Rattle.dex_act.specs.declared.places.WalletPlaces.{WalletPlaces}
 use Rattle.dex_act.specs.Wallets.{AreSeenAt, CanBePaid, CanGet, CanPay, CanProbe, CanTake, HasRoomFor, IsOf, IsRight, NamesFor, SeesCells, amount_in, any_hit, cell_acted, cell_credited, cell_debited, cell_paid, got_at, moved_some, paid_at, roles_of, wallet_state_of}
-use Rattle.dex_act.proofs.CellLists.{AreApart-map, AreSeenAt-map, KeepsAddress, all-both, amount_at-nothing, map-identity, moved_some-address}
+use Rattle.dex_act.proofs.CellLists.{AreApart-map, AreSeenAt-map, KeepsAddress, amount_at-nothing, map-identity, moved_some-address}
 use Rattle.dex_act.proofs.WalletMoves.{amount_in-parcel_of}
 use Rattle.dex_history.proofs.StepMints.{row-of}
 use Rattle.dex_act.proofs.Seeing.{seen-hit}
@@ -67,8 +66,7 @@ abbrev pub IsSeenRight : Seen → CellState → Type 0
 IsSeenRight seen cell = All (IsRight cell) (roles_of seen) × (any_hit cell.address (roles_of seen) ≡ true → HasSpare cell)
 
 seen-right : (seen : Seen) (cells : List CellState) → SeesCells seen cells → All (IsSeenRight seen) cells
-seen-right seen cells sees =
-    all-both (λ (cell : CellState). All (IsRight cell) (roles_of seen)) (λ (cell : CellState). any_hit cell.address (roles_of seen) ≡ true → HasSpare cell) cells sees.right sees.spare
+seen-right seen cells sees = λ k default lt. (sees.right k default lt, sees.spare k default lt)
 
 all-moves : (seen : Seen) (m : Market) (t : Transfers) (cells : List CellState) → RowMoves seen m t → SeesCells seen cells → All (CellMoves seen m t) cells
 all-moves seen m t cells moves sees =
@@ -195,22 +193,17 @@ can-probe row seen m t cells at moves sees here =
 
 pub states-acted : (row : PlainRow) (seen : Seen) (m : Market) (t : Transfers) (cells : List CellState) → RowMoves seen m t → Sees (asked_of row) seen → SeesCells seen cells
     → (map wallet_state_of (map (cell_acted row seen t) cells) ≡ map (wallet_acted row seen t) (map wallet_state_of cells)) × All IsWalletCell (map (cell_acted row seen t) cells)
-states-acted row seen m t cells moves sees_row sees = each cells (all-both (IsSeenRight seen) IsWalletCell cells (seen-right seen cells sees) sees.kept)
+states-acted row seen m t cells moves sees_row sees = (
+  map-map (cell_acted row seen t) wallet_state_of cells
+      ∙ map-agree (λ cell. wallet_state_of (cell_acted row seen t cell)) (λ cell. wallet_acted row seen t (wallet_state_of cell)) cells
+      (λ k default lt. (one (get_or cells k default) (seen-right seen cells sees k default lt) (sees.kept k default lt)).0)
+      ∙ sym (map-map wallet_state_of (wallet_acted row seen t) cells),
+  All-map IsWalletCell (cell_acted row seen t) cells
+      (λ k default lt. (one (get_or cells k default) (seen-right seen cells sees k default lt) (sees.kept k default lt)).1),
+)
   where
-    one : (cell : CellState) → IsSeenRight seen cell × IsWalletCell cell
+    one : (cell : CellState) → IsSeenRight seen cell → IsWalletCell cell
         → (wallet_state_of (cell_acted row seen t cell) ≡ wallet_acted row seen t (wallet_state_of cell)) × IsWalletCell (cell_acted row seen t cell)
-    one cell known =
-        acted-state row seen m t cell (cell-moves seen m t cell moves known.0.0 known.0.1) known.0.0 known.0.1 (named-hit row seen cell.address sees_row) known.1 sees.fits
+    one cell known kept =
+        acted-state row seen m t cell (cell-moves seen m t cell moves known.0 known.1) known.0 known.1 (named-hit row seen cell.address sees_row) kept sees.fits
         (moves.moves cell.address).possible
-
-    each : (list : List CellState) → All (λ (cell : CellState). IsSeenRight seen cell × IsWalletCell cell) list
-        → (map wallet_state_of (map (cell_acted row seen t) list) ≡ map (wallet_acted row seen t) (map wallet_state_of list)) × All IsWalletCell (map (cell_acted row seen t) list)
-    each [] all = (refl, All-nil _)
-    each (first ∷ others) all =
-        let Known : CellState → Type 0 = λ cell. IsSeenRight seen cell × IsWalletCell cell in
-        let here = one first (All-head Known first others all) in
-        let rest = each others (All-tail Known first others all) in (
-          ap (λ (s : WalletState). s ∷ map wallet_state_of (map (cell_acted row seen t) others)) here.0
-              ∙ ap (λ (l : List WalletState). wallet_acted row seen t (wallet_state_of first) ∷ l) rest.0,
-          All-cons IsWalletCell (cell_acted row seen t first) (map (cell_acted row seen t) others) here.1 rest.1,
-        )

@@ -60,11 +60,7 @@ wallet_at-right address (first ∷ others) apart =
     (cases_Bool (is_same address first.address))
 
 pub role_at-right : (role : Option Address) (cells : List CellState) → AreApart cells → All (λ (cell : CellState). IsRight cell (role_at role (map wallet_state_of cells))) cells
-role_at-right None [] apart = All-nil _
-role_at-right None (first ∷ others) apart =
-    All-cons (λ (cell : CellState). IsRight cell None) first others (λ wallet is own. absurd (cc))
-    (All-weaker (λ (cell : CellState). IsRight cell (role_at None (map wallet_state_of others))) (λ (cell : CellState). IsRight cell None) (λ cell right. right) others
-    (role_at-right None others apart.1))
+role_at-right None cells apart = λ k default lt wallet is own. absurd (cc)
 role_at-right (Some address) cells apart = wallet_at-right address cells apart
 
 -- and its cell is among them
