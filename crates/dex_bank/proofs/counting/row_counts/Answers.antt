@@ -4,7 +4,7 @@ use Rattle.std.proofs.lemmas.List.{length-take-le}
 use Rattle.dex_types.specs.declared.rows.RowPlaces.{RowPlaces}
 use Rattle.dex_script_facts.proofs.PlacedLaws.{placed-long}
 use Rattle.dex_bank.specs.Counts.{HaveSpare}
-use Rattle.dex_bank.proofs.OpenRooms.{AreRowsOf, Tells, market-rooms, market-tells, markets_at, none-counted, on, placed-row, row-more, rows-spare, wallet-rooms, wallet-tells, wallets_at}
+use Rattle.dex_bank.proofs.OpenRooms.{AreRowsOf, Tells, market-rooms, market-tells, markets_at, on, placed-row, row-more, rows-spare, wallet-rooms, wallet-tells, wallets_at}
 use Rattle.dex_bank.proofs.counting.row_counts.Goals as goal
 
 pub bounds-places-i : goal.bounds-places-i

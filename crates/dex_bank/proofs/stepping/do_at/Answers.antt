@@ -1,5 +1,5 @@
-use Rattle.std.proofs.Common.{◌≡◌, ◌||◌, Bool, true, List, get_or, refl, sym, ap, ◌∙◌, subst}
-use Rattle.dex_fold.proofs.Common.{Market, Step, idle-step, is_refusal, row_of}
+use Rattle.std.proofs.Common.{Bool, true, List, get_or, refl, sym, ap, ◌∙◌, subst}
+use Rattle.dex_fold.proofs.Common.{Market, Step, idle-step, row_of}
 use Rattle.dex_bank.proofs.Common.{HaveActed, MarketCellState, accounts_in}
 use Rattle.dex_cell.specs.CellState.{market_at, refused_on}
 use Rattle.dex_bank.specs.Stepping.{HasDoneAt, doing}
