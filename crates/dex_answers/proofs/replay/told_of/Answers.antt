@@ -10,14 +10,13 @@ use Rattle.dex_answers.specs.declared.played.Played.{Played}
 use Rattle.dex_answers.specs.declared.played.Played.TheVariants.{AllRows}
 use Rattle.dex_answers.specs.declared.status.Status.TheVariants as status
 use Rattle.dex_answers.proofs.TextLaws.{says-more}
-use Rattle.dex_answers.proofs.replay.replay_answer.Goals as goal
+use Rattle.dex_answers.proofs.replay.told_of.Goals as goal
 
 pub returns-in-AllRows : goal.returns-in-AllRows
-returns-in-AllRows c =
+returns-in-AllRows c bytes told =
     let outcome = outcome_of c.in-AllRows.outcome in
-    let played : TellsPlayed (AllRows c.in-AllRows.rows c.in-AllRows.outcome) c.args.bytes.now =
-    subst (λ (p : Played). TellsPlayed p c.args.bytes.now) c.in-AllRows.is c.in_ok-rows.ensures in
-    says-more _ (Answers Replay c.args.bytes.now) status.Ok _ (FitOutcome outcome) c.report_of.ensures.text c.report_of.ensures.fits
+    let played : TellsPlayed (AllRows c.in-AllRows.rows c.in-AllRows.outcome) bytes = subst (λ (p : Played). TellsPlayed p bytes) c.in-AllRows.is told in
+    says-more _ (Answers Replay bytes) status.Ok _ (FitOutcome outcome) c.report_of.ensures.text c.report_of.ensures.fits
     (λ fits. (
       played.0,
       outcome,
