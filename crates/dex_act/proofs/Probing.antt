@@ -1,45 +1,22 @@
 -- Cells that a row looks at, by its movements.
-use Rattle.std.proofs.Common.{◌≡◌, ℕ, zero, suc, ◌+◌, ◌<◌, ◌≤◌, ◌⊎◌, inl, inr, Bool, true, false, ◌&&◌, ◌||◌, List, [], ◌∷◌, length, map, set, get_or, drop, Option, Some, None, refl, sym, ap, ◌∙◌, subst, arith}
-use Rattle.std.specs.List.{All}
+use Rattle.std.proofs.Common.{◌≡◌, ℕ, zero, suc, ◌+◌, ◌<◌, ◌≤◌, ◌⊎◌, inl, inr, Bool, true, false, ◌&&◌, List, [], ◌∷◌, length, map, set, get_or, drop, Option, Some, None, refl, sym, ap, ◌∙◌, subst, arith}
 use Rattle.std.proofs.lemmas.List.Elements.{All-cons, All-head, All-nil, All-tail, All-map, All-weaker}
-use Rattle.std.proofs.lemmas.Bool.{and_right, cond-true, cond-false, cond_both, false≢true}
-use Rattle.dex_types.specs.declared.addresses.Address.{Address}
+use Rattle.std.proofs.lemmas.Bool.{and_right, cond-true, cond-false, cond_both}
 use Rattle.dex_types.specs.declared.movements.MoveKind.{MoveKind}
 use Rattle.dex_types.specs.declared.movements.MoveKind.TheVariants.{Debit, Credit, Probe}
 use Rattle.dex_types.specs.declared.movements.Movement.{Movement}
 use Rattle.dex_types.specs.declared.rows.Seen.{Seen}
-use Rattle.dex_types.specs.declared.rows.WalletSeen.{WalletSeen}
 use Rattle.dex_types.specs.Addresses.{is_same}
 use Rattle.dex_types.specs.Rows.{PlainRow}
-use Rattle.dex_types.specs.Wallets.{address_seen}
-use Rattle.dex_laws.proofs.TraderLaws.{is_same-true, is_same-sym}
 use Rattle.dex_history.specs.Journal.{front}
 use Rattle.dex_movements.specs.Amounts.{is_probe}
 use Rattle.dex_fold.proofs.MappedLists.{map-map}
-use Rattle.dex_wallet.specs.CellState.{CellState, HasSpare}
+use Rattle.dex_wallet.specs.CellState.{CellState}
 use Rattle.dex_act.specs.declared.places.WalletPlaces.{WalletPlaces}
-use Rattle.dex_act.specs.Wallets.{CanProbe, HasRoomFor, IsAt, IsRoleAt, any_hit, cell_moved, hits, move_probed, moves_probed, probes, roles_of}
+use Rattle.dex_act.specs.Wallets.{CanProbe, HasRoomFor, IsAt, any_hit, cell_moved, move_probed, moves_probed, probes, roles_of}
 use Rattle.dex_act.proofs.CellLists.{AreApart-map, AreSeenAt-map, KeepsAddress, changed-here, map-identity}
 
 -- ---- one movement
-
--- the wallet of a role stands at the role's place
-pub hit-at : (address : Address) (role : Option WalletSeen) (cells : List CellState) (place : ℕ) → hits address role ≡ true → IsRoleAt cells (address_seen role) place
-    → IsAt address cells place
-hit-at address None cells place hit at = absurd (false≢true hit)
-hit-at address (Some wallet) cells place hit at = subst (λ (a : Address). IsAt a cells place) (sym (is_same-true address wallet.address hit)) at
-
--- a wallet that is seen, and under none of the first three roles, is the last one's
-pub last-hit : (address : Address) (seen : Seen) → any_hit address (roles_of seen) ≡ true → hits address seen.coin ≡ false → hits address seen.pc ≡ false
-    → hits address seen.discount ≡ false → hits address seen.referrer ≡ true
-last-hit address seen hit coin pc discount =
-    last (hits address seen.referrer) (ap (λ (b : Bool). false || (false || (b || (hits address seen.referrer || false)))) (sym discount)
-    ∙ ap (λ (b : Bool). false || (b || (hits address seen.discount || (hits address seen.referrer || false)))) (sym pc)
-    ∙ ap (λ (b : Bool). b || (hits address seen.pc || (hits address seen.discount || (hits address seen.referrer || false)))) (sym coin) ∙ hit)
-  where
-    last : (b : Bool) → (b || false) ≡ true → b ≡ true
-    last true is = refl
-    last false is = is
 
 move_probed-address : (row : PlainRow) (move : Movement) → KeepsAddress (move_probed row move)
 move_probed-address row move cell =

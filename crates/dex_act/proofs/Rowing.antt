@@ -37,11 +37,7 @@ moves-of row seen market for cell = row-moves-of (row_of row) seen (market_at ma
 -- the wallets of its roles stand where those that it names do
 pub seen-at : (row : Row) (seen : Seen) (market : MarketCellState) (cells : List CellState) (at : WalletPlaces) → IsFor row seen market
     → ArePlacesAmong cells (row_of row) at → AreSeenAt cells seen at
-seen-at row seen market cells at for among =
-    subst (λ (r : Option Address). AreAt cells r (address_seen seen.pc) (address_seen seen.discount) (address_seen seen.referrer) at) (sym for.sees.coin)
-    (subst (λ (r : Option Address). AreAt cells row.coin r (address_seen seen.discount) (address_seen seen.referrer) at) (sym for.sees.pc)
-    (subst (λ (r : Option Address). AreAt cells row.coin row.pc r (address_seen seen.referrer) at) (sym for.sees.discount)
-    (subst (λ (r : Option Address). AreAt cells row.coin row.pc row.discount r at) (sym for.sees.referrer) among)))
+seen-at row seen market cells at for among = rw (for.sees.coin, for.sees.pc, for.sees.discount, for.sees.referrer) among
 
 -- ---- looks
 

@@ -1,5 +1,5 @@
 -- What a row sees of cells.
-use Rattle.std.proofs.Common.{◌≡◌, ℕ, ◌<◌, ◌^◌, Bool, true, false, ◌||◌, List, [], ◌∷◌, map, Option, Some, None, refl, sym, ap, ◌∙◌, subst, ⊎_elim}
+use Rattle.std.proofs.Common.{◌≡◌, ℕ, ◌<◌, ◌^◌, Bool, true, false, ◌||◌, List, [], ◌∷◌, map, Option, Some, None, refl, sym, ap, ◌∙◌, subst, arith, ⊎_elim}
 use Rattle.std.specs.List.{All, list_any}
 use Rattle.std.proofs.lemmas.List.Elements.{All-nil, All-cons, All-head, All-tail, All-weaker}
 use Rattle.std.proofs.lemmas.Bool.{cases_Bool, cond-true, cond-false, false≢true, or_parts, or_right}
@@ -60,11 +60,7 @@ wallet_at-right address (first ∷ others) apart =
     (cases_Bool (is_same address first.address))
 
 pub role_at-right : (role : Option Address) (cells : List CellState) → AreApart cells → All (λ (cell : CellState). IsRight cell (role_at role (map wallet_state_of cells))) cells
-role_at-right None [] apart = All-nil _
-role_at-right None (first ∷ others) apart =
-    All-cons (λ (cell : CellState). IsRight cell None) first others (λ wallet is own. absurd (cc))
-    (All-weaker (λ (cell : CellState). IsRight cell (role_at None (map wallet_state_of others))) (λ (cell : CellState). IsRight cell None) (λ cell right. right) others
-    (role_at-right None others apart.1))
+role_at-right None cells apart = λ k default lt wallet is own. absurd (cc)
 role_at-right (Some address) cells apart = wallet_at-right address cells apart
 
 -- and its cell is among them
@@ -104,12 +100,9 @@ any-with_role address (Some wallet) addresses = any-with_address address wallet.
 pub any-seen : (address : Address) (seen : Seen)
     → list_any (is_same address) (seen_wallets seen) ≡ any_hit address (roles_of seen)
 any-seen address seen =
-    let one : List Address = with_role (address_seen seen.referrer) [] in
-    let two : List Address = with_role (address_seen seen.discount) one in
-    let three : List Address = with_role (address_seen seen.pc) two in
-    any-with_role address seen.coin three
-    ∙ ap (λ (b : Bool). hits address seen.coin || b) (any-with_role address seen.pc two
-    ∙ ap (λ (b : Bool). hits address seen.pc || b) (any-with_role address seen.discount one
+    any-with_role address seen.coin _
+    ∙ ap (λ (b : Bool). hits address seen.coin || b) (any-with_role address seen.pc _
+    ∙ ap (λ (b : Bool). hits address seen.pc || b) (any-with_role address seen.discount _
     ∙ ap (λ (b : Bool). hits address seen.discount || b) (any-with_role address seen.referrer [])))
 
 -- what a role moves at an address that is not its own
@@ -158,13 +151,8 @@ all-seen P seen coin pc discount referrer =
 -- they are among these cells, where those of its roles are
 pub seen-home : (cells : List CellState) (seen : Seen) → All (IsHome cells) (roles_of seen) → All (λ (a : Address). is_among a cells ≡ true) (seen_wallets seen)
 seen-home cells seen home =
-    let H : Option WalletSeen → Type 0 = IsHome cells in
-    let past : All H (seen.pc ∷ seen.discount ∷ seen.referrer ∷ []) = All-tail H seen.coin (seen.pc ∷ seen.discount ∷ seen.referrer ∷ []) home in
-    let later : All H (seen.discount ∷ seen.referrer ∷ []) = All-tail H seen.pc (seen.discount ∷ seen.referrer ∷ []) past in
-    let is : (role : Option WalletSeen) → IsHome cells role → IfSeen (λ (a : Address). is_among a cells ≡ true) role = is-seen in
-    all-seen (λ (a : Address). is_among a cells ≡ true) seen (is seen.coin (All-head H seen.coin (seen.pc ∷ seen.discount ∷ seen.referrer ∷ []) home))
-    (is seen.pc (All-head H seen.pc (seen.discount ∷ seen.referrer ∷ []) past)) (is seen.discount (All-head H seen.discount (seen.referrer ∷ []) later))
-    (is seen.referrer (All-head H seen.referrer [] (All-tail H seen.discount (seen.referrer ∷ []) later)))
+    all-seen (λ (a : Address). is_among a cells ≡ true) seen (is-seen seen.coin (home 0 None (omega arith))) (is-seen seen.pc (home 1 None (omega arith)))
+    (is-seen seen.discount (home 2 None (omega arith))) (is-seen seen.referrer (home 3 None (omega arith)))
   where
     is-seen : (role : Option WalletSeen) → IsHome cells role → IfSeen (λ (a : Address). is_among a cells ≡ true) role
     is-seen None here = tt

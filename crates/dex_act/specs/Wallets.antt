@@ -13,7 +13,7 @@ use Rattle.dex_types.specs.declared.rows.WalletSeen.{WalletSeen}
 use Rattle.dex_types.specs.Addresses.{is_same}
 use Rattle.dex_types.specs.Rows.{PlainRow, row_of}
 use Rattle.dex_types.specs.Transfers.{Transfers}
-use Rattle.dex_types.specs.Wallets.{address_seen, amount_at, movement_of, movements}
+use Rattle.dex_types.specs.Wallets.{address_seen, amount_at, movements}
 use Rattle.dex_history.specs.Journal.{front, places}
 use Rattle.dex_token.specs.TokenAccount.{wallet_words}
 use Rattle.dex_movements.specs.Amounts.{is_probe}

@@ -8,8 +8,8 @@ ghost use Rattle.dex_wallet.specs.CellState.{CellState, HasSpare};
 ghost use Rattle.dex_act.specs.Wallets.{AreSeenAt, AtPlace, CanProbe, IsAt, any_hit, cell_moved, hits};
 ghost use Rattle.dex_act.specs.Wallets.{move_probed, moves_probed, roles_of};
 
-use crate::places::WalletPlaces;
-use dex_types::{Address, MoveKind, Movement, Row, Seen, WalletSeen, is_same};
+use crate::places::Asked;
+use dex_types::{Address, MoveKind, Movement, Row, WalletSeen, is_same};
 use dex_wallet::WalletCell;
 
 /// A row looks at the cell at a place.
@@ -34,56 +34,46 @@ fn is_hit(address: Address, role: &Option<WalletSeen>) -> bool
 }
 
 /// Where the cell of a wallet stands that a row sees under one of its roles.
-fn place_seen(address: Address, seen: &Seen, places: &WalletPlaces) -> usize
-    requires { any_hit address (roles_of seen.now) ≡ true }
-    ensures { (cells : List CellState) → AreSeenAt cells seen.entry.now places.entry.now
+fn place_seen(address: Address, asked: &Asked) -> usize
+    requires { any_hit address (roles_of asked.now.seen.now) ≡ true }
+    ensures { (cells : List CellState) → AreSeenAt cells asked.now.seen.now asked.now.places.now
         → IsAt address cells result }
 {
-    if is_hit(address, &seen.coin) {
-        places.coin
-    } else if is_hit(address, &seen.pc) {
-        places.pc
-    } else if is_hit(address, &seen.discount) {
-        places.discount
+    if is_hit(address, &asked.seen.coin) {
+        asked.places.coin
+    } else if is_hit(address, &asked.seen.pc) {
+        asked.places.pc
+    } else if is_hit(address, &asked.seen.discount) {
+        asked.places.discount
     } else {
-        places.referrer
+        asked.places.referrer
     }
 }
 
 /// A row looks at the wallet of a movement that is a probe.
-fn probe(
-    cells: &mut [WalletCell],
-    row: &Row,
-    seen: &Seen,
-    places: &WalletPlaces,
-    movement: &Movement,
-)
-    requires { CanProbe (row_of row.now) seen.now places.now (movement.now ∷ []) cells.old }
-    ensures { cells.new ≡ map (move_probed (row_of row.entry.now) movement.entry.now) cells.old }
+fn probe(cells: &mut [WalletCell], asked: &Asked, movement: &Movement)
+    requires { CanProbe (row_of asked.now.row.now) asked.now.seen.now asked.now.places.now (movement.now ∷ [])
+        cells.old }
+    ensures { cells.new ≡ map (move_probed (row_of asked.now.row.now) movement.entry.now) cells.old }
 {
     match movement.kind {
         MoveKind::Probe => {
-            let place = place_seen(movement.wallet, seen, places);
-            probe_at(cells, place, row);
+            let place = place_seen(movement.wallet, asked);
+            probe_at(cells, place, asked.row);
         }
         MoveKind::Debit | MoveKind::Credit => {}
     }
 }
 
 /// A row looks at each wallet whose movement is a probe: at each that it names and does not move, once.
-pub(crate) fn probes(
-    cells: &mut [WalletCell],
-    row: &Row,
-    seen: &Seen,
-    places: &WalletPlaces,
-    moves: &[Option<Movement>],
-)
-    requires { CanProbe (row_of row.now) seen.now places.now (front moves.now) cells.old }
-    ensures { cells.new ≡ map (moves_probed (row_of row.entry.now) (front moves.entry.now)) cells.old }
+pub(crate) fn probes(cells: &mut [WalletCell], asked: &Asked, moves: &[Option<Movement>])
+    requires { CanProbe (row_of asked.now.row.now) asked.now.seen.now asked.now.places.now (front moves.now)
+        cells.old }
+    ensures { cells.new ≡ map (moves_probed (row_of asked.now.row.now) (front moves.entry.now)) cells.old }
 {
     for at in 0..moves.len() {
         match &moves[at] {
-            Some(movement) => probe(cells, row, seen, places, movement),
+            Some(movement) => probe(cells, asked, movement),
             None => return,
         }
     }

@@ -3,13 +3,10 @@
 ghost use Rattle.std.specs.Prelude.{◌≡◌, ◌≤◌, ◌<◌, ◌^◌};
 ghost use Rattle.dex_types.specs.declared.replies.Reply.TheVariants as replies;
 ghost use Rattle.dex_accounts.specs.Keeps.{KeepsSide};
-ghost use Rattle.dex_match.specs.LentParts.{KeepAccounts, events_in, handed, ordered, reply_in};
+ghost use Rattle.dex_match.specs.LentParts.{HasOrdered, handed, lent_by};
 ghost use Rattle.dex_match.specs.Ordering.{IsDecided};
 ghost use Rattle.dex_match.specs.OrderParts.{IsGiven, parts_of};
 ghost use Rattle.dex_match.specs.OrderTerms.{order_of};
-ghost use Rattle.dex_match.specs.Planned.{AreAccepted, CanApply, planned, planned_list};
-ghost use Rattle.dex_ring.specs.Appended.{appended};
-ghost use Rattle.dex_ring.specs.Ring.{ring_of};
 
 use crate::intake::{intake_by, take_in};
 use crate::order_plan::OrderPlan;
@@ -42,53 +39,13 @@ fn amounts_fit(taker: Taker)
     ensures lock { taker.lock < 2 ^ 64 }
 {}
 
-/// What a new order changes, lent: the market's words and queues, its trader's account, its own side of the book, and the
-/// side that it meets.
+/// The accounts that a new order changes beside the two sides, lent: the market's, its queues, and the trader's.
 #[derive(Drop)]
-pub struct OrderViews<'a, B, A> {
-    pub market: MarketView<'a>,
-    pub requests: RequestView<'a>,
-    pub ring: RingView<'a>,
-    pub orders: OrdersView<'a>,
-    pub own: B,
-    pub opposite: A,
-}
-
-/// Does a plan, where the book, the queues, the market's words and the trader's funds have room for it.
-fn apply<B: SideBook, A: SideBook>(
-    plan: &OrderPlan,
-    taker: Taker,
-    views: &mut OrderViews<'_, B, A>,
-) -> Reply
-    requires own { B.holds views.old.own }
-    requires opposite { A.holds views.old.opposite }
-    requires side { B.side views.old.own ≡ taker.id_side }
-    requires accepted { AreAccepted (handed B.orders B.room A.orders views.old) }
-    requires can { CanApply taker.id_side (order_of taker) plan.now
-        (parts_of (handed B.orders B.room A.orders views.old)) }
-    ensures reply { result ≡ replies.Ordered plan.now.id plan.now.slot plan.now.lots plan.now.pc plan.now.fee
-        plan.now.rested }
-    ensures does { handed B.orders B.room A.orders views.new
-        ≡ planned taker.id_side (order_of taker) plan.now (handed B.orders B.room A.orders views.old) }
-    ensures list { ring_of views.new.ring.bytes.now
-        ≡ planned_list taker.id_side (order_of taker) plan.now (parts_of (handed B.orders B.room A.orders views.old)) }
-    ensures accounts { KeepAccounts views.old views.new }
-    ensures own { KeepsSide B.holds B.same_place B.side B.room views.old.own views.new.own }
-    ensures opposite { KeepsSide A.holds A.same_place A.side A.room views.old.opposite views.new.opposite }
-{
-    let sizes = views.market.sizes();
-    let rebates = trade(
-        plan,
-        sizes,
-        taker,
-        &mut views.own,
-        &mut views.opposite,
-        &mut views.ring,
-    );
-    views.requests.advance();
-    take_in(intake_by(taker.id_side, plan, rebates), &mut views.market);
-    pay(plan, taker, moves_by(sizes, taker, plan), &mut views.orders);
-    reply_by(plan)
+pub struct OrderAccounts<'a> {
+    pub market: &'a mut [u8],
+    pub requests: &'a mut [u8],
+    pub events: &'a mut [u8],
+    pub account: &'a mut [u8],
 }
 
 /// Does a new order as it was decided. It meets the other side, and what it meets leaves the book or loses lots there; what is
@@ -100,25 +57,48 @@ fn apply<B: SideBook, A: SideBook>(
 pub fn apply_order<B: SideBook, A: SideBook>(
     plan: &OrderPlan,
     taker: &Taker,
-    views: &mut OrderViews<'_, B, A>,
+    lent: OrderAccounts<'_>,
+    own: &mut B,
+    opposite: &mut A,
 ) -> Reply
-    requires own { B.holds views.old.own }
-    requires opposite { A.holds views.old.opposite }
-    requires side { B.side views.old.own ≡ taker.now.id_side }
+    requires own { B.holds own.old }
+    requires opposite { A.holds opposite.old }
+    requires side { B.side own.old ≡ taker.now.id_side }
     requires price { 1 ≤ taker.now.price }
-    requires given { IsGiven taker.now.id_side taker.now.account (handed B.orders B.room A.orders views.old) }
+    requires given { IsGiven taker.now.id_side taker.now.account (handed B.orders B.room A.orders lent own.old opposite.old) }
     requires decided { IsDecided plan.now taker.now.id_side (order_of taker.now)
-        (parts_of (handed B.orders B.room A.orders views.old)) }
-    ensures reply { result ≡ reply_in taker.entry.now (handed B.orders B.room A.orders views.old) }
-    ensures does { handed B.orders B.room A.orders views.new
-        ≡ ordered taker.entry.now (handed B.orders B.room A.orders views.old) }
-    ensures list { ring_of views.new.ring.bytes.now
-        ≡ appended (events_in taker.entry.now (handed B.orders B.room A.orders views.old))
-        (ring_of views.old.ring.bytes.now) }
-    ensures accounts { KeepAccounts views.old views.new }
-    ensures own { KeepsSide B.holds B.same_place B.side B.room views.old.own views.new.own }
-    ensures opposite { KeepsSide A.holds A.same_place A.side A.room views.old.opposite views.new.opposite }
+        (parts_of (handed B.orders B.room A.orders lent own.old opposite.old)) }
+    ensures does { let left = lent_by lent.exit.0 lent.exit.1.0 lent.exit.1.1.0 lent.exit.1.1.1.0 in
+        HasOrdered taker.entry.now result (handed B.orders B.room A.orders lent.entry own.old opposite.old)
+        (handed B.orders B.room A.orders left own.new opposite.new) }
+    ensures own { KeepsSide B.holds B.same_place B.side B.room own.old own.new }
+    ensures opposite { KeepsSide A.holds A.same_place A.side A.room opposite.old opposite.new }
 {
-    amounts_fit(*taker);
-    apply(plan, *taker, views)
+    let taker = *taker;
+    amounts_fit(taker);
+    let OrderAccounts {
+        market,
+        requests,
+        events,
+        account,
+    } = lent;
+    let market = &mut MarketView { bytes: market };
+    let sizes = market.sizes();
+    let rebates = trade(
+        plan,
+        sizes,
+        taker,
+        own,
+        opposite,
+        &mut RingView { bytes: events },
+    );
+    RequestView { bytes: requests }.advance();
+    take_in(intake_by(taker.id_side, plan, rebates), market);
+    pay(
+        plan,
+        taker,
+        moves_by(sizes, taker, plan),
+        &mut OrdersView { bytes: account },
+    );
+    reply_by(plan)
 }

@@ -1,6 +1,6 @@
 //! An open account, for reading.
 
-ghost use Rattle.std.specs.Prelude.{◌≡◌, ◌<◌, ◌↔◌, length, IsNone, IfSome, None, slice_index_or};
+ghost use Rattle.std.specs.Prelude.{◌≡◌, ◌<◌, ◌↔◌, IsNone, IfSome, None, slice_index_or};
 ghost use Rattle.std.specs.Option.{option_map};
 ghost use Rattle.dex_types.specs.Trader.{free_slot};
 ghost use Rattle.dex_types.specs.Upkeep.{taken_slots};

@@ -1,39 +1,25 @@
 //! An open account, for reading and for writing in place.
 
-ghost use Rattle.std.specs.Prelude.{◌≡◌, ◌<◌, ◌≤◌, ◌↔◌, length, IsNone, IfSome, IsSome, None, Some, slice_index_or, slice_set};
+ghost use Rattle.std.specs.Prelude.{◌≡◌, ◌<◌, ◌≤◌, ◌↔◌, IsNone, IfSome, IsSome, None, Some, slice_index_or, slice_set};
 ghost use Rattle.std.specs.Option.{option_map};
 ghost use Rattle.dex_types.specs.Trader.{free_slot};
 ghost use Rattle.dex_types.specs.Upkeep.{taken_slots};
 ghost use Rattle.dex_orders.specs.OrdersAccount.{HasNoOrder, IsOpen, account_of, added, funded, funds_of, market_of, removed, told_holding, with_funds};
 
-use crate::slots::{add_order, remove_order};
+use crate::bits::{with_bit, without_bit};
+use crate::slots::{with_side, write_slot};
 use crate::{Funds, OrdersRef};
 use dex_fields::open_orders::{
-    NATIVE_COIN_FREE, NATIVE_COIN_TOTAL, NATIVE_PC_FREE, NATIVE_PC_TOTAL, REFERRER_REBATES_ACCRUED,
+    FREE_SLOT_BITS, IS_BID_BITS, NATIVE_COIN_FREE, NATIVE_COIN_TOTAL, NATIVE_PC_FREE,
+    NATIVE_PC_TOTAL, REFERRER_REBATES_ACCRUED,
 };
-use dex_fields::put_u64;
+use dex_fields::{get_u128, put_u64};
 use dex_types::{Address, Side};
 
 /// A trader's open account, for reading and for writing in place.
 #[derive(Debug, Drop)]
 pub struct OrdersView<'a> {
     pub bytes: &'a mut [u8],
-}
-
-fn write_funds(bytes: &mut [u8], funds: &Funds)
-    requires accepted { IsOpen bytes.old }
-    requires coin { funds.now.coin_free ≤ funds.now.coin_total }
-    requires pc { funds.now.pc_free ≤ funds.now.pc_total }
-    ensures bytes { bytes.new ≡ funded bytes.old funds.now }
-    ensures market { market_of bytes.new ≡ market_of bytes.old }
-    ensures words { account_of bytes.new ≡ with_funds funds.now (account_of bytes.old) }
-    ensures accepted { IsOpen bytes.new }
-{
-    put_u64(bytes, NATIVE_COIN_FREE, funds.coin_free);
-    put_u64(bytes, NATIVE_COIN_TOTAL, funds.coin_total);
-    put_u64(bytes, NATIVE_PC_FREE, funds.pc_free);
-    put_u64(bytes, NATIVE_PC_TOTAL, funds.pc_total);
-    put_u64(bytes, REFERRER_REBATES_ACCRUED, funds.referrer);
 }
 
 impl OrdersView<'_> {
@@ -110,7 +96,10 @@ impl OrdersView<'_> {
         } }
         ensures accepted { IsOpen self.new.bytes.now }
     {
-        add_order(self.bytes, slot, id, side, client);
+        let bytes = &mut *self.bytes;
+        let free_bits = without_bit(get_u128(bytes, FREE_SLOT_BITS), slot);
+        let bid_bits = with_side(get_u128(bytes, IS_BID_BITS), slot, side);
+        write_slot(bytes, slot, free_bits, bid_bits, id, client);
     }
 
     /// Frees a taken slot, and sets its id, client id and side bit to zero. All other bytes stay.
@@ -125,7 +114,10 @@ impl OrdersView<'_> {
         } }
         ensures accepted { IsOpen self.new.bytes.now }
     {
-        remove_order(self.bytes, slot);
+        let bytes = &mut *self.bytes;
+        let free_bits = with_bit(get_u128(bytes, FREE_SLOT_BITS), slot);
+        let bid_bits = without_bit(get_u128(bytes, IS_BID_BITS), slot);
+        write_slot(bytes, slot, free_bits, bid_bits, 0, 0);
     }
 
     /// Writes the funds and the referrer part. All other bytes stay.
@@ -139,6 +131,11 @@ impl OrdersView<'_> {
         ensures words { account_of self.new.bytes.now ≡ with_funds funds (account_of self.old.bytes.now) }
         ensures accepted { IsOpen self.new.bytes.now }
     {
-        write_funds(self.bytes, &funds);
+        let bytes = &mut *self.bytes;
+        put_u64(bytes, NATIVE_COIN_FREE, funds.coin_free);
+        put_u64(bytes, NATIVE_COIN_TOTAL, funds.coin_total);
+        put_u64(bytes, NATIVE_PC_FREE, funds.pc_free);
+        put_u64(bytes, NATIVE_PC_TOTAL, funds.pc_total);
+        put_u64(bytes, REFERRER_REBATES_ACCRUED, funds.referrer);
     }
 }
