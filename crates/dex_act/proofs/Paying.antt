@@ -1,7 +1,7 @@
 -- The deposits and payouts of a row, and the cells that can make them.
 use Rattle.std.proofs.Common.{◌≡◌, ℕ, ◌+◌, inl, inr, true, List, map, get_or, Option, sym, ap, ◌∙◌, subst, arith}
 use Rattle.std.specs.List.{All}
-use Rattle.std.proofs.lemmas.List.Elements.{All-map, All-weaker}
+use Rattle.std.proofs.lemmas.List.Elements.{All-map}
 use Rattle.dex_types.specs.declared.addresses.Address.{Address}
 use Rattle.dex_types.specs.declared.rows.Seen.{Seen}
 use Rattle.dex_types.specs.declared.rows.WalletSeen.{WalletSeen}
@@ -19,9 +19,9 @@ use Rattle.dex_history.proofs.StepMoves.{row-can, row-moves}
 use Rattle.dex_cell.specs.Paying.{paid_out, parcel_of}
 use Rattle.dex_fold.specs.Fold.{wallet_acted}
 use Rattle.dex_fold.proofs.MappedLists.{map-agree, map-map}
-use Rattle.dex_wallet.specs.CellState.{CellState, HasSpare, IsWalletCell}
+use Rattle.dex_wallet.specs.CellState.{CellState, IsWalletCell}
 use Rattle.dex_act.specs.declared.places.WalletPlaces.{WalletPlaces}
-use Rattle.dex_act.specs.Wallets.{AreSeenAt, CanBePaid, CanGet, CanPay, CanProbe, CanTake, HasRoomFor, IsOf, IsRight, NamesFor, SeesCells, amount_in, any_hit, cell_acted, cell_credited, cell_debited, cell_paid, got_at, moved_some, paid_at, roles_of, wallet_state_of}
+use Rattle.dex_act.specs.Wallets.{AreSeenAt, CanBePaid, CanGet, CanPay, CanProbe, HasRoomFor, IsOf, NamesFor, SeesCells, amount_in, any_hit, cell_acted, cell_credited, cell_debited, cell_paid, got_at, moved_some, paid_at, roles_of, wallet_state_of}
 use Rattle.dex_act.proofs.CellLists.{AreApart-map, AreSeenAt-map, KeepsAddress, amount_at-nothing, map-identity, moved_some-address}
 use Rattle.dex_act.proofs.WalletMoves.{amount_in-parcel_of}
 use Rattle.dex_history.proofs.StepMints.{row-of}

@@ -1,5 +1,5 @@
 -- The steps of a row on cells, put together.
-use Rattle.std.proofs.Common.{◌≡◌, ℕ, List, map, Option, Ok, Err, refl, sym, ap, ◌∙◌, subst}
+use Rattle.std.proofs.Common.{◌≡◌, List, map, Option, Ok, Err, refl, sym, ap, ◌∙◌, subst}
 use Rattle.dex_types.specs.declared.addresses.Address.{Address}
 use Rattle.dex_types.specs.declared.refusals.Refusal.{Refusal}
 use Rattle.dex_types.specs.declared.rows.Row.{Row}
@@ -10,7 +10,7 @@ use Rattle.dex_types.specs.Side.{Coin, Pc}
 use Rattle.dex_types.specs.Steps.{Step}
 use Rattle.dex_types.specs.Transfers.{Transfers, no_transfers}
 use Rattle.dex_types.specs.declared.movements.Movement.{Movement}
-use Rattle.dex_types.specs.Wallets.{address_seen, movements}
+use Rattle.dex_types.specs.Wallets.{movements}
 use Rattle.dex_history.specs.Journal.{front, places, request_of}
 use Rattle.dex_fold.proofs.MappedLists.{map-map}
 use Rattle.dex_plan.specs.declared.plan.Plan.{Plan}
@@ -20,12 +20,13 @@ use Rattle.dex_cell.specs.declared.payouts.Payouts.{Payouts}
 use Rattle.dex_cell.specs.CellState.{IsFor, IsMarketCell, MarketCellState, answer_on, market_at, step_on}
 use Rattle.dex_cell.specs.Paying.{paid_in, paid_out, parcel_of}
 use Rattle.dex_plan.specs.Owing.{plan_transfers}
-use Rattle.dex_cell.proofs.PlanLaws.{coin-enters, pc-enters, planned-moves, refused-step}
+use Rattle.dex_plan.proofs.StepLaws.{planned-moves}
+use Rattle.dex_cell.proofs.PlanLaws.{refused-step}
 use Rattle.dex_wallet.specs.CellState.{CellState}
 use Rattle.dex_wallet.specs.TokenAmount.{TokenAmount}
 use Rattle.dex_act.specs.declared.places.WalletPlaces.{WalletPlaces}
 use Rattle.dex_act.specs.Acted.{HaveActed}
-use Rattle.dex_act.specs.Wallets.{AreAt, AreOf, ArePlacesAmong, AreSeenAt, CanBePaid, CanPay, CanProbe, SeesCells, amount_in, cell_acted, cell_credited, cell_debited, cell_paid, moves_probed}
+use Rattle.dex_act.specs.Wallets.{AreOf, ArePlacesAmong, AreSeenAt, CanBePaid, CanPay, CanProbe, SeesCells, amount_in, cell_acted, cell_credited, cell_debited, cell_paid, moves_probed}
 use Rattle.dex_act.proofs.Acting.{RowMoves}
 use Rattle.dex_act.proofs.Made.{AreApart-acted, all-made}
 use Rattle.dex_act.proofs.Paying.{can-be-paid, can-pay, can-probe, coin-mints, held-moves, paid-nothing, paid-whole, pc-mints, row-moves-of, states-acted}
@@ -81,13 +82,13 @@ module _ (row : Row) (seen : Seen) (plan : Plan) (market : MarketCellState) (cel
       → ((mint : Address) → AreOf mint seen.coin amounts.coin_in cells → parcel ≡ parcel_of mint amounts.coin_in) → parcel ≡ paid_in Coin plan m
   coin-paid parcel made =
       made m.listing.coin_mint (subst (λ (x : Transfers). AreOf m.listing.coin_mint seen.coin x.coin_in cells) (sym told-step) (coin-mints seen m t cells moves sees))
-      ∙ ap (λ (x : ℕ). parcel_of m.listing.coin_mint x) (ap (λ (x : Transfers). x.coin_in) told ∙ coin-enters plan)
+      ∙ ap (λ (x : Transfers). parcel_of m.listing.coin_mint x.coin_in) told
 
   pub pc-paid : (parcel : Option TokenAmount)
       → ((mint : Address) → AreOf mint seen.pc amounts.pc_in cells → parcel ≡ parcel_of mint amounts.pc_in) → parcel ≡ paid_in Pc plan m
   pc-paid parcel made =
       made m.listing.pc_mint (subst (λ (x : Transfers). AreOf m.listing.pc_mint seen.pc x.pc_in cells) (sym told-step) (pc-mints seen m t cells moves sees))
-      ∙ ap (λ (x : ℕ). parcel_of m.listing.pc_mint x) (ap (λ (x : Transfers). x.pc_in) told ∙ pc-enters plan)
+      ∙ ap (λ (x : Transfers). parcel_of m.listing.pc_mint x.pc_in) told
 
   -- the cells behind the deposits, and the payouts
   module _ (debited : List CellState) (debited_is : debited ≡ map (cell_debited (row_of row) seen amounts.coin_in amounts.pc_in) cells)

@@ -14,8 +14,8 @@ use dex_cancel::steps::{count_before, find_on};
 use dex_orders::OrdersRef;
 use dex_types::{Address, ClientIds, SideRead};
 
-/// How many orders a slot names: one where it is taken and its order rests. It is not inlined: it has room for an order,
-/// which no slot of another client id needs.
+/// How many orders a slot names: one where it is taken and its order rests. It is not inlined: it has room for an
+/// order, which no slot of another client id needs.
 #[inline(never)]
 fn count_at<B: SideRead, A: SideRead>(orders: &OrdersRef<'_>, bids: &B, asks: &A, slot: u8) -> u32
     requires open { IsOpen orders.now.bytes.now }

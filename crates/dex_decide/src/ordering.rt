@@ -138,7 +138,8 @@ fn decide_order_with(
         acting.address acting.bytes.now }
     requires account { taker.now.account ≡ acting.address }
     requires pending { pending.now ≡ pending_fills_of (market_of accounts.now).events }
-    ensures { result ≡ outcome_in taker.entry.now (given_on taker.entry.now.id_side acting.entry.bytes.now accounts.now) balance }
+    ensures { result ≡ outcome_in taker.entry.now
+        (given_on taker.entry.now.id_side acting.entry.bytes.now accounts.now) balance }
 {
     let market = MarketRef {
         bytes: &accounts.market,
@@ -236,8 +237,8 @@ fn decide_order_by(
     }
 }
 
-/// A new order of the account that the row names first; the taker's own account is not looked at. The answer is written where it
-/// is wanted: a plan has some 250 bytes.
+/// A new order of the account that the row names first; the taker's own account is not looked at. The answer is written
+/// where it is wanted: a plan has some 250 bytes.
 #[inline(never)]
 pub fn decide_order_row(
     accounts: &MarketAccounts,

@@ -65,7 +65,8 @@ pub fn apply_order<B: SideBook, A: SideBook>(
     requires opposite { A.holds opposite.old }
     requires side { B.side own.old ≡ taker.now.id_side }
     requires price { 1 ≤ taker.now.price }
-    requires given { IsGiven taker.now.id_side taker.now.account (handed B.orders B.room A.orders lent own.old opposite.old) }
+    requires given { IsGiven taker.now.id_side taker.now.account
+        (handed B.orders B.room A.orders lent own.old opposite.old) }
     requires decided { IsDecided plan.now taker.now.id_side (order_of taker.now)
         (parts_of (handed B.orders B.room A.orders lent own.old opposite.old)) }
     ensures does { let left = lent_by lent.exit.0 lent.exit.1.0 lent.exit.1.1.0 lent.exit.1.1.1.0 in

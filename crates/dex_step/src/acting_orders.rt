@@ -17,10 +17,8 @@ ghost use Rattle.dex_types.specs.Accounts.{market_accounts_of, orders_account_of
 
 use crate::vaults::bring;
 use dex_accounts::place_of;
-use dex_market::{MarketView, RequestView};
-use dex_match::{OrderPlan, OrderViews, Taker, apply_order};
-use dex_orders::OrdersView;
-use dex_ring::{PendingFills, RingView};
+use dex_match::{OrderAccounts, OrderPlan, Taker, apply_order};
+use dex_ring::PendingFills;
 use dex_slab::SlabView;
 use dex_types::{MarketAccounts, OrdersAccount, Reply, Side};
 
@@ -41,18 +39,22 @@ fn order_on_bytes(
         (order_bytes market.new requests.new events.new account.new own.new opposite.new) }
 {
     let side = taker.id_side;
-    let mut views = OrderViews {
-        market: MarketView { bytes: market },
-        requests: RequestView { bytes: requests },
-        ring: RingView { bytes: events },
-        orders: OrdersView { bytes: account },
-        own: SlabView { bytes: own, side },
-        opposite: SlabView {
+    let lent = OrderAccounts {
+        market,
+        requests,
+        events,
+        account,
+    };
+    apply_order(
+        plan,
+        &taker,
+        lent,
+        &mut SlabView { bytes: own, side },
+        &mut SlabView {
             bytes: opposite,
             side: side.opposite(),
         },
-    };
-    apply_order(plan, &taker, &mut views)
+    )
 }
 
 /// The same with the bytes in their buffers.

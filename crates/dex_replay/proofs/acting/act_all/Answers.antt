@@ -1,4 +1,4 @@
-use Rattle.std.proofs.Common.{◌≡◌, List, drop, length, map, sym, ap, subst, ◌∙◌, arith}
+use Rattle.std.proofs.Common.{List, drop, map, sym, subst, ◌∙◌, arith}
 use Rattle.dex_fold.proofs.Common.{Row, length-map, row_of}
 use Rattle.dex_types.specs.declared.rows.RowPlaces.{RowPlaces}
 use Rattle.dex_replay.specs.Acting.{AreLeft}

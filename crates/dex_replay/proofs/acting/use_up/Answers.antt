@@ -1,4 +1,4 @@
-use Rattle.std.proofs.Common.{◌≡◌, ◌-◌, ◌++◌, List, [], ◌∷◌, drop, length, map, refl, reverse, slice_get, sym, ap, subst, ◌∙◌, arith}
+use Rattle.std.proofs.Common.{◌≡◌, ◌-◌, ◌++◌, List, [], ◌∷◌, drop, length, map, reverse, sym, ap, subst, ◌∙◌, arith}
 use Rattle.dex_fold.proofs.Common.{Row, length-map, row_of}
 use Rattle.std.proofs.lemmas.List.{length-reverse, length-take, reverse-append, reverse-reverse}
 use Rattle.dex_bank.specs.Places.{ArePlacedIn}

@@ -33,9 +33,3 @@ returns-clause-orders c side =
     let taken = c.take_node.ensures in
     ap (λ (o : Option Tree). orders_in side o) (tree_of-kept left c.take_node.new.bytes c.remove_order-order.ensures.slab taken.changes taken.root taken.count)
     ∙ c.remove_order-order.ensures.orders side
-
-pub returns-clause-bump : goal.returns-clause-bump
-returns-clause-bump c = omega (arith, c.take_node.ensures.bump, c.remove_order-order.ensures.bump, c.remove_order-order.ensures.freed, given-some (count_of c.args.bytes.now))
-
-pub returns-clause-freed : goal.returns-clause-freed
-returns-clause-freed c = omega (arith, c.take_node.ensures.freed, c.remove_order-order.ensures.freed, given-some (count_of c.args.bytes.now))
