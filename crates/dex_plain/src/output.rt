@@ -25,8 +25,9 @@ pub fn written_each<K: Sink>(sink: &mut K, pieces: &[Vec<u8>], stands: Status) -
         (flat_map (λ piece. piece.items) pieces.now) result }
 {
     for piece in pieces {
-        if write_all(sink, piece).is_err() {
-            return Status::WriteFault;
+        match write_all(sink, piece) {
+            Ok(()) => {}
+            Err(_) => return Status::WriteFault,
         }
     }
     stands
