@@ -17,10 +17,10 @@ use Rattle.dex_laws.proofs.TraderLaws.{is_same-true, is_same-sym}
 use Rattle.dex_wallet.specs.CellState.{CellState, HasSpare, balance_of}
 use Rattle.dex_wallet.specs.TokenAmount.{TokenAmount}
 use Rattle.dex_cell.specs.Paying.{parcel_of}
-use Rattle.dex_fold.proofs.MappedLists.{map-map}
+use Rattle.dex_fold.proofs.MappedLists.{map-agree, map-map}
 use Rattle.dex_act.specs.declared.places.WalletPlaces.{WalletPlaces}
 use Rattle.dex_act.specs.Wallets.{AreApart, CanCredit, CanGet, CanPay, CanPut, CanTake, IsAt, IsOf, IsRoleAt, NamesFor, amount_in, cell_credited, cell_debited, cell_moved, got_at, is_one, moved_some, paid_at, pc_credited, role_moved}
-use Rattle.dex_act.proofs.CellLists.{all-cells, amount_at-nothing, map-same, map-same_where, moved-here, role_moved-address, role_moved-nothing}
+use Rattle.dex_act.proofs.CellLists.{amount_at-nothing, map-same, moved-here, role_moved-address, role_moved-nothing}
 
 -- ---- parcels
 
@@ -119,7 +119,7 @@ later-moved row kind role amount later cell one =
 pub second-All : (row : PlainRow) (seen : Seen) (coin pc : ℕ) (cells : List CellState) (P : CellState → Type 0) → (coin ≡ 0) ⊎ (pc ≡ 0) → All P cells
     → (pc ≡ 0 → (cell : CellState) → P cell) → All P (map (role_moved row Debit seen.coin coin) cells)
 second-All row seen coin pc cells P (inl none) all otherwise = subst (All P) (sym (role_moved-nothing row Debit seen.coin coin cells none)) all
-second-All row seen coin pc cells P (inr none) all otherwise = all-cells P (map (role_moved row Debit seen.coin coin) cells) (otherwise none)
+second-All row seen coin pc cells P (inr none) all otherwise = λ k default lt. otherwise none (get_or (map (role_moved row Debit seen.coin coin) cells) k default)
 
 -- nothing under a role
 pub none-at : (address : Address) (role : Option WalletSeen) (amount : ℕ) → amount ≡ 0 → amount_at address role amount ≡ 0
@@ -190,13 +190,6 @@ fits-together (Some wallet) second a b mint (start ∷ others) place one at each
     (λ (some : HasSpare cell × (mint ≡ (wallet_words cell.bytes).mint) × (balance_of cell.bytes + (amount_at cell.address (Some wallet) a + amount_at cell.address second b) < 2 ^ 64)). omega (arith, whole, split, some.2))
     (All-get_or P cells place start at.within each)
 
-pub credited-one : (row : PlainRow) (seen : Seen) (a b n : ℕ) (cells : List CellState) → is_one seen.pc seen.referrer ≡ true → n ≡ a + b
-    → map (role_moved row Credit seen.pc n) cells ≡ map (pc_credited row seen a b) cells
-credited-one row seen a b n cells one is =
-    map-same (role_moved row Credit seen.pc n) (pc_credited row seen a b) cells (λ cell.
-    ap (λ (x : ℕ). moved_some row Credit (amount_at cell.address seen.pc x) cell) is
-    ∙ ap (λ (x : ℕ). moved_some row Credit x cell) (one-amount cell.address seen.pc seen.referrer a b one))
-
 pub credited-apart : (row : PlainRow) (seen : Seen) (a b : ℕ) (cells : List CellState) → is_one seen.pc seen.referrer ≡ false
     → map (role_moved row Credit seen.referrer b) (map (role_moved row Credit seen.pc a) cells) ≡ map (pc_credited row seen a b) cells
 credited-apart row seen a b cells apart =
@@ -254,9 +247,9 @@ pub credited-together : (row : PlainRow) (seen : Seen) (coin pc referrer : ℕ) 
     → map (pc_credited row seen pc referrer) (map (role_moved row Credit seen.coin coin) cells) ≡ map (cell_credited row seen coin pc referrer) cells
 credited-together row seen coin pc referrer coin_mint pc_mint cells each =
     map-map (role_moved row Credit seen.coin coin) (pc_credited row seen pc referrer) cells
-    ∙ map-same_where (λ (cell : CellState). CanGet coin_mint pc_mint (amount_at cell.address seen.coin coin) (got_at seen pc referrer cell) cell)
-    (λ cell. pc_credited row seen pc referrer (role_moved row Credit seen.coin coin cell)) (cell_credited row seen coin pc referrer) cells each
-    (λ cell can. later-moved row Credit seen.coin coin (λ x. amount_at x seen.pc pc + amount_at x seen.referrer referrer) cell (one_of cell can))
+    ∙ map-agree (λ cell. pc_credited row seen pc referrer (role_moved row Credit seen.coin coin cell)) (cell_credited row seen coin pc referrer) cells (λ k default lt.
+    let cell : CellState = get_or cells k default in
+    later-moved row Credit seen.coin coin (λ x. amount_at x seen.pc pc + amount_at x seen.referrer referrer) cell (one_of cell (each k default lt)))
   where
     one_of : (cell : CellState) → CanGet coin_mint pc_mint (amount_at cell.address seen.coin coin) (got_at seen pc referrer cell) cell
         → (amount_at cell.address seen.coin coin ≡ 0) ⊎ (got_at seen pc referrer cell ≡ 0)

@@ -9,13 +9,14 @@ ghost use Rattle.dex_cancel.specs.Counting.{count_among, count_of_client};
 ghost use Rattle.dex_cancel_slots.specs.Given.{slots_in};
 ghost use Rattle.dex_cancel_slots.specs.Slots.{DoSlotsName, any_holding, has_client, named_by_slot};
 
-use crate::finding::named_at;
-use crate::taken::taken_end;
+use crate::taken::{client_at, taken_end};
 use dex_cancel::steps::{count_before, find_on};
 use dex_orders::OrdersRef;
 use dex_types::{Address, ClientIds, SideRead};
 
-/// How many orders a slot names: one where it is taken and its order rests.
+/// How many orders a slot names: one where it is taken and its order rests. It is not inlined: it has room for an
+/// order, which no slot of another client id needs.
+#[inline(never)]
 fn count_at<B: SideRead, A: SideRead>(orders: &OrdersRef<'_>, bids: &B, asks: &A, slot: u8) -> u32
     requires open { IsOpen orders.now.bytes.now }
     requires bids { B.holds bids.now }
@@ -67,7 +68,7 @@ fn count_client_at<B: SideRead, A: SideRead>(
     asks: &A,
     slot: u8,
     client: u64,
-) -> u64
+) -> u32
     requires open { IsOpen orders.now.bytes.now }
     requires bids { B.holds bids.now }
     requires asks { A.holds asks.now }
@@ -76,14 +77,15 @@ fn count_client_at<B: SideRead, A: SideRead>(
         result ≡ length (named_by_slot (has_client client) (B.orders bids.now) (A.orders asks.now) held) }
     ensures one { result ≤ 1 }
 {
-    match named_at(orders, bids, asks, slot, client) {
-        Some(_) => 1,
-        None => 0,
+    if client_at(orders, slot) == client {
+        count_at(orders, bids, asks, slot)
+    } else {
+        0
     }
 }
 
 /// Whether the account has more orders of the client id than so many. It looks up no more once there are.
-fn has_more<B: SideRead, A: SideRead>(
+pub fn has_more<B: SideRead, A: SideRead>(
     account: Address,
     orders: &OrdersRef<'_>,
     bids: &B,
@@ -102,7 +104,7 @@ fn has_more<B: SideRead, A: SideRead>(
     let mut count = 0;
     let mut slot = 0;
     'slots: while slot < end {
-        count += count_client_at(orders, bids, asks, slot, client);
+        count += u64::from(count_client_at(orders, bids, asks, slot, client));
         if count > than {
             return true;
         }

@@ -7,8 +7,7 @@ ghost use Rattle.dex_cancel.specs.Cancelling.{decided, named_by};
 ghost use Rattle.dex_cancel_slots.specs.Given.{IsGiven, sides_by, sides_given, slots_in};
 ghost use Rattle.dex_cancel_slots.specs.Slots.{DoSlotsName};
 
-use crate::counting::{count_first, count_listed};
-use crate::finding::has_any;
+use crate::counting::{count_first, count_listed, has_more};
 use dex_cancel::steps::with_room;
 use dex_cancel::{CancelWhat, decide_cancel};
 use dex_orders::OrdersRef;
@@ -32,7 +31,7 @@ fn decide_by_client<B: SideRead, A: SideRead>(
     if client == 0 {
         return Err(Refusal::ClientIdZero);
     }
-    if has_any(account, orders, bids, asks, client) {
+    if has_more(account, orders, bids, asks, client, 0) {
         with_room(1, room)
     } else {
         Err(Refusal::ClientIdNotFound)

@@ -8,8 +8,6 @@ use Rattle.dex_statement.specs.Words.{Fields}
 use Rattle.dex_types.specs.Accounts.{PlainAccounts, accounts_of, market_accounts_of, named_of}
 use Rattle.dex_types.specs.Rows.{row_of}
 use Rattle.dex_statement.specs.declared.faults.FaultKind.{FaultKind}
-use Rattle.dex_statement.specs.declared.faults.RowError.{RowError}
-use Rattle.dex_statement.specs.declared.faults.RowError.TheVariants.{Fault, NoMemory}
 use Rattle.dex_statement.specs.Faults.{code_of, kind_number}
 use Rattle.dex_script_facts.specs.PlainScript.{PlainScript}
 use Rattle.dex_script.specs.declared.draft.Draft.{Draft}
@@ -41,13 +39,6 @@ draft_of draft = record {
   items = draft.items;
   batch = draft.batch;
 }
-
--- the draft that is left behind a row is what is meant, or the fault of the row is, and then what is left does not matter. Want of
--- memory tells nothing
-abbrev pub TellsIn : Result (Unit {0}) RowError → PlainDraft → Result PlainDraft FaultKind → Type 0
-TellsIn (Ok done) left meant = meant ≡ Ok left
-TellsIn (Err (Fault kind)) left meant = meant ≡ Err kind
-TellsIn (Err NoMemory) left meant = Unit {0}
 
 -- an error is this refusal. Want of memory tells nothing
 abbrev pub TellsRefusal : ScriptError → Result PlainDraft Refusal → Type 0

@@ -3,10 +3,11 @@
 ghost use Rattle.std.specs.Prelude.{◌≡◌, [], ◌∷◌, ◌++◌, true, IfErr, OnOk, map};
 ghost use Rattle.dex_types.specs.Accounts.{PlainAccounts};
 ghost use Rattle.dex_types.specs.Rows.{row_of};
+ghost use Rattle.dex_statement.specs.Telling.{TellsIn};
 ghost use Rattle.dex_script_facts.specs.Places.{ArePlaced, IsPlaced};
 ghost use Rattle.dex_script.specs.Names.{IsReading, StandAt};
 ghost use Rattle.dex_script.specs.Rows as spec;
-ghost use Rattle.dex_script.specs.Telling.{TellsIn, draft_of, start_of};
+ghost use Rattle.dex_script.specs.Telling.{draft_of, start_of};
 
 use crate::draft::Draft;
 use crate::swap::is_bad_swap;
@@ -102,7 +103,7 @@ impl Draft {
     }
 }
 
-/// One more row, at these places: what the words say, whose buffers go into it. Where memory is wanting both lists stay.
+/// One more row, at these places. Where memory is wanting both lists stay.
 fn push(
     rows: &mut Vec<Row>,
     places: &mut Vec<RowPlaces>,
@@ -120,7 +121,16 @@ fn push(
 {
     rows.reserve(1)?;
     places.push(at)?;
-    rows.push(Row {
+    rows.push(take_row(number, now, words)).unwrap();
+    Ok(())
+}
+
+/// The row of this number, at this time: what the words say, whose buffers go into it. It is not inlined, so nothing is moved.
+#[inline(never)]
+fn take_row(number: u32, now: i64, words: &mut InstructionWords) -> Row
+    ensures { row_of result ≡ spec.instruction_row number now words.old }
+{
+    Row {
         lane: words.lane,
         number,
         market: words.parties.market,
@@ -132,9 +142,7 @@ fn push(
         referrer: words.parties.referrer,
         bytes: words.take_bytes(),
         now,
-    })
-    .unwrap();
-    Ok(())
+    }
 }
 
 /// Whether an instruction row passes a limit: 16 lanes, 16 named accounts, 256 bytes of data.

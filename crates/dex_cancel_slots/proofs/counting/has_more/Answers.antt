@@ -18,7 +18,8 @@ returns-then-count-than g c =
     (omega (
       arith,
       c.if-count-than.true,
-      c.count_client_at-count.ensures.count,
+      c.count_client_at.ensures.count,
+      c.from-count.ensures,
       c.slots.invariant.sum,
       count-step (has_client c.args.client) bids asks (slots_in c.args.orders.now) c.slots.slot
           (omega (arith, length-slots_of c.args.orders.now.bytes.now, c.slots-test.true, c.taken_end-end.ensures.within)),
@@ -32,8 +33,8 @@ slots-preserved g c =
     let step = count-step (has_client c.args.client) bids asks (slots_in c.args.orders.now) c.slots.slot
     (omega (arith, length-slots_of c.args.orders.now.bytes.now, c.slots-test.true, c.taken_end-end.ensures.within)) in
     record {
-      sum = omega (arith, step, c.count_client_at-count.ensures.count, c.slots.invariant.sum);
-      small = omega (arith, c.count_client_at-count.ensures.one, c.slots.invariant.small);
+      sum = omega (arith, step, c.from-count.ensures, c.count_client_at.ensures.count, c.slots.invariant.sum);
+      small = omega (arith, c.from-count.ensures, c.count_client_at.ensures.one, c.slots.invariant.small);
       most = omega (arith, c.if-count-than.false);
     }
 
