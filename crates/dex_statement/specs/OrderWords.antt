@@ -78,20 +78,24 @@ latest_of words = if not (length words == 10) then Ok None else (do
   latest ← found_or (time_word (field_at words 9)) BadNumber
   Ok (Some latest))
 
+-- the fields of `new`, by place
+unfoldable pub order_in : Fields → Result Ix FaultKind
+order_in words = do
+  side ← side_at words 1
+  price ← amount_at words 2
+  lots ← amount_at words 3
+  pc ← amount_at words 4
+  self_trade ← found_or (self_trade_of (field_at words 5)) UnknownRow
+  order_type ← found_or (order_type_of (field_at words 6)) UnknownRow
+  client ← amount_at words 7
+  limit ← limit_at words 8
+  latest ← latest_of words
+  Ok (ix.NewOrderV3 side price lots pc self_trade order_type client limit latest)
+
 -- `new SIDE PRICE LOTS PC SELF TYPE CLIENT LIMIT`, or with a latest time behind
 unfoldable pub order_of : Fields → Result Ix FaultKind
 order_of words = unless (is_strange_order words) UnknownRow (
-    unless (not (length words == 9) && not (length words == 10)) FieldCount (do
-      side ← side_at words 1
-      price ← amount_at words 2
-      lots ← amount_at words 3
-      pc ← amount_at words 4
-      self_trade ← found_or (self_trade_of (field_at words 5)) UnknownRow
-      order_type ← found_or (order_type_of (field_at words 6)) UnknownRow
-      client ← amount_at words 7
-      limit ← limit_at words 8
-      latest ← latest_of words
-      Ok (ix.NewOrderV3 side price lots pc self_trade order_type client limit latest)))
+    unless (not (length words == 9) && not (length words == 10)) FieldCount (order_in words))
 
 -- `take SIDE PRICE LOTS PC MINLOTS MINPC LIMIT`
 unfoldable pub take_of : Fields → Result Ix FaultKind

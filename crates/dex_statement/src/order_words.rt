@@ -243,6 +243,14 @@ fn order_of(words: &[&[u8]]) -> Result<Ix, FaultKind>
     if words.len() != 9 && words.len() != 10 {
         return Err(FaultKind::FieldCount);
     }
+    order_in(words)
+}
+
+/// The new order whose fields stand in words, by place.
+#[tactic(auto, unfolding(crate::specs::OrderWords::order_in))]
+fn order_in(words: &[&[u8]]) -> Result<Ix, FaultKind>
+    ensures { result ≡ order.order_in (texts words.now) }
+{
     Ok(Ix::NewOrderV3 {
         side: side_at(words, 1)?,
         limit_price: amount_at(words, 2)?,
