@@ -4,8 +4,8 @@ ghost use Rattle.std.specs.Prelude.{◌≤◌, IfOk};
 ghost use Rattle.dex_plain.specs.LaneAnswers.{AnswersBatch};
 ghost use Rattle.dex_program.specs.Told.{text_of};
 
-use crate::told::{StatusPieces, in_one_piece, report_of};
-use dex_answers::{items_in, no_script};
+use crate::told::{StatusPieces, refused, report_of};
+use dex_answers::items_in;
 use dex_batch::run_batch;
 use dex_io::Pace;
 use dex_replay::laws::without_swaps_rows_act_one_by_one;
@@ -35,6 +35,6 @@ pub fn batch_answer<R: Threads + Wait + Sync, P: Pace + Sync>(
             without_swaps_rows_act_one_by_one();
             report_of(rt, alloc, outcome, rows)
         }
-        Err(error) => in_one_piece(alloc, no_script(alloc, error)?),
+        Err(error) => refused(alloc, error),
     }
 }

@@ -1,15 +1,18 @@
 //! What a command on several threads answers: a text in pieces.
 
-ghost use Rattle.std.specs.Prelude.{◌≡◌, IfOk};
+ghost use Rattle.std.specs.Prelude.{◌≡◌, Bool, List, ℕ, IfOk};
 ghost use Rattle.dex_report.specs.Outcomes.{outcome_of};
 ghost use Rattle.dex_report.specs.Report.{report_text};
 ghost use Rattle.dex_report.specs.Telling.{FitOutcome};
+ghost use Rattle.dex_script.specs.Telling.{TellsError};
+ghost use Rattle.dex_answers.specs.Answers.{IsNoScript};
 ghost use Rattle.dex_answers.specs.declared.status.Status.TheVariants as status;
 ghost use Rattle.dex_program.specs.Told.{text_of};
 
-use dex_answers::{Status, StatusText};
+use dex_answers::{Status, StatusText, no_script};
 use dex_pieces::report_pieces;
 use dex_report::Outcome;
+use dex_script::ScriptError;
 use dex_types::NoMemory;
 use std::alloc::Global;
 use std::marker::Sync;
@@ -22,12 +25,12 @@ pub(crate) struct StatusPieces {
     pub(crate) pieces: Vec<Vec<u8>>,
 }
 
-/// A text as one piece.
-pub(crate) fn in_one_piece(alloc: Global, told: StatusText) -> Result<StatusPieces, NoMemory>
-    ensures status { IfOk result (λ whole. whole.status ≡ told.status) }
-    ensures text { IfOk result (λ whole. text_of whole ≡ told.text.items) }
+/// The text that tells why bytes are no script, as one piece.
+pub(crate) fn refused(alloc: Global, error: ScriptError) -> Result<StatusPieces, NoMemory>
+    ensures { (batch : Bool) (bytes : List ℕ) → TellsError error batch bytes
+        → IfOk result (λ told. IsNoScript batch bytes told.status (text_of told)) }
 {
-    let StatusText { status, text } = told;
+    let StatusText { status, text } = no_script(alloc, error)?;
     let mut pieces = Vec::new(alloc);
     match pieces.push(text) {
         Ok(()) => Ok(StatusPieces { status, pieces }),
