@@ -89,6 +89,11 @@ with-last (other ∷ done) market account none = elim (cases_Bool (is_same marke
       rw apart (ap (λ (markets : List PlainMarketAccounts). other ∷ markets) rest)
 ]
 
+-- one fact, and the others
+infixr 4 ◌⨾◌
+abbrev ◌⨾◌ : {A B : Type 0} → A → B → A × B
+one ⨾ others = (one, others)
+
 -- a mint may have the second name
 name-allowed : (accounts : PlainAccounts) (mint : Address) (other : Option Address) → IsMintOf accounts mint → NamesApart other (Some mint)
     → is_name accounts mint None other ≡ true
@@ -248,31 +253,12 @@ module _ (whole : PlainAccounts) (behind : List Fields) where
       → FewLeft taken (market_addresses market ++ left) → AllHold (checks (with_markets done taken) (Market (record market { orders = [] })))
   unfolding checks
   market-holds done taken left market accepted mints few =
-      let t = market_terms market.market in (
-        market_passes (with_markets done taken) market.address market.market (market-here done taken left market accepted mints few),
-        (
-          vault_passes t.coin_mint market.coin_vault accepted.coin_vault accepted.coin_mint,
-          (
-            vault_passes t.pc_mint market.pc_vault accepted.pc_vault accepted.pc_mint,
-            (
-              none_from_requests market.requests accepted.requests,
-              (
-                none_from_queue market.events accepted.events,
-                (
-                  side_passes Bid market.bids accepted.bids,
-                  (
-                    accepted.bids.slab,
-                    (
-                      side_passes Ask market.asks accepted.asks,
-                      (accepted.asks.slab, tt),
-                    ),
-                  ),
-                ),
-              ),
-            ),
-          ),
-        ),
-      )
+      let t = market_terms market.market in
+      market_passes (with_markets done taken) market.address market.market (market-here done taken left market accepted mints few)
+      ⨾ vault_passes t.coin_mint market.coin_vault accepted.coin_vault accepted.coin_mint
+      ⨾ vault_passes t.pc_mint market.pc_vault accepted.pc_vault accepted.pc_mint
+      ⨾ none_from_requests market.requests accepted.requests ⨾ none_from_queue market.events accepted.events
+      ⨾ side_passes Bid market.bids accepted.bids ⨾ accepted.bids.slab ⨾ side_passes Ask market.asks accepted.asks ⨾ accepted.asks.slab ⨾ tt
 
   abbrev HasFew : PlainMarketAccounts → Type 0
   HasFew market = length market.orders ≤ 64
