@@ -245,6 +245,25 @@ names-swapped : (mint : Address) (other : Option Address) → NamesApart (Some m
 names-swapped mint None h = tt
 names-swapped mint (Some other) h = is_same-sym other mint ∙ h
 
+-- the names of mints alone are others
+names-accepted : (accounts : PlainAccounts) (srm msrm : Option Address) → AreAccepted accounts → ((address : Address) → times address (addresses_of accounts) ≤ 1)
+    → IfSome srm (IsMintOf accounts) → IfSome msrm (IsMintOf accounts) → NamesApart srm msrm → AreAccepted (record accounts { srm = srm; msrm = msrm })
+names-accepted accounts srm msrm old once is_srm is_msrm apart = record {
+  mints = old.mints;
+  wallets = old.wallets;
+  markets = old.markets;
+  wallet_mints = old.wallet_mints;
+  market_mints = same-mints accounts (record accounts { srm = srm; msrm = msrm }) refl accounts.markets old.market_mints;
+  once = once;
+  srm = is_srm;
+  msrm = is_msrm;
+  apart = apart;
+  few_mints = old.few_mints;
+  few_wallets = old.few_wallets;
+  few_markets = old.few_markets;
+  few_orders = old.few_orders;
+}
+
 line-accepted : (reading : PlainReading) (line : PlainLine) → IsSoFar reading → IsRead line → is_allowed reading line ≡ true
     → AllHold (checks reading line) → ((address : Address) → times address (addresses_of (with_line reading.accounts line)) ≤ 1)
     → AreAccepted (with_line reading.accounts line)
@@ -273,41 +292,13 @@ line-accepted reading (Mint mint) so read allowed hold once =
       few_orders = old.few_orders;
     }
 line-accepted reading (Srm mint) so read allowed hold once =
-    let old = so.accepted in
-    let named = named-mint reading.accounts mint reading.accounts.srm reading.accounts.msrm allowed in
-    record {
-      mints = old.mints;
-      wallets = old.wallets;
-      markets = old.markets;
-      wallet_mints = old.wallet_mints;
-      market_mints = same-mints reading.accounts (with_line reading.accounts (Srm mint)) refl reading.accounts.markets old.market_mints;
-      once = once;
-      srm = named.0;
-      msrm = old.msrm;
-      apart = named.1;
-      few_mints = old.few_mints;
-      few_wallets = old.few_wallets;
-      few_markets = old.few_markets;
-      few_orders = old.few_orders;
-    }
+    let accounts = reading.accounts in
+    let named = named-mint accounts mint accounts.srm accounts.msrm allowed in
+    names-accepted accounts (Some mint) accounts.msrm so.accepted once named.0 so.accepted.msrm named.1
 line-accepted reading (Msrm mint) so read allowed hold once =
-    let old = so.accepted in
-    let named = named-mint reading.accounts mint reading.accounts.msrm reading.accounts.srm allowed in
-    record {
-      mints = old.mints;
-      wallets = old.wallets;
-      markets = old.markets;
-      wallet_mints = old.wallet_mints;
-      market_mints = same-mints reading.accounts (with_line reading.accounts (Msrm mint)) refl reading.accounts.markets old.market_mints;
-      once = once;
-      srm = old.srm;
-      msrm = named.0;
-      apart = names-swapped mint reading.accounts.srm named.1;
-      few_mints = old.few_mints;
-      few_wallets = old.few_wallets;
-      few_markets = old.few_markets;
-      few_orders = old.few_orders;
-    }
+    let accounts = reading.accounts in
+    let named = named-mint accounts mint accounts.msrm accounts.srm allowed in
+    names-accepted accounts accounts.srm (Some mint) so.accepted once so.accepted.srm named.0 (names-swapped mint accounts.srm named.1)
 line-accepted reading (Wallet wallet) so read allowed hold once =
     let accounts = reading.accounts in
     let old = so.accepted in
