@@ -3,6 +3,7 @@ use Rattle.std.proofs.Common.{◌≡◌, ◌<◌, ◌≤◌, ◌+◌, ◌∷◌,
 use Rattle.std.specs.List.{list_any}
 use Rattle.std.proofs.lemmas.Bool.{and_parts, cases_Bool, false≢true, ltb-true, not-true}
 use Rattle.std.proofs.lemmas.List.{length-append}
+use Rattle.std.proofs.lemmas.List.Folds.{list_any-append}
 use Rattle.std.proofs.lemmas.List.Elements.{All-cons, All-head, All-nil, All-push, All-same, All-tail, All-weaker}
 use Rattle.std.proofs.lemmas.Option.{cond_some, none-some}
 use Rattle.dex_fields.proofs.Reading.{length-bytes_in}
@@ -43,16 +44,9 @@ pub record IsSoFar (reading : PlainReading) : Type 0 where
 
 -- ---- mints that are declared stay declared
 
-list_any-push : {A : Type 0} (p : A → Bool) (xs : List A) (x : A) → list_any p xs ≡ true → list_any p (xs ++ x ∷ []) ≡ true
-list_any-push p [] x h = absurd (false≢true h)
-list_any-push p (y ∷ xs) x h = elim (cases_Bool (p y)) [
-  | inl here ↦ rw here refl
-  | inr other ↦ rw other (list_any-push p xs x (rw other at h))
-]
-
 mint-stays : (accounts : PlainAccounts) (mint : PlainAccount) (address : Address) → IsMintOf accounts address
     → IsMintOf (record accounts { mints = accounts.mints ++ mint ∷ [] }) address
-mint-stays accounts mint address h = list_any-push (λ (other : PlainAccount). is_same address other.address) accounts.mints mint h
+mint-stays accounts mint address h = rw (list_any-append (λ (other : PlainAccount). is_same address other.address) accounts.mints (mint ∷ []), h) refl
 
 name-stays : (accounts : PlainAccounts) (mint : PlainAccount) (name : Option Address) → IfSome name (IsMintOf accounts)
     → IfSome name (IsMintOf (record accounts { mints = accounts.mints ++ mint ∷ [] }))
