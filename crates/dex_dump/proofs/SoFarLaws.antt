@@ -1,5 +1,5 @@
 -- The accounts read so far are accepted: each row that is added keeps that, so what a dump is read as is accepted.
-use Rattle.std.proofs.Common.{◌≡◌, ◌<◌, ◌≤◌, ◌+◌, ◌∷◌, ◌++◌, ◌∙◌, [], ℕ, zero, suc, get_or, List, Bool, All, IfOk, IfSome, true, false, not, Option, Some, None, Result, Ok, Err, arith, refl, sym, ap, subst, inl, inr, length, nat_lt}
+use Rattle.std.proofs.Common.{◌≡◌, ◌<◌, ◌≤◌, ◌+◌, ◌∷◌, ◌++◌, ◌∙◌, [], ℕ, zero, suc, get_or, List, All, IfOk, IfSome, true, false, not, Option, Some, None, Result, Ok, Err, arith, refl, sym, ap, subst, inl, inr, length, nat_lt}
 use Rattle.std.specs.List.{list_any}
 use Rattle.std.proofs.lemmas.Bool.{and_parts, cases_Bool, false≢true, ltb-true, not-true}
 use Rattle.std.proofs.lemmas.List.{length-append}
