@@ -1,11 +1,10 @@
 -- one step along the slots of an account
-use Rattle.std.proofs.Common.{ℕ, ◌+◌, ◌<◌, ◌≤◌, ◌≡◌, Bool, true, false, List, [], ◌∷◌, ◌++◌, Option, Some, None, length, drop, get_or, refl, sym, ap, ◌∙◌, arith}
+use Rattle.std.proofs.Common.{ℕ, ◌+◌, ◌<◌, ◌≤◌, ◌≡◌, Bool, List, [], ◌∷◌, ◌++◌, Option, Some, None, length, drop, get_or, refl, sym, ap, ◌∙◌, arith}
 use Rattle.std.proofs.lemmas.List.{at_drop_more}
 use Rattle.dex_types.specs.declared.orders.Order.{Order}
 use Rattle.dex_types.specs.Cancel.{RestingOrder, at_most_one}
 use Rattle.dex_types.specs.Trader.{Holding}
-use Rattle.dex_cancel.specs.declared.found.Found.{Found}
-use Rattle.dex_cancel.specs.Finding.{maybe_resting, older_of}
+use Rattle.dex_cancel.specs.Finding.{older_of}
 use Rattle.dex_cancel.proofs.WalkSteps.{older_of-older}
 use Rattle.dex_cancel_slots.specs.Slots.{named_by_slot, oldest_of, orders_in}
 

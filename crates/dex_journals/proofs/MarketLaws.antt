@@ -13,17 +13,13 @@ use Rattle.dex_cell.specs.CellState.{HasActed, HasSpare, IsMarketCell, MarketCel
 use Rattle.dex_script_facts.specs.PlainScript.{PlainScript}
 use Rattle.dex_fold.specs.RowsOf.{rows_of_market, rows_on}
 use Rattle.dex_stamps.specs.Stamped.{AreRising, items_of, stamped}
-use Rattle.dex_journals.specs.Journals.{BankMarketState, IsBankMarket, calls_by, market_calls}
+use Rattle.dex_journals.specs.Journals.{BankMarketState, IsBankMarket, calls_by, market_calls, market_more}
 use Rattle.dex_journals.proofs.Counting.{fewer}
 use Rattle.dex_journals.proofs.StampedLists.{below-more, items_of-stamped, lanes-more, length-stamped, rising-more, stamped-more}
 
 -- how many rows of a lane are on the market
 abbrev rows_left : BankMarketState → ℕ → ℕ
 rows_left market lane = length (rows_of_market lane market.cell.start.address market.script.rows)
-
--- the market with one call more, under a stamp
-abbrev pub market_more : BankMarketState → MarketCellState → ℕ → BankMarketState
-market_more market cell stamp = record market { cell = cell; stamps = market.stamps ++ stamp ∷ []; last = stamp }
 
 -- where a lane has a row left, there is room for its call
 pub spare-market : (market : BankMarketState) → IsBankMarket market → (lane : ℕ)

@@ -22,7 +22,7 @@ use Rattle.dex_script_facts.specs.Known.{has_account}
 use Rattle.dex_script_facts.specs.Facts.{HasNoSwap}
 use Rattle.dex_script.specs.Drafts.{PlainDraft, behind_dump, no_rows}
 use Rattle.dex_script.specs.Known.{is_any_among, made_addresses, mint_at, orders_at}
-use Rattle.dex_script.specs.Rows.{checked_name, exceeds_market, exceeds_row, instruction_row, is_full, is_unknown, set_of, with_instruction, with_item, with_known, with_market, with_mint, with_msrm, with_orders_row, with_program, with_row, with_srm, with_statement, with_wallet}
+use Rattle.dex_script.specs.Rows.{checked_name, checked_new, exceeds_market, exceeds_row, instruction_row, is_full, is_unknown, set_of, with_instruction, with_item, with_known, with_market, with_mint, with_msrm, with_orders_row, with_program, with_row, with_srm, with_statement, with_wallet}
 use Rattle.dex_script.specs.Scripts.{AnswersBy, Reads, Refusal, begins_with_dump, behind, draft_after, fault_in, script_from, unless_found}
 use Rattle.dex_script.proofs.FaultLaws.{bind-ok, differ, no-error, ok-same}
 use Rattle.dex_script.proofs.ItemRows.{IsSwapRow, first_leg, second_leg, swap-row}
@@ -56,10 +56,8 @@ module _ (b : Bool) (draft : PlainDraft) where
   program-other program = unless-other b (not draft.is_first) _ _ _ refl
 
   mint-other : (address : Address) (decimals : ℕ) → with_mint (other_use b draft) address decimals ≡ other_left b (with_mint draft address decimals)
-  unfolding with_mint
-  mint-other address decimals =
-      unless-other b (is_among address draft.taken) _ _ _
-      (unless-other b (nat_le 16 (length draft.script.start.mints)) _ _ _ (unless-other b draft.is_late _ _ _ refl))
+  unfolding with_mint checked_new
+  mint-other address decimals = bind-other b (checked_new draft (is_among address draft.taken) (nat_le 16 (length draft.script.start.mints))) _ _ (λ _. refl)
 
   srm-other : (mint : Address) → with_srm (other_use b draft) mint ≡ other_left b (with_srm draft mint)
   unfolding with_srm checked_name
@@ -71,27 +69,24 @@ module _ (b : Bool) (draft : PlainDraft) where
 
   wallet-other : (address mint owner : Address) (amount : ℕ)
       → with_wallet (other_use b draft) address mint owner amount ≡ other_left b (with_wallet draft address mint owner amount)
-  unfolding with_wallet
+  unfolding with_wallet checked_new
   wallet-other address mint owner amount =
       bind-other b (found_or (mint_at mint draft.script.start.mints) UnknownLabel) _ _ (λ words.
-      unless-other b (is_among address draft.taken) _ _ _
-      (unless-other b (nat_le 256 (length draft.script.start.wallets)) _ _ _
-      (unless-other b draft.is_late _ _ _ (unless-other b (nat_le (2 ^ 64) (words.supply + amount)) _ _ _ refl))))
+      bind-other b (checked_new draft (is_among address draft.taken) (nat_le 256 (length draft.script.start.wallets))) _ _ (λ _.
+      unless-other b (nat_le (2 ^ 64) (words.supply + amount)) _ _ _ refl))
 
   market-other : (words : PlainMarketWords) → with_market (other_use b draft) words ≡ other_left b (with_market draft words)
-  unfolding with_market
+  unfolding with_market checked_new
   market-other words =
+      let full = nat_le 16 (length draft.script.start.markets) || exceeds_market words in
       unless-other b (not (has_account words.coin draft.script.start.mints) || not (has_account words.pc draft.script.start.mints)) _ _ _
-      (unless-other b (is_any_among (made_addresses words.address) draft.taken) _ _ _
-      (unless-other b (nat_le 16 (length draft.script.start.markets) || exceeds_market words) _ _ _
-      (unless-other b draft.is_late _ _ _ (bind-other b (set_of words) _ _ (λ set. refl)))))
+      (bind-other b (checked_new draft (is_any_among (made_addresses words.address) draft.taken) full) _ _ (λ _. bind-other b (set_of words) _ _ (λ set. refl)))
 
   orders-other : (market address : Address) → with_orders_row (other_use b draft) market address ≡ other_left b (with_orders_row draft market address)
-  unfolding with_orders_row
+  unfolding with_orders_row checked_new
   orders-other market address =
       bind-other b (found_or (orders_at market draft.script.start.markets) UnknownLabel) _ _ (λ count.
-      unless-other b (is_among address draft.taken) _ _ _
-      (unless-other b (nat_le 64 count) _ _ _ (unless-other b draft.is_late _ _ _ refl)))
+      bind-other b (checked_new draft (is_among address draft.taken) (nat_le 64 count)) _ _ (λ _. refl))
 
   instruction-other : (number : ℕ) (words : PlainInstruction)
       → with_instruction (other_use b draft) number words ≡ other_left b (with_instruction draft number words)

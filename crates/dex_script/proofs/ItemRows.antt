@@ -3,7 +3,7 @@ use Rattle.std.proofs.Common.{◌≡◌, ◌||◌, ◌∷◌, [], ℕ, false, Ok
 use Rattle.dex_statement.specs.declared.faults.FaultKind.TheVariants.{UnknownLabel, OverLimit, BadSwap, NoBatch}
 use Rattle.dex_statement.specs.Stated.{PlainInstruction, PlainSwap, leg_words}
 use Rattle.dex_script.specs.Drafts.{PlainDraft}
-use Rattle.dex_script.specs.Rows.{exceeds_row, instruction_row, is_bad_swap, is_full, is_unknown, with_instruction, with_item, with_known, with_legs, with_swap}
+use Rattle.dex_script.specs.Rows.{exceeds_row, instruction_row, is_bad_swap, is_full, is_unknown, with_instruction, with_item, with_known, with_legs, with_swap, with_two}
 use Rattle.dex_script.proofs.FaultLaws.{gives-ok, gives-unless, or-none}
 
 -- what is known of an instruction row, and what it leaves
@@ -46,7 +46,7 @@ pub record IsSwapRow (number : ℕ) (before after : PlainDraft) (words : PlainSw
 
 pub swap-row : (number : ℕ) (before after : PlainDraft) (words : PlainSwap) → with_swap before number words ≡ Ok after
     → IsSwapRow number before after words
-unfolding with_swap with_legs
+unfolding with_two with_legs
 swap-row number before after words =
     let P : PlainDraft → Type 0 = λ left. IsSwapRow number before left words in
     let start = before.script.start in

@@ -1,5 +1,5 @@
 -- What is known of a setup row that has no fault, and what it leaves.
-use Rattle.std.proofs.Common.{◌≡◌, ℕ, ◌+◌, ◌^◌, ◌<◌, ◌∷◌, [], ◌++◌, ◌||◌, ◌==◌, true, false, not, nat_le, List, Option, Some, Ok, length, refl}
+use Rattle.std.proofs.Common.{◌≡◌, ℕ, ◌+◌, ◌^◌, ◌<◌, ◌∷◌, [], ◌++◌, ◌||◌, ◌==◌, Bool, true, false, not, nat_le, List, Option, Some, Ok, length, refl}
 use Rattle.std.specs.Option.{is_some}
 use Rattle.std.proofs.lemmas.Bool.{eqb-true, leb-false, not-false}
 use Rattle.dex_types.specs.declared.addresses.Address.{Address}
@@ -17,7 +17,7 @@ use Rattle.dex_statement.specs.Stated.{PlainMarketWords}
 use Rattle.dex_script_facts.specs.Known.{has_account}
 use Rattle.dex_script.specs.Drafts.{PlainDraft}
 use Rattle.dex_script.specs.Known.{is_any_among, made_addresses, mint_at, orders_at, with_supply}
-use Rattle.dex_script.specs.Rows.{checked_name, exceeds_market, set_of, with_market, with_mint, with_msrm, with_orders_row, with_srm, with_start, with_wallet}
+use Rattle.dex_script.specs.Rows.{checked_name, checked_new, exceeds_market, set_of, with_market, with_mint, with_msrm, with_orders_row, with_srm, with_start, with_wallet}
 use Rattle.dex_script.proofs.FaultLaws.{gives-bind, gives-found, gives-ok, gives-unless, or-none}
 
 -- a setup row declares these addresses, none of which is taken yet, and leaves these accounts
@@ -43,6 +43,12 @@ abbrev pub more_orders : PlainAccounts → Address → Address → PlainAccounts
 more_orders start market address = record start { markets = with_orders market (blank_account address) start.markets }
 
 -- ---- what holds of each kind of row
+
+-- a row that declares addresses, none of which is taken, where there is room, and not too late
+pub record IsNew (draft : PlainDraft) (is_taken is_full : Bool) : Type 0 where
+  pub free : is_taken ≡ false
+  pub few : is_full ≡ false
+  pub early : draft.is_late ≡ false
 
 -- a new mint
 pub record IsMintRow (draft : PlainDraft) (address : Address) (decimals : ℕ) (after : PlainDraft) : Type 0 where
@@ -87,6 +93,14 @@ pub record IsOrdersRow (draft : PlainDraft) (market address : Address) (after : 
 
 -- ---- a row without a fault
 
+pub checked : (draft : PlainDraft) (is_taken is_full : Bool) (u : Unit {0}) → checked_new draft is_taken is_full ≡ Ok u → IsNew draft is_taken is_full
+unfolding checked_new
+checked draft is_taken is_full =
+    let P : Unit {0} → Type 0 = λ _. IsNew draft is_taken is_full in
+    gives-unless P is_taken Duplicate _ (λ free.
+    gives-unless P is_full OverLimit _ (λ few.
+    gives-unless P draft.is_late (SetupRefused code.Late) _ (λ early. gives-ok P tt (record { free = free; few = few; early = early }))))
+
 module _ (draft : PlainDraft) (after : PlainDraft) where
   abbrev start : PlainAccounts
   start = draft.script.start
@@ -95,10 +109,9 @@ module _ (draft : PlainDraft) (after : PlainDraft) where
   unfolding with_mint
   mint-row address decimals =
       let P : PlainDraft → Type 0 = IsMintRow draft address decimals in
-      gives-unless P (is_among address draft.taken) Duplicate _ (λ free.
-      gives-unless P (nat_le 16 (length start.mints)) OverLimit _ (λ few.
-      gives-unless P draft.is_late (SetupRefused code.Late) _ (λ early.
-      gives-ok P _ (record { free = free; few = leb-false 16 (length start.mints) few; declares = record { early = early; leaves = refl } })))) after
+      gives-bind P (checked_new draft (is_among address draft.taken) (nat_le 16 (length start.mints))) _ (λ u is.
+      let row = checked draft _ _ u is in
+      gives-ok P _ (record { free = row.free; few = leb-false 16 (length start.mints) row.few; declares = record { early = row.early; leaves = refl } })) after
 
   named : (mint : Address) (name : Option Address) (decimals : ℕ) (u : Unit {0}) → checked_name draft mint name decimals ≡ Ok u
       → IsName draft mint decimals
@@ -139,18 +152,17 @@ module _ (draft : PlainDraft) (after : PlainDraft) where
   wallet-row address mint owner amount =
       let P : PlainDraft → Type 0 = IsWalletRow draft address mint owner amount in
       gives-found P (mint_at mint start.mints) UnknownLabel _ (λ words found.
-      gives-unless P (is_among address draft.taken) Duplicate _ (λ free.
-      gives-unless P (nat_le 256 (length start.wallets)) OverLimit _ (λ few.
-      gives-unless P draft.is_late (SetupRefused code.Late) _ (λ early.
+      gives-bind P (checked_new draft (is_among address draft.taken) (nat_le 256 (length start.wallets))) _ (λ u is.
+      let row = checked draft _ _ u is in
       gives-unless P (nat_le (2 ^ 64) (words.supply + amount)) (SetupRefused code.Supply) _ (λ fits.
       gives-ok P _ (record {
         words = words;
         found = found;
-        free = free;
-        few = leb-false 256 (length start.wallets) few;
+        free = row.free;
+        few = leb-false 256 (length start.wallets) row.few;
         fits = leb-false (2 ^ 64) (words.supply + amount) fits;
-        declares = record { early = early; leaves = refl };
-      })))))) after
+        declares = record { early = row.early; leaves = refl };
+      })))) after
 
   pub market-row : (words : PlainMarketWords) → with_market draft words ≡ Ok after → IsMarketRow draft words after
   unfolding with_market
@@ -160,35 +172,33 @@ module _ (draft : PlainDraft) (after : PlainDraft) where
       let pc = has_account words.pc start.mints in
       let full = nat_le 16 (length start.markets) in
       gives-unless P (not coin || not pc) UnknownLabel _ (λ known.
-      gives-unless P (is_any_among (made_addresses words.address) draft.taken) Duplicate _ (λ free.
-      gives-unless P (full || exceeds_market words) OverLimit _ (λ within.
-      gives-unless P draft.is_late (SetupRefused code.Late) _ (λ early.
+      gives-bind P (checked_new draft (is_any_among (made_addresses words.address) draft.taken) (full || exceeds_market words)) _ (λ u new.
       gives-bind P (set_of words) _ (λ set is.
+      let row = checked draft _ _ u new in
       let both = or-none (not coin) (not pc) known in
-      let limits = or-none full (exceeds_market words) within in
+      let limits = or-none full (exceeds_market words) row.few in
       gives-ok P _ (record {
         coin = not-false coin both.0;
         pc = not-false pc both.1;
-        free = free;
+        free = row.free;
         few = leb-false 16 (length start.markets) limits.0;
         within = limits.1;
         set = set;
         is = is;
-        declares = record { early = early; leaves = refl };
-      })))))) after
+        declares = record { early = row.early; leaves = refl };
+      })))) after
 
   pub orders-row : (market address : Address) → with_orders_row draft market address ≡ Ok after → IsOrdersRow draft market address after
   unfolding with_orders_row
   orders-row market address =
       let P : PlainDraft → Type 0 = IsOrdersRow draft market address in
       gives-found P (orders_at market start.markets) UnknownLabel _ (λ count found.
-      gives-unless P (is_among address draft.taken) Duplicate _ (λ free.
-      gives-unless P (nat_le 64 count) OverLimit _ (λ few.
-      gives-unless P draft.is_late (SetupRefused code.Late) _ (λ early.
+      gives-bind P (checked_new draft (is_among address draft.taken) (nat_le 64 count)) _ (λ u is.
+      let row = checked draft _ _ u is in
       gives-ok P _ (record {
         count = count;
         found = found;
-        free = free;
-        few = leb-false 64 count few;
-        declares = record { early = early; leaves = refl };
-      }))))) after
+        free = row.free;
+        few = leb-false 64 count row.few;
+        declares = record { early = row.early; leaves = refl };
+      }))) after

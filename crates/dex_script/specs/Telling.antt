@@ -53,6 +53,11 @@ abbrev pub TellsDraft : Result PlainDraft ScriptError → Result PlainDraft Refu
 TellsDraft (Ok draft) meant = meant ≡ Ok draft
 TellsDraft (Err error) meant = TellsRefusal error meant
 
+-- the draft that is left behind a row, or its fault
+abbrev pub TellsLeft : Result (Unit {0}) ScriptError → PlainDraft → Result PlainDraft Refusal → Type 0
+TellsLeft (Ok done) left meant = meant ≡ Ok left
+TellsLeft (Err error) left meant = TellsRefusal error meant
+
 -- the dump that rows begin with, with the rows behind it, where its accounts have no findings; or what is wrong with it
 abbrev pub TellsStart : Result DumpRead ScriptError → List Fields → List Fields → Type 0
 TellsStart (Ok read) rows left =

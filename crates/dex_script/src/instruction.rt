@@ -53,22 +53,22 @@ impl Draft {
         &mut self,
         places: &mut Vec<RowPlaces>,
         number: u32,
-        mut first: InstructionWords,
-        mut second: InstructionWords,
+        first: &mut InstructionWords,
+        second: &mut InstructionWords,
         first_at: RowPlaces,
         second_at: RowPlaces,
     ) -> Result<(), RowError>
         requires reading { IsReading (draft_of self.old) places.old.items }
-        requires first { StandAt (start_of self.old.start) first.parties first_at }
-        requires second { StandAt (start_of self.old.start) second.parties second_at }
-        ensures row { TellsIn result (draft_of self.new) (spec.with_legs (draft_of self.old) number first second) }
+        requires first { StandAt (start_of self.old.start) first.old.parties first_at }
+        requires second { StandAt (start_of self.old.start) second.old.parties second_at }
+        ensures row { TellsIn result (draft_of self.new) (spec.with_legs (draft_of self.old) number first.old second.old) }
         ensures reading { IsReading (draft_of self.new) places.new.items }
         ensures start { start_of self.new.start ≡ start_of self.old.start }
     {
-        if self.is_full(number) || exceeds_row(&first) || exceeds_row(&second) {
+        if self.is_full(number) || exceeds_row(first) || exceeds_row(second) {
             return Err(RowError::Fault(FaultKind::OverLimit));
         }
-        if is_bad_swap(&first, &second) {
+        if is_bad_swap(first, second) {
             return Err(RowError::Fault(FaultKind::BadSwap));
         }
         if self.batch {
@@ -78,8 +78,8 @@ impl Draft {
         self.is_first = false;
         self.is_late = true;
         self.items += 1;
-        self.push_row(places, number, &mut first, first_at)?;
-        self.push_row(places, number, &mut second, second_at)
+        self.push_row(places, number, first, first_at)?;
+        self.push_row(places, number, second, second_at)
     }
 
     /// One more row of this number, at these places. Where memory is wanting the rows stay.

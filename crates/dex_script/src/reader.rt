@@ -114,7 +114,8 @@ impl Reader {
         ensures { (number : ℕ) → TellsIn result self.new (spec.with_statement self.old number statement) }
     {
         let before = std::mem::replace(self, Reader::new(alloc, false));
-        let draft = before.draft.with_setup(alloc, statement)?;
+        let mut draft = before.draft;
+        draft.add_setup(alloc, statement)?;
         *self = Reader {
             draft,
             places: before.places,
@@ -140,16 +141,29 @@ impl Reader {
     }
 
     /// Adds a swap row of this number.
-    #[tactic(auto, unfolding(crate::specs::Rows::with_swap))]
     fn add_swap(&mut self, alloc: Global, number: u32, words: SwapWords) -> Result<(), RowError>
         ensures { TellsIn result self.new (spec.with_swap self.old number words) }
     {
-        let first = words
+        let mut first = words
             .first
             .into_instruction(alloc, words.lane, words.signer);
-        let second = words
+        let mut second = words
             .second
             .into_instruction(alloc, words.lane, words.signer);
+        self.add_two(alloc, number, &mut first, &mut second)
+    }
+
+    /// Adds the legs of a swap row of this number.
+    #[tactic(auto, unfolding(crate::specs::Rows::with_two))]
+    fn add_two(
+        &mut self,
+        alloc: Global,
+        number: u32,
+        first: &mut InstructionWords,
+        second: &mut InstructionWords,
+    ) -> Result<(), RowError>
+        ensures { TellsIn result self.new (spec.with_two self.old number first.old second.old) }
+    {
         let Some(first_at) = self.places_of(alloc, &first.parties)? else {
             return Err(RowError::Fault(FaultKind::UnknownLabel));
         };
