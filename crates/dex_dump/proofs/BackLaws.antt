@@ -1,5 +1,5 @@
 -- What is written of accepted accounts is read back as them.
-use Rattle.std.proofs.Common.{◌≡◌, ◌≤◌, ◌+◌, ◌∷◌, ◌++◌, ◌∙◌, [], ℕ, List, All, IfSome, true, false, Option, Some, None, Ok, append_assoc, append-nil, arith, codes, refl, sym, ap, subst, inl, inr, length, map, nat_lt}
+use Rattle.std.proofs.Common.{◌≡◌, ◌≤◌, ◌<◌, zero, suc, get_or, ◌+◌, ◌∷◌, ◌++◌, ◌∙◌, [], ℕ, List, All, IfSome, true, false, Option, Some, None, Ok, append_assoc, append-nil, arith, codes, refl, sym, ap, subst, inl, inr, length, map, nat_lt}
 use Rattle.std.specs.List.{flat_map}
 use Rattle.std.proofs.lemmas.Bool.{and_from, cases_Bool, lt-ltb, not_from_false}
 use Rattle.std.proofs.lemmas.List.{length-append, map-append}
@@ -59,6 +59,11 @@ few-first taken x left few = among-none x taken (few-none taken x left few)
 few-rest : (taken : List Address) (x : Address) (left : List Address) → FewLeft taken (x ∷ left) → FewLeft taken left
 few-rest taken x left few = λ address. omega (arith, few address, times-cons address x left)
 
+few-at : (taken xs left : List Address) (k : ℕ) (d : Address) → FewLeft taken (xs ++ left) → k < length xs → is_among (get_or xs k d) taken ≡ false
+few-at taken [] left k d few below = absurd (omega arith)
+few-at taken (x ∷ xs) left zero d few below = few-first taken x (xs ++ left) few
+few-at taken (x ∷ xs) left (suc k) d few below = few-at taken xs left k d (few-rest taken x (xs ++ left) few) (omega arith)
+
 few-moved : (taken xs left : List Address) → FewLeft taken (xs ++ left) → FewLeft (taken ++ xs) left
 few-moved taken xs left few = λ address. omega (arith, few address, times-append address xs left, times-append address taken xs)
 
@@ -88,6 +93,11 @@ with-last (other ∷ done) market account none = elim (cases_Bool (is_same marke
       let rest = with-last done market account (omega (arith, times-cons market.address other.address (names done))) in
       rw apart (ap (λ (markets : List PlainMarketAccounts). other ∷ markets) rest)
 ]
+
+-- one fact, and the others
+infixr 4 ◌⨾◌
+abbrev ◌⨾◌ : {A B : Type 0} → A → B → A × B
+one ⨾ others = (one, others)
 
 -- a mint may have the second name
 name-allowed : (accounts : PlainAccounts) (mint : Address) (other : Option Address) → IsMintOf accounts mint → NamesApart other (Some mint)
@@ -219,60 +229,30 @@ module _ (whole : PlainAccounts) (behind : List Fields) where
   market-here : (done : List PlainMarketAccounts) (taken left : List Address) (market : PlainMarketAccounts) → IsAccepted market → HasMints whole market
       → FewLeft taken (market_addresses market ++ left) → IsMarketHere (with_markets done taken) market.address market.market
   market-here done taken left market accepted mints few =
-      let t = market_terms market.market in
-      let behind_bids : List Address = t.asks ∷ left in
-      let behind_events : List Address = t.bids ∷ behind_bids in
-      let behind_requests : List Address = t.event_q ∷ behind_events in
-      let behind_pc : List Address = t.req_q ∷ behind_requests in
-      let behind_coin : List Address = t.pc_vault ∷ behind_pc in
-      let from_coin : FewLeft taken (t.coin_vault ∷ behind_coin) = few-rest taken market.address (t.coin_vault ∷ behind_coin) few in
-      let from_pc : FewLeft taken behind_coin = few-rest taken t.coin_vault behind_coin from_coin in
-      let from_requests : FewLeft taken behind_pc = few-rest taken t.pc_vault behind_pc from_pc in
-      let from_events : FewLeft taken behind_requests = few-rest taken t.req_q behind_requests from_requests in
-      let from_bids : FewLeft taken behind_events = few-rest taken t.event_q behind_events from_events in
-      let from_asks : FewLeft taken behind_bids = few-rest taken t.bids behind_bids from_bids in
+      let free = λ (k : ℕ) (below : k < 7). few-at taken (market_addresses market) left k market.address few below in
       record {
         market = accepted.market;
         own_address = accepted.own_address;
         coin_mint = mints.coin;
         pc_mint = mints.pc;
-        coin_vault = few-first taken t.coin_vault behind_coin from_coin;
-        pc_vault = few-first taken t.pc_vault behind_pc from_pc;
-        requests = few-first taken t.req_q behind_requests from_requests;
-        events = few-first taken t.event_q behind_events from_events;
-        bids = few-first taken t.bids behind_bids from_bids;
-        asks = few-first taken t.asks left from_asks;
+        coin_vault = free 1 (omega arith);
+        pc_vault = free 2 (omega arith);
+        requests = free 3 (omega arith);
+        events = free 4 (omega arith);
+        bids = free 5 (omega arith);
+        asks = free 6 (omega arith);
       }
 
   market-holds : (done : List PlainMarketAccounts) (taken left : List Address) (market : PlainMarketAccounts) → IsAccepted market → HasMints whole market
       → FewLeft taken (market_addresses market ++ left) → AllHold (checks (with_markets done taken) (Market (record market { orders = [] })))
   unfolding checks
   market-holds done taken left market accepted mints few =
-      let t = market_terms market.market in (
-        market_passes (with_markets done taken) market.address market.market (market-here done taken left market accepted mints few),
-        (
-          vault_passes t.coin_mint market.coin_vault accepted.coin_vault accepted.coin_mint,
-          (
-            vault_passes t.pc_mint market.pc_vault accepted.pc_vault accepted.pc_mint,
-            (
-              none_from_requests market.requests accepted.requests,
-              (
-                none_from_queue market.events accepted.events,
-                (
-                  side_passes Bid market.bids accepted.bids,
-                  (
-                    accepted.bids.slab,
-                    (
-                      side_passes Ask market.asks accepted.asks,
-                      (accepted.asks.slab, tt),
-                    ),
-                  ),
-                ),
-              ),
-            ),
-          ),
-        ),
-      )
+      let t = market_terms market.market in
+      market_passes (with_markets done taken) market.address market.market (market-here done taken left market accepted mints few)
+      ⨾ vault_passes t.coin_mint market.coin_vault accepted.coin_vault accepted.coin_mint
+      ⨾ vault_passes t.pc_mint market.pc_vault accepted.pc_vault accepted.pc_mint
+      ⨾ none_from_requests market.requests accepted.requests ⨾ none_from_queue market.events accepted.events
+      ⨾ side_passes Bid market.bids accepted.bids ⨾ accepted.bids.slab ⨾ side_passes Ask market.asks accepted.asks ⨾ accepted.asks.slab ⨾ tt
 
   abbrev HasFew : PlainMarketAccounts → Type 0
   HasFew market = length market.orders ≤ 64

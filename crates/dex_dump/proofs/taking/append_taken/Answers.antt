@@ -1,4 +1,3 @@
-use Rattle.std.proofs.Common.{◌∙◌}
 use Rattle.dex_types.specs.Accounts.{accounts_of}
 use Rattle.dex_dump.proofs.WholeLaws.{whole-held, whole-text}
 use Rattle.dex_dump.proofs.taking.append_taken.Goals as goal
