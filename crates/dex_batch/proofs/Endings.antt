@@ -33,7 +33,7 @@ use Rattle.dex_stage.proofs.Frames as frame
 use Rattle.dex_stage.proofs.Frames.{fold-msrm, fold-program, fold-srm}
 use Rattle.dex_stage.specs.Stages.{world_at}
 use Rattle.dex_team.specs.Closing.{HaveAllActed}
-use Rattle.dex_team.specs.Slots.{wallet_addresses}
+use Rattle.dex_script_facts.specs.Places.{wallet_addresses}
 
 -- ---- lists, place by place
 

@@ -138,7 +138,8 @@ fn decide_order_with(
         acting.address acting.bytes.now }
     requires account { taker.now.account ≡ acting.address }
     requires pending { pending.now ≡ pending_fills_of (market_of accounts.now).events }
-    ensures { result ≡ outcome_in taker.now (given_on taker.now.id_side acting.entry.bytes.now accounts.now) balance }
+    ensures { result ≡ outcome_in taker.entry.now
+        (given_on taker.entry.now.id_side acting.entry.bytes.now accounts.now) balance }
 {
     let market = MarketRef {
         bytes: &accounts.market,
@@ -176,10 +177,10 @@ fn decide_order_paid(
     requires account { taker.now.account ≡ acting.address }
     requires pays { IsSomeAnd (reasons.payer taker.now.id_side seen.now) (λ wallet. wallet.balance ≡ balance) }
     requires pending { pending.now ≡ pending_fills_of (market_of accounts.now).events }
-    ensures { answer.new ≡ each.answered (reasons.why_order_of taker.now.id_side (order_of taker.now)
+    ensures { answer.new ≡ each.answered (reasons.why_order_of taker.entry.now.id_side (order_of taker.entry.now)
         (asked_by row.entry.now) seen.now (market_of accounts.now)
         (party_by acting.entry.address acting.entry.bytes.now))
-        (order_planned taker.now.id_side (order_of taker.now) (market_of accounts.now)
+        (order_planned taker.entry.now.id_side (order_of taker.entry.now) (market_of accounts.now)
         (account_of acting.entry.bytes.now)) }
 {
     if let Some(why) = wallet_reason(accounts, row, seen, acting, taker.id_side) {
@@ -213,10 +214,10 @@ fn decide_order_by(
         acting.address acting.bytes.now }
     requires account { taker.now.account ≡ acting.address }
     requires pending { pending.now ≡ pending_fills_of (market_of accounts.now).events }
-    ensures { answer.new ≡ each.answered (reasons.why_order_of taker.now.id_side (order_of taker.now)
+    ensures { answer.new ≡ each.answered (reasons.why_order_of taker.entry.now.id_side (order_of taker.entry.now)
         (asked_by row.entry.now) seen.now (market_of accounts.now)
         (party_by acting.entry.address acting.entry.bytes.now))
-        (order_planned taker.now.id_side (order_of taker.now) (market_of accounts.now)
+        (order_planned taker.entry.now.id_side (order_of taker.entry.now) (market_of accounts.now)
         (account_of acting.entry.bytes.now)) }
 {
     match payer_seen(taker.id_side, seen) {
@@ -236,8 +237,8 @@ fn decide_order_by(
     }
 }
 
-/// A new order of the account that the row names first; the taker's own account is not looked at. The answer is written where it
-/// is wanted: a plan has some 250 bytes.
+/// A new order of the account that the row names first; the taker's own account is not looked at. The answer is written
+/// where it is wanted: a plan has some 250 bytes.
 #[inline(never)]
 pub fn decide_order_row(
     accounts: &MarketAccounts,

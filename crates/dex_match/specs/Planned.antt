@@ -9,7 +9,7 @@ use Rattle.dex_market.specs.MarketAccount.{IsMarket, sizes_of}
 use Rattle.dex_market.specs.RequestQueue.{IsRequestQueue}
 use Rattle.dex_orders.specs.OrdersAccount.{HasNoOrder, IsOpen, added, funded, funds_of, with_funds}
 use Rattle.dex_ring.specs.Appended.{appended, pushed_all}
-use Rattle.dex_ring.specs.Ring.{IsEventQueue}
+use Rattle.dex_ring.specs.Ring.{IsEventQueue, Ring}
 use Rattle.dex_match.specs.declared.order_plan.OrderPlan.{OrderPlan}
 use Rattle.dex_match.specs.declared.intake.Intake.{Intake}
 use Rattle.dex_match.specs.Applying.{CanPay, CanTakeIn, CanTrade, bytes_with, events_by, funds_with, intake_by, met_with, moves_by, posted_by, requests_after, words_with}
@@ -61,16 +61,6 @@ planned side n plan given =
       opposing = (met_in side n parts).left;
     }
 
--- what a plan leaves of what is read of the accounts and the sides
-abbrev pub planned_parts : Side → NewOrder → OrderPlan → OrderParts → OrderParts
-planned_parts side n plan parts = record {
-  words = words_with (intake_in side n plan parts) parts.words;
-  next_sequence = parts.next_sequence + 1;
-  ring = appended (events_by side (sizes_of parts.words) n plan (met_in side n parts) (posted_in side n plan parts)) parts.ring;
-  account = with_funds (funds_with side (moves_by side (sizes_of parts.words) n plan) (funds_of parts.account)) (record parts.account {
-    slots = slice_set parts.account.slots plan.slot (Some (record { id = plan.id; side = side; client = n.client }));
-  });
-  own = (posted_in side n plan parts).side;
-  own_room = parts.own_room;
-  opposing = (met_in side n parts).left;
-}
+-- the queue, as it is read, with a plan's events behind those that wait
+abbrev pub planned_list : Side → NewOrder → OrderPlan → OrderParts → Ring
+planned_list side n plan parts = appended (events_by side (sizes_of parts.words) n plan (met_in side n parts) (posted_in side n plan parts)) parts.ring

@@ -6,6 +6,7 @@ mod closing;
 mod columns;
 mod index;
 mod lane;
+mod of_cell;
 mod running;
 
 pub use building::build;

@@ -25,7 +25,8 @@ use Rattle.dex_stage.proofs.Frames.{market-stays, wallet-stays}
 use Rattle.dex_stage.specs.Stages.{AreReady, IsMarketAt, IsRowAt, IsWalletAt, world_at}
 use Rattle.dex_team.specs.Lists.{AreLists, IsNext}
 use Rattle.dex_team.specs.Packets.{AreRowsOf, IsPacket}
-use Rattle.dex_team.specs.Slots.{AreHomes, AreInHand, AreLent, AreWalletsAt, HomesState, IsHeld, IsLent, IsOut, IsPlace, IsWalletGone, IsWalletLent, KeepsOut, MarketFits, WalletFits, listed, market_addresses, wallet_addresses}
+use Rattle.dex_script_facts.specs.Places.{IsPlace, market_addresses, wallet_addresses}
+use Rattle.dex_team.specs.Slots.{AreHomes, AreInHand, AreLent, AreWalletsAt, HomesState, IsHeld, IsLent, IsOut, IsWalletGone, IsWalletLent, KeepsOut, MarketFits, WalletFits, listed}
 use Rattle.dex_team.specs.declared.desk.Lists.{Lists}
 use Rattle.dex_team.specs.declared.desk.Next.{Next}
 use Rattle.dex_team.specs.declared.slots.Slot.{Slot}

@@ -9,7 +9,8 @@ use Rattle.dex_wallet.specs.CellState.{CellState}
 use Rattle.dex_script_facts.specs.PlainScript.{PlainScript}
 use Rattle.dex_script_facts.proofs.Apart.{markets-distinct, wallets-distinct}
 use Rattle.dex_stage.specs.Stages.{IsMarketAt, IsWalletAt}
-use Rattle.dex_team.specs.Slots.{AreHomes, HomesState, IsLent, IsOut, IsPlace, IsPut, IsWalletLent, KeepsOut, MarketFits, StaysOut, WalletFits, market_addresses, wallet_addresses}
+use Rattle.dex_script_facts.specs.Places.{IsPlace, market_addresses, wallet_addresses}
+use Rattle.dex_team.specs.Slots.{AreHomes, HomesState, IsLent, IsOut, IsPut, IsWalletLent, KeepsOut, MarketFits, StaysOut, WalletFits}
 use Rattle.dex_team.specs.declared.slots.Slot.{Slot}
 use Rattle.dex_team.proofs.PlacesOf.{market-here, markets-long, one-place, wallet-here, wallets-long}
 use Rattle.dex_team.proofs.Shelves.{is-out, put-fits, set-fits, stays-lent, stays-put, stays-same, stays-trans}

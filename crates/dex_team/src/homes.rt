@@ -1,15 +1,15 @@
 //! The leader's cells, of which some are out.
 
-ghost use Rattle.std.specs.Prelude.{◌≡◌, ◌+◌, ◌<◌, ◌^◌, ◌∷◌, [], ℕ, true, All, length};
+ghost use Rattle.std.specs.Prelude.{◌≡◌, ◌+◌, ◌<◌, ◌^◌, ◌∷◌, [], ℕ, true, All, Some, length};
 ghost use Rattle.std.specs.Prelude.{IfNone, IfOk, IfSome, IsTrue};
 ghost use Rattle.dex_types.specs.declared.addresses.Address.{Address as AddressOf};
 ghost use Rattle.dex_types.specs.Rows.{row_of};
-ghost use Rattle.dex_fold.specs.Fold.{is_role, names};
+ghost use Rattle.dex_fold.specs.Fold.{names};
+ghost use Rattle.dex_script_facts.specs.Places.{IsPlace, market_addresses, wallet_addresses, wallet_place};
 ghost use Rattle.dex_stage.specs.Stages.{IsMarketAt, IsWalletAt};
 ghost use Rattle.dex_team.specs.Closing.{AreFirstMarkets, AreFirstWallets, AreOpened};
 ghost use Rattle.dex_team.specs.Lists.{AreLists, IsNext};
-ghost use Rattle.dex_team.specs.Slots.{AreInHand, AreLent, AreWalletsAt, IsHeld, IsLent, IsWalletLent, KeepsOut};
-ghost use Rattle.dex_team.specs.Slots.{IsPlace, listed, market_addresses, wallet_addresses};
+ghost use Rattle.dex_team.specs.Slots.{AreInHand, AreLent, AreWalletsAt, IsHeld, IsLent, IsWalletLent, KeepsOut, listed};
 
 use crate::ahead::Ahead;
 use crate::desk::{Desk, Next};
@@ -19,6 +19,7 @@ use crate::slots::{Slot, add, at_home, lend, put};
 use dex_cell::MarketCell;
 use dex_io::Pace;
 use dex_locks::plan_locks;
+use dex_script_facts::place_in;
 use dex_stage::Parts;
 use dex_types::{Address, NoMemory, is_same};
 use dex_wallet::WalletCell;
@@ -33,31 +34,15 @@ fn stands_at(addresses: &[Address], place: usize, address: Address) -> bool
     place < addresses.len() && is_same(addresses[place], address)
 }
 
-/// Whether a role is that of a wallet.
-fn is_of(role: Option<Address>, wallet: Address) -> bool
-    ensures { result ≡ is_role role wallet }
-{
-    match role {
-        Some(address) => is_same(wallet, address),
-        None => false,
-    }
-}
-
 /// The place of a wallet that a row names.
 fn place_of<J: Naming>(next: Next<'_>, wallet: Address) -> usize
     requires named { names (row_of next.row.now) wallet ≡ true }
     requires next { (count : ℕ) × IsNext J.script count next }
-    ensures { IsPlace wallet (wallet_addresses J.script) result }
+    ensures { wallet_place wallet J.script.start.wallets ≡ Some result }
 {
-    let (row, places) = (next.row, next.places);
-    if is_of(row.coin, wallet) {
-        places.coin as usize
-    } else if is_of(row.pc, wallet) {
-        places.pc as usize
-    } else if is_of(row.discount, wallet) {
-        places.discount as usize
-    } else {
-        places.referrer as usize
+    match place_in(next.row, next.places, wallet) {
+        Some(place) => place,
+        None => unreachable!(),
     }
 }
 

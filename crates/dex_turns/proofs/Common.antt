@@ -21,11 +21,12 @@ pub use Rattle.dex_script_facts.proofs.Roles.{roles-all}
 pub use Rattle.dex_script_facts.specs.PlainScript.{PlainScript}
 pub use Rattle.dex_script_facts.specs.Facts.{IsRowOf, IsScript}
 pub use Rattle.dex_script_facts.specs.Known.{has_account}
+pub use Rattle.dex_script_facts.specs.Places.{IsPlace, market_addresses, wallet_addresses}
 pub use Rattle.dex_script_facts.specs.Sight.{IsSight, IsWalletSeen}
 pub use Rattle.dex_stamps.specs.Stamped.{Stamped, stamped}
 pub use Rattle.dex_token.proofs.AmountWrites.{wallet_words-with_amount}
 pub use Rattle.dex_token.specs.TokenAccount.{WalletWords, wallet_words}
-pub use Rattle.dex_turns.specs.Bank.{BankState, IsBank, IsMarketGate, IsPlace, IsWalletGate}
+pub use Rattle.dex_turns.specs.Bank.{BankState, IsBank, IsMarketGate, IsWalletGate}
 pub use Rattle.dex_turns.specs.Inside.{call_made}
 pub use Rattle.dex_turns.specs.Seats.{IsMarketPass, IsPass, IsSeat, IsSeatOf, IsWalletPass, SeatState}
 pub use Rattle.dex_turns.specs.Submitted.{AreNext, HasCalled, HasSubmitted, HaveSubmitted, IsNext, Where}

@@ -8,11 +8,11 @@ ghost use Rattle.dex_turns.specs.Turns.{HasRowActed, MayCall};
 
 use crate::acts::Acts;
 use crate::bank::Bank;
-use crate::placing::place_in;
 use crate::stamped_record::StampedRecord;
 use crate::waiting::act_or_wait;
 use dex_io::Pace;
 use dex_journals::BankMarket;
+use dex_script_facts::place_in;
 use dex_stamps::Stamp;
 use dex_types::{Address, Row, RowPlaces};
 use dex_wallet::WalletCell;

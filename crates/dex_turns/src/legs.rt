@@ -7,11 +7,11 @@ ghost use Rattle.dex_turns.specs.Turns.{AreLegsPlaced, HaveLegsActed, MayCallBot
 
 use crate::acts::Acts;
 use crate::bank::Bank;
-use crate::placing::place_in;
 use crate::stamped_record::StampedRecord;
 use crate::waiting::{act_or_wait, is_refused, waits};
 use dex_io::Pace;
 use dex_journals::BankMarket;
+use dex_script_facts::place_in;
 use dex_stamps::Stamp;
 use dex_types::{Address, Row, RowPlaces};
 use dex_wallet::WalletCell;

@@ -4,7 +4,6 @@ ghost use Rattle.std.specs.Prelude.{◌≡◌};
 
 use dex_stamps::{Kept, Stamp};
 use dex_types::{Entry, Reply, Seen};
-use std::marker::Model;
 
 /// What the row of a call saw and the entry that it made in its market's journal, which only clauses read, the entry's reply, and
 /// its stamp.
@@ -14,17 +13,12 @@ pub struct StampedRecord {
     pub entry: Kept<Entry>,
     pub reply: Reply,
     pub stamp: Stamp,
-}
-
-impl Model for StampedRecord {
-    ghost use Rattle.std.specs.Prelude.{◌≡◌};
-
-    ghost invariant = { λ s. s.reply ≡ s.entry.value.reply };
+    pub ghost told: { reply ≡ entry.value.reply },
 }
 
 impl StampedRecord {
     /// What is told of an entry.
-    pub fn of(seen: &Seen, entry: &Entry, stamp: Stamp) -> StampedRecord
+    pub(crate) fn of(seen: &Seen, entry: &Entry, stamp: Stamp) -> StampedRecord
         ensures seen { result.seen.value ≡ seen.now }
         ensures entry { result.entry.value ≡ entry.now }
         ensures stamp { result.stamp ≡ stamp }

@@ -7,8 +7,7 @@ use Rattle.dex_types.specs.Accounts.{PlainAccount, PlainMarketAccounts, market_a
 use Rattle.dex_types.specs.Rows.{row_of}
 use Rattle.dex_script_facts.specs.PlainScript.{PlainScript}
 use Rattle.dex_script_facts.specs.Facts.{IsScript}
-use Rattle.dex_script_facts.specs.Places.{ArePlaced}
-use Rattle.dex_team.specs.Slots.{market_addresses, wallet_addresses}
+use Rattle.dex_script_facts.specs.Places.{ArePlaced, market_addresses, wallet_addresses}
 use Rattle.dex_batch.proofs.Endings.{rows-few}
 use Rattle.dex_batch.proofs.running.batched.Goals as goal
 

@@ -14,8 +14,8 @@ pub returns-in-None : goal.returns-in-None
 returns-in-None c =
     let request = asked_by c.args.row.now in
     let party = party_by c.args.acting.address c.args.acting.bytes.now in
-    let side = c.args.taker.id_side in
-    let n = order_of c.args.taker in
+    let side = c.args.taker.now.id_side in
+    let n = order_of c.args.taker.now in
     let m = market_of c.args.accounts.now in
     given-planned (why_order_of side n request c.args.seen.now m party) (order_planned side n m party.account) NoAccount
-    (sym (order-unpaid (market_accounts_of c.args.accounts.now) c.requires.sound side n request c.args.seen.now party (sym c.payer.ensures ∙ c.in-None.is)))
+    (sym (order-unpaid (market_accounts_of c.args.accounts.now) c.requires.sound side n request c.args.seen.now party (sym c.payer_seen.ensures ∙ c.in-None.is)))
