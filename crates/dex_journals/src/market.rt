@@ -171,12 +171,7 @@ impl BankMarket {
         ensures cell { result ≡ self.cell }
         ensures kept { IsBankMarket self }
     {
-        let BankMarket {
-            cell,
-            stamps: _,
-            last: _,
-            script: _,
-        } = self;
+        let BankMarket { cell, .. } = self;
         Box::into_inner(cell)
     }
 }
