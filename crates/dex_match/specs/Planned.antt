@@ -1,5 +1,5 @@
 -- What a plan asks of what it is handed, and what it leaves of that.
-use Rattle.std.specs.Prelude.{◌≡◌, ◌+◌, ◌-◌, ◌<◌, ◌≤◌, ◌^◌, None, Some, slice_index_or, slice_set}
+use Rattle.std.specs.Prelude.{◌≡◌, ◌+◌, ◌-◌, ◌<◌, ◌≤◌, ◌^◌, None, slice_index_or}
 use Rattle.dex_types.specs.Fees.{referrer_part}
 use Rattle.dex_types.specs.Meeting.{Meeting}
 use Rattle.dex_types.specs.Posting.{Posting}
@@ -7,12 +7,12 @@ use Rattle.dex_types.specs.declared.terms.Side.{Side}
 use Rattle.dex_types.specs.NewOrder.{NewOrder}
 use Rattle.dex_market.specs.MarketAccount.{IsMarket, sizes_of}
 use Rattle.dex_market.specs.RequestQueue.{IsRequestQueue}
-use Rattle.dex_orders.specs.OrdersAccount.{HasNoOrder, IsOpen, added, funded, funds_of, with_funds}
+use Rattle.dex_orders.specs.OrdersAccount.{HasNoOrder, IsOpen, added, funded, funds_of}
 use Rattle.dex_ring.specs.Appended.{appended, pushed_all}
 use Rattle.dex_ring.specs.Ring.{IsEventQueue, Ring}
 use Rattle.dex_match.specs.declared.order_plan.OrderPlan.{OrderPlan}
 use Rattle.dex_match.specs.declared.intake.Intake.{Intake}
-use Rattle.dex_match.specs.Applying.{CanPay, CanTakeIn, CanTrade, bytes_with, events_by, funds_with, intake_by, met_with, moves_by, posted_by, requests_after, words_with}
+use Rattle.dex_match.specs.Applying.{CanPay, CanTakeIn, CanTrade, bytes_with, events_by, funds_with, intake_by, met_with, moves_by, posted_by, requests_after}
 use Rattle.dex_match.specs.OrderParts.{OrderGiven, OrderParts, parts_of}
 
 -- the market account and both queues are accepted and the trader's account is open, each by itself
