@@ -1,7 +1,7 @@
 -- Cells of wallets, one of which changes.
 use Rattle.std.proofs.Common.{◌≡◌, ℕ, zero, suc, ◌<◌, Bool, true, false, ◌||◌, cond, List, [], ◌∷◌, length, map, set, get_or, Option, Some, None, refl, sym, ap, ◌∙◌, subst, arith, ⊎_elim}
 use Rattle.std.specs.List.{list_any}
-use Rattle.std.proofs.lemmas.List.{length-map, map-id}
+use Rattle.std.proofs.lemmas.List.{get_or_default, length-map, map-id}
 use Rattle.std.proofs.lemmas.Bool.{cases_Bool, false≢true, or_parts, or_right}
 use Rattle.dex_types.specs.declared.addresses.Address.{Address}
 use Rattle.dex_types.specs.declared.movements.MoveKind.{MoveKind}
@@ -91,6 +91,12 @@ changed-here address change moved [] new place apart at stays own set_is = absur
 changed-here address change moved (first ∷ others) new place apart at stays own set_is =
     set_is first ∙ ap (set (first ∷ others) place) (sym (own (get_or (first ∷ others) place first) (at.here first)))
     ∙ map-one address change (first ∷ others) place first apart at stays
+
+-- whatever stands for a place that is not there
+pub at-any : (moved : CellState → CellState) (cells new : List CellState) (place : ℕ) (default : CellState) → place < length cells
+    → new ≡ set cells place (moved (get_or cells place default)) → (other : CellState) → new ≡ set cells place (moved (get_or cells place other))
+at-any moved cells new place default within is other =
+    is ∙ ap (λ (cell : CellState). set cells place (moved cell)) (get_or_default cells place default other within)
 
 -- ---- movements
 

@@ -14,7 +14,7 @@ use Rattle.dex_fold.proofs.MappedLists.{map-map}
 use Rattle.dex_wallet.specs.CellState.{CellState}
 use Rattle.dex_act.specs.declared.places.WalletPlaces.{WalletPlaces}
 use Rattle.dex_act.specs.Wallets.{CanProbe, HasRoomFor, IsAt, any_hit, cell_moved, move_probed, moves_probed, probes, roles_of}
-use Rattle.dex_act.proofs.CellLists.{AreApart-map, AreSeenAt-map, KeepsAddress, changed-here, map-identity}
+use Rattle.dex_act.proofs.CellLists.{AreApart-map, AreSeenAt-map, KeepsAddress, at-any, changed-here, map-identity}
 
 -- ---- one movement
 
@@ -25,11 +25,12 @@ move_probed-address row move cell =
 -- the cell of its wallet is looked at
 pub probed-here : (row : PlainRow) (seen : Seen) (places : WalletPlaces) (move : Movement) (cells new : List CellState) (place : ℕ) → move.kind ≡ Probe
     → CanProbe row seen places (move ∷ []) cells → IsAt move.wallet cells place
-    → ((default : CellState) → new ≡ set cells place (cell_moved row Probe 0 (get_or cells place default))) → new ≡ map (move_probed row move) cells
-probed-here row seen places move cells new place kind can at moved =
+    → (default : CellState) → new ≡ set cells place (cell_moved row Probe 0 (get_or cells place default)) → new ≡ map (move_probed row move) cells
+probed-here row seen places move cells new place kind can at default moved =
     changed-here move.wallet (move_probed row move) (cell_moved row Probe 0) cells new place can.apart at
     (λ cell other. cond-false _ _ _ (and_right (is_probe move.kind) (is_same move.wallet cell.address) other))
-    (λ cell own. cond-true _ _ _ (ap (λ (k : MoveKind). is_probe k && is_same move.wallet cell.address) kind ∙ own)) moved
+    (λ cell own. cond-true _ _ _ (ap (λ (k : MoveKind). is_probe k && is_same move.wallet cell.address) kind ∙ own))
+    (at-any (cell_moved row Probe 0) cells new place default at.within moved)
 
 -- or the movement is a debit or a credit, and none is
 pub probed-none : (row : PlainRow) (move : Movement) (cells : List CellState) → (move.kind ≡ Debit) ⊎ (move.kind ≡ Credit) → cells ≡ map (move_probed row move) cells

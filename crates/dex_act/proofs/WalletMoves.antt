@@ -20,7 +20,7 @@ use Rattle.dex_cell.specs.Paying.{parcel_of}
 use Rattle.dex_fold.proofs.MappedLists.{map-agree, map-map}
 use Rattle.dex_act.specs.declared.places.WalletPlaces.{WalletPlaces}
 use Rattle.dex_act.specs.Wallets.{AreApart, CanCredit, CanGet, CanPay, CanPut, CanTake, IsAt, IsOf, IsRoleAt, NamesFor, amount_in, cell_credited, cell_debited, cell_moved, got_at, is_one, moved_some, pc_credited, role_moved}
-use Rattle.dex_act.proofs.CellLists.{amount_at-nothing, map-same, moved-here, role_moved-address, role_moved-nothing}
+use Rattle.dex_act.proofs.CellLists.{amount_at-nothing, at-any, map-same, moved-here, role_moved-address, role_moved-nothing}
 
 -- ---- parcels
 
@@ -72,12 +72,13 @@ parcel-here mint role wallet amount (first ∷ others) place parcel is some at t
 -- the cell of a role's wallet, with a parcel more
 pub credited-here : (row : PlainRow) (role : Option WalletSeen) (given : Option TokenAmount) (parcel : TokenAmount) (cells new : List CellState) (place : ℕ)
     → given ≡ Some parcel → AreApart cells → CanCredit role given cells → IsRoleAt cells (address_seen role) place
-    → ((default : CellState) → new ≡ set cells place (cell_moved row Credit parcel.amount (get_or cells place default)))
+    → (default : CellState) → new ≡ set cells place (cell_moved row Credit parcel.amount (get_or cells place default))
     → new ≡ map (role_moved row Credit role (amount_in given)) cells
-credited-here row role given parcel cells new place is apart can at moved =
+credited-here row role given parcel cells new place is apart can at default moved =
     let may : CanCredit role (Some parcel) cells = subst (λ (p : Option TokenAmount). CanCredit role p cells) is can in
     let here = role-at role parcel.amount cells place may.0 may.1 at in
-    moved-here row Credit role here.wallet parcel.amount cells new place here.is may.0 apart here.at moved
+    moved-here row Credit role here.wallet parcel.amount cells new place here.is may.0 apart here.at
+    (at-any (cell_moved row Credit parcel.amount) cells new place default here.at.within moved)
     ∙ ap (λ (p : Option TokenAmount). map (role_moved row Credit role (amount_in p)) cells) (sym is)
 
 -- a parcel that is put in is one that can be

@@ -1,27 +1,15 @@
 //! The cells of wallets that a row looks at.
 
-ghost use Rattle.std.specs.Prelude.{◌≡◌, ◌<◌, ◌∷◌, [], List, length, map, slice_set, true};
-ghost use Rattle.dex_types.specs.declared.movements.MoveKind.TheVariants.{Probe};
+ghost use Rattle.std.specs.Prelude.{◌≡◌, ◌∷◌, [], List, map, true};
 ghost use Rattle.dex_types.specs.Rows.{row_of};
 ghost use Rattle.dex_history.specs.Journal.{front};
-ghost use Rattle.dex_wallet.specs.CellState.{CellState, HasSpare};
-ghost use Rattle.dex_act.specs.Wallets.{AreSeenAt, AtPlace, CanProbe, IsAt, any_hit, cell_moved, hits};
+ghost use Rattle.dex_wallet.specs.CellState.{CellState};
+ghost use Rattle.dex_act.specs.Wallets.{AreSeenAt, CanProbe, IsAt, any_hit, hits};
 ghost use Rattle.dex_act.specs.Wallets.{move_probed, moves_probed, roles_of};
 
 use crate::places::Asked;
-use dex_types::{Address, MoveKind, Movement, Row, WalletSeen, is_same};
+use dex_types::{Address, MoveKind, Movement, WalletSeen, is_same};
 use dex_wallet::WalletCell;
-
-/// A row looks at the cell at a place.
-fn probe_at(cells: &mut [WalletCell], place: usize, row: &Row)
-    requires within { place < length cells.old }
-    requires spare { AtPlace place cells.old HasSpare }
-    ensures { AtPlace place cells.old
-        (λ cell. cells.new ≡ slice_set cells.old place (cell_moved (row_of row.entry.now) Probe 0 cell)) }
-{
-    let cell = &mut cells[place];
-    cell.probe(row.market, row.lane, row.number);
-}
 
 /// Whether a role's wallet is at the address.
 fn is_hit(address: Address, role: &Option<WalletSeen>) -> bool
@@ -59,7 +47,8 @@ fn probe(cells: &mut [WalletCell], asked: &Asked, movement: &Movement)
     match movement.kind {
         MoveKind::Probe => {
             let place = place_seen(movement.wallet, asked);
-            probe_at(cells, place, asked.row);
+            let cell = &mut cells[place];
+            cell.probe(asked.row.market, asked.row.lane, asked.row.number);
         }
         MoveKind::Debit | MoveKind::Credit => {}
     }

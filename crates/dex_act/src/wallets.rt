@@ -1,6 +1,6 @@
 //! The cells of wallets, and how a row moves them.
 
-ghost use Rattle.std.specs.Prelude.{◌≡◌, ◌<◌, ◌≤◌, ◌+◌, ◌^◌, length, map, slice_set};
+ghost use Rattle.std.specs.Prelude.{◌≡◌, ◌<◌, ◌≤◌, ◌+◌, length, map, slice_set};
 ghost use Rattle.std.specs.List.{All};
 ghost use Rattle.dex_types.specs.declared.addresses.Address.{Address as AddressOf};
 ghost use Rattle.dex_types.specs.declared.movements.MoveKind.TheVariants.{Debit, Credit};
@@ -50,21 +50,6 @@ fn debit_at(cells: &mut [WalletCell], place: usize, row: &Row, amount: u64) -> P
     cell.debit(row.market, row.lane, row.number, amount)
 }
 
-/// A row puts a parcel into the cell at a place.
-fn credit_at(cells: &mut [WalletCell], place: usize, row: &Row, parcel: Parcel)
-    requires within { place < length cells.old }
-    requires some { 1 ≤ parcel.amount }
-    requires spare { AtPlace place cells.old HasSpare }
-    requires mint { AtPlace place cells.old (λ cell. parcel.mint ≡ (wallet_words cell.bytes).mint) }
-    requires fits { AtPlace place cells.old (λ cell. balance_of cell.bytes + parcel.amount < 2 ^ 64) }
-    ensures { AtPlace place cells.old
-        (λ cell. cells.new
-        ≡ slice_set cells.old place (cell_moved (row_of row.entry.now) Credit parcel.amount cell)) }
-{
-    let cell = &mut cells[place];
-    cell.credit(row.market, row.lane, row.number, parcel);
-}
-
 /// A row takes an amount out of the cell that a role names, as a parcel: none of nothing.
 fn debit(
     cells: &mut [WalletCell],
@@ -102,7 +87,10 @@ fn credit(
     ensures { cells.new ≡ map (role_moved (row_of row.entry.now) Credit role.entry.now (amount_in parcel)) cells.old }
 {
     match parcel {
-        Some(parcel) => credit_at(cells, place, row, parcel),
+        Some(parcel) => {
+            let cell = &mut cells[place];
+            cell.credit(row.market, row.lane, row.number, parcel);
+        }
         None => {}
     }
 }

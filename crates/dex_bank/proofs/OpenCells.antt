@@ -1,11 +1,9 @@
 -- The cells with which a script starts are cells.
-use Rattle.std.proofs.Common.{◌≡◌, ℕ, suc, ◌<◌, Bool, false, ◌||◌, List, [], ◌∷◌, get_or, map, slice_index, refl, sym, ap, subst, ◌∙◌, arith}
+use Rattle.std.proofs.Common.{◌≡◌, ℕ, suc, Bool, false, ◌||◌, List, [], ◌∷◌, get_or, map, refl, sym, ap, subst, ◌∙◌, arith}
 use Rattle.dex_fold.proofs.Common.{Address, All-head, All-map, All-tail, PlainAccount, PlainAccounts, PlainMarketAccounts, PlainRow, is_same}
-use Rattle.dex_bank.proofs.Common.{AreAccepted, AreCells, AreSound, CellsState, IsAccepted, IsMarketCell, IsStart, IsWallet, IsWalletCell, address_of, is_among, market_opened, wallet_opened}
+use Rattle.dex_bank.proofs.Common.{AreAccepted, AreCells, AreSound, CellsState, IsAccepted, IsMarketCell, IsStart, IsWalletCell, address_of, is_among, market_opened, wallet_opened}
 use Rattle.std.specs.List.{All}
-use Rattle.dex_token.proofs.AmountWrites.{with_amount-same}
 use Rattle.dex_cell.specs.CellState as market
-use Rattle.dex_wallet.specs.CellState as wallet
 use Rattle.dex_act.specs.Wallets.{AreApart}
 use Rattle.dex_script_facts.proofs.Apart.{AreDistinct, wallets-distinct}
 
@@ -21,17 +19,6 @@ IsMarketCell-new accounts room sound accepted = record {
   end_is = refl;
   coin = refl;
   pc = refl;
-  room = omega arith;
-}
-
-pub IsWalletCell-new : (address : Address) (bytes : List ℕ) (room : ℕ) → ((place : ℕ) → slice_index bytes place < 256) → IsWallet bytes
-    → IsWalletCell (wallet.new_cell address bytes room)
-IsWalletCell-new address bytes room low accepted = record {
-  accepted = accepted;
-  others = sym (with_amount-same bytes low accepted);
-  balance = refl;
-  legal = tt;
-  share = refl;
   room = omega arith;
 }
 

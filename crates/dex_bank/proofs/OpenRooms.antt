@@ -1,10 +1,10 @@
 -- How many rows name the market or the wallet at each place of a list.
-use Rattle.std.proofs.Common.{◌≡◌, ◌≢◌, ℕ, suc, ◌+◌, ◌<◌, ◌≤◌, ◌^◌, Bool, true, false, ◌||◌, List, [], ◌∷◌, ◌++◌, Option, None, Some, count_by, eqb, get_or, length, map, replicate, take, refl, sym, ap, subst, ◌∙◌, arith, ⊎_elim}
+use Rattle.std.proofs.Common.{◌≡◌, ◌≢◌, ℕ, suc, ◌+◌, ◌<◌, ◌≤◌, ◌^◌, Bool, true, false, ◌||◌, List, [], ◌∷◌, ◌++◌, Option, None, Some, count_by, eqb, get_or, length, map, take, refl, sym, ap, subst, ◌∙◌, arith, ⊎_elim}
 use Rattle.dex_fold.proofs.Common.{Address, PlainAccount, PlainAccounts, PlainMarketAccounts, PlainRow, Row, is_role, is_same, is_same-sym, is_same-true, length-map, names, names-roles, row_of, sum_by-append, sum_by-cons, take_all, take_more}
 use Rattle.std.specs.List.{position}
 use Rattle.std.proofs.lemmas.Bool.{cases_lt}
 use Rattle.std.proofs.lemmas.Bool.Decides.{eqb_tells}
-use Rattle.std.proofs.lemmas.List.{get_or-map, get_or-replicate, length-replicate}
+use Rattle.std.proofs.lemmas.List.{get_or-map}
 use Rattle.std.proofs.lemmas.List.Quantifiers.{position-Some}
 use Rattle.std.proofs.lemmas.List.Sums.{count_by-le-length}
 use Rattle.dex_types.specs.declared.rows.RowPlaces.{RowPlaces}
@@ -96,12 +96,6 @@ pub record AreRowsOf (names : PlainRow → Address → Bool) (addresses : List A
       → get_or counts place 0 ≡ count_by (λ (row : PlainRow). names row (get_or addresses place d)) rows
 
 module _ (names : PlainRow → Address → Bool) (addresses : List Address) where
-  pub none-counted : (counts : List ℕ) → counts ≡ replicate (length addresses) 0 → AreRowsOf names addresses [] counts
-  none-counted counts are = record {
-    long = ap (λ (c : List ℕ). length c) are ∙ length-replicate (length addresses) 0;
-    each = λ place d within. ap (λ (c : List ℕ). get_or c place 0) are ∙ get_or-replicate (length addresses) place 0 0 within;
-  }
-
   -- no count is higher than there are rows
   pub rows-spare : (rows : List PlainRow) (more : ℕ) (counts : List ℕ) → length rows + more < 2 ^ 64 → AreRowsOf names addresses rows counts → HaveSpare more counts
   rows-spare rows more counts few so place less =

@@ -124,7 +124,8 @@ fn do_at(
     requires row { CanActAt row.now seen.now place markets.old wallets.old }
     requires places { ArePlacesAmong wallets.old (row_of row.now) places.now }
     requires held { waits ≡ true → CanHoldAt row.now seen.now place markets.old }
-    ensures { HasDoneAt (row_of row.entry.now) waits seen.entry.now place result markets.old markets.new wallets.old wallets.new }
+    ensures { HasDoneAt (row_of row.entry.now) waits seen.entry.now place result
+        markets.old markets.new wallets.old wallets.new }
 {
     if waits {
         hold_at(markets, place, wallets, row, seen, places)

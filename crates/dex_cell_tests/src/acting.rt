@@ -5,7 +5,7 @@ ghost use Rattle.dex_cell.specs.Paying.{parcel_of};
 ghost use Rattle.dex_history.specs.Journal.{Agree, Sees, asked_of};
 ghost use Rattle.dex_types.specs.Rows.{row_of};
 ghost use Rattle.dex_types.specs.Wallets.{address_seen};
-ghost use Rattle.std.specs.Prelude.{◌≡◌, IfSome, IsTrue, Ok};
+ghost use Rattle.std.specs.Prelude.{◌≡◌, IsTrue, Ok};
 
 use dex_cell::{MarketCell, Payouts, Plan};
 use dex_market::MarketRef;

@@ -44,7 +44,7 @@ pub fn append_dump(text: &mut Vec<u8>, accounts: &Accounts) -> Result<(), AllocE
 }
 
 /// The rows in front of those of markets.
-pub(crate) fn write_front(text: &mut Vec<u8>, accounts: &Accounts) -> Result<(), AllocError>
+pub fn write_front(text: &mut Vec<u8>, accounts: &Accounts) -> Result<(), AllocError>
     ensures text { let front = account_rows (record (accounts_of accounts.now) { markets = [] }) in
         OnOk result (text.new.items ≡ text.old.items ++ lines_text (first_row ∷ front)) }
     ensures held { OnOk result (HoldBytes (record (accounts_of accounts.now) { markets = [] })) }
@@ -81,10 +81,7 @@ fn write_markets(text: &mut Vec<u8>, markets: &[MarketAccounts]) -> Result<(), A
 }
 
 /// The row of a market, and those of its open-orders accounts.
-pub(crate) fn write_market_rows(
-    text: &mut Vec<u8>,
-    market: &MarketAccounts,
-) -> Result<(), AllocError>
+pub fn write_market_rows(text: &mut Vec<u8>, market: &MarketAccounts) -> Result<(), AllocError>
     ensures text { OnOk result (text.new.items
         ≡ text.old.items ++ lines_text (market_rows (market_accounts_of market.now))) }
     ensures held { OnOk result (IsHeldMarket (market_accounts_of market.now)) }

@@ -4,14 +4,12 @@ ghost use Rattle.std.specs.Prelude.{◌≡◌, ◌<◌, [], All, IfOk, length, m
 ghost use Rattle.dex_types.specs.declared.refusals.Refusal.{Refusal};
 ghost use Rattle.dex_types.specs.declared.replies.Reply.TheVariants.{Done, Refused};
 ghost use Rattle.dex_types.specs.Rows.{row_of};
-ghost use Rattle.dex_history.specs.Journal.{Call};
 ghost use Rattle.dex_types.specs.Transfers.{no_transfers};
 ghost use Rattle.dex_cell.specs.CellState.{CanHold, HasActed, IsFor, held_on, refused_on, step_on};
 ghost use Rattle.dex_wallet.specs.CellState.{IsWalletCell};
 ghost use Rattle.dex_act.specs.Wallets.{AreApart, SeesCells, made_of, states_acted, wallet_state_of};
 ghost use Rattle.dex_fold.specs.Fold.{wallet_acted};
 ghost use Rattle.dex_fold.specs.RowsOf.{rows_of_market, rows_on};
-ghost use Rattle.dex_stamps.specs.Stamped.{Stamped};
 ghost use Rattle.dex_journals.specs.Journals.{IsBankMarket, calls_by, market_more};
 
 use crate::items::{MarketStart, StampedCall};
@@ -173,12 +171,7 @@ impl BankMarket {
         ensures cell { result ≡ self.cell }
         ensures kept { IsBankMarket self }
     {
-        let BankMarket {
-            cell,
-            stamps: _,
-            last: _,
-            script: _,
-        } = self;
+        let BankMarket { cell, .. } = self;
         Box::into_inner(cell)
     }
 }

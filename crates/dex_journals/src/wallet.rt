@@ -121,12 +121,7 @@ impl BankWallet {
         ensures cell { result ≡ self.cell }
         ensures kept { IsBankWallet self }
     {
-        let BankWallet {
-            cell,
-            stamps: _,
-            last: _,
-            script: _,
-        } = self;
+        let BankWallet { cell, .. } = self;
         cell
     }
 }
@@ -147,12 +142,7 @@ impl WalletTrail {
         ensures wallet { result ≡ wallet_more (left_by self) cell stamp.now.number }
         ensures kept { IsBankWallet result }
     {
-        let WalletTrail {
-            before: _,
-            stamps,
-            last: _,
-            script,
-        } = self;
+        let WalletTrail { stamps, script, .. } = self;
         BankWallet {
             cell,
             stamps: stamps.and(stamp, &()),

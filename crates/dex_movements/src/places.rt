@@ -1,6 +1,6 @@
 //! The movements of a row, each in its place.
 
-ghost use Rattle.std.specs.Prelude.{◌≡◌, [], map};
+ghost use Rattle.std.specs.Prelude.{◌≡◌, []};
 ghost use Rattle.dex_types.specs.Rows.{row_of};
 ghost use Rattle.dex_types.specs.Wallets as wallets;
 ghost use Rattle.dex_history.specs.Journal.{Sees, asked_of, places};

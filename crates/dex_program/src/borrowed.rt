@@ -49,7 +49,10 @@ fn cells_are_opened(rt: HostRuntime) -> Result<(), Fail> {
     let alloc = rt.alloc();
     let script = script(alloc)?;
     let outcome = left(alloc, Cells::open(alloc, &script)?)?;
-    assert_eq!(rt; into_report_text(alloc, outcome, 0)?, wanted(alloc, script)?);
+    assert_eq!(rt;
+        into_report_text(alloc, outcome, 0)?,
+        wanted(alloc, script)?
+    );
     Ok(())
 }
 
@@ -62,6 +65,9 @@ fn a_bank_is_built(rt: HostRuntime) -> Result<(), Fail> {
     let Ok(outcome) = close(alloc, bank, seats) else {
         return Err(Fail::new("no memory"));
     };
-    assert_eq!(rt; into_report_text(alloc, outcome, 0)?, wanted(alloc, script)?);
+    assert_eq!(rt;
+        into_report_text(alloc, outcome, 0)?,
+        wanted(alloc, script)?
+    );
     Ok(())
 }

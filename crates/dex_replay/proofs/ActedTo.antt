@@ -186,68 +186,75 @@ module _ (script : PlainScript) (is : IsScript script) (row : PlainRow) (behind 
   }
 
 -- two legs
-module _ (script : PlainScript) (is : IsScript script) (row second : PlainRow) (others : List PlainRow) (places : List RowPlaces) (cells : CellsState)
-    (next : IsNext script row (Some second) others places cells) (same : row.number ≡ second.number) where
+module _ (script : PlainScript) (is : IsScript script) (row : Row) (behind : Option (Bor Row)) (after_it : Bor Row) (others : List PlainRow) (places : List RowPlaces)
+    (cells : CellsState) (at : behind ≡ Some after_it) (next : IsNext script (row_of row) (option_map row_of (option_copied behind)) others places cells)
+    (same : after_it.now.number ≡ row.number) where
+  abbrev first : PlainRow
+  first = row_of row
+
+  abbrev second : PlainRow
+  second = row_of after_it.now
+
   behind-it : (rest : List PlainRow) × (others ≡ second ∷ rest)
-  behind-it = told others next.front
+  behind-it = told others (sym (ap (λ (b : Option (Bor Row)). option_map row_of (option_copied b)) at) ∙ next.front)
     where
       told : (some : List PlainRow) → Some second ≡ slice_get some 0 → (rest : List PlainRow) × (some ≡ second ∷ rest)
       told [] is = absurd (cc)
-      told (first ∷ some) is = let it : second ≡ first = cc in (some, ap (λ (one : PlainRow). one ∷ some) (sym it))
+      told (one ∷ some) is = let it : second ≡ one = cc in (some, ap (λ (it : PlainRow). it ∷ some) (sym it))
 
   abbrev rest : List PlainRow
   rest = behind-it.0
 
   abbrev left : List PlainRow
-  left = row ∷ second ∷ rest
+  left = first ∷ second ∷ rest
 
   so : AreLeft script left places cells
-  so = subst (λ (some : List PlainRow). AreLeft script (row ∷ some) places cells) behind-it.1 next.left
+  so = subst (λ (some : List PlainRow). AreLeft script (first ∷ some) places cells) behind-it.1 next.left
 
-  pair-split : items_of left ≡ pair_of row second ∷ items_of rest
-  pair-split = grouped-pair number_of row second rest (sym same) (pair-apart row second rest so.rising so.two)
+  pair-split : items_of left ≡ pair_of first second ∷ items_of rest
+  pair-split = grouped-pair number_of first second rest same (pair-apart first second rest so.rising so.two)
 
-  pair-begins : IsItemIn script row.lane (pair_of row second)
-  pair-begins = begins script is left places cells so (pair_of row second) rest pair-split refl
+  pair-begins : IsItemIn script first.lane (pair_of first second)
+  pair-begins = begins script is left places cells so (pair_of first second) rest pair-split refl
 
-  legs : AreLegs row second
-  legs = All-head (AreLegs row) second [] pair-begins.legs.0
+  legs : AreLegs first second
+  legs = All-head (AreLegs first) second [] pair-begins.legs.0
 
-  fits-first : IsRowOf script.start row
-  fits-first = All-head (IsRowOf script.start) row (second ∷ []) pair-begins.fits
+  fits-first : IsRowOf script.start first
+  fits-first = All-head (IsRowOf script.start) first (second ∷ []) pair-begins.fits
 
   fits-second : IsRowOf script.start second
-  fits-second = All-head (IsRowOf script.start) second [] (All-tail (IsRowOf script.start) row (second ∷ []) pair-begins.fits)
+  fits-second = All-head (IsRowOf script.start) second [] (All-tail (IsRowOf script.start) first (second ∷ []) pair-begins.fits)
 
-  pub can-legs : CanActBoth row second cells
+  pub can-legs : CanActBoth first second cells
   can-legs = record {
-    first_can = can script is left places cells so [] (second ∷ rest) row refl fits-first;
-    second_can = can script is left places cells so (row ∷ []) rest second refl fits-second;
+    first_can = can script is left places cells so [] (second ∷ rest) first refl fits-first;
+    second_can = can script is left places cells so (first ∷ []) rest second refl fits-second;
     share = legs.apart;
-    first_take = leg-or-refused script is left places cells so row fits-first legs.first;
+    first_take = leg-or-refused script is left places cells so first fits-first legs.first;
     second_take = leg-or-refused script is left places cells so second fits-second legs.second;
   }
 
-  pub legs-done : (after : CellsState) → opened_of after ≡ opened_of cells → AreCells after → world_of after ≡ act_item (pair_of row second) (world_of cells)
-      → HaveActed script (row ∷ others) places 2 after
+  pub legs-done : (after : CellsState) → opened_of after ≡ opened_of cells → AreCells after → world_of after ≡ act_item (pair_of first second) (world_of cells)
+      → HaveActed script (first ∷ others) places 2 after
   legs-done after kept are acted =
-      subst (λ (some : List PlainRow). HaveActed script (row ∷ some) places 2 after) (sym behind-it.1)
+      subst (λ (some : List PlainRow). HaveActed script (first ∷ some) places 2 after) (sym behind-it.1)
       (record {
         some = omega arith;
         within = omega arith;
-        left = acts script is left places cells so (pair_of row second) rest pair-split refl after (drop 2 places)
-            (behind-two second rest (behind-two row (second ∷ rest) so.rising)) (behind-three second rest (behind-three row (second ∷ rest) so.two))
+        left = acts script is left places cells so (pair_of first second) rest pair-split refl after (drop 2 places)
+            (behind-two second rest (behind-two first (second ∷ rest) so.rising)) (behind-three second rest (behind-three first (second ∷ rest) so.two))
             (placed-two places so.placed) kept are acted;
       })
     where
       placed-two : (some : List RowPlaces) → ArePlacedIn cells left some → ArePlacedIn cells rest (drop 2 some)
       placed-two [] are = absurd are
-      placed-two (first ∷ some) are = placed-behind cells second rest some are.1
+      placed-two (one ∷ some) are = placed-behind cells second rest some are.1
 
-  pub legs-stand : (d : RowPlaces) → (1 < length places) × ArePlacesIn cells row (get_or places 0 d) × ArePlacesIn cells second (get_or places 1 d)
+  pub legs-stand : (d : RowPlaces) → (1 < length places) × ArePlacesIn cells first (get_or places 0 d) × ArePlacesIn cells second (get_or places 1 d)
   legs-stand d = told places so.placed
     where
-      told : (some : List RowPlaces) → ArePlacedIn cells left some → (1 < length some) × ArePlacesIn cells row (get_or some 0 d) × ArePlacesIn cells second (get_or some 1 d)
+      told : (some : List RowPlaces) → ArePlacedIn cells left some → (1 < length some) × ArePlacesIn cells first (get_or some 0 d) × ArePlacesIn cells second (get_or some 1 d)
       told [] are = absurd are
       told (one ∷ []) are = absurd are.1
       told (one ∷ other ∷ some) are = (omega arith, are.0, are.1.0)
@@ -267,12 +274,6 @@ alone-some row behind second is differ found at same =
 pub alone-none : (row : Row) (behind : Option (Bor Row)) → ((second : Bor Row) → behind ≡ Some second → ⊥) → IsAlone row behind
 alone-none row None none found at same = absurd (cc)
 alone-none row (Some second) none found at same = none second refl
-
-pub with-second : (script : PlainScript) (row : Row) (behind : Option (Bor Row)) (second : Bor Row) (others : List PlainRow) (places : List RowPlaces) (cells : CellsState)
-    → behind ≡ Some second → IsNext script (row_of row) (option_map row_of (option_copied behind)) others places cells
-    → IsNext script (row_of row) (Some (row_of second.now)) others places cells
-with-second script row behind second others places cells is next =
-    subst (λ (b : Option (Bor Row)). IsNext script (row_of row) (option_map row_of (option_copied b)) others places cells) is next
 
 pub is-next : (script : PlainScript) (row : Row) (behind : Option Row) (others all : List Row) (places : List RowPlaces) (cells : CellsState)
     → all ≡ row ∷ others → behind ≡ slice_get others 0 → AreLeft script (map row_of all) places cells

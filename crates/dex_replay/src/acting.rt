@@ -1,7 +1,7 @@
 //! All items of a script act on its cells, one after the other.
 
-ghost use Rattle.std.specs.Prelude.{◌≡◌, ◌∷◌, ◌+◌, ◌-◌, ◌<◌, ◌≤◌, List, length, map, option_copied, option_map, slice_index_or};
-ghost use Rattle.std.specs.Prelude.{take, true, false};
+ghost use Rattle.std.specs.Prelude.{◌≡◌, ◌∷◌, ◌+◌, ◌-◌, ◌<◌, ◌≤◌, List, length, map, take, true, false};
+ghost use Rattle.std.specs.Prelude.{option_copied, option_map, slice_index_or};
 ghost use Rattle.dex_types.specs.declared.rows.Row.{Row as PlainBuffer};
 ghost use Rattle.dex_types.specs.Rows.{PlainRow, row_of};
 ghost use Rattle.dex_fold.specs.Items.{items_of};
@@ -33,7 +33,8 @@ fn act_item(cells: &mut Cells, row: &Row, behind: Option<&Row>, places: &[RowPla
     requires next { (script : PlainScript) × IsScript script × (others : List PlainRow)
         × IsNext script (row_of row.now) (option_map row_of (option_copied behind)) others places.now cells.old }
     ensures acted { (script : PlainScript) (others : List PlainRow) → IsScript script
-        → IsNext script (row_of row.entry.now) (option_map row_of (option_copied behind.entry)) others places.entry.now cells.old
+        → IsNext script (row_of row.entry.now) (option_map row_of (option_copied behind.entry)) others
+        places.entry.now cells.old
         → HaveActed script (row_of row.entry.now ∷ others) places.entry.now result cells.new }
 {
     if let Some(second) = behind {

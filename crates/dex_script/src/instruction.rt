@@ -61,7 +61,8 @@ impl Draft {
         requires reading { IsReading (draft_of self.old) places.old.items }
         requires first { StandAt (start_of self.old.start) first.old.parties first_at }
         requires second { StandAt (start_of self.old.start) second.old.parties second_at }
-        ensures row { TellsIn result (draft_of self.new) (spec.with_legs (draft_of self.old) number first.old second.old) }
+        ensures row { TellsIn result (draft_of self.new)
+            (spec.with_legs (draft_of self.old) number first.old second.old) }
         ensures reading { IsReading (draft_of self.new) places.new.items }
         ensures start { start_of self.new.start ≡ start_of self.old.start }
     {
@@ -125,7 +126,7 @@ fn push(
     Ok(())
 }
 
-/// The row of this number, at this time: what the words say, whose buffers go into it. It is not inlined, so nothing is moved.
+/// The row of this number, at this time: what the words say, whose buffers go into it. It is not inlined: a row is large.
 #[inline(never)]
 fn take_row(number: u32, now: i64, words: &mut InstructionWords) -> Row
     ensures { row_of result ≡ spec.instruction_row number now words.old }

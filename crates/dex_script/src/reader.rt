@@ -72,8 +72,8 @@ impl Reader {
         self.draft.into_script(self.places)
     }
 
-    /// Adds what the row of this number states. Behind a fault, what is left does not matter. The words are a buffer for those
-    /// of `do` rows.
+    /// Adds what the row of this number states. Behind a fault, what is left does not matter. The words are a buffer for
+    /// those of `do` rows.
     #[tactic(auto, unfolding(crate::specs::Rows::with_row))]
     pub(crate) fn add_row(
         &mut self,

@@ -1,5 +1,5 @@
-//! Setup rows, and the row that chooses the program, behind the rows before them. Behind a fault, what is left of the draft does
-//! not matter.
+//! Setup rows, and the row that chooses the program, behind the rows before them. Behind a fault, what is left of the
+//! draft does not matter.
 
 ghost use Rattle.std.specs.Prelude.{◌≡◌, ℕ, Ok};
 ghost use Rattle.dex_statement.specs.Telling.{TellsIn};
@@ -52,7 +52,7 @@ impl Draft {
         Ok(())
     }
 
-    /// Whether a row may declare addresses: whether one of them is taken, and whether there is no room for what they are of.
+    /// What refuses a row that declares addresses: one of them is taken, or there is no room for what they are of.
     #[tactic(auto, unfolding(crate::specs::Rows::checked_new))]
     fn check_new(&self, is_taken: bool, is_full: bool) -> Result<(), FaultKind>
         ensures { result ≡ spec.checked_new (draft_of self.now) is_taken is_full }

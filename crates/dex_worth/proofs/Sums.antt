@@ -60,9 +60,6 @@ sums-agree exact other owners sums agree are = are ∙ each owners
     each [] = refl
     each (of ∷ others) = rw (agree of) rw (each others) refl
 
-pub sums-long : (exact : Address → Amounts) (owners : List Address) (sums : List Amounts) → AreSums exact owners sums → length sums ≡ length owners
-sums-long exact owners sums are = ap length are ∙ length-map owners (λ (of : Address). capped_amounts (exact of))
-
 -- ---- bounds
 
 within-both : (bound more : ℕ) (one other : Amounts) → IsWithin bound one → IsWithin more other → IsWithin (bound + more) (capped_amounts (both one other))

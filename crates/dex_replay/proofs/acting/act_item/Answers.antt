@@ -1,6 +1,6 @@
-use Rattle.std.proofs.Common.{arith, sym}
+use Rattle.std.proofs.Common.{arith}
 use Rattle.dex_fold.proofs.Common.{row_of}
-use Rattle.dex_replay.proofs.ActedTo.{IsAlone, alone-none, alone-some, can-legs, can-row, legs-done, legs-stand, row-done, row-stands, with-second}
+use Rattle.dex_replay.proofs.ActedTo.{IsAlone, alone-none, alone-some, can-legs, can-row, legs-done, legs-stand, row-done, row-stands}
 use Rattle.dex_types.specs.declared.rows.RowPlaces.{RowPlaces}
 use Rattle.dex_replay.proofs.acting.act_item.Goals as goal
 use Rattle.dex_replay.proofs.acting.act_item.Goals.{in-Some+else-second-row, in_default}
@@ -11,30 +11,23 @@ nowhere = record { market = 0; coin = 0; pc = 0; discount = 0; referrer = 0 }
 pub bounds-places-1 : goal.bounds-places-1
 bounds-places-1 c =
     let next = c.requires.next in
-    omega (
-      arith,
-      (legs-stand next.0 next.1 (row_of c.args.row.now) (row_of c.in-Some.second.now) next.2 c.args.places.now c.args.cells.now
-          (with-second next.0 c.args.row.now c.args.behind c.in-Some.second next.2 c.args.places.now c.args.cells.now c.in-Some.is next.3) (sym c.if-second-row.true) nowhere).0,
-    )
+    omega (arith, (legs-stand next.0 next.1 c.args.row.now c.args.behind c.in-Some.second next.2 c.args.places.now c.args.cells.now c.in-Some.is next.3 c.if-second-row.true nowhere).0)
 
 pub step_two_at-requires-clause-rows : goal.step_two_at-requires-clause-rows
 step_two_at-requires-clause-rows c =
     let next = c.requires.next in
-    can-legs next.0 next.1 (row_of c.args.row.now) (row_of c.in-Some.second.now) next.2 c.args.places.now c.args.cells.now
-    (with-second next.0 c.args.row.now c.args.behind c.in-Some.second next.2 c.args.places.now c.args.cells.now c.in-Some.is next.3) (sym c.if-second-row.true)
+    can-legs next.0 next.1 c.args.row.now c.args.behind c.in-Some.second next.2 c.args.places.now c.args.cells.now c.in-Some.is next.3 c.if-second-row.true
 
 pub step_two_at-requires-clause-places : goal.step_two_at-requires-clause-places
 step_two_at-requires-clause-places c =
     let next = c.requires.next in
-    let stand = legs-stand next.0 next.1 (row_of c.args.row.now) (row_of c.in-Some.second.now) next.2 c.args.places.now c.args.cells.now
-    (with-second next.0 c.args.row.now c.args.behind c.in-Some.second next.2 c.args.places.now c.args.cells.now c.in-Some.is next.3) (sym c.if-second-row.true) nowhere in
+    let stand = legs-stand next.0 next.1 c.args.row.now c.args.behind c.in-Some.second next.2 c.args.places.now c.args.cells.now c.in-Some.is next.3 c.if-second-row.true nowhere in
     (stand.1, stand.2)
 
 pub returns-then-second-row : goal.returns-then-second-row
 returns-then-second-row c = record {
   acted = λ script others is next.
-      legs-done script is (row_of c.args.row.now) (row_of c.in-Some.second.now) others c.args.places.now c.args.cells.now
-      (with-second script c.args.row.now c.args.behind c.in-Some.second others c.args.places.now c.args.cells.now c.in-Some.is next) (sym c.if-second-row.true)
+      legs-done script is c.args.row.now c.args.behind c.in-Some.second others c.args.places.now c.args.cells.now c.in-Some.is next c.if-second-row.true
       c.step_two_at.new.self c.step_two_at.ensures.kept c.step_two_at.ensures.cells c.step_two_at.ensures.acted;
 }
 
