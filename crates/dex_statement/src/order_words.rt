@@ -199,25 +199,13 @@ fn is_strange_side(words: &[&[u8]], place: usize) -> bool
     place < words.len() && side_of(word_at(words, place)).is_none()
 }
 
-/// Whether a word that stands at a place is to be a self-trade rule and is none.
-fn is_strange_self_trade(words: &[&[u8]], place: usize) -> bool
-    ensures { result ≡ order.is_strange_self_trade (texts words.now) place }
-{
-    place < words.len() && self_trade_of(word_at(words, place)).is_none()
-}
-
-/// Whether a word that stands at a place is to be an order type and is none.
-fn is_strange_order_type(words: &[&[u8]], place: usize) -> bool
-    ensures { result ≡ order.is_strange_order_type (texts words.now) place }
-{
-    place < words.len() && order_type_of(word_at(words, place)).is_none()
-}
-
 /// Whether one of an order's words that are of a list is not.
 fn is_strange_order(words: &[&[u8]]) -> bool
     ensures { result ≡ order.is_strange_order (texts words.now) }
 {
-    is_strange_side(words, 1) || is_strange_self_trade(words, 5) || is_strange_order_type(words, 6)
+    is_strange_side(words, 1)
+        || (5 < words.len() && self_trade_of(word_at(words, 5)).is_none())
+        || (6 < words.len() && order_type_of(word_at(words, 6)).is_none())
 }
 
 /// The latest time that the word behind an order's others says, where there is one.
