@@ -1,6 +1,6 @@
 //! All items of a script act on its cells, one after the other.
 
-ghost use Rattle.std.specs.Prelude.{◌≡◌, ◌∷◌, ◌+◌, ◌-◌, ◌<◌, ◌≤◌, List, length, map, take, true, false};
+ghost use Rattle.std.specs.Prelude.{◌≡◌, ◌∷◌, ◌+◌, ◌-◌, ◌<◌, List, length, map, take, true, false};
 ghost use Rattle.std.specs.Prelude.{option_copied, option_map, slice_index_or};
 ghost use Rattle.dex_types.specs.declared.rows.Row.{Row as PlainBuffer};
 ghost use Rattle.dex_types.specs.Rows.{PlainRow, row_of};
@@ -95,10 +95,9 @@ const PIECE: usize = 2048;
 
 /// Lets the last rows go, so many of them.
 fn let_go(rows: &mut Vec<Row>, count: usize)
-    requires { count ≤ length rows.old.items }
     ensures { rows.new.items ≡ take (length rows.old.items - count) rows.old.items }
 {
-    let left = rows.len() - count;
+    let left = rows.len().saturating_sub(count);
     rows.truncate(left);
     if PIECE < rows.capacity() - left {
         rows.shrink_to_fit();

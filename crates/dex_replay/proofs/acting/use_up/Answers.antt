@@ -33,14 +33,6 @@ act_item-count-requires c =
       );
     }
 
-pub let_go-requires : goal.let_go-requires
-let_go-requires c =
-    let script = c.requires.script in
-    let behind = behind-item script.0 c.in-Some.row.now _ (reverse c.in-Some.others.now) (reverse c.item.rows.items) c.item.places.now c.act_item-count.result c.item.cells
-    c.act_item-count.new.cells script.1 (in-front c.item.rows.items c.in-Some.others.now c.in-Some.row.now (sym c.deref.ensures.value ∙ c.in-Some.ensures.cases.0))
-    (c.last.ensures.value ∙ last-first c.in-Some.others.now) (c.item.invariant script.0 script.1 script.2 script.3) c.act_item-count.ensures.acted in
-    omega (arith, behind.1, length-reverse c.item.rows.items)
-
 pub split_at-requires : goal.split_at-requires
 split_at-requires c =
     let script = c.requires.script in
