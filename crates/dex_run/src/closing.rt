@@ -103,7 +103,7 @@ fn hand_out_all(
 /// The cells of values, written into the room for them.
 fn cells_of<V: OfCell + Drop>(values: Vec<V>, mut cells: Vec<V::Cell>) -> Vec<V::Cell>
     requires { IsRoom (vec_len values) cells }
-    ensures cells { result.items ≡ map V.cell values.items }
+    ensures cells { result.items ≡ map V.gives values.items }
     ensures kept { All V.kept values.items }
 {
     for value in values {
@@ -120,7 +120,8 @@ fn cells_given<V: OfCell + Drop>(
     requires passes { AllZip (λ gate column. CanClose gate column.items) gates.items room.columns.items }
     requires values { IsRoom (vec_len gates) room.values }
     requires cells { IsRoom (vec_len gates) room.cells }
-    ensures { AreClosed (IsClosed V.entries V.lane V.origin) V.kept V.cell gates.items room.columns.items result.items }
+    ensures { AreClosed (IsClosed V.entries V.lane V.origin) V.kept V.gives
+        gates.items room.columns.items result.items }
 {
     let GateRoom {
         columns,
