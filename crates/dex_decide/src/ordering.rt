@@ -1,6 +1,6 @@
 //! Whether a new order is refused. Each function reads only.
 
-ghost use Rattle.std.specs.Prelude.{◌≡◌, IsSomeAnd};
+ghost use Rattle.std.specs.Prelude.{◌≡◌};
 ghost use Rattle.dex_types.specs.Accounts.{market_accounts_of};
 ghost use Rattle.dex_types.specs.Reasons as each;
 ghost use Rattle.dex_types.specs.Terms.{tier_seen};
@@ -160,45 +160,6 @@ fn decide_order_with(
     )
 }
 
-/// A new order of an open account, which this wallet pays for.
-fn decide_order_paid(
-    accounts: &MarketAccounts,
-    row: &Row,
-    seen: &Seen,
-    acting: Acting<'_>,
-    taker: &Taker,
-    balance: u64,
-    pending: &PendingFills,
-    answer: &mut Result<Plan, Refusal>,
-)
-    requires sound { AreSound (market_accounts_of accounts.now) }
-    requires acting { IsActing row.now.named.items (market_accounts_of accounts.now).orders
-        acting.address acting.bytes.now }
-    requires account { taker.now.account ≡ acting.address }
-    requires pays { IsSomeAnd (reasons.payer taker.now.id_side seen.now) (λ wallet. wallet.balance ≡ balance) }
-    requires pending { pending.now ≡ pending_fills_of (market_of accounts.now).events }
-    ensures { answer.new ≡ each.answered (reasons.why_order_of taker.entry.now.id_side (order_of taker.entry.now)
-        (asked_by row.entry.now) seen.now (market_of accounts.now)
-        (party_by acting.entry.address acting.entry.bytes.now))
-        (order_planned taker.entry.now.id_side (order_of taker.entry.now) (market_of accounts.now)
-        (account_of acting.entry.bytes.now)) }
-{
-    if let Some(why) = wallet_reason(accounts, row, seen, acting, taker.id_side) {
-        *answer = Err(why);
-        return;
-    }
-    match decide_order_with(accounts, row, acting, taker, balance, pending) {
-        Ok(decided) => {
-            *answer = Ok(Plan::Order {
-                taker: *taker,
-                plan: decided.plan,
-                pending: decided.pending,
-            });
-        }
-        Err(why) => *answer = Err(why),
-    }
-}
-
 /// A new order of an open account.
 fn decide_order_by(
     accounts: &MarketAccounts,
@@ -220,20 +181,23 @@ fn decide_order_by(
         (order_planned taker.entry.now.id_side (order_of taker.entry.now) (market_of accounts.now)
         (account_of acting.entry.bytes.now)) }
 {
-    match payer_seen(taker.id_side, seen) {
-        None => *answer = Err(Refusal::NoAccount),
-        Some(wallet) => {
-            decide_order_paid(
-                accounts,
-                row,
-                seen,
-                acting,
-                taker,
-                wallet.balance,
-                pending,
-                answer,
-            );
+    let Some(wallet) = payer_seen(taker.id_side, seen) else {
+        *answer = Err(Refusal::NoAccount);
+        return;
+    };
+    if let Some(why) = wallet_reason(accounts, row, seen, acting, taker.id_side) {
+        *answer = Err(why);
+        return;
+    }
+    match decide_order_with(accounts, row, acting, taker, wallet.balance, pending) {
+        Ok(decided) => {
+            *answer = Ok(Plan::Order {
+                taker: *taker,
+                plan: decided.plan,
+                pending: decided.pending,
+            });
         }
+        Err(why) => *answer = Err(why),
     }
 }
 
