@@ -5,22 +5,14 @@ use Rattle.dex_types.specs.Meeting.{Meeting}
 use Rattle.dex_types.specs.Posting.{Posting}
 use Rattle.dex_types.specs.declared.terms.Side.{Side}
 use Rattle.dex_types.specs.NewOrder.{NewOrder}
-use Rattle.dex_market.specs.MarketAccount.{IsMarket, sizes_of}
-use Rattle.dex_market.specs.RequestQueue.{IsRequestQueue}
-use Rattle.dex_orders.specs.OrdersAccount.{HasNoOrder, IsOpen, added, funded, funds_of}
+use Rattle.dex_market.specs.MarketAccount.{sizes_of}
+use Rattle.dex_orders.specs.OrdersAccount.{HasNoOrder, added, funded, funds_of}
 use Rattle.dex_ring.specs.Appended.{appended, pushed_all}
-use Rattle.dex_ring.specs.Ring.{IsEventQueue, Ring}
+use Rattle.dex_ring.specs.Ring.{Ring}
 use Rattle.dex_match.specs.declared.order_plan.OrderPlan.{OrderPlan}
 use Rattle.dex_match.specs.declared.intake.Intake.{Intake}
 use Rattle.dex_match.specs.Applying.{CanPay, CanTakeIn, CanTrade, bytes_with, events_by, funds_with, intake_by, met_with, moves_by, posted_by, requests_after}
 use Rattle.dex_match.specs.OrderParts.{OrderGiven, OrderParts, parts_of}
-
--- the market account and both queues are accepted and the trader's account is open, each by itself
-pub record AreAccepted (given : OrderGiven) : Type 0 where
-  pub market : IsMarket given.market
-  pub requests : IsRequestQueue given.requests
-  pub events : IsEventQueue given.events
-  pub account : IsOpen given.account
 
 -- a plan can be done on what is read: a sequence number is left, the book, the queue and the market's words have room, the fee covers
 -- the referrer's part and the rebates, the slot is free, no slot holds its id, and the trader's funds pay
