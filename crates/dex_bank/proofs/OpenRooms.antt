@@ -14,6 +14,7 @@ use Rattle.dex_script_facts.proofs.Apart.{AreDistinct, markets-distinct, wallets
 use Rattle.dex_script_facts.proofs.PlacedLaws.{placed-at, position-map}
 use Rattle.dex_fold.proofs.MappedLists.{map-map}
 use Rattle.dex_bank.specs.Opened.{market_rooms, rows_naming, rows_on, wallet_rooms}
+use Rattle.dex_bank.proofs.Stands.{some-of}
 use Rattle.dex_bank.specs.Counts.{AreCounted, HaveSpare, is_there, is_told, one, role_place, wallets_told}
 
 -- ---- the place of an address
@@ -101,10 +102,6 @@ module _ (names : PlainRow → Address → Bool) (addresses : List Address) wher
   rows-spare rows more counts few so place less =
       let d : Address = some-of addresses place (omega (arith, less, so.long)) in
       omega (arith, few, so.each place d (omega (arith, less, so.long)), count_by-le-length (λ (one : PlainRow). names one (get_or addresses place d)) rows)
-    where
-      some-of : (all : List Address) (place : ℕ) → place < length all → Address
-      some-of [] place none = absurd (omega (arith, none))
-      some-of (first ∷ others) place some = first
 
   -- a row more
   row-counted : (rows : List PlainRow) (row : PlainRow) (told : List (Option ℕ)) (before after : List ℕ) → Tells addresses names row told

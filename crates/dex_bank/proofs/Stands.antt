@@ -77,7 +77,7 @@ pub its-address : (cells : CellsState) → AreCells cells → All HasItsAddress 
 its-address cells kept = λ k d within. (kept.markets k d within).one_market.address
 
 -- one of the items where there is one
-some-of : {A : Type 0} (all : List A) (place : ℕ) → place < length all → A
+pub some-of : {A : Type 0} (all : List A) (place : ℕ) → place < length all → A
 some-of [] place none = absurd (omega (arith, none))
 some-of (first ∷ others) place some = first
 

@@ -1,7 +1,8 @@
-use Rattle.std.proofs.Common.{◌≡◌, ℕ, ◌<◌, List, [], ◌∷◌, length, get_or, is_some, arith, Option, sym, ap, ◌∙◌, subst}
+use Rattle.std.proofs.Common.{◌≡◌, List, get_or, is_some, Option, sym, ap, ◌∙◌, subst}
 use Rattle.dex_fold.proofs.Common.{Refusal, Seen, request_of, row_of, why}
 use Rattle.dex_bank.proofs.Common.{AreCells, CellsState, MarketCellState}
 use Rattle.dex_cell.specs.CellState.{IsFor, market_at}
+use Rattle.dex_bank.proofs.Stands.{some-of}
 use Rattle.dex_bank.proofs.StepCells.{can-act-at, refused-here}
 use Rattle.dex_bank.proofs.stepping.is_refused.Goals as goal
 
@@ -14,11 +15,6 @@ is_refused_at-requires-clause-row c = λ default.
     (subst (λ (cs : CellsState). IsFor row seen (get_or cs.markets place default)) (sym c.cells.view_is)
     ((can-act-at row seen place c.args.cells.now c.seen_by-seen.ensures.seen c.requires.places.market (subst AreCells c.cells.view_is c.cells.invariant) c.requires.row
     c.seen_by-seen.ensures.fits).for default))
-
--- one of some cells
-some-of : (cells : List MarketCellState) (place : ℕ) → place < length cells → MarketCellState
-some-of [] place within = absurd (omega (arith, within))
-some-of (cell ∷ cells) place within = cell
 
 pub returns-clause-refused : goal.returns-clause-refused
 returns-clause-refused c =
