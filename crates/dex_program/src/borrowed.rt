@@ -1,7 +1,7 @@
 //! The calls that only borrow a script come to what those come to that take it.
 
 use dex_bank::Cells;
-use dex_report::{Outcome, into_report_text};
+use dex_report::{Outcome, into_report_text, report_text};
 use dex_run::{build, close};
 use dex_script::{Script, read_script};
 use std::alloc::Global;
@@ -35,13 +35,13 @@ fn left(alloc: Global, cells: Cells) -> Result<Outcome, Fail> {
     }
 }
 
-// The report of what is left when the script's own accounts went into the cells.
+// The report of what is left when the script's own accounts went into the cells, by the call that only borrows it.
 fn wanted(alloc: Global, script: Script) -> Result<Vec<u8>, Fail> {
     let (cells, rows, _) = Cells::of_script(alloc, script)?;
     if rows.len() != 3 {
         return Err(Fail::new("not three rows"));
     }
-    Ok(into_report_text(alloc, left(alloc, cells)?, 0)?)
+    Ok(report_text(alloc, &left(alloc, cells)?, 0)?)
 }
 
 #[test]
