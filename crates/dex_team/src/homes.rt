@@ -9,7 +9,8 @@ ghost use Rattle.dex_script_facts.specs.Places.{IsPlace, market_addresses, walle
 ghost use Rattle.dex_stage.specs.Stages.{IsMarketAt, IsWalletAt};
 ghost use Rattle.dex_team.specs.Closing.{AreFirstMarkets, AreFirstWallets, AreOpened};
 ghost use Rattle.dex_team.specs.Lists.{AreLists, IsNext};
-ghost use Rattle.dex_team.specs.Slots.{AreInHand, AreLent, AreWalletsAt, IsHeld, IsLent, IsWalletLent, KeepsOut, listed};
+ghost use Rattle.dex_team.specs.Slots.{AreInHand, AreLent, AreWalletsAt, IsHeld, IsLent, IsWalletLent};
+ghost use Rattle.dex_team.specs.Slots.{KeepsOut, listed};
 
 use crate::ahead::Ahead;
 use crate::desk::{Desk, Next};
