@@ -40,7 +40,7 @@ pub fn bulk_answer(alloc: Global, number: u64, rows: u32) -> Result<StatusText, 
 }
 
 /// Whether the journals and the accounts of an outcome are those of a made script's two markets.
-fn is_of_made(outcome: &Outcome) -> bool
+pub fn is_of_made(outcome: &Outcome) -> bool
     ensures journals { IsTrue result
         → map (λ (journal : PlainMarketJournal). journal.address) (outcome_of outcome.now).markets ≡ made_markets }
     ensures markets { let markets = (outcome_of outcome.now).accounts.markets in

@@ -16,7 +16,7 @@ mod status;
 mod told;
 
 pub use audit::audit_answer;
-pub use bulk::bulk_answer;
+pub use bulk::{bulk_answer, is_of_made};
 pub use counting::items_in;
 pub use dump::dump_answer;
 pub use laws::{both_legs_of_a_swap_take_or_neither, what_suits_a_command_is_answered};

@@ -35,7 +35,7 @@ pub fn migrate_answer(
         Checked::Refused(told) => return Ok(told),
     };
     match migrate(alloc, accounts, nodes, events) {
-        Ok(migrated) => dump_of(alloc, &migrated),
+        Ok(migrated) => dump_of(alloc, migrated),
         Err(MigrateError::TooSmall(fault)) => migrate_refused(alloc, fault),
         Err(MigrateError::NoMemory) => Err(NoMemory),
     }

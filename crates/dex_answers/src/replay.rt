@@ -12,7 +12,7 @@ ghost use Rattle.dex_answers.specs.declared.status.Status.TheVariants as status;
 use crate::played::{Played, play_script, play_taken};
 use crate::status::Status;
 use crate::told::StatusText;
-use dex_report::{Outcome, report_text};
+use dex_report::{Outcome, into_report_text};
 use dex_types::NoMemory;
 use std::alloc::Global;
 
@@ -46,7 +46,7 @@ pub fn report_of(alloc: Global, outcome: Outcome, rows: u32) -> Result<StatusTex
     ensures fits { IfOk result (λ told. FitOutcome (outcome_of outcome)) }
     ensures text { IfOk result (λ told. IsText told status.Ok (report_text (outcome_of outcome) rows)) }
 {
-    let text = report_text(alloc, outcome, rows)?;
+    let text = into_report_text(alloc, outcome, rows)?;
     Ok(StatusText {
         status: Status::Ok,
         text,

@@ -67,16 +67,6 @@ module _ (rows : List PlainRow) where
     placed-stand (row ∷ some) [] are = absurd are
     placed-stand (row ∷ some) (first ∷ others) are = (placed-stands row first are.0, placed-stand some others are.1)
 
--- the row and the places at one index
-pub stand-at : (cells : CellsState) (rows : List PlainRow) (places : List RowPlaces) → ArePlacedIn cells rows places
-    → (index : ℕ) (row : PlainRow) (default : RowPlaces) → index < length rows → ArePlacesIn cells (get_or rows index row) (get_or places index default)
-stand-at cells [] [] are index row default within = absurd (omega (arith, within))
-stand-at cells [] (place ∷ places) are index row default within = absurd are
-stand-at cells (first ∷ rows) [] are index row default within = absurd are
-stand-at cells (first ∷ rows) (place ∷ places) are zero row default within = are.0
-stand-at cells (first ∷ rows) (place ∷ places) are (suc index) row default within =
-    stand-at cells rows places are.1 index row default (omega (arith, within))
-
 -- ---- no row moves a cell
 
 -- a market's cell has the address of its start
@@ -85,6 +75,11 @@ HasItsAddress cell = cell.accounts.address ≡ cell.start.address
 
 pub its-address : (cells : CellsState) → AreCells cells → All HasItsAddress cells.markets
 its-address cells kept = λ k d within. (kept.markets k d within).one_market.address
+
+-- one of the items where there is one
+pub some-of : {A : Type 0} (all : List A) (place : ℕ) → place < length all → A
+some-of [] place none = absurd (omega (arith, none))
+some-of (first ∷ others) place some = first
 
 -- lists of the same addresses have the same one at each place
 same-at : {A : Type 0} (of : A → Address) (xs ys : List A) → map of ys ≡ map of xs → (place : ℕ) (default : A) → place < length xs
@@ -127,10 +122,6 @@ module _ (before after : CellsState) (was : All HasItsAddress before.markets) (i
     within = (same-at wallet_address before.wallets after.wallets same-wallets place (some-of before.wallets place at.within) at.within).0;
     here = λ default. ap (is_same address) (same-at wallet_address before.wallets after.wallets same-wallets place default at.within).1 ∙ at.here default;
   }
-    where
-      some-of : (cells : List CellState) (place : ℕ) → place < length cells → CellState
-      some-of [] place none = absurd (omega (arith, none))
-      some-of (cell ∷ cells) place some = cell
 
   first-still : (address : Address) (place : ℕ) → IsFirstAt address before.markets place → IsFirstAt address after.markets place
   first-still address place first = record {
@@ -142,10 +133,6 @@ module _ (before after : CellsState) (was : All HasItsAddress before.markets) (i
       still : (k : ℕ) (default : MarketCellState) → k < length before.markets
           → (k < length after.markets) × (market_address (get_or after.markets k default) ≡ market_address (get_or before.markets k default))
       still k default within = same-at market_address before.markets after.markets same-markets k default within
-
-      some-of : (cells : List MarketCellState) (place : ℕ) → place < length cells → MarketCellState
-      some-of [] place none = absurd (omega (arith, none))
-      some-of (cell ∷ cells) place some = cell
 
   -- so a row stands where it stood
   pub stands-still : (row : PlainRow) (place : ℕ) (wallets : WalletPlaces) → StandsAt before row place wallets → StandsAt after row place wallets

@@ -1,13 +1,15 @@
 -- All cells before and after a row.
-use Rattle.std.proofs.Common.{◌≡◌, ℕ, true, List, map, get_or, Option, Some, refl, sym, ap, ◌∙◌, subst}
+use Rattle.std.proofs.Common.{◌≡◌, ℕ, Bool, true, List, map, get_or, Option, Some, refl, sym, ap, ◌∙◌, subst}
 use Rattle.dex_fold.proofs.Common.{Market, MarketState, PlainRow, Reply, Row, Seen, Sees, WalletState, World, act, acted, asked_of, is_same, is_same-true, markets_acted, request_of, row_of, row_step, seen_by, wallet_acted, why, why_in, why_on}
-use Rattle.dex_bank.proofs.Common.{AreCells, CanAct, CanActAt, CanHold, CanWait, CellState, CellsState, Fits, HasBecomeAt, HaveActed, IsFirstAt, IsMarketCell, MarketCellState, SeesCells, made_of, opened_of, roles_of, wallet_state_of, world_of}
+use Rattle.dex_bank.proofs.Common.{AreCells, CanAct, CanActAt, CanHold, CanWait, CellState, CellsState, Fits, HaveActed, IsFirstAt, IsMarketCell, IsReply, MarketCellState, OthersStay, SeesCells, made_of, opened_of, roles_of, wallet_state_of, world_of}
 use Rattle.std.specs.List.{All}
 use Rattle.std.proofs.lemmas.List.Elements.{All-get_or}
 use Rattle.dex_cell.specs.CellState as market
 use Rattle.dex_fold.specs.World.{market_at}
 use Rattle.dex_act.proofs.Sights.{row-sees, sees-cells}
-use Rattle.dex_bank.proofs.StepMarkets.{market-found, markets-become-at, markets-kept, markets-opened}
+use Rattle.dex_bank.specs.Stepped.{HasActedOrWaited}
+use Rattle.dex_bank.specs.Stepping.{HasDoneAt, doing}
+use Rattle.dex_bank.proofs.StepMarkets.{market-found, markets-become-at, markets-kept, markets-opened, others-stay}
 
 module _ (row : Row) (seen : Seen) (place : ℕ) (cells : CellsState) (seen_is : seen ≡ seen_by (row_of row) (world_of cells))
     (first : IsFirstAt row.market cells.markets place) where
@@ -56,55 +58,59 @@ module _ (row : Row) (seen : Seen) (place : ℕ) (cells : CellsState) (seen_is :
 
 -- ---- after
 
-module _ (doing : PlainRow) (seen : Seen) (place : ℕ) (cells : CellsState) (seen_is : seen ≡ seen_by doing (world_of cells))
-    (first : IsFirstAt doing.market cells.markets place) (markets : List MarketCellState) (wallets : List CellState)
-    (has : HasBecomeAt doing seen place cells.markets markets)
-    (have :
-    (default : MarketCellState)
-    → HaveActed doing seen (row_step doing seen (market.market_at (get_or cells.markets place default))).transfers cells.wallets wallets) where
+module _ (row : PlainRow) (waits : Bool) (seen : Seen) (place : ℕ) (cells : CellsState) (seen_is : seen ≡ seen_by row (world_of cells))
+    (first : IsFirstAt row.market cells.markets place) (are : AreCells cells) (answer : Reply) (markets : List MarketCellState) (wallets : List CellState)
+    (has : HasDoneAt row waits seen place answer cells.markets markets cells.wallets wallets) where
+  abbrev done : PlainRow
+  done = doing waits row
+
   abbrev before : World
   before = world_of cells
 
-  abbrev stepped : CellsState
-  stepped = record cells { markets = markets; wallets = wallets }
+  abbrev after : CellsState
+  after = record cells { markets = markets; wallets = wallets }
 
   abbrev here : Market
-  here = market.market_at (get_or cells.markets place has.cell)
+  here = market.market_at (get_or cells.markets place has.market.cell)
 
-  found : market_at doing.market before.markets ≡ Some here
-  found = market-found doing.market cells.markets place has.cell first
+  found : market_at row.market before.markets ≡ Some here
+  found = market-found row.market cells.markets place has.market.cell first
+
+  have : HaveActed done seen (row_step done seen here).transfers cells.wallets wallets
+  have = has.wallets_acted has.market.cell
 
   -- the world that they are has acted
-  pub stepped-acted : world_of stepped ≡ act doing before
-  stepped-acted =
+  world-acted : world_of after ≡ act done before
+  world-acted =
       let made : List MarketState → List WalletState → World = λ ms ws. record before { markets = ms; wallets = ws } in
-      let after : Seen → World = λ s.
-      made (markets_acted doing s before.markets) (map (wallet_acted doing s (row_step doing s here).transfers) before.wallets) in
-      ap (λ (ms : List MarketState). made ms (map wallet_state_of wallets)) (markets-become-at doing seen place cells.markets markets first has)
-      ∙ ap (made (markets_acted doing seen before.markets)) (have has.cell).states
-      ∙ ap after seen_is
-      ∙ sym (ap (λ (m : Option Market). acted doing m before) found)
-
-  -- each cell is as it was opened
-  pub stepped-opened : opened_of stepped ≡ opened_of cells
-  stepped-opened =
-      let made : List MarketCellState → List CellState → CellsState = λ ms ws. record cells { markets = ms; wallets = ws } in
-      ap (λ (ms : List MarketCellState). made ms (map made_of wallets)) (markets-opened doing seen place cells.markets markets has)
-      ∙ ap (made (opened_of cells).markets) (have has.cell).made
-
-  -- and each is one
-  pub stepped-cells : AreCells cells → AreCells stepped
-  stepped-cells are = record {
-    markets = markets-kept doing seen place cells.markets markets has are.markets;
-    wallets = (have has.cell).kept;
-    apart = (have has.cell).apart;
-  }
+      let by : Seen → World = λ s.
+      made (markets_acted done s before.markets) (map (wallet_acted done s (row_step done s here).transfers) before.wallets) in
+      ap (λ (ms : List MarketState). made ms (map wallet_state_of wallets)) (markets-become-at done seen place cells.markets markets first has.market)
+      ∙ ap (made (markets_acted done seen before.markets)) have.states
+      ∙ ap by seen_is
+      ∙ sym (ap (λ (m : Option Market). acted done m before) found)
 
   -- the reply is that of the market that was found
-  pub stepped-reply : (reply : Reply) → ((default : MarketCellState) → reply ≡ (row_step doing seen (market.market_at (get_or cells.markets place default))).reply) → (m : Market) → market_at doing.market before.markets ≡ Some m
-      → reply ≡ (row_step doing (seen_by doing before) m).reply
-  stepped-reply reply given m at =
+  told : IsReply before done answer
+  told m at =
       let is : here ≡ m = let both : Some here ≡ Some m = sym found ∙ at in cc in
-      given has.cell
-      ∙ ap (λ (s : Seen). (row_step doing s here).reply) seen_is
-      ∙ ap (λ (x : Market). (row_step doing (seen_by doing before) x).reply) is
+      has.reply has.market.cell
+      ∙ ap (λ (s : Seen). (row_step done s here).reply) seen_is
+      ∙ ap (λ (x : Market). (row_step done (seen_by row before) x).reply) is
+
+  pub stepped : HasActedOrWaited row waits answer cells after
+  stepped = record {
+    reply = told;
+    acted = world-acted;
+    kept =
+        let made : List MarketCellState → List CellState → CellsState = λ ms ws. record cells { markets = ms; wallets = ws } in
+        ap (λ (ms : List MarketCellState). made ms (map made_of wallets)) (markets-opened done seen place cells.markets markets has.market)
+        ∙ ap (made (opened_of cells).markets) have.made;
+    others = subst (OthersStay row.market cells.markets) (sym has.market.is) (others-stay row.market cells.markets place has.market.cell first);
+    refused = has.refused;
+    cells = record {
+      markets = markets-kept done seen place cells.markets markets has.market are.markets;
+      wallets = have.kept;
+      apart = have.apart;
+    };
+  }

@@ -1,12 +1,13 @@
 -- A row at the place of its market.
-use Rattle.std.specs.Prelude.{◌≡◌, ℕ, ◌<◌, Bool, true, false, List, length, slice_index_or, slice_set}
+use Rattle.std.specs.Prelude.{◌≡◌, ℕ, ◌<◌, ◌||◌, Bool, true, false, List, length, slice_index_or, slice_set}
 use Rattle.dex_types.specs.declared.addresses.Address.{Address}
+use Rattle.dex_types.specs.declared.replies.Reply.{Reply}
 use Rattle.dex_types.specs.declared.rows.Row.{Row}
 use Rattle.dex_types.specs.declared.rows.Seen.{Seen}
 use Rattle.dex_types.specs.Addresses.{is_same}
 use Rattle.dex_types.specs.Rows.{PlainRow}
 use Rattle.dex_types.specs.Steps.{Step}
-use Rattle.dex_history.specs.Journal.{row_step}
+use Rattle.dex_history.specs.Journal.{is_refusal, row_step}
 use Rattle.dex_cell.specs.CellState.{CanHold, HasActed, HasSpare, IsFor, IsMarketCell, MarketCellState, held_on, market_at}
 use Rattle.dex_wallet.specs.CellState.{CellState}
 use Rattle.dex_fold.specs.Fold.{market_acted}
@@ -55,10 +56,6 @@ pub record HasHeldAt (row : Row) (seen : Seen) (place : ℕ) (before after : Lis
 abbrev pub step_at : PlainRow → Seen → ℕ → List MarketCellState → MarketCellState → Step
 step_at row seen place markets default = row_step row seen (market_at (slice_index_or markets place default))
 
--- where it is so, the accounts of all markets stay
-abbrev pub StaysIf : Bool → List MarketCellState → List MarketCellState → Type 0
-StaysIf test before after = test ≡ true → accounts_in after ≡ accounts_in before
-
 -- the cell at the place has become what such a row makes of it, and no other changed
 pub record HasBecomeAt (row : PlainRow) (seen : Seen) (place : ℕ) (before after : List MarketCellState) : Type 0 where
   pub cell : MarketCellState
@@ -68,3 +65,12 @@ pub record HasBecomeAt (row : PlainRow) (seen : Seen) (place : ℕ) (before afte
       → market_state_of cell ≡ market_acted row seen (market_state_of (slice_index_or before place default))
   pub start : (default : MarketCellState) → cell.start ≡ (slice_index_or before place default).start
   pub room : (default : MarketCellState) → cell.room ≡ (slice_index_or before place default).room
+
+-- a row acted, or waited, at the market at a place and on the wallets that it names, and this was its reply
+pub record HasDoneAt (row : PlainRow) (waits : Bool) (seen : Seen) (place : ℕ) (answer : Reply) (before after : List MarketCellState)
+    (wallets left : List CellState) : Type 0 where
+  pub reply : (default : MarketCellState) → answer ≡ (step_at (doing waits row) seen place before default).reply
+  pub market : HasBecomeAt (doing waits row) seen place before after
+  pub refused : (waits || is_refusal answer) ≡ true → accounts_in after ≡ accounts_in before
+  pub wallets_acted : (default : MarketCellState)
+      → HaveActed (doing waits row) seen (step_at (doing waits row) seen place before default).transfers wallets left

@@ -1,7 +1,6 @@
 //! One row on all cells.
 
-ghost use Rattle.std.specs.Prelude.{◌≡◌, ◌<◌, ◌||◌, ◌&&◌, length, None, not, true, is_some, map, slice_index_or};
-ghost use Rattle.std.specs.Prelude.{slice_set};
+ghost use Rattle.std.specs.Prelude.{◌≡◌, ◌<◌, ◌&&◌, length, None, not, true, is_some, map, slice_index_or, slice_set};
 ghost use Rattle.std.specs.List.{All};
 ghost use Rattle.dex_types.specs.declared.replies.Reply.TheVariants.{Done};
 ghost use Rattle.dex_types.specs.Rows.{row_of};
@@ -9,15 +8,13 @@ ghost use Rattle.dex_types.specs.Transfers.{no_transfers};
 ghost use Rattle.dex_types.specs.Why.{why};
 ghost use Rattle.dex_history.specs.Journal.{is_refusal, request_of};
 ghost use Rattle.dex_cell.specs.CellState.{IsFor, MarketCellState, market_at, refused_on, step_on};
-ghost use Rattle.dex_fold.specs.Fold as fold;
-ghost use Rattle.dex_fold.specs.Items.{act_item, pair_of, why_in};
+ghost use Rattle.dex_fold.specs.Items.{why_in};
 ghost use Rattle.dex_fold.specs.World as world;
 ghost use Rattle.dex_act.specs.Wallets.{AreApart, ArePlacesAmong, Fits, IsRoleAt, roles_of, wallet_state_of};
-ghost use Rattle.dex_bank.specs.Cells.{AreCells, AreReplies, CanAct, CanActBoth, CanWait, IsReply, OthersStay};
-ghost use Rattle.dex_bank.specs.Cells.{OthersThanTwoStay, accounts_in, opened_of, world_of};
+ghost use Rattle.dex_bank.specs.Cells.{AreCells, CanAct, CanActBoth, CanWait, world_of};
 ghost use Rattle.dex_bank.specs.Places.{StandsAt};
-ghost use Rattle.dex_bank.specs.Stepping.{CanActAt, CanHoldAt, HasActedAt, HasBecomeAt, HasHeldAt, HaveActed};
-ghost use Rattle.dex_bank.specs.Stepping.{StaysIf, doing, step_at};
+ghost use Rattle.dex_bank.specs.Stepped.{HasActedOrWaited, HaveBothStepped};
+ghost use Rattle.dex_bank.specs.Stepping.{CanActAt, CanHoldAt, HasActedAt, HasDoneAt, HasHeldAt, HaveActed};
 
 use crate::cells::Cells;
 use crate::standing::Standing;
@@ -127,12 +124,8 @@ fn do_at(
     requires row { CanActAt row.now seen.now place markets.old wallets.old }
     requires places { ArePlacesAmong wallets.old (row_of row.now) places.now }
     requires held { waits ≡ true → CanHoldAt row.now seen.now place markets.old }
-    ensures reply { (default : MarketCellState) → result
-        ≡ (step_at (doing waits (row_of row.entry.now)) seen.now place markets.old default).reply }
-    ensures market { HasBecomeAt (doing waits (row_of row.entry.now)) seen.now place markets.old markets.new }
-    ensures stays { StaysIf (waits || is_refusal result) markets.old markets.new }
-    ensures wallets { (default : MarketCellState) → let done = doing waits (row_of row.entry.now) in
-        HaveActed done seen.now (step_at done seen.now place markets.old default).transfers wallets.old wallets.new }
+    ensures { HasDoneAt (row_of row.entry.now) waits seen.entry.now place result
+        markets.old markets.new wallets.old wallets.new }
 {
     if waits {
         hold_at(markets, place, wallets, row, seen, places)
@@ -146,12 +139,7 @@ pub(crate) fn act_or_wait(cells: &mut Cells, row: &Row, standing: &Standing, wai
     requires row { CanAct (row_of row.now) cells.old }
     requires places { StandsAt cells.old (row_of row.now) standing.now.market standing.now.wallets }
     requires held { waits ≡ true → CanWait (row_of row.now) cells.old }
-    ensures reply { IsReply (world_of cells.old) (doing waits (row_of row.entry.now)) result }
-    ensures acted { world_of cells.new ≡ fold.act (doing waits (row_of row.entry.now)) (world_of cells.old) }
-    ensures kept { opened_of cells.new ≡ opened_of cells.old }
-    ensures others { OthersStay row.entry.now.market cells.old.markets cells.new.markets }
-    ensures stays { StaysIf (waits || is_refusal result) cells.old.markets cells.new.markets }
-    ensures cells { AreCells cells.new }
+    ensures { HasActedOrWaited (row_of row.entry.now) waits result cells.old cells.new }
 {
     let seen = seen_by(cells, row, &standing.wallets);
     do_at(
@@ -204,17 +192,7 @@ pub(crate) fn stepped_both(
     requires rows { CanActBoth (row_of first.now) (row_of second.now) cells.old }
     requires first { StandsAt cells.old (row_of first.now) first_standing.now.market first_standing.now.wallets }
     requires second { StandsAt cells.old (row_of second.now) second_standing.now.market second_standing.now.wallets }
-    ensures replies { AreReplies (world_of cells.old)
-        (pair_of (row_of first.entry.now) (row_of second.entry.now)) result }
-    ensures acted { world_of cells.new
-        ≡ act_item (pair_of (row_of first.entry.now) (row_of second.entry.now)) (world_of cells.old) }
-    ensures kept { opened_of cells.new ≡ opened_of cells.old }
-    ensures others { OthersThanTwoStay first.entry.now.market second.entry.now.market
-        cells.old.markets cells.new.markets }
-    ensures stays { (is_some (why_in (world_of cells.old) (row_of first.entry.now))
-        || is_some (why_in (world_of cells.old) (row_of second.entry.now))) ≡ true
-        → accounts_in cells.new.markets ≡ accounts_in cells.old.markets }
-    ensures cells { AreCells cells.new }
+    ensures { HaveBothStepped (row_of first.entry.now) (row_of second.entry.now) result cells.old cells.new }
 {
     let first_refused = is_refused(cells, first, first_standing);
     let second_refused = is_refused(cells, second, second_standing);

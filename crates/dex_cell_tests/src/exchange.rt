@@ -11,7 +11,7 @@ use crate::words::{add_line, row_of};
 use dex_cell::MarketCell;
 use dex_rows::records::{Fields, Rows};
 use dex_statement::{InstructionWords, Statement, statement_of};
-use dex_types::{Address, MarketAccounts, MoveKind, Movement, Program, Row, Seen, WalletSeen};
+use dex_types::{MarketAccounts, MoveKind, Movement, Program, Row, Seen, WalletSeen};
 use std::alloc::Global;
 use std::test::Fail;
 

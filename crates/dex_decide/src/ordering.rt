@@ -1,6 +1,6 @@
 //! Whether a new order is refused. Each function reads only.
 
-ghost use Rattle.std.specs.Prelude.{◌≡◌, IsSomeAnd};
+ghost use Rattle.std.specs.Prelude.{◌≡◌};
 ghost use Rattle.dex_types.specs.Accounts.{market_accounts_of};
 ghost use Rattle.dex_types.specs.Reasons as each;
 ghost use Rattle.dex_types.specs.Terms.{tier_seen};
@@ -138,7 +138,8 @@ fn decide_order_with(
         acting.address acting.bytes.now }
     requires account { taker.now.account ≡ acting.address }
     requires pending { pending.now ≡ pending_fills_of (market_of accounts.now).events }
-    ensures { result ≡ outcome_in taker.now (given_on taker.now.id_side acting.entry.bytes.now accounts.now) balance }
+    ensures { result ≡ outcome_in taker.entry.now
+        (given_on taker.entry.now.id_side acting.entry.bytes.now accounts.now) balance }
 {
     let market = MarketRef {
         bytes: &accounts.market,
@@ -159,45 +160,6 @@ fn decide_order_with(
     )
 }
 
-/// A new order of an open account, which this wallet pays for.
-fn decide_order_paid(
-    accounts: &MarketAccounts,
-    row: &Row,
-    seen: &Seen,
-    acting: Acting<'_>,
-    taker: &Taker,
-    balance: u64,
-    pending: &PendingFills,
-    answer: &mut Result<Plan, Refusal>,
-)
-    requires sound { AreSound (market_accounts_of accounts.now) }
-    requires acting { IsActing row.now.named.items (market_accounts_of accounts.now).orders
-        acting.address acting.bytes.now }
-    requires account { taker.now.account ≡ acting.address }
-    requires pays { IsSomeAnd (reasons.payer taker.now.id_side seen.now) (λ wallet. wallet.balance ≡ balance) }
-    requires pending { pending.now ≡ pending_fills_of (market_of accounts.now).events }
-    ensures { answer.new ≡ each.answered (reasons.why_order_of taker.now.id_side (order_of taker.now)
-        (asked_by row.entry.now) seen.now (market_of accounts.now)
-        (party_by acting.entry.address acting.entry.bytes.now))
-        (order_planned taker.now.id_side (order_of taker.now) (market_of accounts.now)
-        (account_of acting.entry.bytes.now)) }
-{
-    if let Some(why) = wallet_reason(accounts, row, seen, acting, taker.id_side) {
-        *answer = Err(why);
-        return;
-    }
-    match decide_order_with(accounts, row, acting, taker, balance, pending) {
-        Ok(decided) => {
-            *answer = Ok(Plan::Order {
-                taker: *taker,
-                plan: decided.plan,
-                pending: decided.pending,
-            });
-        }
-        Err(why) => *answer = Err(why),
-    }
-}
-
 /// A new order of an open account.
 fn decide_order_by(
     accounts: &MarketAccounts,
@@ -213,31 +175,34 @@ fn decide_order_by(
         acting.address acting.bytes.now }
     requires account { taker.now.account ≡ acting.address }
     requires pending { pending.now ≡ pending_fills_of (market_of accounts.now).events }
-    ensures { answer.new ≡ each.answered (reasons.why_order_of taker.now.id_side (order_of taker.now)
+    ensures { answer.new ≡ each.answered (reasons.why_order_of taker.entry.now.id_side (order_of taker.entry.now)
         (asked_by row.entry.now) seen.now (market_of accounts.now)
         (party_by acting.entry.address acting.entry.bytes.now))
-        (order_planned taker.now.id_side (order_of taker.now) (market_of accounts.now)
+        (order_planned taker.entry.now.id_side (order_of taker.entry.now) (market_of accounts.now)
         (account_of acting.entry.bytes.now)) }
 {
-    match payer_seen(taker.id_side, seen) {
-        None => *answer = Err(Refusal::NoAccount),
-        Some(wallet) => {
-            decide_order_paid(
-                accounts,
-                row,
-                seen,
-                acting,
-                taker,
-                wallet.balance,
-                pending,
-                answer,
-            );
+    let Some(wallet) = payer_seen(taker.id_side, seen) else {
+        *answer = Err(Refusal::NoAccount);
+        return;
+    };
+    if let Some(why) = wallet_reason(accounts, row, seen, acting, taker.id_side) {
+        *answer = Err(why);
+        return;
+    }
+    match decide_order_with(accounts, row, acting, taker, wallet.balance, pending) {
+        Ok(decided) => {
+            *answer = Ok(Plan::Order {
+                taker: *taker,
+                plan: decided.plan,
+                pending: decided.pending,
+            });
         }
+        Err(why) => *answer = Err(why),
     }
 }
 
-/// A new order of the account that the row names first; the taker's own account is not looked at. The answer is written where it
-/// is wanted: a plan has some 250 bytes.
+/// A new order of the account that the row names first; the taker's own account is not looked at. The answer is written
+/// where it is wanted: a plan has some 250 bytes.
 #[inline(never)]
 pub fn decide_order_row(
     accounts: &MarketAccounts,

@@ -46,7 +46,7 @@ fn decide_new_order(
 }
 
 /// A new order as its row states it; the signer stands in the place of its account.
-fn order_taker(
+pub fn order_taker(
     row: &Row,
     seen: &Seen,
     side: Side,
@@ -80,7 +80,7 @@ fn order_taker(
 }
 
 /// A take as its row states it; the signer stands in the place of an account.
-fn take_taker(
+pub fn take_taker(
     row: &Row,
     seen: &Seen,
     side: Side,

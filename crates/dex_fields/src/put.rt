@@ -64,9 +64,11 @@ pub fn put_u128(bytes: &mut [u8], field: Field, value: u128)
 fn halves(value: u128) -> [u8; 16]
     ensures { result ≡ bytes_of_number 16 value }
 {
+    let low = (value % 0x1_0000_0000_0000_0000) as u64;
+    let high = (value >> 64) as u64;
     let mut bytes = [0; 16];
-    bytes[..8].copy_from_slice(&u64::to_le_bytes(value as u64));
-    bytes[8..].copy_from_slice(&u64::to_le_bytes((value >> 64) as u64));
+    bytes[..8].copy_from_slice(&low.to_le_bytes());
+    bytes[8..].copy_from_slice(&high.to_le_bytes());
     bytes
 }
 

@@ -1,18 +1,16 @@
 //! A market that threads share.
 
-ghost use Rattle.std.specs.Prelude.{◌≡◌, ◌<◌, ◌++◌, ◌∷◌, [], All, IfOk, length, map, max};
+ghost use Rattle.std.specs.Prelude.{◌≡◌, ◌<◌, [], All, IfOk, length, map, max};
 ghost use Rattle.dex_types.specs.declared.refusals.Refusal.{Refusal};
 ghost use Rattle.dex_types.specs.declared.replies.Reply.TheVariants.{Done, Refused};
 ghost use Rattle.dex_types.specs.Rows.{row_of};
-ghost use Rattle.dex_history.specs.Journal.{Call};
 ghost use Rattle.dex_types.specs.Transfers.{no_transfers};
 ghost use Rattle.dex_cell.specs.CellState.{CanHold, HasActed, IsFor, held_on, refused_on, step_on};
 ghost use Rattle.dex_wallet.specs.CellState.{IsWalletCell};
 ghost use Rattle.dex_act.specs.Wallets.{AreApart, SeesCells, made_of, states_acted, wallet_state_of};
 ghost use Rattle.dex_fold.specs.Fold.{wallet_acted};
 ghost use Rattle.dex_fold.specs.RowsOf.{rows_of_market, rows_on};
-ghost use Rattle.dex_stamps.specs.Stamped.{Stamped};
-ghost use Rattle.dex_journals.specs.Journals.{IsBankMarket, calls_by, market_calls, market_origin};
+ghost use Rattle.dex_journals.specs.Journals.{IsBankMarket, calls_by, market_more};
 
 use crate::items::{MarketStart, StampedCall};
 use dex_act::{act, hold, places_in};
@@ -121,11 +119,7 @@ impl BankMarket {
         ensures acted { HasActed row.entry.now seen.now self.old.cell self.new.cell }
         ensures refused { (why : Refusal) → result ≡ Refused why
             → self.new.cell ≡ refused_on row.entry.now seen.now self.old.cell }
-        ensures stamped { self.new ≡ record self.old {
-          cell = self.new.cell;
-          stamps = self.old.stamps ++ stamp.now.number ∷ [];
-          last = stamp.now.number;
-        } }
+        ensures stamped { self.new ≡ market_more self.old self.new.cell stamp.now.number }
         ensures states { map wallet_state_of wallets.new
             ≡ states_acted row.entry.now seen.now self.old.cell (map wallet_state_of wallets.old) }
         ensures wallets { All IsWalletCell wallets.new }
@@ -157,11 +151,7 @@ impl BankMarket {
         requires stamp { self.old.last < stamp.now.number }
         ensures reply { result ≡ Done }
         ensures held { self.new.cell ≡ held_on row.entry.now seen.now self.old.cell }
-        ensures stamped { self.new ≡ record self.old {
-          cell = self.new.cell;
-          stamps = self.old.stamps ++ stamp.now.number ∷ [];
-          last = stamp.now.number;
-        } }
+        ensures stamped { self.new ≡ market_more self.old self.new.cell stamp.now.number }
         ensures states { map wallet_state_of wallets.new
             ≡ map (wallet_acted (row_of row.entry.now) seen.now no_transfers) (map wallet_state_of wallets.old) }
         ensures wallets { All IsWalletCell wallets.new }
@@ -181,12 +171,7 @@ impl BankMarket {
         ensures cell { result ≡ self.cell }
         ensures kept { IsBankMarket self }
     {
-        let BankMarket {
-            cell,
-            stamps: _,
-            last: _,
-            script: _,
-        } = self;
+        let BankMarket { cell, .. } = self;
         Box::into_inner(cell)
     }
 }

@@ -5,7 +5,7 @@ use anyhow::Error;
 use dex_answers::items_in;
 use dex_bank::Cells;
 use dex_replay::act_all;
-use dex_report::report_text;
+use dex_report::into_report_text;
 use dex_script::read_script;
 use dex_types::NoMemory;
 use std::mem::drop;
@@ -67,7 +67,7 @@ pub fn round<R: Clock + AllocGlobal>(rt: &R, bytes: &[u8]) -> Result<Replayed, E
         return Err(Error::from(NoMemory));
     };
     let closing = watch.lap(rt)?;
-    let text = report_text(alloc, outcome, count)?;
+    let text = into_report_text(alloc, outcome, count)?;
     let report = watch.lap(rt)?;
     drop(of_script);
     drop(places);

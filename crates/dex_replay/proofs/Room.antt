@@ -1,6 +1,6 @@
 -- Each row of a script finds the cells that it names, with room for one entry more.
-use Rattle.std.proofs.Common.{◌≡◌, ℕ, ◌+◌, ◌<◌, ◌≤◌, Bool, true, cond, List, ◌∷◌, ◌++◌, length, map, get_or, sym, ap, ◌∙◌, subst, arith}
-use Rattle.dex_fold.proofs.Common.{Address, Call, Listing, PlainMarketAccounts, PlainRow, Row, get_or-map, is_same, length-map, list_any, names, row_of, row_wallets, sum_by-append, sum_by-cons}
+use Rattle.std.proofs.Common.{◌≡◌, ℕ, ◌+◌, ◌≤◌, Bool, true, cond, List, ◌∷◌, ◌++◌, length, map, get_or, sym, ap, ◌∙◌, subst, arith}
+use Rattle.dex_fold.proofs.Common.{Address, Call, Listing, PlainMarketAccounts, PlainRow, is_same, length-map, list_any, names, row_wallets, sum_by-append, sum_by-cons}
 use Rattle.dex_replay.proofs.Common.{CanAct, CellState, CellsState, IsRowOf, MarketCellState, PlainScript, address_of, has_account, is_among, is_market, market_state_of, rows_naming, rows_on, wallet_state_of, world_of}
 use Rattle.std.specs.List.{All}
 use Rattle.dex_cell.specs.CellState as market
@@ -82,19 +82,3 @@ module _ (script : PlainScript) (cells : CellsState) (own : AreOfScript script c
         market_spare = λ k d within. market-spare (get_or cells.markets k d) (its k d within) (own.market_room k d within) (few k d within);
         wallet_spare = λ k d within. wallet-spare (get_or cells.wallets k d) (own.wallet_room k d within) (few_moves k d within);
       }
-
--- ---- the row at a place
-
--- the rows of a script are those of a list of buffers
-abbrev pub AreOf : PlainScript → List Row → Type 0
-AreOf script rows = script.rows ≡ map row_of rows
-
-module _ (script : PlainScript) (rows : List Row) (are : AreOf script rows) (place : ℕ) (row : Row) (within : place < length rows) (is : row ≡ get_or rows place row) where
-  pub inside : place < length script.rows
-  inside = subst (λ (all : List PlainRow). place < length all) (sym are) (subst (λ (n : ℕ). place < n) (sym (length-map rows row_of)) within)
-
-  pub here : get_or script.rows place (row_of row) ≡ row_of row
-  here = ap (λ (all : List PlainRow). get_or all place (row_of row)) are ∙ get_or-map row_of rows place row (row_of row) within ∙ ap row_of (sym is)
-
-  pub row-of-script : All (IsRowOf script.start) script.rows → IsRowOf script.start (row_of row)
-  row-of-script each = subst (λ (one : PlainRow). IsRowOf script.start one) here (each place (row_of row) inside)

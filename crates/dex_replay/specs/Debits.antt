@@ -1,5 +1,5 @@
 -- What an entry tells of deposits.
-use Rattle.std.specs.Prelude.{ℕ, List}
+use Rattle.std.specs.Prelude.{ℕ}
 use Rattle.dex_types.specs.declared.movements.Entry.{Entry}
 use Rattle.dex_types.specs.Totals.{total}
 use Rattle.dex_history.specs.Journal.{front}

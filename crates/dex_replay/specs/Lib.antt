@@ -7,3 +7,4 @@ pub mod Debits
 pub mod Told
 pub mod WorthTold
 pub mod WorthText
+pub mod Acting

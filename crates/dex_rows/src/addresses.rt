@@ -115,23 +115,14 @@ fn read_label(text: &[u8], address: &mut Address) -> bool
 fn read_prefixed(text: &[u8], address: &mut Address) -> bool
     ensures { IsRead result (prefixed_address text.now) address.new }
 {
-    match prefixed_address(text) {
-        Some(found) => {
-            *address = found;
-            true
-        }
-        None => false,
-    }
-}
-
-// The address of `0x` and 64 hexadecimal digits in lower case.
-fn prefixed_address(text: &[u8]) -> Option<Address>
-    ensures { result ≡ prefixed_address text.now }
-{
-    match text {
-        [b'0', b'x', digits @ ..] => digits_address(digits),
-        _ => None,
-    }
+    let [b'0', b'x', digits @ ..] = text else {
+        return false;
+    };
+    let Some(found) = digits_address(digits) else {
+        return false;
+    };
+    *address = found;
+    true
 }
 
 // Whether each byte is a hexadecimal digit in lower case.

@@ -15,20 +15,6 @@ pub(crate) struct Line<'a> {
     pub(crate) count: usize,
 }
 
-impl<'a> Line<'a> {
-    /// A row of one empty field.
-    pub(crate) fn empty() -> Line<'a>
-        ensures { IsCut result }
-    {
-        let none: &[u8] = &[];
-        Line {
-            bytes: none,
-            fields: [none; KEPT],
-            count: 1,
-        }
-    }
-}
-
 /// How long a row is, and how many fields it has.
 struct Cut {
     length: usize,
@@ -85,8 +71,7 @@ fn cut_at<'a>(text: &'a [u8], fields: &mut [&'a [u8]; KEPT]) -> Cut
     requires { length fields.old ≡ 12 }
     ensures size { length fields.new ≡ 12 }
     ensures cut { AreCut (take result.length text.now) result.count fields.new }
-    ensures front { IsFront text.now (take result.length text.now) }
-    ensures within { result.length ≤ length text.now }
+    ensures front { IsFront text.now result.length }
 {
     let mut count = 0;
     let mut start = 0;

@@ -1,9 +1,9 @@
 //! The rows of a text, and the fields of a row.
 
-ghost use Rattle.std.specs.Prelude.{◌≡◌, ◌<◌, [], ◌∷◌, IfOk, OnErr, false, length, slice_index_or, true};
-ghost use Rattle.dex_rows.specs.Records.{rows_of};
+ghost use Rattle.std.specs.Prelude.{◌≡◌, ◌<◌, [], ◌∷◌, IfOk, OnErr, false, length, true};
+ghost use Rattle.dex_rows.specs.Records.{field_at, rows_of};
 
-use crate::lines::{Line, next_line, without_mark};
+use crate::lines::{KEPT, Line, next_line, without_mark};
 use crate::quoted::{self, QuotedRows};
 use csv::ByteRecord;
 use dex_types::NoMemory;
@@ -37,10 +37,13 @@ impl<'a> Fields<'a> {
     pub fn new() -> Fields<'a>
         ensures { result ≡ [] ∷ [] }
     {
-        Fields {
-            line: Line::empty(),
-            quoted: None,
-        }
+        let none: &[u8] = &[];
+        let line = Line {
+            bytes: none,
+            fields: [none; KEPT],
+            count: 1,
+        };
+        Fields { line, quoted: None }
     }
 }
 
@@ -109,12 +112,14 @@ pub fn field_count(row: &Fields<'_>) -> usize
     }
 }
 
-/// The bytes of the field at a place of a row, counted from 0, if it is one of the first twelve.
-pub fn field<'r>(row: &'r Fields<'_>, place: usize) -> &'r [u8]
-    requires among { place < length row.now }
-    requires kept { place < 12 }
-    ensures { result.now ≡ slice_index_or row.now place [] }
+/// The bytes of the field at a place of a row, counted from 0, if it is one of the first twelve; no bytes behind the last.
+pub fn field_at<'r>(row: &'r Fields<'_>, place: usize) -> &'r [u8]
+    requires { place < 12 }
+    ensures { result.now ≡ field_at row.now place }
 {
+    if field_count(row) <= place {
+        return &[];
+    }
     match &row.quoted {
         None => row.line.fields[place],
         Some(record) => quoted::field(record, place),

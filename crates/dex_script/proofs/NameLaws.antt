@@ -152,3 +152,7 @@ module _ (start : PlainAccounts) (parties : PlainParties) where
         discount = role-placed start.wallets parties.discount places.discount are.discount;
         referrer = role-placed start.wallets parties.referrer places.referrer are.referrer;
       }
+
+  -- the same of accounts that are these
+  pub stand-in : (other : PlainAccounts) (places : RowPlaces) → other ≡ start → places_of start parties ≡ Some places → StandAt other parties places
+  stand-in other places same is = subst (λ (s : PlainAccounts). StandAt s parties places) (sym same) (stand places is)

@@ -3,10 +3,11 @@
 ghost use Rattle.std.specs.Prelude.{◌≡◌, [], ◌∷◌, ◌++◌, true, IfErr, OnOk, map};
 ghost use Rattle.dex_types.specs.Accounts.{PlainAccounts};
 ghost use Rattle.dex_types.specs.Rows.{row_of};
+ghost use Rattle.dex_statement.specs.Telling.{TellsIn};
 ghost use Rattle.dex_script_facts.specs.Places.{ArePlaced, IsPlaced};
 ghost use Rattle.dex_script.specs.Names.{IsReading, StandAt};
 ghost use Rattle.dex_script.specs.Rows as spec;
-ghost use Rattle.dex_script.specs.Telling.{TellsIn, draft_of, start_of};
+ghost use Rattle.dex_script.specs.Telling.{draft_of, start_of};
 
 use crate::draft::Draft;
 use crate::swap::is_bad_swap;
@@ -52,22 +53,23 @@ impl Draft {
         &mut self,
         places: &mut Vec<RowPlaces>,
         number: u32,
-        mut first: InstructionWords,
-        mut second: InstructionWords,
+        first: &mut InstructionWords,
+        second: &mut InstructionWords,
         first_at: RowPlaces,
         second_at: RowPlaces,
     ) -> Result<(), RowError>
         requires reading { IsReading (draft_of self.old) places.old.items }
-        requires first { StandAt (start_of self.old.start) first.parties first_at }
-        requires second { StandAt (start_of self.old.start) second.parties second_at }
-        ensures row { TellsIn result (draft_of self.new) (spec.with_legs (draft_of self.old) number first second) }
+        requires first { StandAt (start_of self.old.start) first.old.parties first_at }
+        requires second { StandAt (start_of self.old.start) second.old.parties second_at }
+        ensures row { TellsIn result (draft_of self.new)
+            (spec.with_legs (draft_of self.old) number first.old second.old) }
         ensures reading { IsReading (draft_of self.new) places.new.items }
         ensures start { start_of self.new.start ≡ start_of self.old.start }
     {
-        if self.is_full(number) || exceeds_row(&first) || exceeds_row(&second) {
+        if self.is_full(number) || exceeds_row(first) || exceeds_row(second) {
             return Err(RowError::Fault(FaultKind::OverLimit));
         }
-        if is_bad_swap(&first, &second) {
+        if is_bad_swap(first, second) {
             return Err(RowError::Fault(FaultKind::BadSwap));
         }
         if self.batch {
@@ -77,8 +79,8 @@ impl Draft {
         self.is_first = false;
         self.is_late = true;
         self.items += 1;
-        self.push_row(places, number, &mut first, first_at)?;
-        self.push_row(places, number, &mut second, second_at)
+        self.push_row(places, number, first, first_at)?;
+        self.push_row(places, number, second, second_at)
     }
 
     /// One more row of this number, at these places. Where memory is wanting the rows stay.
@@ -102,7 +104,7 @@ impl Draft {
     }
 }
 
-/// One more row, at these places: what the words say, whose buffers go into it. Where memory is wanting both lists stay.
+/// One more row, at these places. Where memory is wanting both lists stay.
 fn push(
     rows: &mut Vec<Row>,
     places: &mut Vec<RowPlaces>,
@@ -120,7 +122,16 @@ fn push(
 {
     rows.reserve(1)?;
     places.push(at)?;
-    rows.push(Row {
+    rows.push(take_row(number, now, words)).unwrap();
+    Ok(())
+}
+
+/// The row of this number, at this time: what the words say, whose buffers go into it. It is not inlined: a row is large.
+#[inline(never)]
+fn take_row(number: u32, now: i64, words: &mut InstructionWords) -> Row
+    ensures { row_of result ≡ spec.instruction_row number now words.old }
+{
+    Row {
         lane: words.lane,
         number,
         market: words.parties.market,
@@ -132,9 +143,7 @@ fn push(
         referrer: words.parties.referrer,
         bytes: words.take_bytes(),
         now,
-    })
-    .unwrap();
-    Ok(())
+    }
 }
 
 /// Whether an instruction row passes a limit: 16 lanes, 16 named accounts, 256 bytes of data.

@@ -1,12 +1,13 @@
 //! A script as far as it is read, one row after the other.
 
 ghost use Rattle.std.specs.Prelude.{◌≡◌, ℕ, [], IfOk};
+ghost use Rattle.dex_statement.specs.Telling.{TellsIn};
 ghost use Rattle.dex_script_facts.specs.Facts.{IsScript};
 ghost use Rattle.dex_script.specs.Drafts.{no_rows};
 ghost use Rattle.dex_script.specs.Names.{IsReading, places_of};
 ghost use Rattle.dex_script.specs.Rows as spec;
 ghost use Rattle.dex_script.specs.Rows.{IsSetup};
-ghost use Rattle.dex_script.specs.Telling.{TellsIn, draft_of};
+ghost use Rattle.dex_script.specs.Telling.{draft_of};
 
 use crate::draft::Draft;
 use crate::names::Names;
@@ -71,8 +72,8 @@ impl Reader {
         self.draft.into_script(self.places)
     }
 
-    /// Adds what the row of this number states. Behind a fault, what is left does not matter. The words are a buffer for those
-    /// of `do` rows.
+    /// Adds what the row of this number states. Behind a fault, what is left does not matter. The words are a buffer for
+    /// those of `do` rows.
     #[tactic(auto, unfolding(crate::specs::Rows::with_row))]
     pub(crate) fn add_row(
         &mut self,
@@ -113,7 +114,8 @@ impl Reader {
         ensures { (number : ℕ) → TellsIn result self.new (spec.with_statement self.old number statement) }
     {
         let before = std::mem::replace(self, Reader::new(alloc, false));
-        let draft = before.draft.with_setup(alloc, statement)?;
+        let mut draft = before.draft;
+        draft.add_setup(alloc, statement)?;
         *self = Reader {
             draft,
             places: before.places,
@@ -139,16 +141,29 @@ impl Reader {
     }
 
     /// Adds a swap row of this number.
-    #[tactic(auto, unfolding(crate::specs::Rows::with_swap))]
     fn add_swap(&mut self, alloc: Global, number: u32, words: SwapWords) -> Result<(), RowError>
         ensures { TellsIn result self.new (spec.with_swap self.old number words) }
     {
-        let first = words
+        let mut first = words
             .first
             .into_instruction(alloc, words.lane, words.signer);
-        let second = words
+        let mut second = words
             .second
             .into_instruction(alloc, words.lane, words.signer);
+        self.add_two(alloc, number, &mut first, &mut second)
+    }
+
+    /// Adds the legs of a swap row of this number.
+    #[tactic(auto, unfolding(crate::specs::Rows::with_two))]
+    fn add_two(
+        &mut self,
+        alloc: Global,
+        number: u32,
+        first: &mut InstructionWords,
+        second: &mut InstructionWords,
+    ) -> Result<(), RowError>
+        ensures { TellsIn result self.new (spec.with_two self.old number first.old second.old) }
+    {
         let Some(first_at) = self.places_of(alloc, &first.parties)? else {
             return Err(RowError::Fault(FaultKind::UnknownLabel));
         };

@@ -7,7 +7,7 @@ use dex_types::{Address, MarketAccounts, Named, NoMemory};
 use std::alloc::Global;
 
 /// An address more.
-fn push(addresses: &mut Vec<Address>, address: Address) -> Result<(), NoMemory>
+pub fn push_address(addresses: &mut Vec<Address>, address: Address) -> Result<(), NoMemory>
     ensures { OnOk result (addresses.new.items ≡ addresses.old.items ++ address ∷ []) }
 {
     match addresses.push(address) {
@@ -26,9 +26,20 @@ pub fn addresses_of_markets(
 {
     let mut addresses = Vec::new(alloc);
     for accounts in markets {
-        push(&mut addresses, accounts.address)?;
+        push_address(&mut addresses, accounts.address)?;
     }
     Ok(addresses)
+}
+
+/// The addresses of wallets, or of mints, in their order, behind others.
+pub fn push_named(addresses: &mut Vec<Address>, accounts: &[Named]) -> Result<(), NoMemory>
+    ensures { OnOk result (addresses.new.items
+        ≡ addresses.old.items ++ map (λ (account : PlainAccount). account.address) (map named_of accounts.now)) }
+{
+    for account in accounts {
+        push_address(addresses, account.address)?;
+    }
+    Ok(())
 }
 
 /// The addresses of wallets, in their order. Asks memory.
@@ -37,8 +48,6 @@ pub fn addresses_of_wallets(alloc: Global, wallets: &[Named]) -> Result<Vec<Addr
         ≡ map (λ (account : PlainAccount). account.address) (map named_of wallets.now)) }
 {
     let mut addresses = Vec::new(alloc);
-    for account in wallets {
-        push(&mut addresses, account.address)?;
-    }
+    push_named(&mut addresses, wallets)?;
     Ok(addresses)
 }

@@ -5,6 +5,6 @@ mod addresses;
 mod placing;
 mod script;
 
-pub use addresses::{addresses_of_markets, addresses_of_wallets};
+pub use addresses::{addresses_of_markets, addresses_of_wallets, push_address, push_named};
 pub use placing::{is_role, place_in};
 pub use script::Script;

@@ -7,14 +7,12 @@ ghost use Rattle.dex_statement.specs.Statements as statements;
 ghost use Rattle.dex_statement.specs.Telling.{Tells, TellsFault, TellsIn};
 
 use crate::faults::{FaultKind, RowError};
+use crate::fields::{bytes_at, u32_at};
 use crate::order_words::data_in;
 use crate::parties::{Parties, read_parties};
 use crate::statement::Statement;
-use crate::words::field_at;
-use dex_rows::base64_words::base64_word;
-use dex_rows::numbers::u32_word;
 use dex_rows::printable::row_is_printable;
-use dex_rows::records::{Fields, field_count};
+use dex_rows::records::{Fields, field_at, field_count};
 use std::alloc::Global;
 use std::marker::Model;
 
@@ -64,8 +62,8 @@ pub(crate) fn bytes_row(alloc: Global, row: &Fields<'_>) -> Result<Statement, Ro
         return Err(RowError::Fault(FaultKind::FieldCount));
     }
     let mut words = InstructionWords::none(alloc);
-    words.lane = u32_word(field_at(row, 1)).ok_or(FaultKind::BadNumber)?;
-    words.bytes = base64_word(alloc, field_at(row, 9))?.ok_or(FaultKind::BadNumber)?;
+    words.lane = u32_at(row, 1)?;
+    words.bytes = bytes_at(alloc, row, 9)?;
     read_parties(row, &mut words.parties)?;
     Ok(Statement::Instruction(words))
 }
@@ -108,6 +106,6 @@ fn read_words(alloc: Global, row: &Fields<'_>, words: &mut InstructionWords) -> 
         return Err(RowError::Fault(FaultKind::FieldCount));
     }
     words.bytes = data_in(alloc, field_at(row, 9))?;
-    words.lane = u32_word(field_at(row, 1)).ok_or(FaultKind::BadNumber)?;
+    words.lane = u32_at(row, 1)?;
     read_parties(row, &mut words.parties)
 }

@@ -5,6 +5,7 @@
 #![tactic(auto)]
 
 mod faults;
+mod fields;
 mod forms;
 mod instruction;
 mod order_words;

@@ -1,15 +1,13 @@
 //! Whom an instruction row names.
 
-ghost use Rattle.std.specs.Prelude.{◌≡◌, ◌≤◌, ◌++◌, ◌∷◌, [], Ok, length};
-ghost use Rattle.dex_rows.specs.Addresses.{address_of};
-ghost use Rattle.dex_statement.specs.Faults.{◌>>=◌, found_or};
+ghost use Rattle.std.specs.Prelude.{◌≡◌, ◌≤◌, ◌∷◌, [], length};
 ghost use Rattle.dex_statement.specs.Parties as parties_meant;
 ghost use Rattle.dex_statement.specs.Telling.{TellsIn};
 
 use crate::faults::{FaultKind, RowError};
-use crate::words::{field_at, first_word};
+use crate::words::first_word;
 use dex_rows::addresses::{read_address, read_role};
-use dex_rows::records::Fields;
+use dex_rows::records::{Fields, field_at};
 use dex_types::Address;
 use std::alloc::Global;
 use std::marker::Model;
@@ -118,8 +116,7 @@ fn read_named(field: &[u8], named: &mut Vec<Address>) -> Result<(), RowError>
 
 /// Adds the address that a word names.
 fn push_address(word: &[u8], named: &mut Vec<Address>) -> Result<(), RowError>
-    ensures { TellsIn result named.new.items
-        (found_or (address_of word.now) FaultKind.BadLabel >>= λ address. Ok (named.old.items ++ address ∷ [])) }
+    ensures { TellsIn result named.new.items (parties_meant.named_behind named.old.items (word.now ∷ [])) }
 {
     let mut address = Address([0; 32]);
     if !read_address(word, &mut address) {

@@ -10,9 +10,8 @@ use crate::setup::{
     MarketWords, clock_of, discount_of, market_of, mint_of, orders_of, program_of, wallet_of,
 };
 use crate::swap::{SwapWords, swap_row};
-use crate::words::field_at;
 use dex_rows::printable::row_is_printable;
-use dex_rows::records::Fields;
+use dex_rows::records::{Fields, field_at};
 use dex_types::{Address, Program};
 use std::alloc::Global;
 

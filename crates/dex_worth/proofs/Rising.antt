@@ -1,5 +1,5 @@
 -- Rows by numbers that never fall.
-use Rattle.std.proofs.Common.{ℕ, zero, suc, [], ◌∷◌, drop, Some, ◌≡◌, ◌≢◌, ◌<◌, ◌≤◌, ◌⊎◌, ◌==◌, ◌&&◌, Bool, true, false, nat_lt, List, length, map, get_or, refl, sym, ap, ◌∙◌, subst, arith, ⊎_elim}
+use Rattle.std.proofs.Common.{ℕ, zero, suc, [], ◌∷◌, drop, Some, ◌≡◌, ◌<◌, ◌≤◌, ◌==◌, Bool, true, false, nat_lt, List, length, map, get_or, refl, ap, ◌∙◌, subst, arith, ⊎_elim}
 use Rattle.std.specs.List.{AllPairs}
 use Rattle.std.specs.List.Sorted.{IsPartitionedBy}
 use Rattle.std.proofs.lemmas.Bool.{and_left, cases_lt, cond-false, lt-ltb, ltb-true, ne_eqb}

@@ -1,5 +1,5 @@
 -- Rows of a table of worth.
-use Rattle.std.specs.Prelude.{ℕ, ℤ, pos, ◌≡◌, length, ◌+◌, ◌^◌, ◌<◌, ◌+ℤ◌, ◌-ℤ◌}
+use Rattle.std.specs.Prelude.{pos, ◌≡◌, length, ◌+◌, ◌^◌, ◌<◌, ◌+ℤ◌, ◌-ℤ◌}
 use Rattle.dex_types.specs.declared.addresses.Address.{Address}
 use Rattle.dex_eager.specs.Worth.{Worth}
 use Rattle.dex_replay.specs.WorthTold.{PlainWorthRow}

@@ -21,16 +21,16 @@ long f g xs rooms told is counted = ap (λ (l : List ℕ). length l) (is ∙ cou
 pub market_cells-requires-clause-rooms : goal.market_cells-requires-clause-rooms
 market_cells-requires-clause-rooms c =
     long (λ (one : PlainMarketAccounts). rows_on one.address (map row_of c.args.rows.now)) market_accounts_of c.args.start.markets.items c.deref.result.now
-    c.in_ok-market_rooms.market_rooms.items c.deref.ensures.value c.in_ok-market_rooms.ensures
+    c.in_ok-rooms.rooms.markets.items c.deref.ensures.value c.in_ok-rooms.ensures.markets
 
 pub wallet_cells-requires-clause-rooms : goal.wallet_cells-requires-clause-rooms
 wallet_cells-requires-clause-rooms c =
     long (λ (one : PlainAccount). rows_naming one.address (map row_of c.args.rows.now)) named_of c.args.start.wallets.items c.deref-2.result.now
-    c.in_ok-wallet_rooms.wallet_rooms.items c.deref-2.ensures.value c.in_ok-wallet_rooms.ensures
+    c.in_ok-rooms.rooms.wallets.items c.deref-2.ensures.value c.in_ok-rooms.ensures.wallets
 
 pub invariant_of-result : goal.invariant_of-result
 invariant_of-result c =
     let rows = map row_of c.args.rows.now in
     AreCells-opened (accounts_of c.args.start) rows _ c.requires.start
-    (c.in_ok-markets.ensures rows (c.deref.ensures.value ∙ c.in_ok-market_rooms.ensures))
-    (c.in_ok-wallets.ensures.opened rows (c.deref-2.ensures.value ∙ c.in_ok-wallet_rooms.ensures)) c.in_ok-wallets.ensures.cells
+    (c.in_ok-markets.ensures rows (c.deref.ensures.value ∙ c.in_ok-rooms.ensures.markets))
+    (c.in_ok-wallets.ensures.opened rows (c.deref-2.ensures.value ∙ c.in_ok-rooms.ensures.wallets)) c.in_ok-wallets.ensures.cells

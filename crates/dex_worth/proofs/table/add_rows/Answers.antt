@@ -1,4 +1,4 @@
-use Rattle.std.proofs.Common.{◌≡◌, ◌∷◌, [], ◌++◌, ◌<◌, List, length, map, get_or, take, refl, sym, ap, ◌∙◌, arith}
+use Rattle.std.proofs.Common.{◌∷◌, [], ◌++◌, ◌<◌, List, length, map, get_or, take, sym, ap, ◌∙◌}
 use Rattle.std.proofs.lemmas.List.{append_assoc}
 use Rattle.dex_types.specs.declared.addresses.Address.{Address}
 use Rattle.dex_replay.specs.WorthTold.{PlainWorthRow}

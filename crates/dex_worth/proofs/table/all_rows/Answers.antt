@@ -1,4 +1,4 @@
-use Rattle.std.proofs.Common.{ℕ, suc, ◌+◌, ◌≡◌, ◌<◌, ◌++◌, List, length, get_or, map, min, take, subst, sym, ap, ◌∙◌, arith}
+use Rattle.std.proofs.Common.{ℕ, suc, ◌+◌, ◌≡◌, ◌<◌, ◌++◌, List, length, get_or, map, take, subst, sym, ap, ◌∙◌, arith}
 use Rattle.std.proofs.lemmas.List.{get_or-map, length-map}
 use Rattle.dex_types.specs.Accounts.{PlainMarketAccounts, market_accounts_of}
 use Rattle.dex_report.specs.Outcomes.{PlainMarketJournal, market_journal_of}
