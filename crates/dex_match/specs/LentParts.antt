@@ -1,23 +1,24 @@
 -- What a new order is handed by views, and what it makes of that.
 use Rattle.std.specs.Prelude.{◌≡◌, ℕ, ◌^◌, ◌<◌, ◌≤◌, List, None, Result}
-use Rattle.std.specs.Borrow.{MutBor}
+use Rattle.dex_accounts.specs.Keeps.{KeepsEvents, KeepsMarket, KeepsOpen, KeepsRequests}
 use Rattle.dex_accounts.specs.Parts.{MarketParts, with_account, with_side}
 use Rattle.dex_market.specs.declared.market_ref.MarketRef.{MarketRef}
+use Rattle.dex_market.specs.declared.market_view.MarketView.{MarketView}
 use Rattle.dex_market.specs.declared.requests.RequestRef.{RequestRef}
-use Rattle.dex_market.specs.MarketAccount.{IsMarket, market_words, sizes_of}
-use Rattle.dex_market.specs.RequestQueue.{IsRequestQueue}
-use Rattle.dex_orders.specs.OrdersAccount.{IsOpen}
+use Rattle.dex_market.specs.declared.requests.RequestView.{RequestView}
+use Rattle.dex_market.specs.MarketAccount.{market_words, sizes_of}
 use Rattle.dex_orders.specs.declared.orders_ref.OrdersRef.{OrdersRef}
+use Rattle.dex_orders.specs.declared.orders_view.OrdersView.{OrdersView}
 use Rattle.dex_ring.specs.Appended.{appended, pushed_all}
 use Rattle.dex_ring.specs.Ring.{IsEventQueue, ring_of}
 use Rattle.dex_ring.specs.declared.ring_ref.RingRef.{RingRef}
+use Rattle.dex_ring.specs.declared.ring_view.RingView.{RingView}
 use Rattle.dex_types.specs.declared.orders.Order.{Order}
 use Rattle.dex_types.specs.declared.refusals.Refusal.{Refusal}
 use Rattle.dex_types.specs.declared.replies.Reply.{Reply}
 use Rattle.dex_types.specs.NewOrder.{order_reply}
 use Rattle.dex_types.specs.Side.{opposite}
 use Rattle.dex_types.specs.QueuedEvent.{QueuedEvent}
-use Rattle.dex_match.specs.declared.applying.OrderAccounts.{OrderAccounts}
 use Rattle.dex_match.specs.declared.order_plan.Decided.{Decided}
 use Rattle.dex_match.specs.declared.order_plan.OrderPlan.{OrderPlan}
 use Rattle.dex_match.specs.declared.order_terms.Taker.{Taker}
@@ -26,14 +27,32 @@ use Rattle.dex_match.specs.OrderParts.{OrderGiven, given_by, parts_of}
 use Rattle.dex_match.specs.Ordering.{order_answer, order_outcome, order_reason}
 use Rattle.dex_match.specs.OrderTerms.{order_of}
 
--- what doing an order is handed: by the members of both sides' traits, their orders and the room of the order's own side
-abbrev pub handed : {B A : Type 0} → (B → List Order) → (B → ℕ) → (A → List Order) → OrderAccounts → B → A → OrderGiven
-handed own_orders own_room opposing lent own opposite =
-    given_by lent.market.now lent.requests.now lent.events.now lent.account.now (own_orders own) (own_room own) (opposing opposite)
+-- what doing an order is handed: four views, the orders and the room of its own side, and the orders that it meets
+pub record Handed : Type 0 where
+  pub market : MarketView
+  pub requests : RequestView
+  pub events : RingView
+  pub account : OrdersView
+  pub own : List Order
+  pub own_room : ℕ
+  pub opposing : List Order
 
--- what is lent, one by one
-abbrev pub lent_by : MutBor (List ℕ) → MutBor (List ℕ) → MutBor (List ℕ) → MutBor (List ℕ) → OrderAccounts
-lent_by market requests events account = record { market = market; requests = requests; events = events; account = account }
+-- the same, by the members of both sides' traits
+abbrev pub handed : {B A : Type 0} → (B → List Order) → (B → ℕ) → (A → List Order) → MarketView → RequestView → RingView → OrdersView → B → A → Handed
+handed own_orders own_room opposing market requests ring account own opposite = record {
+  market = market;
+  requests = requests;
+  events = ring;
+  account = account;
+  own = own_orders own;
+  own_room = own_room own;
+  opposing = opposing opposite;
+}
+
+-- what the order is given by it
+abbrev pub given_in : Handed → OrderGiven
+given_in by =
+    given_by by.market.bytes.now by.requests.bytes.now by.events.bytes.now by.account.bytes.now by.own by.own_room by.opposing
 
 -- what deciding it is shown
 abbrev pub shown : {B A : Type 0} → (B → List Order) → (B → ℕ) → (A → List Order) → MarketRef → RequestRef → RingRef → OrdersRef → B → A → OrderGiven
@@ -73,16 +92,16 @@ ordered taker given =
       opposing = o.met.left;
     }
 
--- an order was done on what was given, and was answered: its reply, what it leaves, and the queue with its events behind the
--- others; the accounts are accepted, and the trader's is open
-pub record HasOrdered (taker : Taker) (reply : Reply) (given after : OrderGiven) : Type 0 where
-  pub reply_is : reply ≡ reply_in taker given
-  pub does : after ≡ ordered taker given
-  pub list : ring_of after.events ≡ appended (events_in taker given) (ring_of given.events)
-  pub market : IsMarket after.market
-  pub requests : IsRequestQueue after.requests
-  pub events : IsEventQueue after.events
-  pub account : IsOpen after.account
+-- an order was done on what was handed, and was answered: its reply, what it leaves, and the queue with its events behind the
+-- others; each view looks at the same slice, the accounts are accepted, and the trader's is open
+pub record HasOrdered (taker : Taker) (reply : Reply) (before after : Handed) : Type 0 where
+  pub reply_is : reply ≡ reply_in taker (given_in before)
+  pub does : given_in after ≡ ordered taker (given_in before)
+  pub list : ring_of after.events.bytes.now ≡ appended (events_in taker (given_in before)) (ring_of before.events.bytes.now)
+  pub market : KeepsMarket before.market after.market
+  pub requests : KeepsRequests before.requests after.requests
+  pub events : KeepsEvents before.events after.events
+  pub account : KeepsOpen before.account after.account
 
 -- the parts of a market with what an order made of them
 abbrev pub with_ordered : Taker → OrderGiven → MarketParts → MarketParts

@@ -3,7 +3,7 @@
 ghost use Rattle.std.specs.Prelude.{◌≡◌, ◌≤◌, ◌<◌, ◌^◌};
 ghost use Rattle.dex_types.specs.declared.replies.Reply.TheVariants as replies;
 ghost use Rattle.dex_accounts.specs.Keeps.{KeepsSide};
-ghost use Rattle.dex_match.specs.LentParts.{HasOrdered, handed, lent_by};
+ghost use Rattle.dex_match.specs.LentParts.{HasOrdered, given_in, handed};
 ghost use Rattle.dex_match.specs.Ordering.{IsDecided};
 ghost use Rattle.dex_match.specs.OrderParts.{IsGiven, parts_of};
 ghost use Rattle.dex_match.specs.OrderTerms.{order_of};
@@ -39,15 +39,6 @@ fn amounts_fit(taker: Taker)
     ensures lock { taker.lock < 2 ^ 64 }
 {}
 
-/// The accounts that a new order changes beside the two sides, lent: the market's, its queues, and the trader's.
-#[derive(Drop)]
-pub struct OrderAccounts<'a> {
-    pub market: &'a mut [u8],
-    pub requests: &'a mut [u8],
-    pub events: &'a mut [u8],
-    pub account: &'a mut [u8],
-}
-
 /// Does a new order as it was decided. It meets the other side, and what it meets leaves the book or loses lots there; what is
 /// left of it rests on its own side, where the last order of a full side leaves for it; all its events are appended; the
 /// market gives out one more sequence number, and its words take in the deposit and the fee; and the trader's account pays,
@@ -57,49 +48,33 @@ pub struct OrderAccounts<'a> {
 pub fn apply_order<B: SideBook, A: SideBook>(
     plan: &OrderPlan,
     taker: &Taker,
-    lent: OrderAccounts<'_>,
+    market: &mut MarketView<'_>,
+    requests: &mut RequestView<'_>,
     own: &mut B,
     opposite: &mut A,
+    ring: &mut RingView<'_>,
+    orders: &mut OrdersView<'_>,
 ) -> Reply
     requires own { B.holds own.old }
     requires opposite { A.holds opposite.old }
     requires side { B.side own.old ≡ taker.now.id_side }
     requires price { 1 ≤ taker.now.price }
-    requires given { IsGiven taker.now.id_side taker.now.account
-        (handed B.orders B.room A.orders lent own.old opposite.old) }
-    requires decided { IsDecided plan.now taker.now.id_side (order_of taker.now)
-        (parts_of (handed B.orders B.room A.orders lent own.old opposite.old)) }
-    ensures does { let left = lent_by lent.exit.0 lent.exit.1.0 lent.exit.1.1.0 lent.exit.1.1.1.0 in
-        HasOrdered taker.entry.now result (handed B.orders B.room A.orders lent.entry own.old opposite.old)
-        (handed B.orders B.room A.orders left own.new opposite.new) }
+    requires given { IsGiven taker.now.id_side taker.now.account (given_in
+        (handed B.orders B.room A.orders market.old requests.old ring.old orders.old own.old opposite.old)) }
+    requires decided { IsDecided plan.now taker.now.id_side (order_of taker.now) (parts_of (given_in
+        (handed B.orders B.room A.orders market.old requests.old ring.old orders.old own.old opposite.old))) }
+    ensures does { HasOrdered taker.entry.now result
+        (handed B.orders B.room A.orders market.old requests.old ring.old orders.old own.old opposite.old)
+        (handed B.orders B.room A.orders market.new requests.new ring.new orders.new own.new opposite.new) }
     ensures own { KeepsSide B.holds B.same_place B.side B.room own.old own.new }
     ensures opposite { KeepsSide A.holds A.same_place A.side A.room opposite.old opposite.new }
 {
     let taker = *taker;
     amounts_fit(taker);
-    let OrderAccounts {
-        market,
-        requests,
-        events,
-        account,
-    } = lent;
-    let market = &mut MarketView { bytes: market };
     let sizes = market.sizes();
-    let rebates = trade(
-        plan,
-        sizes,
-        taker,
-        own,
-        opposite,
-        &mut RingView { bytes: events },
-    );
-    RequestView { bytes: requests }.advance();
+    let rebates = trade(plan, sizes, taker, own, opposite, ring);
+    requests.advance();
     take_in(intake_by(taker.id_side, plan, rebates), market);
-    pay(
-        plan,
-        taker,
-        moves_by(sizes, taker, plan),
-        &mut OrdersView { bytes: account },
-    );
+    pay(plan, taker, moves_by(sizes, taker, plan), orders);
     reply_by(plan)
 }

@@ -17,8 +17,10 @@ ghost use Rattle.dex_types.specs.Accounts.{market_accounts_of, orders_account_of
 
 use crate::vaults::bring;
 use dex_accounts::place_of;
-use dex_match::{OrderAccounts, OrderPlan, Taker, apply_order};
-use dex_ring::PendingFills;
+use dex_market::{MarketView, RequestView};
+use dex_match::{OrderPlan, Taker, apply_order};
+use dex_orders::OrdersView;
+use dex_ring::{PendingFills, RingView};
 use dex_slab::SlabView;
 use dex_types::{MarketAccounts, OrdersAccount, Reply, Side};
 
@@ -39,21 +41,18 @@ fn order_on_bytes(
         (order_bytes market.new requests.new events.new account.new own.new opposite.new) }
 {
     let side = taker.id_side;
-    let lent = OrderAccounts {
-        market,
-        requests,
-        events,
-        account,
-    };
     apply_order(
         plan,
         &taker,
-        lent,
+        &mut MarketView { bytes: market },
+        &mut RequestView { bytes: requests },
         &mut SlabView { bytes: own, side },
         &mut SlabView {
             bytes: opposite,
             side: side.opposite(),
         },
+        &mut RingView { bytes: events },
+        &mut OrdersView { bytes: account },
     )
 }
 

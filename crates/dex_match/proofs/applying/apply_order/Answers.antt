@@ -70,9 +70,9 @@ returns-clause-does g c =
     let own = g.B.SideRead.orders c.args.own.now in
     let room = g.B.SideRead.room c.args.own.now in
     let opposing = g.A.SideRead.orders c.args.opposite.now in
-    let market = c.args.lent.market.now in
-    let ring = c.args.lent.events.now in
-    let account = c.args.lent.account.now in
+    let market = c.args.market.now.bytes.now in
+    let ring = c.args.ring.now.bytes.now in
+    let account = c.args.orders.now.bytes.now in
     let funds = funds_of (account_of account) in
     let rebates = c.trade-rebates.ensures.rebates ∙ ap (λ (s : Lots). (meeting_with s c.args.taker.now opposing).rebates) c.sizes-sizes.ensures in
     let intake = c.intake_by.ensures ∙ ap (λ (r : ℕ). applying.intake_by side plan.deposit plan.fee r) rebates in
@@ -87,10 +87,10 @@ returns-clause-does g c =
     record {
       reply_is = search rules;
       does =
-          same-given _ _ _ _ _ _ _ _ _ _ _ _ _ _ (search (rules, words)) (search rules) (search (rules, queue)) (search (rules, paid))
+          same-given _ _ _ _ _ _ _ _ _ _ _ _ _ _ words (search rules) queue paid
           c.trade-rebates.ensures.own c.trade-rebates.ensures.own_side.room opposite
           ∙ planned-ordered c.args.taker.now _ plan given c.requires.decided;
-      list = search (rules, list);
+      list = list;
       market = search rules;
       requests = search rules;
       events = search rules;
