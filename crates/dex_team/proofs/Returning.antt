@@ -138,9 +138,9 @@ module _ {A : Type 0} (At : ℕ → ℕ → A → Type 0) (slots : HomesState �
     pub none : IfNone result (with left ≡ h)
 
   module _ (script : PlainScript) (h : HomesState) (Fits : ℕ → Option A → ℕ → Type 0) (count : ℕ) (fit : SlotsFit A Fits count (slots h)) (with : List (Slot A) → HomesState)
-    (same : with (slots h) ≡ h) (got : (left : List (Slot A)) → slots (with left) ≡ left) (are : (left : List (Slot A)) → SlotsFit A Fits count left → AreHomes script (with left))
-    (keeps : (left : List (Slot A)) → StaysOut A h.next (slots h) left → KeepsOut h (with left)) (away : (k : ℕ) → Fits k None (h.next + 1))
-    (there : (k since : ℕ) (cell : A) → Fits k (Some cell) since → At h.next k cell) (place : ℕ) (within : place < length (slots h)) where
+      (same : with (slots h) ≡ h) (got : (left : List (Slot A)) → slots (with left) ≡ left) (are : (left : List (Slot A)) → SlotsFit A Fits count left → AreHomes script (with left))
+      (keeps : (left : List (Slot A)) → StaysOut A h.next (slots h) left → KeepsOut h (with left)) (away : (k : ℕ) → Fits k None (h.next + 1))
+      (there : (k since : ℕ) (cell : A) → Fits k (Some cell) since → At h.next k cell) (place : ℕ) (within : place < length (slots h)) where
     abbrev pub out : Slot A
     out = record { cell = None; since = h.next + 1 }
 
