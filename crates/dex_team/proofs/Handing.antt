@@ -26,7 +26,7 @@ use Rattle.dex_stage.specs.Stages.{AreReady, IsMarketAt, IsRowAt, IsWalletAt, wo
 use Rattle.dex_team.specs.Lists.{AreLists, IsNext}
 use Rattle.dex_team.specs.Packets.{AreRowsOf, IsPacket}
 use Rattle.dex_script_facts.specs.Places.{IsPlace, market_addresses, wallet_addresses}
-use Rattle.dex_team.specs.Slots.{AreHomes, AreInHand, AreLent, AreWalletsAt, HomesState, IsHeld, IsLent, IsOut, IsWalletGone, IsWalletLent, KeepsOut, MarketFits, WalletFits, listed}
+use Rattle.dex_team.specs.Slots.{AreHomes, AreInHand, AreLent, AreWalletsAt, HomesState, IsHeld, IsLent, IsOut, IsWalletGone, KeepsOut, MarketFits, WalletFits, listed}
 use Rattle.dex_team.specs.declared.desk.Lists.{Lists}
 use Rattle.dex_team.specs.declared.desk.Next.{Next}
 use Rattle.dex_team.specs.declared.slots.Slot.{Slot}
@@ -64,7 +64,7 @@ lent-more script one two three xs ys cells more left first second = record {
 }
 
 pub one-lent : (script : PlainScript) (one two : HomesState) (address : Address) (place : ℕ) (cell : CellState) (cells left : List CellState)
-    → IsPlace address (wallet_addresses script) place → IsWalletLent script one two place cell → left ≡ cells ++ cell ∷ [] → AreLent script one two (address ∷ []) cells left
+    → IsPlace address (wallet_addresses script) place → IsLent CellState (IsWalletAt script) (λ h. h.wallets) one two place cell → left ≡ cells ++ cell ∷ [] → AreLent script one two (address ∷ []) cells left
 one-lent script one two address place cell cells left here lent is = record {
   keeps = lent.keeps;
   each = λ at.
@@ -137,7 +137,7 @@ next-row script lists are count index same within row places next row_is places_
 
 -- a row's market that was lent is taken up
 pub held : (script : PlainScript) (before after : HomesState) (address : Address) (place : ℕ) (market : MarketCellState) → IsPlace address (market_addresses script) place
-    → IsLent script before after place market → IsHeld script after address market
+    → IsLent MarketCellState (IsMarketAt script) (λ h. h.markets) before after place market → IsHeld script after address market
 held script before after address place market here lent = record {
   place = place;
   here = here;

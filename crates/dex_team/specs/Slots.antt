@@ -82,16 +82,10 @@ pub record KeepsOut (before after : HomesState) : Type 0 where
   pub markets : StaysOut MarketCellState before.next before.markets after.markets
   pub wallets : StaysOut CellState before.next before.wallets after.wallets
 
--- the market at a place is lent for the next row
-pub record IsLent (script : PlainScript) (before after : HomesState) (place : ℕ) (cell : MarketCellState) : Type 0 where
-  pub at : IsMarketAt script before.next place cell
-  pub out : IsOut before.next after.markets place
-  pub keeps : KeepsOut before after
-
--- the wallet at a place is lent for the next row
-pub record IsWalletLent (script : PlainScript) (before after : HomesState) (place : ℕ) (cell : CellState) : Type 0 where
-  pub at : IsWalletAt script before.next place cell
-  pub out : IsOut before.next after.wallets place
+-- the cell at a place is lent for the next row
+pub record IsLent (A : Type 0) (At : ℕ → ℕ → A → Type 0) (slots : HomesState → List (Slot A)) (before after : HomesState) (place : ℕ) (cell : A) : Type 0 where
+  pub at : At before.next place cell
+  pub out : IsOut before.next (slots after) place
   pub keeps : KeepsOut before after
 
 -- ---- the cells of a row

@@ -1,5 +1,5 @@
 use Rattle.dex_team.specs.Slots.{KeepsOut}
-use Rattle.dex_team.proofs.homes.Homes.lend_market.Given as goal
+use Rattle.dex_team.proofs.homes.Homes.lend.Given as goal
 
 -- what was out for the next row is out still
 abbrev pub invariant-loop : goal.invariant-loop
