@@ -1,5 +1,6 @@
 -- How many rows name the market or the wallet at each place of a list.
 use Rattle.std.proofs.Common.{◌≡◌, ◌≢◌, ℕ, suc, ◌+◌, ◌<◌, ◌≤◌, ◌^◌, Bool, true, false, ◌||◌, List, [], ◌∷◌, ◌++◌, Option, None, Some, count_by, eqb, get_or, length, map, take, refl, sym, ap, subst, ◌∙◌, arith, ⊎_elim}
+use Rattle.std.proofs.Math.Bool.{or-false}
 use Rattle.dex_fold.proofs.Common.{Address, PlainAccount, PlainAccounts, PlainMarketAccounts, PlainRow, Row, is_role, is_same, is_same-sym, is_same-true, length-map, names, names-roles, row_of, sum_by-append, sum_by-cons, take_all, take_more}
 use Rattle.std.specs.List.{position}
 use Rattle.std.proofs.lemmas.Bool.{cases_lt}
@@ -62,13 +63,9 @@ Tells addresses names row told = (place : ℕ) (d : Address) → place < length 
 module _ (start : PlainAccounts) (is : IsStart start) (row : PlainRow) (places : RowPlaces) (placed : IsPlaced start row places) where
   pub market-tells : Tells (markets_at start.markets) on row (Some places.market ∷ [])
   market-tells place d within =
-      or-none (eqb place places.market)
+      or-false (eqb place places.market)
       ∙ at-place (markets_at start.markets) (markets-distinct start is.accepted) row.market places.market place d
       (position-map (λ (accounts : PlainMarketAccounts). accounts.address) row.market start.markets ∙ placed.market) within
-    where
-      or-none : (b : Bool) → (b || false) ≡ b
-      or-none true = refl
-      or-none false = refl
 
   pub wallet-tells : Tells (wallets_at start.wallets) names row (wallets_told row places)
   wallet-tells place d within =
