@@ -1,5 +1,6 @@
 -- How many rows name the market or the wallet at each place of a list.
 use Rattle.std.proofs.Common.{◌≡◌, ◌≢◌, ℕ, suc, ◌+◌, ◌<◌, ◌≤◌, ◌^◌, Bool, true, false, ◌||◌, List, [], ◌∷◌, ◌++◌, Option, None, Some, count_by, eqb, get_or, length, map, take, refl, sym, ap, subst, ◌∙◌, arith, ⊎_elim}
+use Rattle.std.proofs.Math.Bool.{or-false}
 use Rattle.dex_fold.proofs.Common.{Address, PlainAccount, PlainAccounts, PlainMarketAccounts, PlainRow, Row, is_role, is_same, is_same-sym, is_same-true, length-map, names, names-roles, row_of, sum_by-append, sum_by-cons, take_all, take_more}
 use Rattle.std.specs.List.{position}
 use Rattle.std.proofs.lemmas.Bool.{cases_lt}
@@ -12,8 +13,6 @@ use Rattle.dex_script_facts.specs.Facts.{IsStart}
 use Rattle.dex_script_facts.specs.Places.{ArePlaced, IsPlaced, IsRolePlaced}
 use Rattle.dex_script_facts.proofs.Apart.{AreDistinct, markets-distinct, wallets-distinct}
 use Rattle.dex_script_facts.proofs.PlacedLaws.{placed-at, position-map}
-use Rattle.dex_fold.proofs.MappedLists.{map-map}
-use Rattle.dex_bank.specs.Opened.{market_rooms, rows_naming, rows_on, wallet_rooms}
 use Rattle.dex_bank.proofs.Stands.{some-of}
 use Rattle.dex_bank.specs.Counts.{AreCounted, HaveSpare, is_there, is_told, one, role_place, wallets_told}
 
@@ -62,13 +61,9 @@ Tells addresses names row told = (place : ℕ) (d : Address) → place < length 
 module _ (start : PlainAccounts) (is : IsStart start) (row : PlainRow) (places : RowPlaces) (placed : IsPlaced start row places) where
   pub market-tells : Tells (markets_at start.markets) on row (Some places.market ∷ [])
   market-tells place d within =
-      or-none (eqb place places.market)
+      or-false (eqb place places.market)
       ∙ at-place (markets_at start.markets) (markets-distinct start is.accepted) row.market places.market place d
       (position-map (λ (accounts : PlainMarketAccounts). accounts.address) row.market start.markets ∙ placed.market) within
-    where
-      or-none : (b : Bool) → (b || false) ≡ b
-      or-none true = refl
-      or-none false = refl
 
   pub wallet-tells : Tells (wallets_at start.wallets) names row (wallets_told row places)
   wallet-tells place d within =
@@ -139,26 +134,17 @@ placed-row start rows places placed i row d inside at =
     (placed-at start (map row_of rows) places placed i (row_of row) d (omega (arith, inside, length-map rows row_of)))
 
 -- the counts of all of them
-all-counted : (names : PlainRow → Address → Bool) (addresses : List Address) (rows : List PlainRow) (counts : List ℕ) → AreRowsOf names addresses rows counts
-    → counts ≡ map (λ (address : Address). count_by (λ (row : PlainRow). names row address) rows) addresses
-all-counted names [] rows [] so = refl
-all-counted names [] rows (count ∷ counts) so = absurd (omega (arith, so.long))
-all-counted names (address ∷ addresses) rows [] so = absurd (omega (arith, so.long))
-all-counted names (address ∷ addresses) rows (count ∷ counts) so =
-    let named : ℕ = count_by (λ (row : PlainRow). names row address) rows in
-    let rest = all-counted names addresses rows counts (record { long = omega (arith, so.long); each = λ place d less. so.each (suc place) d (omega (arith, less)) }) in
-    ap (λ (n : ℕ). n ∷ counts) (so.each 0 address (omega arith)) ∙ ap (λ (all : List ℕ). named ∷ all) rest
+all-counted : {A : Type 0} (names : PlainRow → Address → Bool) (address_in : A → Address) (rows : List PlainRow) (items : List A) (counts : List ℕ)
+    → AreRowsOf names (map address_in items) rows counts → counts ≡ map (λ (item : A). count_by (λ (row : PlainRow). names row (address_in item)) rows) items
+all-counted names address_in rows [] [] so = refl
+all-counted names address_in rows [] (count ∷ counts) so = absurd (omega (arith, so.long))
+all-counted names address_in rows (item ∷ items) [] so = absurd (omega (arith, so.long))
+all-counted names address_in rows (item ∷ items) (count ∷ counts) so =
+    let named : ℕ = count_by (λ (row : PlainRow). names row (address_in item)) rows in
+    let rest = all-counted names address_in rows items counts (record { long = omega (arith, so.long); each = λ place d less. so.each (suc place) d (omega (arith, less)) }) in
+    ap (λ (n : ℕ). n ∷ counts) (so.each 0 (address_in item) (omega arith)) ∙ ap (λ (all : List ℕ). named ∷ all) rest
 
-pub market-rooms : (rows : List PlainRow) (markets : List PlainMarketAccounts) (i : ℕ) (counts : List ℕ) → length rows ≤ i
-    → AreRowsOf on (markets_at markets) (take i rows) counts → counts ≡ market_rooms rows markets
-market-rooms rows markets i counts past so =
-    all-counted on (markets_at markets) rows counts
-    (subst (λ (some : List PlainRow). AreRowsOf on (markets_at markets) some counts) (take_all i rows past) so)
-    ∙ map-map (λ (accounts : PlainMarketAccounts). accounts.address) (λ (address : Address). rows_on address rows) markets
-
-pub wallet-rooms : (rows : List PlainRow) (wallets : List PlainAccount) (i : ℕ) (counts : List ℕ) → length rows ≤ i
-    → AreRowsOf names (wallets_at wallets) (take i rows) counts → counts ≡ wallet_rooms rows wallets
-wallet-rooms rows wallets i counts past so =
-    all-counted names (wallets_at wallets) rows counts
-    (subst (λ (some : List PlainRow). AreRowsOf names (wallets_at wallets) some counts) (take_all i rows past) so)
-    ∙ map-map (λ (account : PlainAccount). account.address) (λ (address : Address). rows_naming address rows) wallets
+pub rooms-told : {A : Type 0} (names : PlainRow → Address → Bool) (address_in : A → Address) (rows : List PlainRow) (items : List A) (i : ℕ) (counts : List ℕ) → length rows ≤ i
+    → AreRowsOf names (map address_in items) (take i rows) counts → counts ≡ map (λ (item : A). count_by (λ (row : PlainRow). names row (address_in item)) rows) items
+rooms-told names address_in rows items i counts past so =
+    all-counted names address_in rows items counts (subst (λ (some : List PlainRow). AreRowsOf names (map address_in items) some counts) (take_all i rows past) so)

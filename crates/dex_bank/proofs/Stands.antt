@@ -1,5 +1,7 @@
 -- Where the market and the wallets of rows stand among cells.
-use Rattle.std.proofs.Common.{◌≡◌, ℕ, zero, suc, ◌<◌, Bool, true, false, ◌||◌, List, [], ◌∷◌, Option, None, Some, get_or, length, map, refl, sym, ap, ◌∙◌, arith, ⊎_elim}
+use Rattle.std.proofs.Common.{◌≡◌, ℕ, zero, suc, ◌<◌, Bool, true, false, ◌||◌, List, [], ◌∷◌, Option, None, Some, get_or, length, map, sym, ap, ◌∙◌, arith, ⊎_elim}
+use Rattle.std.proofs.Math.Bool.{or-true}
+use Rattle.std.proofs.lemmas.Option.{none-some}
 use Rattle.dex_fold.proofs.Common.{Address, PlainAccount, PlainAccounts, PlainMarketAccounts, PlainRow, cases_Bool, cond-false, cond-true, false≢true, is_same, is_same-true, length-map, wallet_at}
 use Rattle.dex_bank.proofs.Common.{AreCells, CellState, CellsState, IsFirstAt, MarketCellState, is_among, made_of, market_opened, opened_of, wallet_opened, wallet_state_of}
 use Rattle.std.specs.List.{All}
@@ -18,13 +20,10 @@ use Rattle.dex_bank.proofs.StepWorld.{opened_market}
 
 -- ---- a script's rows among the cells with which it starts
 
-nowhere : (place : ℕ) → ◌≡◌ {A = Option ℕ} None (Some place) → ⊥
-nowhere place is = cc
-
 module _ (rows : List PlainRow) where
   first-opened : (address : Address) (markets : List PlainMarketAccounts) (place : ℕ) → market_place address markets ≡ Some place
       → IsFirstAt address (map (market_opened rows) markets) place
-  first-opened address [] place is = absurd (nowhere place is)
+  first-opened address [] place is = absurd (none-some place is)
   first-opened address (first ∷ others) place is =
       let told = position-Some (λ (market : PlainMarketAccounts). is_same address market.address) (first ∷ others) place first is in
       let cell : (k : ℕ) (default : MarketCellState) → k < length (first ∷ others)
@@ -40,7 +39,7 @@ module _ (rows : List PlainRow) where
   role-opened : (wallets : List PlainAccount) (role : Option Address) (place : ℕ) → IsRolePlaced wallets role place
       → IsRoleAt (map (wallet_opened rows) wallets) role place
   role-opened wallets None place is = tt
-  role-opened [] (Some address) place is = absurd (nowhere place is)
+  role-opened [] (Some address) place is = absurd (none-some place is)
   role-opened (first ∷ others) (Some address) place is =
       let told = position-Some (λ (wallet : PlainAccount). is_same address wallet.address) (first ∷ others) place first is in
       record {
@@ -161,11 +160,7 @@ among-at address [] place at = absurd (omega (arith, at.within))
 among-at address (first ∷ others) zero at = ap (λ (b : Bool). b || is_among address others) (at.here first)
 among-at address (first ∷ others) (suc place) at =
     let later : IsAt address others place = record { within = omega (arith, at.within); here = at.here } in
-    ap (λ (b : Bool). is_same address first.address || b) (among-at address others place later) ∙ either (is_same address first.address)
-  where
-    either : (b : Bool) → (b || true) ≡ true
-    either true = refl
-    either false = refl
+    ap (λ (b : Bool). is_same address first.address || b) (among-at address others place later) ∙ or-true (is_same address first.address)
 
 -- the wallet of an address is that of the cell that stands there
 pub found-there : (address : Address) (cells : List CellState) (place : ℕ) (default : CellState) → AreApart cells → IsAt address cells place

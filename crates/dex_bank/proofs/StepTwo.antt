@@ -1,5 +1,6 @@
 -- Two rows that share nothing, one behind the other.
 use Rattle.std.proofs.Common.{◌≡◌, ℕ, ◌<◌, ◌||◌, ◌&&◌, not, Bool, true, false, cond, List, [], ◌∷◌, length, map, is_some, Option, Some, None, refl, sym, ap, ◌∙◌, subst, ⊎_elim}
+use Rattle.std.proofs.lemmas.List.{map-id}
 use Rattle.dex_fold.proofs.Common.{Address, All-cons, All-head, All-nil, All-tail, AllZip, Market, PlainRow, Refusal, Reply, Seen, ShareNothing, Transfers, WalletEntry, WalletState, World, act, acted, cases_Bool, chosen, decoded, false≢true, fold, idle_row, is_refusal, is_same, is_same-refl, is_same-true, is_take, movement_of, names, request_of, row_step, row_wallets, seen_by, step-refused, wallet_acted, wallet_moved, why-far, why_in, why_on}
 use Rattle.dex_bank.proofs.Common.{AreCells, CanAct, CanWait, CellState, CellsState, IsMarketCell, IsReply, MarketCellState, OthersStay, made_of, wallet_state_of, world_of}
 use Rattle.std.specs.List.{All}
@@ -102,11 +103,7 @@ module _ (one other : PlainRow) (share : ShareNothing one other) where
   acted-spare : (found : Option Market) (world : World) (before after : List CellState) → world.wallets ≡ map wallet_state_of before
       → map wallet_state_of after ≡ (acted one found world).wallets → map made_of after ≡ map made_of before → All Spare before → All Spare after
   acted-spare None world before after was is alike spare =
-      wallets-spare (λ (state : WalletState). state) (λ state away. refl) before after (is ∙ was ∙ sym (map-same (map wallet_state_of before))) alike spare
-    where
-      map-same : (states : List WalletState) → map (λ (state : WalletState). state) states ≡ states
-      map-same [] = refl
-      map-same (state ∷ states) = ap (λ (all : List WalletState). state ∷ all) (map-same states)
+      wallets-spare (λ (state : WalletState). state) (λ state away. refl) before after (is ∙ was ∙ sym (map-id (map wallet_state_of before))) alike spare
   acted-spare (Some m) world before after was is alike spare =
       let seen : Seen = seen_by one world in
       let t : Transfers = (row_step one seen m).transfers in

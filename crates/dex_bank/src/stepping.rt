@@ -1,20 +1,16 @@
 //! One row on all cells.
 
-ghost use Rattle.std.specs.Prelude.{◌≡◌, ◌<◌, ◌&&◌, length, None, not, true, is_some, map, slice_index_or, slice_set};
+ghost use Rattle.std.specs.Prelude.{◌≡◌, ◌&&◌, None, not, true, is_some, map};
 ghost use Rattle.std.specs.List.{All};
-ghost use Rattle.dex_types.specs.declared.replies.Reply.TheVariants.{Done};
 ghost use Rattle.dex_types.specs.Rows.{row_of};
-ghost use Rattle.dex_types.specs.Transfers.{no_transfers};
-ghost use Rattle.dex_types.specs.Why.{why};
-ghost use Rattle.dex_history.specs.Journal.{is_refusal, request_of};
-ghost use Rattle.dex_cell.specs.CellState.{IsFor, MarketCellState, market_at, refused_on, step_on};
+ghost use Rattle.dex_cell.specs.CellState.{CanHold};
 ghost use Rattle.dex_fold.specs.Items.{why_in};
 ghost use Rattle.dex_fold.specs.World as world;
 ghost use Rattle.dex_act.specs.Wallets.{AreApart, ArePlacesAmong, Fits, IsRoleAt, roles_of, wallet_state_of};
 ghost use Rattle.dex_bank.specs.Cells.{AreCells, CanAct, CanActBoth, CanWait, world_of};
 ghost use Rattle.dex_bank.specs.Places.{StandsAt};
 ghost use Rattle.dex_bank.specs.Stepped.{HasActedOrWaited, HaveBothStepped};
-ghost use Rattle.dex_bank.specs.Stepping.{CanActAt, CanHoldAt, HasActedAt, HasDoneAt, HasHeldAt, HaveActed};
+ghost use Rattle.dex_bank.specs.Stepping.{CanActOn, HasDone};
 
 use crate::cells::Cells;
 use crate::standing::Standing;
@@ -69,68 +65,24 @@ fn seen_by(cells: &Cells, row: &Row, places: &WalletPlaces) -> Seen
     seen
 }
 
-/// A row acts on the market at a place and on the wallets that it names.
-fn act_at(
-    markets: &mut [MarketCell],
-    place: usize,
-    wallets: &mut [WalletCell],
-    row: &Row,
-    seen: &Seen,
-    places: &WalletPlaces,
-) -> Reply
-    requires row { CanActAt row.now seen.now place markets.old wallets.old }
-    requires places { ArePlacesAmong wallets.old (row_of row.now) places.now }
-    ensures reply { (default : MarketCellState) →
-        result ≡ (step_on row.entry.now seen.now (slice_index_or markets.old place default)).reply }
-    ensures market { HasActedAt row.entry.now seen.now place markets.old markets.new }
-    ensures refused { is_refusal result ≡ true → (default : MarketCellState) → markets.new
-        ≡ slice_set markets.old place (refused_on row.entry.now seen.now (slice_index_or markets.old place default)) }
-    ensures wallets { (default : MarketCellState) →
-        HaveActed (row_of row.entry.now) seen.now
-        (step_on row.entry.now seen.now (slice_index_or markets.old place default)).transfers wallets.old wallets.new }
-{
-    act(&mut markets[place], wallets, row, seen, places)
-}
-
-/// A take is held back at the market at a place, and looks at the wallets that it names.
-fn hold_at(
-    markets: &mut [MarketCell],
-    place: usize,
-    wallets: &mut [WalletCell],
-    row: &Row,
-    seen: &Seen,
-    places: &WalletPlaces,
-) -> Reply
-    requires row { CanActAt row.now seen.now place markets.old wallets.old }
-    requires places { ArePlacesAmong wallets.old (row_of row.now) places.now }
-    requires held { CanHoldAt row.now seen.now place markets.old }
-    ensures reply { result ≡ Done }
-    ensures market { HasHeldAt row.entry.now seen.now place markets.old markets.new }
-    ensures wallets { HaveActed (row_of row.entry.now) seen.now no_transfers wallets.old wallets.new }
-{
-    hold(&mut markets[place], wallets, row, seen, places)
-}
-
-/// A row acts, or is held back, at the market at a place.
-fn do_at(
-    markets: &mut [MarketCell],
-    place: usize,
+/// A row acts on its market's cell and on the wallets that it names, or is held back there.
+fn do_on(
+    market: &mut MarketCell,
     wallets: &mut [WalletCell],
     row: &Row,
     seen: &Seen,
     places: &WalletPlaces,
     waits: bool,
 ) -> Reply
-    requires row { CanActAt row.now seen.now place markets.old wallets.old }
+    requires row { CanActOn row.now seen.now market.old wallets.old }
     requires places { ArePlacesAmong wallets.old (row_of row.now) places.now }
-    requires held { waits ≡ true → CanHoldAt row.now seen.now place markets.old }
-    ensures { HasDoneAt (row_of row.entry.now) waits seen.entry.now place result
-        markets.old markets.new wallets.old wallets.new }
+    requires held { waits ≡ true → CanHold row.now seen.now market.old }
+    ensures { HasDone (row_of row.entry.now) waits seen.entry.now result market.old market.new wallets.old wallets.new }
 {
     if waits {
-        hold_at(markets, place, wallets, row, seen, places)
+        hold(market, wallets, row, seen, places)
     } else {
-        act_at(markets, place, wallets, row, seen, places)
+        act(market, wallets, row, seen, places)
     }
 }
 
@@ -142,25 +94,14 @@ pub(crate) fn act_or_wait(cells: &mut Cells, row: &Row, standing: &Standing, wai
     ensures { HasActedOrWaited (row_of row.entry.now) waits result cells.old cells.new }
 {
     let seen = seen_by(cells, row, &standing.wallets);
-    do_at(
-        &mut cells.markets,
-        standing.market,
+    do_on(
+        &mut cells.markets[standing.market],
         &mut cells.wallets,
         row,
         &seen,
         &standing.wallets,
         waits,
     )
-}
-
-/// Whether the market at a place would refuse a row.
-fn is_refused_at(markets: &[MarketCell], place: usize, row: &Row, seen: &Seen) -> bool
-    requires within { place < length markets.now }
-    requires row { (default : MarketCellState) → IsFor row.now seen.now (slice_index_or markets.now place default) }
-    ensures { (default : MarketCellState) → let m = market_at (slice_index_or markets.now place default) in
-        result ≡ is_some (why (request_of (row_of row.entry.now)) seen.now m) }
-{
-    markets[place].decide(row, seen).is_err()
 }
 
 /// Whether a row would be refused now.
@@ -171,7 +112,7 @@ fn is_refused(cells: &Cells, row: &Row, standing: &Standing) -> bool
     ensures cells { AreCells cells.now }
 {
     let seen = seen_by(cells, row, &standing.wallets);
-    is_refused_at(&cells.markets, standing.market, row, &seen)
+    cells.markets[standing.market].decide(row, &seen).is_err()
 }
 
 /// Whether a row of an item waits: one of the item is refused, and not this one.

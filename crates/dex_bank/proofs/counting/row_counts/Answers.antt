@@ -1,10 +1,10 @@
 use Rattle.std.proofs.Common.{◌≡◌, ◌+◌, ◌≤◌, List, [], ◌∷◌, ℕ, Some, arith, get_or, length, map, take, sym, subst}
-use Rattle.dex_fold.proofs.Common.{Row, accounts_of, length-map, market_accounts_of, named_of, names, row_of, with_items_is}
+use Rattle.dex_fold.proofs.Common.{PlainAccount, PlainMarketAccounts, Row, accounts_of, length-map, market_accounts_of, named_of, names, row_of, with_items_is}
 use Rattle.std.proofs.lemmas.List.{length-take-le}
 use Rattle.dex_types.specs.declared.rows.RowPlaces.{RowPlaces}
 use Rattle.dex_script_facts.proofs.PlacedLaws.{placed-long}
 use Rattle.dex_bank.specs.Counts.{HaveSpare}
-use Rattle.dex_bank.proofs.OpenRooms.{AreRowsOf, Tells, market-rooms, market-tells, markets_at, on, placed-row, row-more, rows-spare, wallet-rooms, wallet-tells, wallets_at}
+use Rattle.dex_bank.proofs.OpenRooms.{AreRowsOf, Tells, market-tells, markets_at, on, placed-row, rooms-told, row-more, rows-spare, wallet-tells, wallets_at}
 use Rattle.dex_bank.proofs.counting.row_counts.Goals as goal
 
 pub bounds-places-i : goal.bounds-places-i
@@ -57,10 +57,10 @@ loop-i-preserved c =
 
 pub returns-clause-markets : goal.returns-clause-markets
 returns-clause-markets c =
-    market-rooms (map row_of c.args.rows.now) (map market_accounts_of c.args.start.now.markets.items) c.loop-i.i c.loop-i.markets.items
+    rooms-told on (λ (accounts : PlainMarketAccounts). accounts.address) (map row_of c.args.rows.now) (map market_accounts_of c.args.start.now.markets.items) c.loop-i.i c.loop-i.markets.items
     (omega (arith, length-map c.args.rows.now row_of, c.loop-i-test.false)) c.loop-i.invariant.markets
 
 pub returns-clause-wallets : goal.returns-clause-wallets
 returns-clause-wallets c =
-    wallet-rooms (map row_of c.args.rows.now) (map named_of c.args.start.now.wallets.items) c.loop-i.i c.loop-i.wallets.items
+    rooms-told names (λ (account : PlainAccount). account.address) (map row_of c.args.rows.now) (map named_of c.args.start.now.wallets.items) c.loop-i.i c.loop-i.wallets.items
     (omega (arith, length-map c.args.rows.now row_of, c.loop-i-test.false)) c.loop-i.invariant.wallets
