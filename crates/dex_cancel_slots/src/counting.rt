@@ -35,7 +35,8 @@ fn count_at<B: SideRead, A: SideRead>(own: &Owned<'_, '_, '_, B, A>, slot: u8) -
 pub fn count_first<B: SideRead, A: SideRead>(own: &Owned<'_, '_, '_, B, A>, limit: u32) -> u32
     requires own { IsNamed B.holds B.orders A.holds A.orders own.now }
     ensures { result
-        ≡ length (cancelled (cancel.First limit) own.now.account (B.orders own.now.bids.now) (A.orders own.now.asks.now)) }
+        ≡ length (cancelled (cancel.First limit) own.now.account (B.orders own.now.bids.now)
+        (A.orders own.now.asks.now)) }
 {
     let mut count = 0;
     let end = taken_end(&own.orders);
