@@ -5,6 +5,8 @@ ghost use Rattle.dex_run.specs.LaneItems.{IsItemOf, IsRest};
 ghost use Rattle.dex_run.specs.Running.{AreRowsOf, CanRun, HasRun};
 ghost use Rattle.dex_turns.specs.Seats.{IsSeatOf};
 
+use crate::stay::{Items, Stay};
+use dex_gate::Door;
 use dex_io::Pace;
 use dex_lanes::Job;
 use dex_replay::is_swap;
@@ -50,6 +52,7 @@ fn submit_item<R: Wait, P: Pace>(
 fn submit_all<R: Wait, P: Pace>(
     rt: &R,
     bank: &Bank,
+    doors: &[Door],
     seat: &mut LaneSeat,
     rows: &[Row],
     places: &[RowPlaces],
@@ -61,8 +64,12 @@ fn submit_all<R: Wait, P: Pace>(
 {
     let lane = seat.lane() as usize;
     let own = &by_lane[lane];
+    let items = Items { rows, places, own };
+    let mut stay = Stay::none();
     for item in 0..own.len() {
+        stay.before(rt, doors, items, item);
         submit_item(rt, bank, seat, rows, places, own[item], pace);
+        stay.behind(doors, item);
     }
 }
 
@@ -71,6 +78,7 @@ fn submit_all<R: Wait, P: Pace>(
 pub(crate) struct LaneJob<'a, R, P> {
     pub(crate) rt: &'a R,
     pub(crate) bank: &'a Bank,
+    pub(crate) doors: &'a [Door],
     pub(crate) seat: LaneSeat,
     pub(crate) rows: &'a [Row],
     pub(crate) places: &'a [RowPlaces],
@@ -87,6 +95,7 @@ impl<'a, R: Wait, P: Pace> Job for LaneJob<'a, R, P> {
         submit_all(
             self.rt,
             self.bank,
+            self.doors,
             &mut self.seat,
             self.rows,
             self.places,

@@ -8,6 +8,7 @@ mod index;
 mod lane;
 mod of_cell;
 mod running;
+mod stay;
 
 pub use building::build;
 pub use closing::close;

@@ -10,7 +10,9 @@ use crate::building::bank_over;
 use crate::closing::close;
 use crate::index::places_by_lane;
 use crate::lane::LaneJob;
+use crate::stay::doors_for;
 use dex_bank::Cells;
+use dex_gate::Door;
 use dex_io::Pace;
 use dex_lanes::run_jobs;
 use dex_report::Outcome;
@@ -27,6 +29,7 @@ fn jobs_of<'a, R: Wait, P: Pace>(
     rt: &'a R,
     alloc: Global,
     bank: &'a Bank,
+    doors: &'a [Door],
     seats: Vec<LaneSeat>,
     rows: &'a [Row],
     places: &'a [RowPlaces],
@@ -40,6 +43,7 @@ fn jobs_of<'a, R: Wait, P: Pace>(
         let job = LaneJob {
             rt,
             bank,
+            doors,
             seat,
             rows,
             places,
@@ -66,6 +70,7 @@ fn seats_back<'a, R: Wait, P: Pace>(
         let LaneJob {
             rt: _,
             bank: _,
+            doors: _,
             seat,
             rows: _,
             places: _,
@@ -94,7 +99,9 @@ fn run_all<R: Threads + Wait + Sync, P: Pace + Sync>(
     let Ok(room) = Vec::with_capacity(alloc, seats.len()) else {
         return Err(NoMemory);
     };
-    let mut jobs = jobs_of(rt, alloc, bank, seats, rows, places, by_lane, pace)?;
+    let (markets, _) = bank.counts();
+    let doors = doors_for(alloc, markets)?;
+    let mut jobs = jobs_of(rt, alloc, bank, &doors, seats, rows, places, by_lane, pace)?;
     run_jobs(rt, &mut jobs);
     Ok(seats_back(jobs, room))
 }
