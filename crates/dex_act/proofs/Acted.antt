@@ -1,7 +1,7 @@
 -- What a row does to cells is what it does to their wallets.
 use Rattle.std.proofs.Common.{◌≡◌, ℕ, zero, suc, ◌+◌, ◌<◌, ◌≤◌, ◌^◌, ◌⊎◌, inl, inr, Bool, true, false, ◌&&◌, ◌||◌, ltb, cond, List, [], ◌∷◌, map, refl, sym, ap, ◌∙◌, subst, arith, ⊎_elim}
 use Rattle.std.specs.List.{All, list_any}
-use Rattle.std.proofs.lemmas.Bool.{cases_Bool, cases_lt, cond-true, cond-false, cond_both, false≢true, and_parts, and_right, or_parts}
+use Rattle.std.proofs.lemmas.Bool.{cases_Bool, cases_lt, cond-true, cond-false, cond_both, false≢true, and_right, or_parts}
 use Rattle.dex_types.specs.declared.addresses.Address.{Address}
 use Rattle.dex_types.specs.declared.movements.MoveKind.{MoveKind}
 use Rattle.dex_types.specs.declared.movements.MoveKind.TheVariants.{Debit, Credit, Probe}
@@ -22,7 +22,7 @@ use Rattle.dex_fold.proofs.OnceLaws.{none-any, roles-once}
 use Rattle.dex_movements.specs.Amounts.{is_probe}
 use Rattle.dex_wallet.specs.CellState.{CellState, HasSpare, IsWalletCell, balance_of}
 use Rattle.dex_wallet.proofs.CellLaws.{IsWalletCell-with_entry}
-use Rattle.dex_act.specs.Wallets.{Fits, IsRight, any_hit, cell_acted, cell_debited, cell_looked, cell_moved, cell_paid, got_at, looks_at, move_probed, moved_some, moves_probed, paid_at, probes, roles_of, wallet_state_of}
+use Rattle.dex_act.specs.Wallets.{Fits, HasRoomFor, IsRight, any_hit, cell_acted, cell_debited, cell_moved, cell_paid, got_at, move_probed, moved_some, moves_probed, paid_at, probes, roles_of, wallet_state_of}
 use Rattle.dex_act.proofs.Acting.{CellMoves, IsPossible, credits-as, debits-as, nothing-brought, nothing-taken, paid-debit, paid-not, probes-as, state-moved}
 use Rattle.dex_act.proofs.CellLists.{KeepsAddress, moved_some-address}
 use Rattle.dex_act.proofs.Seeing.{any-seen, balance-fits, balance-hit}
@@ -34,24 +34,32 @@ probes-own : (move : Address → Movement) (first : Address) (cell : CellState) 
     → probes (move first) cell ≡ (is_probe (move first).kind && is_same cell.address first)
 probes-own move first cell wallet = ap (λ (a : Address). is_probe (move first).kind && is_same a cell.address) (wallet first) ∙ ap (λ (b : Bool). is_probe (move first).kind && b) (is_same-sym first cell.address)
 
--- a cell is probed once where its wallet stands there and its movement is a probe
-abbrev probed_once : PlainRow → (Address → Movement) → List Address → CellState → CellState
-probed_once row move addresses cell =
-    cond (list_any (is_same cell.address) addresses && is_probe (move cell.address).kind) (cell_moved row Probe 0 cell) cell
+-- a cell behind several probes, and it has room for them
+record Probed (row : PlainRow) (moves : List Movement) (cell after : CellState) : Type 0 where
+  is : moves_probed row moves cell ≡ after
+  room : HasRoomFor row moves cell
 
 -- a cell of another address is not probed
 not-probed : (row : PlainRow) (move : Address → Movement) (addresses : List Address) (cell : CellState) → ((address : Address) → (move address).wallet ≡ address)
-    → list_any (is_same cell.address) addresses ≡ false → moves_probed row (map move addresses) cell ≡ cell
-not-probed row move [] cell wallet none = refl
+    → list_any (is_same cell.address) addresses ≡ false → Probed row (map move addresses) cell cell
+not-probed row move [] cell wallet none = record { is = refl; room = tt }
 not-probed row move (first ∷ others) cell wallet none =
     let each = or_parts (is_same cell.address first) (list_any (is_same cell.address) others) none in
     let no : probes (move first) cell ≡ false = probes-own move first cell wallet ∙ and_right (is_probe (move first).kind) (is_same cell.address first) each.0 in
-    ap (moves_probed row (map move others)) (cond-false (probes (move first) cell) (cell_moved row Probe 0 cell) cell no) ∙ not-probed row move others cell wallet each.1
+    let stays : move_probed row (move first) cell ≡ cell = cond-false (probes (move first) cell) (cell_moved row Probe 0 cell) cell no in
+    let rest = not-probed row move others cell wallet each.1 in
+    record {
+      is = ap (moves_probed row (map move others)) stays ∙ rest.is;
+      room = (λ hit. absurd (false≢true (sym no ∙ hit)), subst (HasRoomFor row (map move others)) (sym stays) rest.room);
+    }
 
+-- one whose wallet stands there once is, where the movement is a probe
 probed-once : (row : PlainRow) (move : Address → Movement) (addresses : List Address) (cell : CellState) → ((address : Address) → (move address).wallet ≡ address)
-    → times cell.address addresses ≤ 1 → moves_probed row (map move addresses) cell ≡ probed_once row move addresses cell
-probed-once row move [] cell wallet once = refl
-probed-once row move (first ∷ others) cell wallet once =
+    → times cell.address addresses ≤ 1 → (list_any (is_same cell.address) addresses ≡ true → is_probe (move cell.address).kind ≡ true → HasSpare cell)
+    → Probed row (map move addresses) cell
+    (cond (list_any (is_same cell.address) addresses && is_probe (move cell.address).kind) (cell_moved row Probe 0 cell) cell)
+probed-once row move [] cell wallet once can = record { is = refl; room = tt }
+probed-once row move (first ∷ others) cell wallet once can =
     ⊎_elim
     (λ (own : is_same cell.address first ≡ true).
     let counted : ◌≡◌ {A = ℕ} (cond (is_same cell.address first) 1 0) 1 = ap (λ (b : Bool). cond b 1 0) own in
@@ -61,30 +69,47 @@ probed-once row move (first ∷ others) cell wallet once =
     probes-own move first cell wallet ∙ ap (λ (b : Bool). is_probe (move first).kind && b) own ∙ and-true (is_probe (move first).kind) ∙ kinds in
     let after : CellState = move_probed row (move first) cell in
     let stays : after.address ≡ cell.address = cond_both (probes (move first) cell) (cell_moved row Probe 0 cell) cell (λ (x : CellState). x.address ≡ cell.address) (λ hit. refl) (λ no. refl) in
-    not-probed row move others after wallet (ap (λ (a : Address). list_any (is_same a) others) stays ∙ none)
-    ∙ ap (λ (b : Bool). cond b (cell_moved row Probe 0 cell) cell) tested
-    ∙ sym (ap (λ (b : Bool). cond ((b || list_any (is_same cell.address) others) && is_probe (move cell.address).kind) (cell_moved row Probe 0 cell) cell) own))
+    let rest = not-probed row move others after wallet (ap (λ (a : Address). list_any (is_same a) others) stays ∙ none) in
+    record {
+      is = rest.is ∙ ap (λ (b : Bool). cond b (cell_moved row Probe 0 cell) cell) tested
+          ∙ sym (ap (λ (b : Bool). cond ((b || list_any (is_same cell.address) others) && is_probe (move cell.address).kind) (cell_moved row Probe 0 cell) cell) own);
+      room = (λ hit. can (ap (λ (b : Bool). b || list_any (is_same cell.address) others) own) (sym tested ∙ hit), rest.room);
+    })
     (λ (apart : is_same cell.address first ≡ false).
     let no : probes (move first) cell ≡ false = probes-own move first cell wallet ∙ and_right (is_probe (move first).kind) (is_same cell.address first) apart in
     let counted : ◌≡◌ {A = ℕ} (cond (is_same cell.address first) 1 0) 0 = ap (λ (b : Bool). cond b 1 0) apart in
-    ap (moves_probed row (map move others)) (cond-false (probes (move first) cell) (cell_moved row Probe 0 cell) cell no)
-    ∙ probed-once row move others cell wallet (omega (arith, once, counted))
-    ∙ sym (ap (λ (b : Bool). cond ((b || list_any (is_same cell.address) others) && is_probe (move cell.address).kind) (cell_moved row Probe 0 cell) cell) apart))
+    let stays : move_probed row (move first) cell ≡ cell = cond-false (probes (move first) cell) (cell_moved row Probe 0 cell) cell no in
+    let rest = probed-once row move others cell wallet (omega (arith, once, counted)) (λ any. can (ap (λ (b : Bool). b || list_any (is_same cell.address) others) apart ∙ any)) in
+    record {
+      is = ap (moves_probed row (map move others)) stays ∙ rest.is
+          ∙ sym (ap (λ (b : Bool). cond ((b || list_any (is_same cell.address) others) && is_probe (move cell.address).kind) (cell_moved row Probe 0 cell) cell) apart);
+      room = (λ hit. absurd (false≢true (sym no ∙ hit)), subst (HasRoomFor row (map move others)) (sym stays) rest.room);
+    })
     (cases_Bool (is_same cell.address first))
   where
     and-true : (a : Bool) → (a && true) ≡ a
     and-true true = refl
     and-true false = refl
 
+-- a cell behind a row's look at it
+abbrev cell_looked : PlainRow → Seen → Transfers → CellState → CellState
+cell_looked row seen t cell = cond (any_hit cell.address (roles_of seen) && is_probe (movement_of seen t cell.address).kind) (cell_moved row Probe 0 cell) cell
+
 -- the probes of a row's movements are its looks at the wallets of its roles
-pub probed-looked : (row : PlainRow) (seen : Seen) (t : Transfers) (cell : CellState)
-    → moves_probed row (front (places (movements seen t))) cell ≡ cell_looked row seen t (roles_of seen) cell
-probed-looked row seen t cell =
-    ap (λ (l : List Movement). moves_probed row l cell) (places-movements seen t)
-    ∙ probed-once row (movement_of seen t) (seen_wallets seen) cell
+probed-looked : (row : PlainRow) (seen : Seen) (t : Transfers) (cell : CellState)
+    → (any_hit cell.address (roles_of seen) ≡ true → is_probe (movement_of seen t cell.address).kind ≡ true → HasSpare cell)
+    → Probed row (front (places (movements seen t))) cell (cell_looked row seen t cell)
+probed-looked row seen t cell can =
+    let any : list_any (is_same cell.address) (seen_wallets seen) ≡ any_hit cell.address (roles_of seen) = any-seen cell.address seen in
+    let once = probed-once row (movement_of seen t) (seen_wallets seen) cell
     (λ a. wallet-movement_by a (balance_seen seen a) (taken_from seen t a) (brought_to seen t a))
     (roles-once (address_seen seen.coin) (address_seen seen.pc) (address_seen seen.discount) (address_seen seen.referrer) cell.address)
-    ∙ ap (λ (b : Bool). cond (b && is_probe (movement_of seen t cell.address).kind) (cell_moved row Probe 0 cell) cell) (any-seen cell.address seen)
+    (λ hit. can (sym any ∙ hit)) in
+    record {
+      is = ap (λ (l : List Movement). moves_probed row l cell) (places-movements seen t) ∙ once.is
+          ∙ ap (λ (b : Bool). cond (b && is_probe (movement_of seen t cell.address).kind) (cell_moved row Probe 0 cell) cell) any;
+      room = subst (λ (l : List Movement). HasRoomFor row l cell) (sym (places-movements seen t)) once.room;
+    }
 
 -- ---- a cell after a row
 
@@ -176,18 +201,32 @@ module _ (row : PlainRow) (seen : Seen) (m : Market) (t : Transfers) (cell : Cel
   abbrev by_move : Movement → Bool → CellState
   by_move x hit = cond hit (cell_moved row x.kind x.amount cell) cell
 
-  pub acted-whole : cell_acted row seen t cell ≡ by_move move is_hit
+  -- where it is looked at behind what is paid, there is room for the entry
+  probed : Probed row (front (places (movements seen t))) (cell_paid row seen t cell) (cell_looked row seen t (cell_paid row seen t cell))
+  probed =
+      let same : (cell_paid row seen t cell).address ≡ cell.address = paid-address row seen t cell in
+      probed-looked row seen t (cell_paid row seen t cell) (λ hit probe.
+      ⊎_elim
+      (λ (moved : IsMoved).
+      absurd (false≢true (sym moved.other ∙ sym (ap (λ (x : Movement). is_probe x.kind) moved.is) ∙ ap (λ (a : Address). is_probe (movement_of seen t a).kind) (sym same) ∙ probe)))
+      (λ (still : IsStill). subst HasSpare (sym still.paid) (spare (ap (λ (a : Address). any_hit a (roles_of seen)) (sym same) ∙ hit)))
+      moved-or-still)
+
+  pub room-paid : HasRoomFor row (front (places (movements seen t))) (cell_paid row seen t cell)
+  room-paid = probed.room
+
+  acted-whole : cell_acted row seen t cell ≡ by_move move is_hit
   acted-whole =
-      probed-looked row seen t (cell_paid row seen t cell)
+      probed.is
       ∙ ⊎_elim
       (λ (moved : IsMoved).
       let kind : is_probe move.kind ≡ false = ap (λ (x : Movement). is_probe x.kind) moved.is ∙ moved.other in
-      ap (cell_looked row seen t (roles_of seen)) moved.paid
+      ap (cell_looked row seen t) moved.paid
       ∙ cond-false (is_hit && is_probe move.kind) _ _ (and_right is_hit (is_probe move.kind) kind)
       ∙ sym (ap (by_move move) moved.hit ∙ ap (λ (x : Movement). by_move x true) moved.is))
       (λ (still : IsStill).
       let kind : is_probe move.kind ≡ true = ap (λ (x : Movement). is_probe x.kind) still.is in
-      ap (cell_looked row seen t (roles_of seen)) still.paid
+      ap (cell_looked row seen t) still.paid
       ∙ ap (λ (b : Bool). cond (is_hit && b) (cell_moved row Probe 0 cell) cell) kind
       ∙ and-some is_hit
       ∙ sym (ap (λ (x : Movement). by_move x is_hit) still.is))
@@ -196,15 +235,6 @@ module _ (row : PlainRow) (seen : Seen) (m : Market) (t : Transfers) (cell : Cel
       and-some : (a : Bool) → cond (a && true) (cell_moved row Probe 0 cell) cell ≡ cond a (cell_moved row Probe 0 cell) cell
       and-some true = refl
       and-some false = refl
-
-  -- where it is looked at behind that, there is room for the entry
-  pub look-paid : looks_at seen t (roles_of seen) (cell_paid row seen t cell).address ≡ true → HasSpare (cell_paid row seen t cell)
-  look-paid looks =
-      let both = and_parts is_hit (is_probe move.kind) (ap (looks_at seen t (roles_of seen)) (sym (paid-address row seen t cell)) ∙ looks) in
-      ⊎_elim
-      (λ (moved : IsMoved). absurd (false≢true (sym moved.other ∙ sym (ap (λ (x : Movement). is_probe x.kind) moved.is) ∙ both.1)))
-      (λ (still : IsStill). subst HasSpare (sym still.paid) (spare both.0))
-      moved-or-still
 
   -- the wallet that it is then, and it is kept
   pub acted-state : (hits_are : names row address ≡ any_hit address (roles_of seen)) → IsWalletCell cell → All Fits (roles_of seen) → IsPossible move

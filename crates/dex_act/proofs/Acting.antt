@@ -1,7 +1,6 @@
 -- What a row does to a cell.
-use Rattle.std.proofs.Common.{◌≡◌, ℕ, zero, suc, ◌+◌, ◌<◌, ◌≤◌, ◌^◌, ◌⊎◌, inl, inr, true, false, List, [], ◌∷◌, ◌++◌, Option, refl, sym, ap, ◌∙◌, subst, arith, ⊎_elim}
+use Rattle.std.proofs.Common.{◌≡◌, ℕ, zero, suc, ◌+◌, ◌<◌, ◌≤◌, ◌^◌, ◌⊎◌, inl, inr, true, false, List, [], ◌∷◌, ◌++◌, Option, None, refl, sym, ap, ◌∙◌, subst, arith, ⊎_elim}
 use Rattle.std.specs.List.{All}
-use Rattle.std.proofs.lemmas.List.Elements.{All-head, All-tail}
 use Rattle.std.proofs.lemmas.Bool.{cases_Bool, cases_lt, cond-true, cond-false, false≢true, lt-ltb, le-ltb, or_parts}
 use Rattle.dex_types.specs.declared.addresses.Address.{Address}
 use Rattle.dex_types.specs.declared.movements.MoveKind.TheVariants.{Debit, Credit, Probe}
@@ -125,12 +124,6 @@ pub cell-moves : (seen : Seen) (m : Market) (t : Transfers) (cell : CellState) �
     → (any_hit cell.address (roles_of seen) ≡ true → HasSpare cell) → CellMoves seen m t cell
 cell-moves seen m t cell moves right spare =
     let address : Address = cell.address in
-    let R : Option WalletSeen → Type 0 = IsRight cell in
-    let past = All-tail R seen.coin (seen.pc ∷ seen.discount ∷ seen.referrer ∷ []) right in
-    let later = All-tail R seen.pc (seen.discount ∷ seen.referrer ∷ []) past in
-    let coin : R seen.coin = All-head R seen.coin (seen.pc ∷ seen.discount ∷ seen.referrer ∷ []) right in
-    let pc : R seen.pc = All-head R seen.pc (seen.discount ∷ seen.referrer ∷ []) past in
-    let referrer : R seen.referrer = All-head R seen.referrer [] (All-tail R seen.discount (seen.referrer ∷ []) later) in
     let taken : ℕ = taken_from seen t address in
     let brought : ℕ = brought_to seen t address in
     record {
@@ -152,11 +145,11 @@ cell-moves seen m t cell moves right spare =
           (cases_lt 0 brought))
           (λ (none : any_hit address (roles_of seen) ≡ false). inl (nothing-brought address seen t none))
           (cases_Bool (any_hit address (roles_of seen)));
-      coin_in = is-of cell m.listing.coin_mint seen.coin t.coin_in coin moves.mints.coin_in;
-      pc_in = is-of cell m.listing.pc_mint seen.pc t.pc_in pc moves.mints.pc_in;
-      coin_out = is-of cell m.listing.coin_mint seen.coin t.coin_out coin moves.mints.coin_out;
-      pc_out = is-of cell m.listing.pc_mint seen.pc t.pc_out pc moves.mints.pc_out;
-      referrer_out = is-of cell m.listing.pc_mint seen.referrer t.referrer_out referrer moves.mints.referrer_out;
+      coin_in = is-of cell m.listing.coin_mint seen.coin t.coin_in (right 0 None (omega arith)) moves.mints.coin_in;
+      pc_in = is-of cell m.listing.pc_mint seen.pc t.pc_in (right 1 None (omega arith)) moves.mints.pc_in;
+      coin_out = is-of cell m.listing.coin_mint seen.coin t.coin_out (right 0 None (omega arith)) moves.mints.coin_out;
+      pc_out = is-of cell m.listing.pc_mint seen.pc t.pc_out (right 1 None (omega arith)) moves.mints.pc_out;
+      referrer_out = is-of cell m.listing.pc_mint seen.referrer t.referrer_out (right 3 None (omega arith)) moves.mints.referrer_out;
     }
 
 -- ---- what it gets

@@ -1,8 +1,7 @@
 -- Cells of wallets, one of which changes.
 use Rattle.std.proofs.Common.{◌≡◌, ℕ, zero, suc, ◌<◌, Bool, true, false, ◌||◌, cond, List, [], ◌∷◌, length, map, set, get_or, Option, Some, None, refl, sym, ap, ◌∙◌, subst, arith, ⊎_elim}
-use Rattle.std.specs.List.{All, list_any}
-use Rattle.std.proofs.lemmas.List.{length-map}
-use Rattle.std.proofs.lemmas.List.Elements.{All-nil, All-cons, All-head, All-tail}
+use Rattle.std.specs.List.{list_any}
+use Rattle.std.proofs.lemmas.List.{get_or_default, length-map, map-id}
 use Rattle.std.proofs.lemmas.Bool.{cases_Bool, false≢true, or_parts, or_right}
 use Rattle.dex_types.specs.declared.addresses.Address.{Address}
 use Rattle.dex_types.specs.declared.movements.MoveKind.{MoveKind}
@@ -12,9 +11,10 @@ use Rattle.dex_types.specs.Addresses.{is_same}
 use Rattle.dex_types.specs.Rows.{PlainRow}
 use Rattle.dex_types.specs.Wallets.{address_seen, amount_at}
 use Rattle.dex_laws.proofs.TraderLaws.{is_same-true, is_same-refl, is_same-sym}
+use Rattle.dex_fold.proofs.MappedLists.{map-agree}
 use Rattle.dex_wallet.specs.CellState.{CellState}
 use Rattle.dex_act.specs.declared.places.WalletPlaces.{WalletPlaces}
-use Rattle.dex_act.specs.Wallets.{AreApart, AreAt, AreSeenAt, IsAt, IsRoleAt, cell_moved, is_among, moved_some, role_moved}
+use Rattle.dex_act.specs.Wallets.{AreApart, AreSeenAt, IsAt, IsRoleAt, cell_moved, is_among, moved_some, role_moved}
 
 -- ---- by address
 
@@ -92,6 +92,12 @@ changed-here address change moved (first ∷ others) new place apart at stays ow
     set_is first ∙ ap (set (first ∷ others) place) (sym (own (get_or (first ∷ others) place first) (at.here first)))
     ∙ map-one address change (first ∷ others) place first apart at stays
 
+-- whatever stands for a place that is not there
+pub at-any : (moved : CellState → CellState) (cells new : List CellState) (place : ℕ) (default : CellState) → place < length cells
+    → new ≡ set cells place (moved (get_or cells place default)) → (other : CellState) → new ≡ set cells place (moved (get_or cells place other))
+at-any moved cells new place default within is other =
+    is ∙ ap (λ (cell : CellState). set cells place (moved cell)) (get_or_default cells place default other within)
+
 -- ---- movements
 
 pub moved_some-address : (row : PlainRow) (kind : MoveKind) (amount : ℕ) → KeepsAddress (moved_some row kind amount)
@@ -126,36 +132,10 @@ amount_at-nothing address (Some wallet) = either (is_same address wallet.address
 
 -- changes that agree on each cell
 pub map-same : (change other : CellState → CellState) (cells : List CellState) → ((cell : CellState) → change cell ≡ other cell) → map change cells ≡ map other cells
-map-same change other [] same = refl
-map-same change other (first ∷ others) same =
-    ap (λ (cell : CellState). cell ∷ map change others) (same first)
-    ∙ ap (λ (cells : List CellState). other first ∷ cells) (map-same change other others same)
+map-same change other cells same = map-agree change other cells (λ k default lt. same (get_or cells k default))
 
 pub map-identity : (change : CellState → CellState) (cells : List CellState) → ((cell : CellState) → change cell ≡ cell) → map change cells ≡ cells
-map-identity change [] same = refl
-map-identity change (first ∷ others) same =
-    ap (λ (cell : CellState). cell ∷ map change others) (same first)
-    ∙ ap (λ (cells : List CellState). first ∷ cells) (map-identity change others same)
-
--- on each of these cells
-pub map-same_where : (P : CellState → Type 0) (change other : CellState → CellState) (cells : List CellState) → All P cells → ((cell : CellState) → P cell → change cell ≡ other cell)
-    → map change cells ≡ map other cells
-map-same_where P change other [] all same = refl
-map-same_where P change other (first ∷ others) all same =
-    ap (λ (cell : CellState). cell ∷ map change others) (same first (All-head P first others all))
-    ∙ ap (λ (cells : List CellState). other first ∷ cells) (map-same_where P change other others (All-tail P first others all) same)
-
--- what holds of each cell
-pub all-cells : (P : CellState → Type 0) (cells : List CellState) → ((cell : CellState) → P cell) → All P cells
-all-cells P [] each = All-nil P
-all-cells P (first ∷ others) each = All-cons P first others (each first) (all-cells P others each)
-
--- what holds of each cell by two facts
-pub all-both : (P Q : CellState → Type 0) (cells : List CellState) → All P cells → All Q cells → All (λ (cell : CellState). P cell × Q cell) cells
-all-both P Q [] one two = All-nil _
-all-both P Q (first ∷ others) one two =
-    All-cons (λ (cell : CellState). P cell × Q cell) first others (All-head P first others one, All-head Q first others two)
-    (all-both P Q others (All-tail P first others one) (All-tail Q first others two))
+map-identity change cells same = map-same change (λ cell. cell) cells same ∙ map-id cells
 
 -- a cell keeps its address where all do
 address-map : (change : CellState → CellState) (cells : List CellState) (place : ℕ) (default : CellState) → KeepsAddress change
@@ -173,19 +153,14 @@ IsRoleAt-map change cells (Some address) place keeps at = record {
   here = λ default. ap (is_same address) (address-map change cells place default keeps) ∙ at.here default;
 }
 
-AreAt-map : (change : CellState → CellState) (cells : List CellState) (coin pc discount referrer : Option Address) (places : WalletPlaces) → KeepsAddress change
-    → AreAt cells coin pc discount referrer places → AreAt (map change cells) coin pc discount referrer places
-AreAt-map change cells coin pc discount referrer places keeps at = record {
-  coin = IsRoleAt-map change cells coin places.coin keeps at.coin;
-  pc = IsRoleAt-map change cells pc places.pc keeps at.pc;
-  discount = IsRoleAt-map change cells discount places.discount keeps at.discount;
-  referrer = IsRoleAt-map change cells referrer places.referrer keeps at.referrer;
-}
-
 pub AreSeenAt-map : (change : CellState → CellState) (cells : List CellState) (seen : Seen) (places : WalletPlaces) → KeepsAddress change
     → AreSeenAt cells seen places → AreSeenAt (map change cells) seen places
-AreSeenAt-map change cells seen places keeps at =
-    AreAt-map change cells (address_seen seen.coin) (address_seen seen.pc) (address_seen seen.discount) (address_seen seen.referrer) places keeps at
+AreSeenAt-map change cells seen places keeps at = record {
+  coin = IsRoleAt-map change cells (address_seen seen.coin) places.coin keeps at.coin;
+  pc = IsRoleAt-map change cells (address_seen seen.pc) places.pc keeps at.pc;
+  discount = IsRoleAt-map change cells (address_seen seen.discount) places.discount keeps at.discount;
+  referrer = IsRoleAt-map change cells (address_seen seen.referrer) places.referrer keeps at.referrer;
+}
 
 -- nothing moves no cell
 pub role_moved-nothing : (row : PlainRow) (kind : MoveKind) (role : Option WalletSeen) (amount : ℕ) (cells : List CellState) → amount ≡ 0
@@ -193,12 +168,6 @@ pub role_moved-nothing : (row : PlainRow) (kind : MoveKind) (role : Option Walle
 role_moved-nothing row kind role amount cells none =
     map-identity (role_moved row kind role amount) cells (λ cell.
     ap (λ (n : ℕ). role_moved row kind role n cell) none ∙ ap (λ (n : ℕ). moved_some row kind n cell) (amount_at-nothing cell.address role))
-
--- no wallet is moved where a role names none
-pub role_moved-no_one : (row : PlainRow) (kind : MoveKind) (role : Option WalletSeen) (amount : ℕ) (cells : List CellState) → role ≡ None
-    → map (role_moved row kind role amount) cells ≡ cells
-role_moved-no_one row kind role amount cells none =
-    map-identity (role_moved row kind role amount) cells (λ cell. ap (λ (r : Option WalletSeen). role_moved row kind r amount cell) none)
 
 -- the cell at the place of a role's wallet is moved
 pub moved-here : (row : PlainRow) (kind : MoveKind) (role : Option WalletSeen) (wallet : WalletSeen) (amount : ℕ) (cells new : List CellState) (place : ℕ) → role ≡ Some wallet

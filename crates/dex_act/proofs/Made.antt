@@ -42,12 +42,6 @@ all-made row seen t cells = map-map (cell_acted row seen t) made_of cells ∙ ma
 pub acted-address : (row : PlainRow) (seen : Seen) (t : Transfers) → KeepsAddress (cell_acted row seen t)
 acted-address row seen t cell = ap (λ (c : CellState). c.address) (made-acted row seen t cell)
 
-pub acted-start : (row : PlainRow) (seen : Seen) (t : Transfers) (cell : CellState) → (cell_acted row seen t cell).start ≡ cell.start
-acted-start row seen t cell = ap (λ (c : CellState). c.start) (made-acted row seen t cell)
-
-pub acted-room : (row : PlainRow) (seen : Seen) (t : Transfers) (cell : CellState) → (cell_acted row seen t cell).room ≡ cell.room
-acted-room row seen t cell = ap (λ (c : CellState). c.room) (made-acted row seen t cell)
-
 -- and no two of them have one
 pub AreApart-acted : (row : PlainRow) (seen : Seen) (t : Transfers) (cells : List CellState) → AreApart cells → AreApart (map (cell_acted row seen t) cells)
 AreApart-acted row seen t cells apart = AreApart-map (cell_acted row seen t) cells (acted-address row seen t) apart

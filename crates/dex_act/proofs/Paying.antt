@@ -1,33 +1,34 @@
 -- The deposits and payouts of a row, and the cells that can make them.
-use Rattle.std.proofs.Common.{◌≡◌, ℕ, ◌+◌, inl, inr, Bool, true, false, cond, List, [], ◌∷◌, map, Option, Some, None, refl, sym, ap, ◌∙◌, subst, arith}
+use Rattle.std.proofs.Common.{◌≡◌, ℕ, ◌+◌, inl, inr, true, List, map, get_or, Option, sym, ap, ◌∙◌, subst, arith}
 use Rattle.std.specs.List.{All}
-use Rattle.std.proofs.lemmas.List.Elements.{All-nil, All-cons, All-head, All-tail, All-map, All-weaker}
+use Rattle.std.proofs.lemmas.List.Elements.{All-map}
 use Rattle.dex_types.specs.declared.addresses.Address.{Address}
 use Rattle.dex_types.specs.declared.rows.Seen.{Seen}
 use Rattle.dex_types.specs.declared.rows.WalletSeen.{WalletSeen}
-use Rattle.dex_types.specs.Addresses.{is_same}
 use Rattle.dex_types.specs.Market.{Market}
 use Rattle.dex_types.specs.Rows.{PlainRow}
 use Rattle.dex_types.specs.Soundness.{IsSound}
 use Rattle.dex_types.specs.Transfers.{Transfers, no_transfers}
 use Rattle.dex_types.specs.declared.movements.MoveKind.TheVariants.{Debit, Credit}
-use Rattle.dex_types.specs.Wallets.{amount_at}
-use Rattle.dex_history.specs.Journal.{Sees, asked_of, idle, row_step}
+use Rattle.dex_types.specs.Wallets.{amount_at, balance_seen, brought_to, movement_of, movements, seen_wallets, taken_from}
+use Rattle.dex_types.specs.declared.movements.Movement.{Movement}
+use Rattle.dex_history.specs.Journal.{Sees, asked_of, front, idle, places, row_step}
+use Rattle.dex_history.proofs.WalletLaws.{places-movements, wallet-movement_by}
 use Rattle.dex_history.proofs.MintLaws.{IsOfMint}
 use Rattle.dex_history.proofs.StepMoves.{row-can, row-moves}
 use Rattle.dex_cell.specs.Paying.{paid_out, parcel_of}
 use Rattle.dex_fold.specs.Fold.{wallet_acted}
-use Rattle.dex_fold.specs.World.{WalletState}
-use Rattle.dex_fold.proofs.MappedLists.{map-map}
-use Rattle.dex_wallet.specs.CellState.{CellState, HasSpare, IsWalletCell}
+use Rattle.dex_fold.proofs.MappedLists.{map-agree, map-map}
+use Rattle.dex_wallet.specs.CellState.{CellState, IsWalletCell}
 use Rattle.dex_act.specs.declared.places.WalletPlaces.{WalletPlaces}
-use Rattle.dex_act.specs.Wallets.{AreSeenAt, CanBePaid, CanGet, CanLook, CanPay, CanTake, IsOf, IsRight, NamesFor, SeesCells, amount_in, any_hit, cell_acted, cell_credited, cell_debited, cell_looked, cell_paid, got_at, looks_at, moved_some, paid_at, roles_of, wallet_state_of}
-use Rattle.dex_act.proofs.CellLists.{AreApart-map, AreSeenAt-map, KeepsAddress, all-both, map-identity, map-same, moved_some-address}
+use Rattle.dex_act.specs.Wallets.{AreSeenAt, CanBePaid, CanGet, CanPay, CanProbe, HasRoomFor, IsOf, NamesFor, SeesCells, amount_in, any_hit, cell_acted, cell_credited, cell_debited, cell_paid, got_at, moved_some, paid_at, roles_of, wallet_state_of}
+use Rattle.dex_act.proofs.CellLists.{AreApart-map, AreSeenAt-map, KeepsAddress, amount_at-nothing, map-identity, moved_some-address}
 use Rattle.dex_act.proofs.WalletMoves.{amount_in-parcel_of}
 use Rattle.dex_history.proofs.StepMints.{row-of}
+use Rattle.dex_act.proofs.Seeing.{seen-hit}
 use Rattle.dex_act.proofs.Sights.{named-hit}
 use Rattle.dex_act.proofs.Acting.{CellMoves, RowMoves, cell-moves, gets-after}
-use Rattle.dex_act.proofs.Acted.{acted-state, look-paid, paid-address, probed-looked}
+use Rattle.dex_act.proofs.Acted.{acted-state, paid-address, room-paid}
 
 -- what a row moves on a sound market
 pub row-moves-of : (row : PlainRow) (seen : Seen) (m : Market) → IsSound m → Sees (asked_of row) seen → RowMoves seen m (row_step row seen m).transfers
@@ -60,17 +61,9 @@ held-moves row seen m sound sees =
       apart = sound.form.mints;
     }
 
--- what is known of a cell
-abbrev pub IsSeenRight : Seen → CellState → Type 0
-IsSeenRight seen cell = All (IsRight cell) (roles_of seen) × (any_hit cell.address (roles_of seen) ≡ true → HasSpare cell)
-
-seen-right : (seen : Seen) (cells : List CellState) → SeesCells seen cells → All (IsSeenRight seen) cells
-seen-right seen cells sees =
-    all-both (λ (cell : CellState). All (IsRight cell) (roles_of seen)) (λ (cell : CellState). any_hit cell.address (roles_of seen) ≡ true → HasSpare cell) cells sees.right sees.spare
-
 all-moves : (seen : Seen) (m : Market) (t : Transfers) (cells : List CellState) → RowMoves seen m t → SeesCells seen cells → All (CellMoves seen m t) cells
-all-moves seen m t cells moves sees =
-    All-weaker (IsSeenRight seen) (CellMoves seen m t) (λ cell right. cell-moves seen m t cell moves right.0 right.1) cells (seen-right seen cells sees)
+all-moves seen m t cells moves sees = λ k default lt.
+    cell-moves seen m t (get_or cells k default) moves (sees.right k default lt) (sees.spare k default lt)
 
 named : (mint : Address) (role : Option WalletSeen) (amount : ℕ) → IsOfMint mint role amount → NamesFor amount role
 named mint role amount (inl none) = inl none
@@ -84,21 +77,16 @@ can-pay seen m t cells places moves sees at = record {
   coin_named = named m.listing.coin_mint seen.coin t.coin_in moves.mints.coin_in;
   pc_named = named m.listing.pc_mint seen.pc t.pc_in moves.mints.pc_in;
   one = moves.one_in;
-  each = All-weaker (CellMoves seen m t) (λ (cell : CellState). CanTake (paid_at seen t.coin_in t.pc_in cell) cell) (λ cell known. known.takes) cells
-      (all-moves seen m t cells moves sees);
+  each = λ k default lt. (all-moves seen m t cells moves sees k default lt).takes;
 }
 
 pub coin-mints : (seen : Seen) (m : Market) (t : Transfers) (cells : List CellState) → RowMoves seen m t → SeesCells seen cells
     → All (λ (cell : CellState). IsOf m.listing.coin_mint (amount_at cell.address seen.coin t.coin_in) cell) cells
-coin-mints seen m t cells moves sees =
-    All-weaker (CellMoves seen m t) (λ (cell : CellState). IsOf m.listing.coin_mint (amount_at cell.address seen.coin t.coin_in) cell) (λ cell known. known.coin_in) cells
-    (all-moves seen m t cells moves sees)
+coin-mints seen m t cells moves sees = λ k default lt. (all-moves seen m t cells moves sees k default lt).coin_in
 
 pub pc-mints : (seen : Seen) (m : Market) (t : Transfers) (cells : List CellState) → RowMoves seen m t → SeesCells seen cells
     → All (λ (cell : CellState). IsOf m.listing.pc_mint (amount_at cell.address seen.pc t.pc_in) cell) cells
-pc-mints seen m t cells moves sees =
-    All-weaker (CellMoves seen m t) (λ (cell : CellState). IsOf m.listing.pc_mint (amount_at cell.address seen.pc t.pc_in) cell) (λ cell known. known.pc_in) cells
-    (all-moves seen m t cells moves sees)
+pc-mints seen m t cells moves sees = λ k default lt. (all-moves seen m t cells moves sees k default lt).pc_in
 
 -- behind the deposits
 pub debited-address : (row : PlainRow) (seen : Seen) (coin pc : ℕ) → KeepsAddress (cell_debited row seen coin pc)
@@ -114,8 +102,7 @@ paid-cells row seen m t cells moves sees a b c coin_is pc_is referrer_is =
     let change : CellState → CellState = cell_debited row seen t.coin_in t.pc_in in
     let all : All (Gets t.coin_out t.pc_out t.referrer_out) (map change cells) =
     All-map (Gets t.coin_out t.pc_out t.referrer_out) change cells
-    (All-weaker (CellMoves seen m t) (λ (cell : CellState). Gets t.coin_out t.pc_out t.referrer_out (change cell))
-    (λ cell known. gets-after row seen m t cell moves.apart known) cells (all-moves seen m t cells moves sees)) in
+    (λ k default lt. gets-after row seen m t (get_or cells k default) moves.apart (all-moves seen m t cells moves sees k default lt)) in
     subst (λ (x : ℕ). All (Gets x b c) (map change cells)) (sym coin_is)
     (subst (λ (y : ℕ). All (Gets t.coin_out y c) (map change cells)) (sym pc_is)
     (subst (λ (z : ℕ). All (Gets t.coin_out t.pc_out z) (map change cells)) (sym referrer_is) all))
@@ -161,63 +148,47 @@ pub paid-nothing : (row : PlainRow) (seen : Seen) (t : Transfers) (cells : List 
 paid-nothing row seen t cells none =
     ap (λ (x : Transfers). map (cell_paid row seen x) cells) none ∙ map-identity (cell_paid row seen no_transfers) cells (λ cell. still cell)
   where
-    zero-at : (address : Address) (role : Option WalletSeen) → amount_at address role 0 ≡ 0
-    zero-at address None = refl
-    zero-at address (Some wallet) = either (is_same address wallet.address)
-      where
-        either : (b : Bool) → ◌≡◌ {A = ℕ} (cond b 0 0) 0
-        either true = refl
-        either false = refl
-
     still : (cell : CellState) → cell_paid row seen no_transfers cell ≡ cell
     still cell =
-        let taken : paid_at seen 0 0 cell ≡ 0 = omega (arith, zero-at cell.address seen.coin, zero-at cell.address seen.pc) in
+        let taken : paid_at seen 0 0 cell ≡ 0 = omega (arith, amount_at-nothing cell.address seen.coin, amount_at-nothing cell.address seen.pc) in
         let same : cell_debited row seen 0 0 cell ≡ cell = ap (λ (n : ℕ). moved_some row Debit n cell) taken in
         let got : amount_at cell.address seen.coin 0 + got_at seen 0 0 cell ≡ 0 =
-        omega (arith, zero-at cell.address seen.coin, zero-at cell.address seen.pc, zero-at cell.address seen.referrer) in
+        omega (arith, amount_at-nothing cell.address seen.coin, amount_at-nothing cell.address seen.pc, amount_at-nothing cell.address seen.referrer) in
         ap (cell_credited row seen 0 0 0) same ∙ ap (λ (n : ℕ). moved_some row Credit n cell) got
 
 -- ---- looks behind that
 
-pub can-look : (row : PlainRow) (seen : Seen) (m : Market) (t : Transfers) (cells : List CellState) (places : WalletPlaces) → RowMoves seen m t → SeesCells seen cells
-    → AreSeenAt cells seen places → CanLook seen places t (map (cell_paid row seen t) cells)
-can-look row seen m t cells places moves sees at =
-    let Can : CellState → Type 0 = λ cell. looks_at seen t (roles_of seen) cell.address ≡ true → HasSpare cell in
+pub can-probe : (row : PlainRow) (seen : Seen) (m : Market) (t : Transfers) (cells : List CellState) (at : WalletPlaces) → RowMoves seen m t → SeesCells seen cells
+    → AreSeenAt cells seen at → CanProbe row seen at (front (places (movements seen t))) (map (cell_paid row seen t) cells)
+can-probe row seen m t cells at moves sees here =
+    let moved : List Movement = front (places (movements seen t)) in
+    let Named : Movement → Type 0 = λ move. any_hit move.wallet (roles_of seen) ≡ true in
     record {
       apart = AreApart-map (cell_paid row seen t) cells (paid-address row seen t) sees.apart;
-      at = AreSeenAt-map (cell_paid row seen t) cells seen places (paid-address row seen t) at;
-      spare = All-map Can (cell_paid row seen t) cells
-          (All-weaker (IsSeenRight seen) (λ (cell : CellState). Can (cell_paid row seen t cell))
-          (λ cell right. look-paid row seen m t cell (cell-moves seen m t cell moves right.0 right.1) right.0 right.1) cells (seen-right seen cells sees));
+      at = AreSeenAt-map (cell_paid row seen t) cells seen at (paid-address row seen t) here;
+      named = subst (All Named) (sym (places-movements seen t))
+          (All-map Named (movement_of seen t) (seen_wallets seen) (λ k default lt.
+          let a : Address = get_or (seen_wallets seen) k default in
+          ap (λ (b : Address). any_hit b (roles_of seen)) (wallet-movement_by a (balance_seen seen a) (taken_from seen t a) (brought_to seen t a)) ∙ seen-hit seen k default lt));
+      room = All-map (HasRoomFor row moved) (cell_paid row seen t) cells
+          (λ k default lt. room-paid row seen m t (get_or cells k default) (all-moves seen m t cells moves sees k default lt) (sees.right k default lt) (sees.spare k default lt));
     }
-
-pub acted-all : (row : PlainRow) (seen : Seen) (t : Transfers) (cells : List CellState)
-    → map (cell_looked row seen t (roles_of seen)) (map (cell_paid row seen t) cells) ≡ map (cell_acted row seen t) cells
-acted-all row seen t cells =
-    map-map (cell_paid row seen t) (cell_looked row seen t (roles_of seen)) cells
-    ∙ map-same (λ cell. cell_looked row seen t (roles_of seen) (cell_paid row seen t cell)) (cell_acted row seen t) cells
-    (λ cell. sym (probed-looked row seen t (cell_paid row seen t cell)))
 
 -- ---- what it is to the wallets
 
 pub states-acted : (row : PlainRow) (seen : Seen) (m : Market) (t : Transfers) (cells : List CellState) → RowMoves seen m t → Sees (asked_of row) seen → SeesCells seen cells
     → (map wallet_state_of (map (cell_acted row seen t) cells) ≡ map (wallet_acted row seen t) (map wallet_state_of cells)) × All IsWalletCell (map (cell_acted row seen t) cells)
-states-acted row seen m t cells moves sees_row sees = each cells (all-both (IsSeenRight seen) IsWalletCell cells (seen-right seen cells sees) sees.kept)
+states-acted row seen m t cells moves sees_row sees = (
+  map-map (cell_acted row seen t) wallet_state_of cells
+      ∙ map-agree (λ cell. wallet_state_of (cell_acted row seen t cell)) (λ cell. wallet_acted row seen t (wallet_state_of cell)) cells
+      (λ k default lt. (one k default lt).0)
+      ∙ sym (map-map wallet_state_of (wallet_acted row seen t) cells),
+  All-map IsWalletCell (cell_acted row seen t) cells
+      (λ k default lt. (one k default lt).1),
+)
   where
-    one : (cell : CellState) → IsSeenRight seen cell × IsWalletCell cell
-        → (wallet_state_of (cell_acted row seen t cell) ≡ wallet_acted row seen t (wallet_state_of cell)) × IsWalletCell (cell_acted row seen t cell)
-    one cell known =
-        acted-state row seen m t cell (cell-moves seen m t cell moves known.0.0 known.0.1) known.0.0 known.0.1 (named-hit row seen cell.address sees_row) known.1 sees.fits
-        (moves.moves cell.address).possible
-
-    each : (list : List CellState) → All (λ (cell : CellState). IsSeenRight seen cell × IsWalletCell cell) list
-        → (map wallet_state_of (map (cell_acted row seen t) list) ≡ map (wallet_acted row seen t) (map wallet_state_of list)) × All IsWalletCell (map (cell_acted row seen t) list)
-    each [] all = (refl, All-nil _)
-    each (first ∷ others) all =
-        let Known : CellState → Type 0 = λ cell. IsSeenRight seen cell × IsWalletCell cell in
-        let here = one first (All-head Known first others all) in
-        let rest = each others (All-tail Known first others all) in (
-          ap (λ (s : WalletState). s ∷ map wallet_state_of (map (cell_acted row seen t) others)) here.0
-              ∙ ap (λ (l : List WalletState). wallet_acted row seen t (wallet_state_of first) ∷ l) rest.0,
-          All-cons IsWalletCell (cell_acted row seen t first) (map (cell_acted row seen t) others) here.1 rest.1,
-        )
+    one : All (λ (cell : CellState). (wallet_state_of (cell_acted row seen t cell) ≡ wallet_acted row seen t (wallet_state_of cell)) × IsWalletCell (cell_acted row seen t cell)) cells
+    one k default lt =
+        let cell : CellState = get_or cells k default in
+        acted-state row seen m t cell (all-moves seen m t cells moves sees k default lt) (sees.right k default lt) (sees.spare k default lt)
+        (named-hit row seen cell.address sees_row) (sees.kept k default lt) sees.fits (moves.moves cell.address).possible

@@ -1,5 +1,5 @@
 -- The steps of a row on cells, put together.
-use Rattle.std.proofs.Common.{◌≡◌, ℕ, List, map, Option, Ok, Err, refl, sym, ap, ◌∙◌, subst}
+use Rattle.std.proofs.Common.{◌≡◌, List, map, Option, Ok, Err, refl, sym, ap, ◌∙◌, subst}
 use Rattle.dex_types.specs.declared.addresses.Address.{Address}
 use Rattle.dex_types.specs.declared.refusals.Refusal.{Refusal}
 use Rattle.dex_types.specs.declared.rows.Row.{Row}
@@ -9,24 +9,27 @@ use Rattle.dex_types.specs.Rows.{row_of}
 use Rattle.dex_types.specs.Side.{Coin, Pc}
 use Rattle.dex_types.specs.Steps.{Step}
 use Rattle.dex_types.specs.Transfers.{Transfers, no_transfers}
-use Rattle.dex_types.specs.Wallets.{address_seen}
-use Rattle.dex_history.specs.Journal.{request_of}
+use Rattle.dex_types.specs.declared.movements.Movement.{Movement}
+use Rattle.dex_types.specs.Wallets.{movements}
+use Rattle.dex_history.specs.Journal.{front, places, request_of}
+use Rattle.dex_fold.proofs.MappedLists.{map-map}
 use Rattle.dex_plan.specs.declared.plan.Plan.{Plan}
 use Rattle.dex_movements.specs.declared.amounts.Amounts.{Amounts}
 use Rattle.dex_movements.specs.Amounts.{transfers_of}
 use Rattle.dex_cell.specs.declared.payouts.Payouts.{Payouts}
 use Rattle.dex_cell.specs.CellState.{IsFor, IsMarketCell, MarketCellState, answer_on, market_at, step_on}
 use Rattle.dex_cell.specs.Paying.{paid_in, paid_out, parcel_of}
-use Rattle.dex_cell.specs.PlanAmounts.{plan_transfers}
-use Rattle.dex_cell.proofs.PlanLaws.{coin-enters, pc-enters, planned-moves, refused-step}
+use Rattle.dex_plan.specs.Owing.{plan_transfers}
+use Rattle.dex_plan.proofs.StepLaws.{planned-moves}
+use Rattle.dex_cell.proofs.PlanLaws.{refused-step}
 use Rattle.dex_wallet.specs.CellState.{CellState}
 use Rattle.dex_wallet.specs.TokenAmount.{TokenAmount}
 use Rattle.dex_act.specs.declared.places.WalletPlaces.{WalletPlaces}
 use Rattle.dex_act.specs.Acted.{HaveActed}
-use Rattle.dex_act.specs.Wallets.{AreAt, AreOf, ArePlacesAmong, AreSeenAt, CanBePaid, CanLook, CanPay, SeesCells, amount_in, cell_acted, cell_credited, cell_debited, cell_looked, cell_paid, roles_of}
+use Rattle.dex_act.specs.Wallets.{AreOf, ArePlacesAmong, AreSeenAt, CanBePaid, CanPay, CanProbe, SeesCells, amount_in, cell_acted, cell_credited, cell_debited, cell_paid, moves_probed}
 use Rattle.dex_act.proofs.Acting.{RowMoves}
 use Rattle.dex_act.proofs.Made.{AreApart-acted, all-made}
-use Rattle.dex_act.proofs.Paying.{acted-all, can-be-paid, can-look, can-pay, coin-mints, held-moves, paid-nothing, paid-whole, pc-mints, row-moves-of, states-acted}
+use Rattle.dex_act.proofs.Paying.{can-be-paid, can-pay, can-probe, coin-mints, held-moves, paid-nothing, paid-whole, pc-mints, row-moves-of, states-acted}
 
 -- what a row moves on its market's cell
 pub moves-of : (row : Row) (seen : Seen) (market : MarketCellState) → IsFor row seen market → IsMarketCell market → RowMoves seen (market_at market) (step_on row seen market).transfers
@@ -35,32 +38,29 @@ moves-of row seen market for cell = row-moves-of (row_of row) seen (market_at ma
 -- the wallets of its roles stand where those that it names do
 pub seen-at : (row : Row) (seen : Seen) (market : MarketCellState) (cells : List CellState) (at : WalletPlaces) → IsFor row seen market
     → ArePlacesAmong cells (row_of row) at → AreSeenAt cells seen at
-seen-at row seen market cells at for among =
-    subst (λ (r : Option Address). AreAt cells r (address_seen seen.pc) (address_seen seen.discount) (address_seen seen.referrer) at) (sym for.sees.coin)
-    (subst (λ (r : Option Address). AreAt cells row.coin r (address_seen seen.discount) (address_seen seen.referrer) at) (sym for.sees.pc)
-    (subst (λ (r : Option Address). AreAt cells row.coin row.pc r (address_seen seen.referrer) at) (sym for.sees.discount)
-    (subst (λ (r : Option Address). AreAt cells row.coin row.pc row.discount r at) (sym for.sees.referrer) among)))
+seen-at row seen market cells at for among = rw (for.sees.coin, for.sees.pc, for.sees.discount, for.sees.referrer) among
 
 -- ---- looks
 
--- what the looks ask of the cells behind what was paid, and what they leave
-module _ (row : Row) (seen : Seen) (market : MarketCellState) (cells paid : List CellState) (sees : SeesCells seen cells) (amounts : Amounts) (t : Transfers)
-    (told : transfers_of amounts ≡ t) (moves : RowMoves seen (market_at market) t) (paid_is : paid ≡ map (cell_paid (row_of row) seen t) cells) where
-  pub look-behind : (places : WalletPlaces) → AreSeenAt cells seen places → CanLook seen places (transfers_of amounts) paid
-  look-behind places at =
-      subst (λ (x : Transfers). CanLook seen places x paid) (sym told)
-      (subst (CanLook seen places t) (sym paid_is) (can-look (row_of row) seen (market_at market) t cells places moves sees at))
+-- what the probes of the entry's movements ask of the cells behind what was paid, and what they leave
+module _ (row : Row) (seen : Seen) (market : MarketCellState) (cells paid : List CellState) (sees : SeesCells seen cells) (t : Transfers)
+    (moves : RowMoves seen (market_at market) t) (paid_is : paid ≡ map (cell_paid (row_of row) seen t) cells)
+    (told : List (Option Movement)) (told_is : told ≡ places (movements seen t)) where
+  pub probes-behind : (at : WalletPlaces) → AreSeenAt cells seen at → CanProbe (row_of row) seen at (front told) paid
+  probes-behind at here =
+      subst (λ (l : List (Option Movement)). CanProbe (row_of row) seen at (front l) paid) (sym told_is)
+      (subst (CanProbe (row_of row) seen at (front (places (movements seen t)))) (sym paid_is) (can-probe (row_of row) seen (market_at market) t cells at moves sees here))
 
-  pub looked-behind : (new : List CellState) → new ≡ map (cell_looked (row_of row) seen (transfers_of amounts) (roles_of seen)) paid
-      → new ≡ map (cell_acted (row_of row) seen t) cells
-  looked-behind new is =
-      is ∙ ap (λ (x : Transfers). map (cell_looked (row_of row) seen x (roles_of seen)) paid) told
-      ∙ ap (map (cell_looked (row_of row) seen t (roles_of seen))) paid_is ∙ acted-all (row_of row) seen t cells
+  pub probed-behind : (new : List CellState) → new ≡ map (moves_probed (row_of row) (front told)) paid → new ≡ map (cell_acted (row_of row) seen t) cells
+  probed-behind new is =
+      is ∙ ap (λ (l : List (Option Movement)). map (moves_probed (row_of row) (front l)) paid) told_is
+      ∙ ap (map (moves_probed (row_of row) (front (places (movements seen t))))) paid_is
+      ∙ map-map (cell_paid (row_of row) seen t) (moves_probed (row_of row) (front (places (movements seen t)))) cells
 
 -- ---- a row that is done
 
 module _ (row : Row) (seen : Seen) (plan : Plan) (market : MarketCellState) (cells : List CellState) (for : IsFor row seen market) (cell : IsMarketCell market)
-    (sees : SeesCells seen cells) (places : WalletPlaces) (at : AreSeenAt cells seen places) (decided : Ok plan ≡ answer_on row seen market) (amounts : Amounts) (told : transfers_of amounts ≡ plan_transfers plan) where
+    (sees : SeesCells seen cells) (stand : WalletPlaces) (at : AreSeenAt cells seen stand) (decided : Ok plan ≡ answer_on row seen market) (amounts : Amounts) (told : transfers_of amounts ≡ plan_transfers plan) where
   abbrev m : Market
   m = market_at market
 
@@ -74,21 +74,21 @@ module _ (row : Row) (seen : Seen) (plan : Plan) (market : MarketCellState) (cel
   told-step : transfers_of amounts ≡ t
   told-step = told ∙ planned-moves plan (request_of (row_of row)) seen m decided
 
-  pub pays : CanPay seen places amounts.coin_in amounts.pc_in cells
-  pays = subst (λ (x : Transfers). CanPay seen places x.coin_in x.pc_in cells) (sym told-step) (can-pay seen m t cells places moves sees at)
+  pub pays : CanPay seen stand amounts.coin_in amounts.pc_in cells
+  pays = subst (λ (x : Transfers). CanPay seen stand x.coin_in x.pc_in cells) (sym told-step) (can-pay seen m t cells stand moves sees at)
 
   -- the parcels are the plan's deposit
   pub coin-paid : (parcel : Option TokenAmount)
       → ((mint : Address) → AreOf mint seen.coin amounts.coin_in cells → parcel ≡ parcel_of mint amounts.coin_in) → parcel ≡ paid_in Coin plan m
   coin-paid parcel made =
       made m.listing.coin_mint (subst (λ (x : Transfers). AreOf m.listing.coin_mint seen.coin x.coin_in cells) (sym told-step) (coin-mints seen m t cells moves sees))
-      ∙ ap (λ (x : ℕ). parcel_of m.listing.coin_mint x) (ap (λ (x : Transfers). x.coin_in) told ∙ coin-enters plan)
+      ∙ ap (λ (x : Transfers). parcel_of m.listing.coin_mint x.coin_in) told
 
   pub pc-paid : (parcel : Option TokenAmount)
       → ((mint : Address) → AreOf mint seen.pc amounts.pc_in cells → parcel ≡ parcel_of mint amounts.pc_in) → parcel ≡ paid_in Pc plan m
   pc-paid parcel made =
       made m.listing.pc_mint (subst (λ (x : Transfers). AreOf m.listing.pc_mint seen.pc x.pc_in cells) (sym told-step) (pc-mints seen m t cells moves sees))
-      ∙ ap (λ (x : ℕ). parcel_of m.listing.pc_mint x) (ap (λ (x : Transfers). x.pc_in) told ∙ pc-enters plan)
+      ∙ ap (λ (x : Transfers). parcel_of m.listing.pc_mint x.pc_in) told
 
   -- the cells behind the deposits, and the payouts
   module _ (debited : List CellState) (debited_is : debited ≡ map (cell_debited (row_of row) seen amounts.coin_in amounts.pc_in) cells)
@@ -96,41 +96,29 @@ module _ (row : Row) (seen : Seen) (plan : Plan) (market : MarketCellState) (cel
     behind : debited ≡ map (cell_debited (row_of row) seen t.coin_in t.pc_in) cells
     behind = debited_is ∙ ap (λ (x : Transfers). map (cell_debited (row_of row) seen x.coin_in x.pc_in) cells) told-step
 
-    pub gets : CanBePaid seen places payouts.coin payouts.pc payouts.referrer debited
+    pub gets : CanBePaid seen stand payouts.coin payouts.pc payouts.referrer debited
     gets =
-        subst (λ (p : Payouts). CanBePaid seen places p.coin p.pc p.referrer debited) (sym paid)
-        (subst (CanBePaid seen places (paid_out m t).coin (paid_out m t).pc (paid_out m t).referrer) (sym behind)
-        (can-be-paid (row_of row) seen m t cells places moves sees at))
+        subst (λ (p : Payouts). CanBePaid seen stand p.coin p.pc p.referrer debited) (sym paid)
+        (subst (CanBePaid seen stand (paid_out m t).coin (paid_out m t).pc (paid_out m t).referrer) (sym behind)
+        (can-be-paid (row_of row) seen m t cells stand moves sees at))
 
-    module _ (credited : List CellState)
-        (credited_is : credited ≡ map (cell_credited (row_of row) seen (amount_in payouts.coin) (amount_in payouts.pc) (amount_in payouts.referrer)) debited) where
-      behind-both : credited ≡ map (cell_paid (row_of row) seen t) cells
-      behind-both =
-          credited_is
-          ∙ ap (λ (p : Payouts). map (cell_credited (row_of row) seen (amount_in p.coin) (amount_in p.pc) (amount_in p.referrer)) debited) paid
-          ∙ ap (map (cell_credited (row_of row) seen (amount_in (paid_out m t).coin) (amount_in (paid_out m t).pc) (amount_in (paid_out m t).referrer))) behind
-          ∙ paid-whole (row_of row) seen m t cells
-
-      pub looks : CanLook seen places (transfers_of amounts) credited
-      looks = look-behind row seen market cells credited sees amounts t told-step moves behind-both places at
-
-      pub done : (new : List CellState) → new ≡ map (cell_looked (row_of row) seen (transfers_of amounts) (roles_of seen)) credited
-          → new ≡ map (cell_acted (row_of row) seen t) cells
-      done = looked-behind row seen market cells credited sees amounts t told-step moves behind-both
+    pub behind-both : (credited : List CellState)
+        → credited ≡ map (cell_credited (row_of row) seen (amount_in payouts.coin) (amount_in payouts.pc) (amount_in payouts.referrer)) debited
+        → credited ≡ map (cell_paid (row_of row) seen t) cells
+    behind-both credited is =
+        is
+        ∙ ap (λ (p : Payouts). map (cell_credited (row_of row) seen (amount_in p.coin) (amount_in p.pc) (amount_in p.referrer)) debited) paid
+        ∙ ap (map (cell_credited (row_of row) seen (amount_in (paid_out m t).coin) (amount_in (paid_out m t).pc) (amount_in (paid_out m t).referrer))) behind
+        ∙ paid-whole (row_of row) seen m t cells
 
 -- ---- rows that move nothing
 
 -- a refused row
-pub refused-nothing : (row : Row) (seen : Seen) (refusal : Refusal) (market : MarketCellState) → Err refusal ≡ answer_on row seen market
-    → no_transfers ≡ (step_on row seen market).transfers
-refused-nothing row seen refusal market decided =
-    sym (ap (λ (s : Step). s.transfers) (refused-step refusal (request_of (row_of row)) seen (market_at market) decided))
-
--- its wallets stay
 pub refused-moves : (row : Row) (seen : Seen) (refusal : Refusal) (market : MarketCellState) (cells : List CellState) → Err refusal ≡ answer_on row seen market
     → cells ≡ map (cell_paid (row_of row) seen (step_on row seen market).transfers) cells
 refused-moves row seen refusal market cells decided =
-    sym (paid-nothing (row_of row) seen (step_on row seen market).transfers cells (sym (refused-nothing row seen refusal market decided)))
+    sym (paid-nothing (row_of row) seen (step_on row seen market).transfers cells
+    (ap (λ (s : Step). s.transfers) (refused-step refusal (request_of (row_of row)) seen (market_at market) decided)))
 
 -- a row that is held back
 module _ (row : Row) (seen : Seen) (market : MarketCellState) (cells : List CellState) (for : IsFor row seen market) (cell : IsMarketCell market) where

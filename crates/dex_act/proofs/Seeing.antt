@@ -1,14 +1,14 @@
 -- What a row sees of cells.
-use Rattle.std.proofs.Common.{◌≡◌, ℕ, ◌<◌, ◌^◌, Bool, true, false, ◌||◌, List, [], ◌∷◌, map, Option, Some, None, refl, sym, ap, ◌∙◌, subst, ⊎_elim}
+use Rattle.std.proofs.Common.{◌≡◌, ℕ, ◌<◌, ◌^◌, Bool, true, false, ◌||◌, List, [], ◌∷◌, map, Option, Some, None, refl, sym, ap, ◌∙◌, subst, arith, ⊎_elim}
 use Rattle.std.specs.List.{All, list_any}
 use Rattle.std.proofs.lemmas.List.Elements.{All-nil, All-cons, All-head, All-tail, All-weaker}
-use Rattle.std.proofs.lemmas.Bool.{cases_Bool, cond-true, cond-false, false≢true, or_parts}
+use Rattle.std.proofs.lemmas.Bool.{cases_Bool, cond-true, cond-false, false≢true, or_parts, or_right}
 use Rattle.dex_types.specs.declared.addresses.Address.{Address}
 use Rattle.dex_types.specs.declared.rows.Seen.{Seen}
 use Rattle.dex_types.specs.declared.rows.WalletSeen.{WalletSeen}
 use Rattle.dex_types.specs.Addresses.{is_same}
 use Rattle.dex_types.specs.Wallets.{address_seen, amount_at, balance_in, seen_wallets, with_role}
-use Rattle.dex_laws.proofs.TraderLaws.{is_same-true, is_same-sym}
+use Rattle.dex_laws.proofs.TraderLaws.{is_same-refl, is_same-true, is_same-sym}
 use Rattle.dex_wallet.specs.CellState.{CellState, balance_of, seen_of}
 use Rattle.dex_fold.specs.World.{role_at, wallet_at}
 use Rattle.dex_fold.proofs.NameLaws.{any-with_address}
@@ -60,11 +60,7 @@ wallet_at-right address (first ∷ others) apart =
     (cases_Bool (is_same address first.address))
 
 pub role_at-right : (role : Option Address) (cells : List CellState) → AreApart cells → All (λ (cell : CellState). IsRight cell (role_at role (map wallet_state_of cells))) cells
-role_at-right None [] apart = All-nil _
-role_at-right None (first ∷ others) apart =
-    All-cons (λ (cell : CellState). IsRight cell None) first others (λ wallet is own. absurd (cc))
-    (All-weaker (λ (cell : CellState). IsRight cell (role_at None (map wallet_state_of others))) (λ (cell : CellState). IsRight cell None) (λ cell right. right) others
-    (role_at-right None others apart.1))
+role_at-right None cells apart = λ k default lt wallet is own. absurd (cc)
 role_at-right (Some address) cells apart = wallet_at-right address cells apart
 
 -- and its cell is among them
@@ -90,6 +86,11 @@ role_at-home (Some address) cells = wallet_at-home address cells
 
 -- ---- all roles
 
+-- what holds of the wallet that a role sees, if it sees one
+abbrev IfSeen : (Address → Type 0) → Option WalletSeen → Type 0
+IfSeen P None = Unit {0}
+IfSeen P (Some wallet) = P wallet.address
+
 any-with_role : (address : Address) (role : Option WalletSeen) (addresses : List Address)
     → list_any (is_same address) (with_role (address_seen role) addresses) ≡ (hits address role || list_any (is_same address) addresses)
 any-with_role address None addresses = refl
@@ -99,12 +100,9 @@ any-with_role address (Some wallet) addresses = any-with_address address wallet.
 pub any-seen : (address : Address) (seen : Seen)
     → list_any (is_same address) (seen_wallets seen) ≡ any_hit address (roles_of seen)
 any-seen address seen =
-    let one : List Address = with_role (address_seen seen.referrer) [] in
-    let two : List Address = with_role (address_seen seen.discount) one in
-    let three : List Address = with_role (address_seen seen.pc) two in
-    any-with_role address seen.coin three
-    ∙ ap (λ (b : Bool). hits address seen.coin || b) (any-with_role address seen.pc two
-    ∙ ap (λ (b : Bool). hits address seen.pc || b) (any-with_role address seen.discount one
+    any-with_role address seen.coin _
+    ∙ ap (λ (b : Bool). hits address seen.coin || b) (any-with_role address seen.pc _
+    ∙ ap (λ (b : Bool). hits address seen.pc || b) (any-with_role address seen.discount _
     ∙ ap (λ (b : Bool). hits address seen.discount || b) (any-with_role address seen.referrer [])))
 
 -- what a role moves at an address that is not its own
@@ -141,22 +139,34 @@ balance-fits cell ((Some wallet) ∷ roles) right fits hit =
     (sym (ap (λ (b : Bool). b || any_hit cell.address roles) other) ∙ hit))
     (cases_Bool (is_same cell.address wallet.address))
 
--- the wallets that a row sees are among these cells, where those of its roles are
-all-with_role : (cells : List CellState) (role : Option WalletSeen) (addresses : List Address) → IsHome cells role → All (λ (a : Address). is_among a cells ≡ true) addresses
-    → All (λ (a : Address). is_among a cells ≡ true) (with_role (address_seen role) addresses)
-all-with_role cells None addresses home all = all
-all-with_role cells (Some wallet) addresses home all = with_address-all (λ (a : Address). is_among a cells ≡ true) wallet.address addresses home all
+-- what holds of the wallet of each role holds of the wallets that a row sees
+all-with_role : (P : Address → Type 0) (role : Option WalletSeen) (addresses : List Address) → IfSeen P role → All P addresses → All P (with_role (address_seen role) addresses)
+all-with_role P None addresses here all = all
+all-with_role P (Some wallet) addresses here all = with_address-all P wallet.address addresses here all
 
+all-seen : (P : Address → Type 0) (seen : Seen) → IfSeen P seen.coin → IfSeen P seen.pc → IfSeen P seen.discount → IfSeen P seen.referrer → All P (seen_wallets seen)
+all-seen P seen coin pc discount referrer =
+    all-with_role P seen.coin _ coin (all-with_role P seen.pc _ pc (all-with_role P seen.discount _ discount (all-with_role P seen.referrer [] referrer (All-nil P))))
+
+-- they are among these cells, where those of its roles are
 pub seen-home : (cells : List CellState) (seen : Seen) → All (IsHome cells) (roles_of seen) → All (λ (a : Address). is_among a cells ≡ true) (seen_wallets seen)
 seen-home cells seen home =
-    let H : Option WalletSeen → Type 0 = IsHome cells in
-    let past : All H (seen.pc ∷ seen.discount ∷ seen.referrer ∷ []) = All-tail H seen.coin (seen.pc ∷ seen.discount ∷ seen.referrer ∷ []) home in
-    let later : All H (seen.discount ∷ seen.referrer ∷ []) = All-tail H seen.pc (seen.discount ∷ seen.referrer ∷ []) past in
-    let last : All H (seen.referrer ∷ []) = All-tail H seen.discount (seen.referrer ∷ []) later in
-    let one : List Address = with_role (address_seen seen.referrer) [] in
-    let two : List Address = with_role (address_seen seen.discount) one in
-    let three : List Address = with_role (address_seen seen.pc) two in
-    all-with_role cells seen.coin three (All-head H seen.coin (seen.pc ∷ seen.discount ∷ seen.referrer ∷ []) home)
-    (all-with_role cells seen.pc two (All-head H seen.pc (seen.discount ∷ seen.referrer ∷ []) past)
-    (all-with_role cells seen.discount one (All-head H seen.discount (seen.referrer ∷ []) later)
-    (all-with_role cells seen.referrer [] (All-head H seen.referrer [] last) (All-nil _))))
+    all-seen (λ (a : Address). is_among a cells ≡ true) seen (is-seen seen.coin (home 0 None (omega arith))) (is-seen seen.pc (home 1 None (omega arith)))
+    (is-seen seen.discount (home 2 None (omega arith))) (is-seen seen.referrer (home 3 None (omega arith)))
+  where
+    is-seen : (role : Option WalletSeen) → IsHome cells role → IfSeen (λ (a : Address). is_among a cells ≡ true) role
+    is-seen None here = tt
+    is-seen (Some wallet) here = here
+
+-- and its roles hit them
+pub seen-hit : (seen : Seen) → All (λ (a : Address). any_hit a (roles_of seen) ≡ true) (seen_wallets seen)
+seen-hit seen =
+    all-seen (λ (a : Address). any_hit a (roles_of seen) ≡ true) seen
+    (hit-by seen.coin (λ a is. ap (λ (b : Bool). b || any_hit a (seen.pc ∷ seen.discount ∷ seen.referrer ∷ [])) is))
+    (hit-by seen.pc (λ a is. or_right (hits a seen.coin) _ (ap (λ (b : Bool). b || any_hit a (seen.discount ∷ seen.referrer ∷ [])) is)))
+    (hit-by seen.discount (λ a is. or_right (hits a seen.coin) _ (or_right (hits a seen.pc) _ (ap (λ (b : Bool). b || any_hit a (seen.referrer ∷ [])) is))))
+    (hit-by seen.referrer (λ a is. or_right (hits a seen.coin) _ (or_right (hits a seen.pc) _ (or_right (hits a seen.discount) _ (ap (λ (b : Bool). b || false) is)))))
+  where
+    hit-by : (role : Option WalletSeen) → ((a : Address) → hits a role ≡ true → any_hit a (roles_of seen) ≡ true) → IfSeen (λ (a : Address). any_hit a (roles_of seen) ≡ true) role
+    hit-by None by = tt
+    hit-by (Some wallet) by = by wallet.address (is_same-refl wallet.address)

@@ -1,5 +1,5 @@
 -- What a row of a world sees, where the wallets of the world are cells.
-use Rattle.std.proofs.Common.{◌≡◌, Bool, true, false, ◌||◌, cond, List, [], ◌∷◌, map, Option, Some, None, refl, sym, ap, ◌∙◌, subst, ⊎_elim}
+use Rattle.std.proofs.Common.{◌≡◌, Bool, true, false, ◌||◌, cond, List, [], ◌∷◌, map, get_or, Option, Some, None, refl, sym, ap, ◌∙◌, subst, ⊎_elim}
 use Rattle.std.specs.List.{All, list_any}
 use Rattle.std.proofs.lemmas.List.Elements.{All-nil, All-cons, All-head, All-tail, All-weaker}
 use Rattle.std.proofs.lemmas.Bool.{cases_Bool, cond-true, cond-false, cond_both, false≢true}
@@ -16,7 +16,6 @@ use Rattle.dex_fold.specs.Fold.{names}
 use Rattle.dex_fold.specs.World.{WalletState, World, role_at, seen_by, wallet_at}
 use Rattle.dex_wallet.specs.CellState.{CellState, HasSpare, IsWalletCell, seen_of}
 use Rattle.dex_act.specs.Wallets.{AreApart, Fits, IsHome, IsNamed, IsRight, SeesCells, any_hit, is_among, roles_of, wallet_state_of}
-use Rattle.dex_act.proofs.CellLists.{all-both, all-cells}
 use Rattle.dex_act.proofs.Seeing.{any-seen, seen-home, role_at-home, role_at-right, wallet_at-address}
 
 -- ---- one role
@@ -145,14 +144,10 @@ sees-named row seen cells sees sees_cells =
 
 right-all : (roles : List (Option Address)) (cells : List CellState) → AreApart cells
     → All (λ (cell : CellState). All (IsRight cell) (map (λ (role : Option Address). role_at role (map wallet_state_of cells)) roles)) cells
-right-all [] cells apart = all-cells (λ (cell : CellState). All (IsRight cell) []) cells (λ cell. All-nil (IsRight cell))
+right-all [] cells apart = λ k default lt. All-nil (IsRight (get_or cells k default))
 right-all (role ∷ roles) cells apart =
     let see : Option Address → Option WalletSeen = λ r. role_at r (map wallet_state_of cells) in
-    let First : CellState → Type 0 = λ cell. IsRight cell (see role) in
-    let Others : CellState → Type 0 = λ cell. All (IsRight cell) (map see roles) in
-    All-weaker (λ (cell : CellState). First cell × Others cell) (λ (cell : CellState). All (IsRight cell) (see role ∷ map see roles))
-    (λ cell both. All-cons (IsRight cell) (see role) (map see roles) both.0 both.1) cells
-    (all-both First Others cells (role_at-right role cells apart) (right-all roles cells apart))
+    λ k default lt. All-cons (IsRight (get_or cells k default)) (see role) (map see roles) (role_at-right role cells apart k default lt) (right-all roles cells apart k default lt)
 
 home-all : (roles : List (Option Address)) (cells : List CellState) → All (IsHome cells) (map (λ (role : Option Address). role_at role (map wallet_state_of cells)) roles)
 home-all [] cells = All-nil (IsHome cells)

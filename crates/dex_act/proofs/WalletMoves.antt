@@ -1,8 +1,8 @@
 -- What a row takes from cells and brings to them.
-use Rattle.std.proofs.Common.{◌≡◌, ℕ, zero, suc, ◌+◌, ◌<◌, ◌≤◌, ◌^◌, ◌⊎◌, inl, inr, Bool, true, false, cond, List, [], ◌∷◌, map, set, get_or, Option, Some, None, refl, sym, ap, ◌∙◌, subst, arith, ⊎_elim}
+use Rattle.std.proofs.Common.{◌≡◌, ℕ, zero, suc, ◌+◌, ◌<◌, ◌^◌, ◌⊎◌, inl, inr, Bool, true, false, cond, List, [], ◌∷◌, map, set, get_or, Option, Some, None, refl, sym, ap, ◌∙◌, subst, arith, ⊎_elim}
 use Rattle.std.specs.List.{All}
 use Rattle.std.proofs.Math.Dec.{eqb-suc-zero}
-use Rattle.std.proofs.lemmas.List.Elements.{All-get_or, All-map, All-weaker}
+use Rattle.std.proofs.lemmas.List.Elements.{All-get_or, All-map}
 use Rattle.std.proofs.lemmas.Bool.{cases_Bool, cond-true, cond-false, false≢true}
 use Rattle.dex_types.specs.declared.addresses.Address.{Address}
 use Rattle.dex_types.specs.declared.movements.MoveKind.{MoveKind}
@@ -17,10 +17,10 @@ use Rattle.dex_laws.proofs.TraderLaws.{is_same-true, is_same-sym}
 use Rattle.dex_wallet.specs.CellState.{CellState, HasSpare, balance_of}
 use Rattle.dex_wallet.specs.TokenAmount.{TokenAmount}
 use Rattle.dex_cell.specs.Paying.{parcel_of}
-use Rattle.dex_fold.proofs.MappedLists.{map-map}
+use Rattle.dex_fold.proofs.MappedLists.{map-agree, map-map}
 use Rattle.dex_act.specs.declared.places.WalletPlaces.{WalletPlaces}
-use Rattle.dex_act.specs.Wallets.{AreApart, CanCredit, CanGet, CanPay, CanPut, CanTake, IsAt, IsOf, IsRoleAt, NamesFor, amount_in, cell_credited, cell_debited, cell_moved, got_at, is_one, moved_some, paid_at, pc_credited, role_moved}
-use Rattle.dex_act.proofs.CellLists.{all-cells, amount_at-nothing, map-same, map-same_where, moved-here, role_moved-address, role_moved-nothing}
+use Rattle.dex_act.specs.Wallets.{AreApart, CanCredit, CanGet, CanPay, CanPut, CanTake, IsAt, IsOf, IsRoleAt, NamesFor, amount_in, cell_credited, cell_debited, cell_moved, got_at, is_one, moved_some, pc_credited, role_moved}
+use Rattle.dex_act.proofs.CellLists.{amount_at-nothing, at-any, map-same, moved-here, role_moved-address, role_moved-nothing}
 
 -- ---- parcels
 
@@ -72,12 +72,13 @@ parcel-here mint role wallet amount (first ∷ others) place parcel is some at t
 -- the cell of a role's wallet, with a parcel more
 pub credited-here : (row : PlainRow) (role : Option WalletSeen) (given : Option TokenAmount) (parcel : TokenAmount) (cells new : List CellState) (place : ℕ)
     → given ≡ Some parcel → AreApart cells → CanCredit role given cells → IsRoleAt cells (address_seen role) place
-    → ((default : CellState) → new ≡ set cells place (cell_moved row Credit parcel.amount (get_or cells place default)))
+    → (default : CellState) → new ≡ set cells place (cell_moved row Credit parcel.amount (get_or cells place default))
     → new ≡ map (role_moved row Credit role (amount_in given)) cells
-credited-here row role given parcel cells new place is apart can at moved =
+credited-here row role given parcel cells new place is apart can at default moved =
     let may : CanCredit role (Some parcel) cells = subst (λ (p : Option TokenAmount). CanCredit role p cells) is can in
     let here = role-at role parcel.amount cells place may.0 may.1 at in
-    moved-here row Credit role here.wallet parcel.amount cells new place here.is may.0 apart here.at moved
+    moved-here row Credit role here.wallet parcel.amount cells new place here.is may.0 apart here.at
+    (at-any (cell_moved row Credit parcel.amount) cells new place default here.at.within moved)
     ∙ ap (λ (p : Option TokenAmount). map (role_moved row Credit role (amount_in p)) cells) (sym is)
 
 -- a parcel that is put in is one that can be
@@ -119,7 +120,7 @@ later-moved row kind role amount later cell one =
 pub second-All : (row : PlainRow) (seen : Seen) (coin pc : ℕ) (cells : List CellState) (P : CellState → Type 0) → (coin ≡ 0) ⊎ (pc ≡ 0) → All P cells
     → (pc ≡ 0 → (cell : CellState) → P cell) → All P (map (role_moved row Debit seen.coin coin) cells)
 second-All row seen coin pc cells P (inl none) all otherwise = subst (All P) (sym (role_moved-nothing row Debit seen.coin coin cells none)) all
-second-All row seen coin pc cells P (inr none) all otherwise = all-cells P (map (role_moved row Debit seen.coin coin) cells) (otherwise none)
+second-All row seen coin pc cells P (inr none) all otherwise = λ k default lt. otherwise none (get_or (map (role_moved row Debit seen.coin coin) cells) k default)
 
 -- nothing under a role
 pub none-at : (address : Address) (role : Option WalletSeen) (amount : ℕ) → amount ≡ 0 → amount_at address role amount ≡ 0
@@ -128,13 +129,8 @@ none-at address role amount none = ap (amount_at address role) none ∙ amount_a
 pub second-can : (row : PlainRow) (seen : Seen) (coin pc : ℕ) (cells : List CellState) (places : WalletPlaces) → CanPay seen places coin pc cells
     → All (λ (cell : CellState). CanTake (amount_at cell.address seen.pc pc) cell) (map (role_moved row Debit seen.coin coin) cells)
 second-can row seen coin pc cells places can =
-    let P : CellState → Type 0 = λ cell. CanTake (amount_at cell.address seen.pc pc) cell in
-    second-All row seen coin pc cells P can.one
-    (All-weaker (λ (cell : CellState). CanTake (paid_at seen coin pc cell) cell) P
-    (λ cell whole.
-    ⊎_elim (λ (none : paid_at seen coin pc cell ≡ 0). inl (omega (arith, none)))
-    (λ (some : HasSpare cell × (paid_at seen coin pc cell ≤ balance_of cell.bytes)). inr (some.0, omega (arith, some.1))) whole)
-    cells can.each)
+    second-All row seen coin pc cells (λ cell. CanTake (amount_at cell.address seen.pc pc) cell) can.one
+    (λ k default lt. ⊎_elim (λ none. inl (omega (arith, none))) (λ some. inr (some.0, omega (arith, some.1))) (can.each k default lt))
     (λ none cell. inl (none-at cell.address seen.pc pc none))
 
 pub debited-together : (row : PlainRow) (seen : Seen) (coin pc : ℕ) (cells : List CellState) → (coin ≡ 0) ⊎ (pc ≡ 0)
@@ -190,13 +186,6 @@ fits-together (Some wallet) second a b mint (start ∷ others) place one at each
     (λ (some : HasSpare cell × (mint ≡ (wallet_words cell.bytes).mint) × (balance_of cell.bytes + (amount_at cell.address (Some wallet) a + amount_at cell.address second b) < 2 ^ 64)). omega (arith, whole, split, some.2))
     (All-get_or P cells place start at.within each)
 
-pub credited-one : (row : PlainRow) (seen : Seen) (a b n : ℕ) (cells : List CellState) → is_one seen.pc seen.referrer ≡ true → n ≡ a + b
-    → map (role_moved row Credit seen.pc n) cells ≡ map (pc_credited row seen a b) cells
-credited-one row seen a b n cells one is =
-    map-same (role_moved row Credit seen.pc n) (pc_credited row seen a b) cells (λ cell.
-    ap (λ (x : ℕ). moved_some row Credit (amount_at cell.address seen.pc x) cell) is
-    ∙ ap (λ (x : ℕ). moved_some row Credit x cell) (one-amount cell.address seen.pc seen.referrer a b one))
-
 pub credited-apart : (row : PlainRow) (seen : Seen) (a b : ℕ) (cells : List CellState) → is_one seen.pc seen.referrer ≡ false
     → map (role_moved row Credit seen.referrer b) (map (role_moved row Credit seen.pc a) cells) ≡ map (pc_credited row seen a b) cells
 credited-apart row seen a b cells apart =
@@ -218,47 +207,30 @@ pub second-put : (row : PlainRow) (seen : Seen) (a b : ℕ) (mint : Address) (ce
     → All (λ (cell : CellState). CanPut mint (got_at seen a b cell) cell) cells
     → All (λ (cell : CellState). CanPut mint (amount_at cell.address seen.referrer b) cell) (map (role_moved row Credit seen.pc a) cells)
 second-put row seen a b mint cells apart each =
-    let Q : CellState → Type 0 = λ cell. CanPut mint (amount_at cell.address seen.referrer b) cell in
-    All-map Q (role_moved row Credit seen.pc a) cells
-    (All-weaker (λ (cell : CellState). CanPut mint (got_at seen a b cell) cell) (λ cell. Q (role_moved row Credit seen.pc a cell))
-    (λ cell can.
+    All-map (λ (cell : CellState). CanPut mint (amount_at cell.address seen.referrer b) cell) (role_moved row Credit seen.pc a) cells (λ k default lt.
+    let cell : CellState = get_or cells k default in
     put-after row seen.pc a mint (λ x. amount_at x seen.referrer b) cell
     (⊎_elim
     (λ (none : amount_at cell.address seen.pc a ≡ 0).
     let all : got_at seen a b cell ≡ amount_at cell.address seen.referrer b = omega (arith, none) in
-    inl (none, subst (λ (n : ℕ). CanPut mint n cell) all can))
-    (λ (none : amount_at cell.address seen.referrer b ≡ 0). inr none)
+    inl (none, subst (λ (n : ℕ). CanPut mint n cell) all (each k default lt)))
+    (λ none. inr none)
     (apart-amounts cell.address seen.pc seen.referrer a b apart)))
-    cells each)
 
 -- after the base token, the quote token can be brought
 pub pc-put : (row : PlainRow) (seen : Seen) (coin pc referrer : ℕ) (coin_mint pc_mint : Address) (cells : List CellState)
     → All (λ (cell : CellState). CanGet coin_mint pc_mint (amount_at cell.address seen.coin coin) (got_at seen pc referrer cell) cell) cells
     → All (λ (cell : CellState). CanPut pc_mint (got_at seen pc referrer cell) cell) (map (role_moved row Credit seen.coin coin) cells)
 pc-put row seen coin pc referrer coin_mint pc_mint cells each =
-    let Q : CellState → Type 0 = λ cell. CanPut pc_mint (got_at seen pc referrer cell) cell in
-    All-map Q (role_moved row Credit seen.coin coin) cells
-    (All-weaker (λ (cell : CellState). CanGet coin_mint pc_mint (amount_at cell.address seen.coin coin) (got_at seen pc referrer cell) cell)
-    (λ cell. Q (role_moved row Credit seen.coin coin cell))
-    (λ cell can.
-    put-after row seen.coin coin pc_mint (λ x. amount_at x seen.pc pc + amount_at x seen.referrer referrer) cell (one_of cell can))
-    cells each)
-  where
-    one_of : (cell : CellState) → CanGet coin_mint pc_mint (amount_at cell.address seen.coin coin) (got_at seen pc referrer cell) cell
-        → ((amount_at cell.address seen.coin coin ≡ 0) × CanPut pc_mint (got_at seen pc referrer cell) cell) ⊎ (got_at seen pc referrer cell ≡ 0)
-    one_of cell (inl can) = inl can
-    one_of cell (inr can) = inr can.0
+    All-map (λ (cell : CellState). CanPut pc_mint (got_at seen pc referrer cell) cell) (role_moved row Credit seen.coin coin) cells (λ k default lt.
+    put-after row seen.coin coin pc_mint (λ x. amount_at x seen.pc pc + amount_at x seen.referrer referrer) (get_or cells k default)
+    (⊎_elim (λ can. inl can) (λ can. inr can.0) (each k default lt)))
 
 pub credited-together : (row : PlainRow) (seen : Seen) (coin pc referrer : ℕ) (coin_mint pc_mint : Address) (cells : List CellState)
     → All (λ (cell : CellState). CanGet coin_mint pc_mint (amount_at cell.address seen.coin coin) (got_at seen pc referrer cell) cell) cells
     → map (pc_credited row seen pc referrer) (map (role_moved row Credit seen.coin coin) cells) ≡ map (cell_credited row seen coin pc referrer) cells
 credited-together row seen coin pc referrer coin_mint pc_mint cells each =
     map-map (role_moved row Credit seen.coin coin) (pc_credited row seen pc referrer) cells
-    ∙ map-same_where (λ (cell : CellState). CanGet coin_mint pc_mint (amount_at cell.address seen.coin coin) (got_at seen pc referrer cell) cell)
-    (λ cell. pc_credited row seen pc referrer (role_moved row Credit seen.coin coin cell)) (cell_credited row seen coin pc referrer) cells each
-    (λ cell can. later-moved row Credit seen.coin coin (λ x. amount_at x seen.pc pc + amount_at x seen.referrer referrer) cell (one_of cell can))
-  where
-    one_of : (cell : CellState) → CanGet coin_mint pc_mint (amount_at cell.address seen.coin coin) (got_at seen pc referrer cell) cell
-        → (amount_at cell.address seen.coin coin ≡ 0) ⊎ (got_at seen pc referrer cell ≡ 0)
-    one_of cell (inl can) = inl can.0
-    one_of cell (inr can) = inr can.0
+    ∙ map-agree (λ cell. pc_credited row seen pc referrer (role_moved row Credit seen.coin coin cell)) (cell_credited row seen coin pc referrer) cells (λ k default lt.
+    later-moved row Credit seen.coin coin (λ x. amount_at x seen.pc pc + amount_at x seen.referrer referrer) (get_or cells k default)
+    (⊎_elim (λ can. inl can.0) (λ can. inr can.0) (each k default lt)))

@@ -1,5 +1,5 @@
 -- What a row does to the cells of wallets.
-use Rattle.std.specs.Prelude.{◌&&◌, not, ◌≡◌, ℕ, zero, suc, ◌+◌, ◌<◌, ◌≤◌, ◌^◌, ◌⊎◌, Bool, true, false, ◌||◌}
+use Rattle.std.specs.Prelude.{◌&&◌, ◌≡◌, ℕ, zero, suc, ◌+◌, ◌<◌, ◌≤◌, ◌^◌, ◌⊎◌, Bool, true, false, ◌||◌}
 use Rattle.std.specs.Prelude.{List, [], ◌∷◌, Option, Some, None, if◌then◌else◌, slice_index_or, length, map}
 use Rattle.std.specs.List.{All}
 use Rattle.dex_types.specs.declared.addresses.Address.{Address}
@@ -13,7 +13,7 @@ use Rattle.dex_types.specs.declared.rows.WalletSeen.{WalletSeen}
 use Rattle.dex_types.specs.Addresses.{is_same}
 use Rattle.dex_types.specs.Rows.{PlainRow, row_of}
 use Rattle.dex_types.specs.Transfers.{Transfers}
-use Rattle.dex_types.specs.Wallets.{address_seen, amount_at, movement_of, movements}
+use Rattle.dex_types.specs.Wallets.{address_seen, amount_at, movements}
 use Rattle.dex_history.specs.Journal.{front, places}
 use Rattle.dex_token.specs.TokenAccount.{wallet_words}
 use Rattle.dex_movements.specs.Amounts.{is_probe}
@@ -257,7 +257,11 @@ cell_paid row seen t cell =
 abbrev pub cell_acted : PlainRow → Seen → Transfers → CellState → CellState
 cell_acted row seen t cell = moves_probed row (front (places (movements seen t))) (cell_paid row seen t cell)
 
--- the cells of wallets after a row, where its market's cell is this
+-- the cells of wallets after what a row takes and brings, where its market's cell is this
+abbrev pub cells_paid : Row → Seen → MarketCellState → List CellState → List CellState
+cells_paid row seen market cells = map (cell_paid (row_of row) seen (step_on row seen market).transfers) cells
+
+-- and after all of it
 abbrev pub cells_acted : Row → Seen → MarketCellState → List CellState → List CellState
 cells_acted row seen market cells = map (cell_acted (row_of row) seen (step_on row seen market).transfers) cells
 
@@ -281,37 +285,19 @@ any_hit address (role ∷ roles) = hits address role || any_hit address roles
 abbrev pub roles_of : Seen → List (Option WalletSeen)
 roles_of seen = seen.coin ∷ seen.pc ∷ seen.discount ∷ seen.referrer ∷ []
 
--- a row looks at the wallet of an address: it is one of these roles', and the row does not move it
-abbrev pub looks_at : Seen → Transfers → List (Option WalletSeen) → Address → Bool
-looks_at seen t roles address = any_hit address roles && is_probe (movement_of seen t address).kind
+-- a cell has room for the entries of those of these movements that are probes of it
+abbrev pub HasRoomFor : PlainRow → List Movement → CellState → Type 0
+HasRoomFor row [] cell = Unit {0}
+HasRoomFor row (move ∷ moves) cell =
+    (probes move cell ≡ true → HasSpare cell) × HasRoomFor row moves (move_probed row move cell)
 
--- a cell after a row looked at the wallets of these roles
-abbrev pub cell_looked : PlainRow → Seen → Transfers → List (Option WalletSeen) → CellState → CellState
-cell_looked row seen t roles cell = if looks_at seen t roles cell.address then cell_moved row Probe 0 cell else cell
-
--- each cell at which a row looks has room for an entry
-pub record CanLook (seen : Seen) (places : WalletPlaces) (t : Transfers) (cells : List CellState) : Type 0 where
+-- a row sees the wallets of these movements, which stand at these places, with room for the entries of the probes
+pub record CanProbe (row : PlainRow) (seen : Seen) (places : WalletPlaces) (moves : List Movement)
+    (cells : List CellState) : Type 0 where
   pub apart : AreApart cells
   pub at : AreSeenAt cells seen places
-  pub spare : All (λ (cell : CellState). looks_at seen t (roles_of seen) cell.address ≡ true → HasSpare cell) cells
-
--- a row looks at it under one role, unless it is one of these later roles' too
-abbrev pub role_looks : Seen → Transfers → Option WalletSeen → List (Option WalletSeen) → Address → Bool
-role_looks seen t role later address =
-    hits address role && (is_probe (movement_of seen t address).kind && not (any_hit address later))
-
--- and can: its cell stands at this place, with room for an entry
-pub record CanLookAs (seen : Seen) (t : Transfers) (role : Option WalletSeen) (later : List (Option WalletSeen))
-    (place : ℕ) (cells : List CellState) : Type 0 where
-  pub apart : AreApart cells
-  pub here : IsRoleAt cells (address_seen role) place
-  pub spare : All (λ (cell : CellState). role_looks seen t role later cell.address ≡ true → HasSpare cell) cells
-
--- a cell after a row looked at the wallet of one role
-abbrev pub role_looked :
-    PlainRow → Seen → Transfers → Option WalletSeen → List (Option WalletSeen) → CellState → CellState
-role_looked row seen t role later cell =
-    if role_looks seen t role later cell.address then cell_moved row Probe 0 cell else cell
+  pub named : All (λ (move : Movement). any_hit move.wallet (roles_of seen) ≡ true) moves
+  pub room : All (HasRoomFor row moves) cells
 
 -- what is seen under a role at a cell's address is the cell
 abbrev pub IsRight : CellState → Option WalletSeen → Type 0

@@ -7,7 +7,7 @@ ghost use Rattle.dex_types.specs.Rows.{row_of};
 ghost use Rattle.dex_types.specs.Wallets.{row_wallets};
 ghost use Rattle.dex_act.specs.Wallets.{ArePlacesAmong, IsAt, IsNamed, IsRoleAt, is_among, wallet_places};
 
-use dex_types::{Address, Row, RowPlaces, is_same};
+use dex_types::{Address, Row, RowPlaces, Seen, is_same};
 use dex_wallet::WalletCell;
 
 /// Where the wallets that a row names stand among cells. The place of a role that names no wallet says nothing.
@@ -31,6 +31,14 @@ impl WalletPlaces {
             referrer: places.referrer as usize,
         }
     }
+}
+
+/// A row that acts, what it sees, and where the wallets that it names stand.
+#[derive(Drop)]
+pub(crate) struct Asked<'a> {
+    pub(crate) row: &'a Row,
+    pub(crate) seen: &'a Seen,
+    pub(crate) places: &'a WalletPlaces,
 }
 
 /// The place of the cell of an address that is among these.

@@ -1,28 +1,15 @@
 //! The cells of wallets that a row looks at.
 
-ghost use Rattle.std.specs.Prelude.{◌≡◌, ◌<◌, ◌∷◌, [], length, map, slice_set};
-ghost use Rattle.dex_types.specs.declared.movements.MoveKind.TheVariants.{Probe};
+ghost use Rattle.std.specs.Prelude.{◌≡◌, ◌∷◌, [], List, map, true};
 ghost use Rattle.dex_types.specs.Rows.{row_of};
-ghost use Rattle.dex_movements.specs.Amounts.{transfers_of};
-ghost use Rattle.dex_wallet.specs.CellState.{HasSpare};
-ghost use Rattle.dex_act.specs.Wallets.{AtPlace, CanLook, CanLookAs, any_hit, cell_looked, cell_moved, hits};
-ghost use Rattle.dex_act.specs.Wallets.{role_looked, roles_of};
+ghost use Rattle.dex_history.specs.Journal.{front};
+ghost use Rattle.dex_wallet.specs.CellState.{CellState};
+ghost use Rattle.dex_act.specs.Wallets.{AreSeenAt, CanProbe, IsAt, any_hit, hits};
+ghost use Rattle.dex_act.specs.Wallets.{move_probed, moves_probed, roles_of};
 
-use crate::places::WalletPlaces;
-use dex_movements::{Amounts, is_moved};
-use dex_types::{Address, Row, Seen, WalletSeen, is_same};
+use crate::places::Asked;
+use dex_types::{Address, MoveKind, Movement, WalletSeen, is_same};
 use dex_wallet::WalletCell;
-
-/// A row looks at the cell at a place.
-fn probe_at(cells: &mut [WalletCell], place: usize, row: &Row)
-    requires within { place < length cells.old }
-    requires spare { AtPlace place cells.old HasSpare }
-    ensures { AtPlace place cells.old
-        (λ cell. cells.new ≡ slice_set cells.old place (cell_moved (row_of row.entry.now) Probe 0 cell)) }
-{
-    let cell = &mut cells[place];
-    cell.probe(row.market, row.lane, row.number);
-}
 
 /// Whether a role's wallet is at the address.
 fn is_hit(address: Address, role: &Option<WalletSeen>) -> bool
@@ -34,99 +21,49 @@ fn is_hit(address: Address, role: &Option<WalletSeen>) -> bool
     }
 }
 
-/// Whether one of three roles' wallets is.
-fn is_any_hit(
-    address: Address,
-    first: &Option<WalletSeen>,
-    second: &Option<WalletSeen>,
-    third: &Option<WalletSeen>,
-) -> bool
-    ensures { result ≡ any_hit address (first.now ∷ second.now ∷ third.now ∷ []) }
+/// Where the cell of a wallet stands that a row sees under one of its roles.
+fn place_seen(address: Address, asked: &Asked) -> usize
+    requires { any_hit address (roles_of asked.now.seen.now) ≡ true }
+    ensures { (cells : List CellState) → AreSeenAt cells asked.now.seen.now asked.now.places.now
+        → IsAt address cells result }
 {
-    is_hit(address, first) || is_hit(address, second) || is_hit(address, third)
-}
-
-/// A row looks at the wallet of a role, unless it moves it or has looked at it under one of three later roles.
-fn probe(
-    cells: &mut [WalletCell],
-    row: &Row,
-    seen: &Seen,
-    amounts: &Amounts,
-    role: &Option<WalletSeen>,
-    place: usize,
-    first: &Option<WalletSeen>,
-    second: &Option<WalletSeen>,
-    third: &Option<WalletSeen>,
-)
-    requires { CanLookAs seen.now (transfers_of amounts.now) role.now
-        (first.now ∷ second.now ∷ third.now ∷ []) place cells.old }
-    ensures { cells.new ≡ map (role_looked (row_of row.entry.now) seen.now (transfers_of amounts.now) role.entry.now
-        (first.entry.now ∷ second.entry.now ∷ third.entry.now ∷ [])) cells.old }
-{
-    match role {
-        Some(wallet) => {
-            let address = wallet.address;
-            if !is_moved(seen, amounts, address) && !is_any_hit(address, first, second, third) {
-                probe_at(cells, place, row);
-            }
-        }
-        None => {}
+    if is_hit(address, &asked.seen.coin) {
+        asked.places.coin
+    } else if is_hit(address, &asked.seen.pc) {
+        asked.places.pc
+    } else if is_hit(address, &asked.seen.discount) {
+        asked.places.discount
+    } else {
+        asked.places.referrer
     }
 }
 
-/// A row looks at each wallet that it names and does not move, once.
-pub(crate) fn probes(
-    cells: &mut [WalletCell],
-    row: &Row,
-    seen: &Seen,
-    places: &WalletPlaces,
-    amounts: &Amounts,
-)
-    requires { CanLook seen.now places.now (transfers_of amounts.now) cells.old }
-    ensures { cells.new
-        ≡ map (cell_looked (row_of row.entry.now) seen.now (transfers_of amounts.now) (roles_of seen.now)) cells.old }
+/// A row looks at the wallet of a movement that is a probe.
+fn probe(cells: &mut [WalletCell], asked: &Asked, movement: &Movement)
+    requires { CanProbe (row_of asked.now.row.now) asked.now.seen.now asked.now.places.now (movement.now ∷ [])
+        cells.old }
+    ensures { cells.new ≡ map (move_probed (row_of asked.now.row.now) movement.entry.now) cells.old }
 {
-    let Seen {
-        coin,
-        pc,
-        discount,
-        referrer,
-        ..
-    } = seen;
-    probe(
-        cells,
-        row,
-        seen,
-        amounts,
-        referrer,
-        places.referrer,
-        &None,
-        &None,
-        &None,
-    );
-    probe(
-        cells,
-        row,
-        seen,
-        amounts,
-        discount,
-        places.discount,
-        referrer,
-        &None,
-        &None,
-    );
-    probe(
-        cells, row, seen, amounts, pc, places.pc, discount, referrer, &None,
-    );
-    probe(
-        cells,
-        row,
-        seen,
-        amounts,
-        coin,
-        places.coin,
-        pc,
-        discount,
-        referrer,
-    );
+    match movement.kind {
+        MoveKind::Probe => {
+            let place = place_seen(movement.wallet, asked);
+            let cell = &mut cells[place];
+            cell.probe(asked.row.market, asked.row.lane, asked.row.number);
+        }
+        MoveKind::Debit | MoveKind::Credit => {}
+    }
+}
+
+/// A row looks at each wallet whose movement is a probe: at each that it names and does not move, once.
+pub(crate) fn probes(cells: &mut [WalletCell], asked: &Asked, moves: &[Option<Movement>])
+    requires { CanProbe (row_of asked.now.row.now) asked.now.seen.now asked.now.places.now (front moves.now)
+        cells.old }
+    ensures { cells.new ≡ map (moves_probed (row_of asked.now.row.now) (front moves.entry.now)) cells.old }
+{
+    for at in 0..moves.len() {
+        match &moves[at] {
+            Some(movement) => probe(cells, asked, movement),
+            None => return,
+        }
+    }
 }

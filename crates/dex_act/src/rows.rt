@@ -10,65 +10,48 @@ ghost use Rattle.dex_cell.specs.CellState.{CanHold, HasActed, HasSpare, HasTaken
 ghost use Rattle.dex_cell.specs.CellState.{answer_on, held_on, refused_on, step_on};
 ghost use Rattle.dex_fold.specs.Fold.{wallet_acted};
 ghost use Rattle.dex_wallet.specs.CellState.{IsWalletCell};
-ghost use Rattle.dex_act.specs.Wallets.{AreApart, ArePlacesAmong, AreSeenAt, SeesCells, cells_acted, made_of};
-ghost use Rattle.dex_act.specs.Wallets.{states_acted, wallet_state_of};
+ghost use Rattle.dex_act.specs.Wallets.{AreApart, ArePlacesAmong, AreSeenAt, SeesCells, cells_acted, cells_paid};
+ghost use Rattle.dex_act.specs.Wallets.{made_of, states_acted, wallet_state_of};
 
-use crate::places::WalletPlaces;
+use crate::places::{Asked, WalletPlaces};
 use crate::probes::probes;
 use crate::wallets::{credits, debits};
 use dex_cell::{MarketCell, Plan, amounts_of};
-use dex_movements::Amounts;
-use dex_types::{Reply, Row, Seen};
+use dex_types::{Refusal, Reply, Row, Seen};
 use dex_wallet::WalletCell;
 
-/// Does a row as it was decided: its deposits leave its wallets, its market makes its step, its payouts enter its wallets, and it
-/// looks at the others that it names.
-fn accept(
-    market: &mut MarketCell,
-    wallets: &mut [WalletCell],
-    row: &Row,
-    seen: &Seen,
-    places: &WalletPlaces,
-    plan: &Plan,
-)
-    requires row { IsFor row.now seen.now market.old }
+/// Does a row as it was decided: its deposits leave its wallets, its market makes its step, and its payouts enter its wallets.
+fn accept(market: &mut MarketCell, wallets: &mut [WalletCell], asked: &Asked, plan: &Plan)
+    requires row { IsFor asked.now.row.now asked.now.seen.now market.old }
     requires market { IsMarketCell market.old }
     requires spare { HasSpare market.old }
-    requires wallets { SeesCells seen.now wallets.old }
-    requires places { AreSeenAt wallets.old seen.now places.now }
-    requires decided { Ok plan.now ≡ answer_on row.now seen.now market.old }
-    ensures taken { HasTaken row.entry.now seen.now market.old market.new }
-    ensures wallets { wallets.new ≡ cells_acted row.entry.now seen.now market.old wallets.old }
+    requires wallets { SeesCells asked.now.seen.now wallets.old }
+    requires places { AreSeenAt wallets.old asked.now.seen.now asked.now.places.now }
+    requires decided { Ok plan.now ≡ answer_on asked.now.row.now asked.now.seen.now market.old }
+    ensures taken { HasTaken asked.now.row.now asked.now.seen.now market.old market.new }
+    ensures wallets { wallets.new ≡ cells_paid asked.now.row.now asked.now.seen.now market.old wallets.old }
 {
     let amounts = amounts_of(plan);
-    let (coin, pc) = debits(wallets, row, seen, places, &amounts);
-    let payouts = market.carry_out(row, seen, plan, coin, pc);
-    credits(wallets, row, seen, places, payouts);
-    probes(wallets, row, seen, places, &amounts);
+    let (coin, pc) = debits(wallets, asked, &amounts);
+    let payouts = market.carry_out(asked.row, asked.seen, plan, coin, pc);
+    credits(wallets, asked, payouts);
 }
 
 /// Decides a row, and does it or writes down that it is refused.
-fn answer(
-    market: &mut MarketCell,
-    wallets: &mut [WalletCell],
-    row: &Row,
-    seen: &Seen,
-    places: &WalletPlaces,
-)
-    requires row { IsFor row.now seen.now market.old }
+fn answer(market: &mut MarketCell, wallets: &mut [WalletCell], asked: &Asked)
+    requires row { IsFor asked.now.row.now asked.now.seen.now market.old }
     requires market { IsMarketCell market.old }
     requires spare { HasSpare market.old }
-    requires wallets { SeesCells seen.now wallets.old }
-    requires places { AreSeenAt wallets.old seen.now places.now }
-    ensures taken { HasTaken row.entry.now seen.now market.old market.new }
-    ensures wallets { wallets.new ≡ cells_acted row.entry.now seen.now market.old wallets.old }
+    requires wallets { SeesCells asked.now.seen.now wallets.old }
+    requires places { AreSeenAt wallets.old asked.now.seen.now asked.now.places.now }
+    ensures taken { HasTaken asked.now.row.now asked.now.seen.now market.old market.new }
+    ensures wallets { wallets.new ≡ cells_paid asked.now.row.now asked.now.seen.now market.old wallets.old }
 {
-    match &market.decide(row, seen) {
-        Ok(plan) => accept(market, wallets, row, seen, places, plan),
-        Err(refusal) => {
-            market.refuse(row, seen, *refusal);
-            probes(wallets, row, seen, places, &Amounts::none());
-        }
+    let mut decided = Err(Refusal::NoAccount);
+    market.decide_into(asked.row, asked.seen, &mut decided);
+    match &decided {
+        Ok(plan) => accept(market, wallets, asked, plan),
+        Err(refusal) => market.refuse(asked.row, asked.seen, *refusal),
     }
 }
 
@@ -99,8 +82,11 @@ pub fn act(
     ensures apart { AreApart wallets.new }
     ensures made { map made_of wallets.new ≡ map made_of wallets.old }
 {
-    answer(market, wallets, row, seen, places);
-    market.last().reply
+    let asked = Asked { row, seen, places };
+    answer(market, wallets, &asked);
+    let entry = market.last();
+    probes(wallets, &asked, &entry.moves);
+    entry.reply
 }
 
 /// A take is held back, for a row whose item is refused elsewhere: its market writes down that nothing was to do, and it looks at the
@@ -127,7 +113,9 @@ pub fn hold(
     ensures apart { AreApart wallets.new }
     ensures made { map made_of wallets.new ≡ map made_of wallets.old }
 {
+    let asked = Asked { row, seen, places };
     market.idle(row, seen);
-    probes(wallets, row, seen, places, &Amounts::none());
+    let entry = market.last();
+    probes(wallets, &asked, &entry.moves);
     Reply::Done
 }

@@ -1,6 +1,6 @@
 //! The cells of wallets, and how a row moves them.
 
-ghost use Rattle.std.specs.Prelude.{◌≡◌, ◌<◌, ◌≤◌, ◌+◌, ◌^◌, length, map, slice_set};
+ghost use Rattle.std.specs.Prelude.{◌≡◌, ◌<◌, ◌≤◌, ◌+◌, length, map, slice_set};
 ghost use Rattle.std.specs.List.{All};
 ghost use Rattle.dex_types.specs.declared.addresses.Address.{Address as AddressOf};
 ghost use Rattle.dex_types.specs.declared.movements.MoveKind.TheVariants.{Debit, Credit};
@@ -16,10 +16,10 @@ ghost use Rattle.dex_act.specs.Wallets.{CanGetPc, CanPay, CanTake, Fits, IsRoleA
 ghost use Rattle.dex_act.specs.Wallets.{cell_credited, cell_debited, cell_moved, pc_credited, role_moved};
 ghost use Rattle.dex_act.specs.Wallets.{wallet_state_of};
 
-use crate::places::WalletPlaces;
+use crate::places::Asked;
 use dex_cell::Payouts;
 use dex_movements::Amounts;
-use dex_types::{Address, Row, Seen, WalletSeen, is_same};
+use dex_types::{Address, Row, WalletSeen, is_same};
 use dex_wallet::{Parcel, WalletCell};
 
 /// What a row sees of the wallet of an address, if it is among these.
@@ -48,21 +48,6 @@ fn debit_at(cells: &mut [WalletCell], place: usize, row: &Row, amount: u64) -> P
 {
     let cell = &mut cells[place];
     cell.debit(row.market, row.lane, row.number, amount)
-}
-
-/// A row puts a parcel into the cell at a place.
-fn credit_at(cells: &mut [WalletCell], place: usize, row: &Row, parcel: Parcel)
-    requires within { place < length cells.old }
-    requires some { 1 ≤ parcel.amount }
-    requires spare { AtPlace place cells.old HasSpare }
-    requires mint { AtPlace place cells.old (λ cell. parcel.mint ≡ (wallet_words cell.bytes).mint) }
-    requires fits { AtPlace place cells.old (λ cell. balance_of cell.bytes + parcel.amount < 2 ^ 64) }
-    ensures { AtPlace place cells.old
-        (λ cell. cells.new
-        ≡ slice_set cells.old place (cell_moved (row_of row.entry.now) Credit parcel.amount cell)) }
-{
-    let cell = &mut cells[place];
-    cell.credit(row.market, row.lane, row.number, parcel);
 }
 
 /// A row takes an amount out of the cell that a role names, as a parcel: none of nothing.
@@ -102,7 +87,10 @@ fn credit(
     ensures { cells.new ≡ map (role_moved (row_of row.entry.now) Credit role.entry.now (amount_in parcel)) cells.old }
 {
     match parcel {
-        Some(parcel) => credit_at(cells, place, row, parcel),
+        Some(parcel) => {
+            let cell = &mut cells[place];
+            cell.credit(row.market, row.lane, row.number, parcel);
+        }
         None => {}
     }
 }
@@ -111,19 +99,18 @@ fn credit(
 /// nothing.
 pub(crate) fn debits(
     cells: &mut [WalletCell],
-    row: &Row,
-    seen: &Seen,
-    places: &WalletPlaces,
+    asked: &Asked,
     amounts: &Amounts,
 ) -> (Option<Parcel>, Option<Parcel>)
-    requires { CanPay seen.now places.now amounts.now.coin_in amounts.now.pc_in cells.old }
-    ensures coin { (mint : AddressOf) → AreOf mint seen.now.coin amounts.now.coin_in cells.old
+    requires { CanPay asked.now.seen.now asked.now.places.now amounts.now.coin_in amounts.now.pc_in cells.old }
+    ensures coin { (mint : AddressOf) → AreOf mint asked.now.seen.now.coin amounts.now.coin_in cells.old
         → result.0 ≡ parcel_of mint amounts.now.coin_in }
-    ensures pc { (mint : AddressOf) → AreOf mint seen.now.pc amounts.now.pc_in cells.old
+    ensures pc { (mint : AddressOf) → AreOf mint asked.now.seen.now.pc amounts.now.pc_in cells.old
         → result.1 ≡ parcel_of mint amounts.now.pc_in }
-    ensures moved { cells.new
-        ≡ map (cell_debited (row_of row.entry.now) seen.now amounts.now.coin_in amounts.now.pc_in) cells.old }
+    ensures moved { cells.new ≡ map (cell_debited (row_of asked.now.row.now) asked.now.seen.now
+        amounts.now.coin_in amounts.now.pc_in) cells.old }
 {
+    let Asked { row, seen, places } = asked;
     let coin = debit(cells, row, &seen.coin, places.coin, amounts.coin_in);
     let pc = debit(cells, row, &seen.pc, places.pc, amounts.pc_in);
     (coin, pc)
@@ -154,18 +141,12 @@ fn join(first: Option<Parcel>, second: Option<Parcel>) -> Option<Parcel>
 }
 
 /// The payouts of a row in the quote token. Where the `pc` and the `referrer` wallet are one, it is credited once.
-fn credit_pc(
-    cells: &mut [WalletCell],
-    row: &Row,
-    seen: &Seen,
-    places: &WalletPlaces,
-    pc: Option<Parcel>,
-    referrer: Option<Parcel>,
-)
-    requires { CanGetPc seen.now places.now pc referrer cells.old }
-    ensures { cells.new
-        ≡ map (pc_credited (row_of row.entry.now) seen.now (amount_in pc) (amount_in referrer)) cells.old }
+fn credit_pc(cells: &mut [WalletCell], asked: &Asked, pc: Option<Parcel>, referrer: Option<Parcel>)
+    requires { CanGetPc asked.now.seen.now asked.now.places.now pc referrer cells.old }
+    ensures { cells.new ≡ map (pc_credited (row_of asked.now.row.now) asked.now.seen.now
+        (amount_in pc) (amount_in referrer)) cells.old }
 {
+    let Asked { row, seen, places } = asked;
     if is_one(&seen.pc, &seen.referrer) {
         let both = join(pc, referrer);
         credit(cells, row, &seen.pc, places.pc, both);
@@ -176,18 +157,12 @@ fn credit_pc(
 }
 
 /// The payouts of a row, into the cells of its roles.
-pub(crate) fn credits(
-    cells: &mut [WalletCell],
-    row: &Row,
-    seen: &Seen,
-    places: &WalletPlaces,
-    payouts: Payouts,
-)
-    requires { CanBePaid seen.now places.now payouts.coin payouts.pc payouts.referrer cells.old }
-    ensures { cells.new ≡ map (cell_credited (row_of row.entry.now) seen.now
+pub(crate) fn credits(cells: &mut [WalletCell], asked: &Asked, payouts: Payouts)
+    requires { CanBePaid asked.now.seen.now asked.now.places.now payouts.coin payouts.pc payouts.referrer cells.old }
+    ensures { cells.new ≡ map (cell_credited (row_of asked.now.row.now) asked.now.seen.now
         (amount_in payouts.coin) (amount_in payouts.pc) (amount_in payouts.referrer)) cells.old }
 {
     let Payouts { coin, pc, referrer } = payouts;
-    credit(cells, row, &seen.coin, places.coin, coin);
-    credit_pc(cells, row, seen, places, pc, referrer);
+    credit(cells, asked.row, &asked.seen.coin, asked.places.coin, coin);
+    credit_pc(cells, asked, pc, referrer);
 }

@@ -14,7 +14,7 @@ use Rattle.dex_replay.specs.Lawful.{entries_at}
 use Rattle.dex_replay.proofs.Groups.{grouped-each, unfilter}
 use Rattle.dex_replay.proofs.MappedLists.{All-unmap, head-same, tail-same}
 use Rattle.dex_replay.proofs.Orders.{each-item, items-in, own-order}
-use Rattle.dex_script.specs.Facts.{HasNoSwap}
+use Rattle.dex_script_facts.specs.Facts.{HasNoSwap}
 use Rattle.dex_replay.specs.Replays.{IsLeftByRows, IsReplayOf}
 use Rattle.dex_replay.specs.Runs.{IsRunOf}
 use Rattle.dex_answers.specs.Answers.{IsPlayed}

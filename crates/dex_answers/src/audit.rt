@@ -15,7 +15,7 @@ use dex_types::{Accounts, NoMemory};
 use std::alloc::Global;
 
 /// Tells that the accounts of a dump have no findings, or their findings, or the first faulty row of the dump.
-pub(crate) fn audit_answer(alloc: Global, bytes: &[u8]) -> Result<StatusText, NoMemory>
+pub fn audit_answer(alloc: Global, bytes: &[u8]) -> Result<StatusText, NoMemory>
     ensures { IfOk result (λ told. Answers Audit bytes.now told.status told.text.items) }
 {
     match check_dump(alloc, bytes)? {

@@ -21,7 +21,7 @@ use std::alloc::Global;
 ///
 /// That a made script is one, and that its outcome is of its two markets, is tested and not proved: where it were
 /// otherwise, the answer is want of memory.
-pub(crate) fn bulk_answer(alloc: Global, number: u64, rows: u32) -> Result<StatusText, NoMemory>
+pub fn bulk_answer(alloc: Global, number: u64, rows: u32) -> Result<StatusText, NoMemory>
     requires { AreMade number rows }
     ensures { IfOk result (λ told. Answers (Bulk number rows) [] told.status told.text.items) }
 {
@@ -40,7 +40,7 @@ pub(crate) fn bulk_answer(alloc: Global, number: u64, rows: u32) -> Result<Statu
 }
 
 /// Whether the journals and the accounts of an outcome are those of a made script's two markets.
-fn is_of_made(outcome: &Outcome) -> bool
+pub fn is_of_made(outcome: &Outcome) -> bool
     ensures journals { IsTrue result
         → map (λ (journal : PlainMarketJournal). journal.address) (outcome_of outcome.now).markets ≡ made_markets }
     ensures markets { let markets = (outcome_of outcome.now).accounts.markets in

@@ -11,25 +11,25 @@ ghost use Rattle.dex_answers.specs.declared.status.Status.TheVariants as status;
 use crate::played::{Played, play_script};
 use crate::status::Status;
 use crate::told::StatusText;
-use dex_dump::write_dump;
+use dex_dump::into_dump;
 use dex_types::{Accounts, NoMemory};
 use std::alloc::Global;
 
 /// The dump of the accounts when all rows of a script have acted, or why the bytes are no script.
-pub(crate) fn dump_answer(alloc: Global, bytes: &[u8]) -> Result<StatusText, NoMemory>
+pub fn dump_answer(alloc: Global, bytes: &[u8]) -> Result<StatusText, NoMemory>
     ensures { IfOk result (λ told. Answers Dump bytes.now told.status told.text.items) }
 {
     match play_script(alloc, bytes)? {
-        Played::AllRows { rows: _, outcome } => dump_of(alloc, &outcome.accounts),
+        Played::AllRows { rows: _, outcome } => dump_of(alloc, outcome.accounts),
         Played::Refused(told) => Ok(told),
     }
 }
 
-/// The dump of accounts.
-pub(crate) fn dump_of(alloc: Global, accounts: &Accounts) -> Result<StatusText, NoMemory>
-    ensures { IfOk result (λ told. IsText told status.Ok (dump_text (accounts_of accounts.now))) }
+/// The dump of accounts, which are given up.
+pub(crate) fn dump_of(alloc: Global, accounts: Accounts) -> Result<StatusText, NoMemory>
+    ensures { IfOk result (λ told. IsText told status.Ok (dump_text (accounts_of accounts))) }
 {
-    let text = write_dump(alloc, accounts)?;
+    let text = into_dump(alloc, accounts)?;
     Ok(StatusText {
         status: Status::Ok,
         text,

@@ -3,8 +3,8 @@
 ghost use Rattle.std.specs.Prelude.{◌≡◌, ℕ, List};
 ghost use Rattle.dex_words.specs.declared.command.Command.{Command};
 ghost use Rattle.dex_report.specs.Outcomes.{PlainOutcome};
-ghost use Rattle.dex_script.specs.Drafts.{PlainScript};
-ghost use Rattle.dex_script.specs.Facts.{IsScript};
+ghost use Rattle.dex_script_facts.specs.PlainScript.{PlainScript};
+ghost use Rattle.dex_script_facts.specs.Facts.{IsScript};
 ghost use Rattle.dex_replay.specs.Lawful.{IsLawful};
 ghost use Rattle.dex_answers.specs.Answers.{Answers};
 ghost use Rattle.dex_answers.specs.Paired.{ArePaired};

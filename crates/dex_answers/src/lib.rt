@@ -1,7 +1,6 @@
-//! What each command answers to the bytes that it read: a status, and the text that is written under it.
+//! What each command but `worth` answers to the bytes that it read: a status, and the text that is written under it.
 #![tactic(auto)]
 
-mod answer;
 mod audit;
 mod bulk;
 mod clean;
@@ -15,12 +14,15 @@ mod played;
 mod replay;
 mod status;
 mod told;
-mod worth;
 
-pub use answer::answer_to;
+pub use audit::audit_answer;
+pub use bulk::{bulk_answer, is_of_made};
 pub use counting::items_in;
+pub use dump::dump_answer;
 pub use laws::{both_legs_of_a_swap_take_or_neither, what_suits_a_command_is_answered};
+pub use make::make_answer;
+pub use migrate::migrate_answer;
 pub use played::no_script;
-pub use replay::report_of;
+pub use replay::{replay_answer, replay_taken, report_of};
 pub use status::Status;
 pub use told::StatusText;

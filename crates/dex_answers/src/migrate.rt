@@ -20,7 +20,7 @@ use std::alloc::Global;
 
 /// The dump of the accounts with sides of so many nodes and event queues for so many events; or what would not fit; or
 /// the findings of the accounts, or the first faulty row of the dump.
-pub(crate) fn migrate_answer(
+pub fn migrate_answer(
     alloc: Global,
     bytes: &[u8],
     nodes: u32,
@@ -35,7 +35,7 @@ pub(crate) fn migrate_answer(
         Checked::Refused(told) => return Ok(told),
     };
     match migrate(alloc, accounts, nodes, events) {
-        Ok(migrated) => dump_of(alloc, &migrated),
+        Ok(migrated) => dump_of(alloc, migrated),
         Err(MigrateError::TooSmall(fault)) => migrate_refused(alloc, fault),
         Err(MigrateError::NoMemory) => Err(NoMemory),
     }

@@ -1,7 +1,7 @@
 //! What the rows of a script leave.
 
-ghost use Rattle.std.specs.Prelude.{ℕ, Bool, List, IfOk};
-ghost use Rattle.dex_script.specs.Telling.{TellsError};
+ghost use Rattle.std.specs.Prelude.{ℕ, Bool, List, IfOk, false};
+ghost use Rattle.dex_script.specs.Telling.{TellsError, TellsScript};
 ghost use Rattle.dex_answers.specs.Answers.{IsNoScript};
 ghost use Rattle.dex_answers.specs.Telling.{TellsPlayed};
 
@@ -12,7 +12,7 @@ use dex_lines::ScriptRefused;
 use dex_replay::laws::without_swaps_rows_act_one_by_one;
 use dex_replay::replay;
 use dex_report::Outcome;
-use dex_script::{ScriptError, read_script};
+use dex_script::{Script, ScriptError, read_script};
 use dex_types::NoMemory;
 use std::alloc::Global;
 
@@ -29,7 +29,24 @@ pub(crate) enum Played {
 pub(crate) fn play_script(alloc: Global, bytes: &[u8]) -> Result<Played, NoMemory>
     ensures { IfOk result (λ played. TellsPlayed played bytes.now) }
 {
-    match read_script(alloc, bytes, false) {
+    let read = read_script(alloc, bytes, false);
+    play_read(alloc, read)
+}
+
+/// The same of bytes that are given up: they are let go before the first row acts.
+pub(crate) fn play_taken(alloc: Global, bytes: Vec<u8>) -> Result<Played, NoMemory>
+    ensures { IfOk result (λ played. TellsPlayed played bytes.items) }
+{
+    let read = read_script(alloc, &bytes, false);
+    drop(bytes);
+    play_read(alloc, read)
+}
+
+/// Lets the items of what was read act.
+fn play_read(alloc: Global, read: Result<Script, ScriptError>) -> Result<Played, NoMemory>
+    ensures { (bytes : List ℕ) → TellsScript read false bytes → IfOk result (λ played. TellsPlayed played bytes) }
+{
+    match read {
         Ok(script) => {
             let rows = items_in(&script.rows);
             let outcome = replay(alloc, script)?;

@@ -1,37 +1,52 @@
 //! The command `replay`.
 
-ghost use Rattle.std.specs.Prelude.{IfOk};
+ghost use Rattle.std.specs.Prelude.{ℕ, IfOk, List};
 ghost use Rattle.dex_words.specs.declared.command.Command.TheVariants.{Replay};
 ghost use Rattle.dex_report.specs.Outcomes.{outcome_of};
 ghost use Rattle.dex_report.specs.Report.{report_text};
 ghost use Rattle.dex_report.specs.Telling.{FitOutcome};
 ghost use Rattle.dex_answers.specs.Answers.{Answers};
-ghost use Rattle.dex_answers.specs.Telling.{IsText};
+ghost use Rattle.dex_answers.specs.Telling.{IsText, TellsPlayed};
 ghost use Rattle.dex_answers.specs.declared.status.Status.TheVariants as status;
 
-use crate::played::{Played, play_script};
+use crate::played::{Played, play_script, play_taken};
 use crate::status::Status;
 use crate::told::StatusText;
-use dex_report::{Outcome, report_text};
+use dex_report::{Outcome, into_report_text};
 use dex_types::NoMemory;
 use std::alloc::Global;
 
 /// The report of what is left when all rows of a script have acted, or why the bytes are no script.
-pub(crate) fn replay_answer(alloc: Global, bytes: &[u8]) -> Result<StatusText, NoMemory>
+pub fn replay_answer(alloc: Global, bytes: &[u8]) -> Result<StatusText, NoMemory>
     ensures { IfOk result (λ told. Answers Replay bytes.now told.status told.text.items) }
 {
-    match play_script(alloc, bytes)? {
-        Played::AllRows { rows, outcome } => report_of(alloc, &outcome, rows),
+    told_of(alloc, play_script(alloc, bytes)?)
+}
+
+/// The same of bytes that are given up.
+pub fn replay_taken(alloc: Global, bytes: Vec<u8>) -> Result<StatusText, NoMemory>
+    ensures { IfOk result (λ told. Answers Replay bytes.items told.status told.text.items) }
+{
+    told_of(alloc, play_taken(alloc, bytes)?)
+}
+
+/// The report of what a script came to.
+fn told_of(alloc: Global, played: Played) -> Result<StatusText, NoMemory>
+    ensures { (bytes : List ℕ) → TellsPlayed played bytes
+        → IfOk result (λ told. Answers Replay bytes told.status told.text.items) }
+{
+    match played {
+        Played::AllRows { rows, outcome } => report_of(alloc, outcome, rows),
         Played::Refused(told) => Ok(told),
     }
 }
 
-/// The report of an outcome that tells of so many rows. All values that it tells fit.
-pub fn report_of(alloc: Global, outcome: &Outcome, rows: u32) -> Result<StatusText, NoMemory>
-    ensures fits { IfOk result (λ told. FitOutcome (outcome_of outcome.now)) }
-    ensures text { IfOk result (λ told. IsText told status.Ok (report_text (outcome_of outcome.now) rows)) }
+/// The report of an outcome, which is given up, that tells of so many rows. All values that it tells fit.
+pub fn report_of(alloc: Global, outcome: Outcome, rows: u32) -> Result<StatusText, NoMemory>
+    ensures fits { IfOk result (λ told. FitOutcome (outcome_of outcome)) }
+    ensures text { IfOk result (λ told. IsText told status.Ok (report_text (outcome_of outcome) rows)) }
 {
-    let text = report_text(alloc, outcome, rows)?;
+    let text = into_report_text(alloc, outcome, rows)?;
     Ok(StatusText {
         status: Status::Ok,
         text,

@@ -1,6 +1,7 @@
 //! Each call once, with memory enough: none always answers that memory is wanting.
 
 use dex_call::{audit, bulk, dump, make, migrate, replay, worth};
+use dex_dump::{read_dump, write_dump};
 use std::alloc::Global;
 use std::test::Fail;
 
@@ -73,6 +74,18 @@ fn dumps_are_migrated(rt: HostRuntime) -> Result<(), Fail> {
     let (mut text, mut size) = (room(rt.alloc())?, 0);
     let status = migrate(rt.alloc(), 7, 9, &dump, &mut text, &mut size);
     tells(status, &text, size, b"dump\nmint,coin,")
+}
+
+#[test]
+fn accounts_that_stay_are_dumped(rt: HostRuntime) -> Result<(), Fail> {
+    let dump = dumped(rt.alloc())?;
+    let Ok(accounts) = read_dump(rt.alloc(), &dump) else {
+        return Err(Fail::new("no dump"));
+    };
+    if write_dump(rt.alloc(), &accounts)? != dump {
+        return Err(Fail::new("another dump"));
+    }
+    Ok(())
 }
 
 #[test]

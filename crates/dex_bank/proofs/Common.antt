@@ -6,9 +6,9 @@ pub use Rattle.dex_bank.specs.Cells.{AreCells, CanAct, CanWait, CellsState, IsRe
 pub use Rattle.dex_bank.specs.CellsInside.{cells_inside}
 pub use Rattle.dex_bank.specs.Closed.{account_in, market_journal_in, wallet_journal_in}
 pub use Rattle.dex_bank.specs.Opened.{market_opened, rows_naming, rows_on, wallet_opened}
-pub use Rattle.dex_bank.specs.Stepping.{CanActAt, HasBecomeAt, HaveActed, IsFirstAt}
+pub use Rattle.dex_bank.specs.Stepping.{HaveActed, IsFirstAt}
 pub use Rattle.dex_cell.specs.CellState.{CanHold, IsMarketCell, MarketCellState, call_on, entries_of, step_on}
 pub use Rattle.dex_dump.specs.Accepted.{AreAccepted, address_of, all_of_market}
-pub use Rattle.dex_script.specs.Facts.{IsStart}
+pub use Rattle.dex_script_facts.specs.Facts.{IsStart}
 pub use Rattle.dex_token.specs.TokenAccount.{IsWallet}
 pub use Rattle.dex_wallet.specs.CellState.{CellState, IsWalletCell}

@@ -1,6 +1,5 @@
 pub mod Common
 pub mod OpenCells
-mod OpenCounts
 mod OpenLists
 mod OpenRooms
 pub mod Stands

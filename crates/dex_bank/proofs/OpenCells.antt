@@ -1,13 +1,11 @@
 -- The cells with which a script starts are cells.
-use Rattle.std.proofs.Common.{◌≡◌, ℕ, ◌+◌, ◌<◌, ◌≤◌, Bool, true, false, ◌||◌, cond, List, [], ◌∷◌, ◌++◌, map, slice_index, refl, sym, ap, subst, ◌∙◌, arith, ⊎_elim}
-use Rattle.dex_fold.proofs.Common.{Address, All-cons, All-head, All-map, All-nil, All-tail, PlainAccount, PlainAccounts, PlainMarketAccounts, PlainRow, cases_Bool, flat_map, is_same, is_same-refl, sum_by-append, sum_by-cons}
-use Rattle.dex_bank.proofs.Common.{AreAccepted, AreCells, AreSound, CellsState, IsAccepted, IsMarketCell, IsStart, IsWallet, IsWalletCell, address_of, all_of_market, is_among, market_opened, wallet_opened}
+use Rattle.std.proofs.Common.{◌≡◌, ℕ, suc, Bool, false, ◌||◌, List, [], ◌∷◌, get_or, map, refl, sym, ap, subst, ◌∙◌, arith}
+use Rattle.dex_fold.proofs.Common.{Address, All-head, All-map, All-tail, PlainAccount, PlainAccounts, PlainMarketAccounts, PlainRow, is_same}
+use Rattle.dex_bank.proofs.Common.{AreAccepted, AreCells, AreSound, CellsState, IsAccepted, IsMarketCell, IsStart, IsWalletCell, address_of, is_among, market_opened, wallet_opened}
 use Rattle.std.specs.List.{All}
-use Rattle.dex_token.proofs.AmountWrites.{with_amount-same}
 use Rattle.dex_cell.specs.CellState as market
-use Rattle.dex_wallet.specs.CellState as wallet
 use Rattle.dex_act.specs.Wallets.{AreApart}
-use Rattle.dex_dump.specs.Accepted.{times}
+use Rattle.dex_script_facts.proofs.Apart.{AreDistinct, wallets-distinct}
 
 -- ---- each of them
 
@@ -24,72 +22,30 @@ IsMarketCell-new accounts room sound accepted = record {
   room = omega arith;
 }
 
-pub IsWalletCell-new : (address : Address) (bytes : List ℕ) (room : ℕ) → ((place : ℕ) → slice_index bytes place < 256) → IsWallet bytes
-    → IsWalletCell (wallet.new_cell address bytes room)
-IsWalletCell-new address bytes room low accepted = record {
-  accepted = accepted;
-  others = sym (with_amount-same bytes low accepted);
-  balance = refl;
-  legal = tt;
-  share = refl;
-  room = omega arith;
-}
-
-both : (P Q R : PlainMarketAccounts → Type 0) (markets : List PlainMarketAccounts) → ((accounts : PlainMarketAccounts) → P accounts → Q accounts → R accounts)
-    → All P markets → All Q markets → All R markets
-both P Q R [] joined one other = All-nil R
-both P Q R (first ∷ others) joined one other =
-    All-cons R first others (joined first (All-head P first others one) (All-head Q first others other))
-    (both P Q R others joined (All-tail P first others one) (All-tail Q first others other))
-
 market_cells : (rows : List PlainRow) (markets : List PlainMarketAccounts) → All AreSound markets → All IsAccepted markets → All IsMarketCell (map (market_opened rows) markets)
 market_cells rows markets sound accepted =
-    All-map IsMarketCell (market_opened rows) markets
-    (both AreSound IsAccepted (λ accounts. IsMarketCell (market_opened rows accounts)) markets (λ accounts. IsMarketCell-new accounts _) sound accepted)
+    All-map IsMarketCell (market_opened rows) markets (λ k d within. IsMarketCell-new (get_or markets k d) _ (sound k d within) (accepted k d within))
 
 -- ---- no two wallets have one address
 
--- one where it is so
-abbrev one : Bool → ℕ
-one b = cond b 1 0
-
-times-cons : (address x : Address) (xs : List Address) → times address (x ∷ xs) ≡ one (is_same address x) + times address xs
-times-cons address x xs = sum_by-cons (λ (y : Address). one (is_same address y)) x xs
-
-times-append : (address : Address) (xs ys : List Address) → times address (xs ++ ys) ≡ times address xs + times address ys
-times-append address xs ys = sum_by-append (λ (y : Address). one (is_same address y)) xs ys
-
--- an address that does not stand there is that of no cell
-none-among : (rows : List PlainRow) (address : Address) (accounts : List PlainAccount) → times address (map address_of accounts) ≡ 0
-    → is_among address (map (wallet_opened rows) accounts) ≡ false
-none-among rows address [] none = refl
-none-among rows address (first ∷ others) none =
-    let counted = times-cons address first.address (map address_of others) in
-    ⊎_elim
-    (λ (same : is_same address first.address ≡ true). absurd (omega (arith, counted, ap one same)))
-    (λ (apart : is_same address first.address ≡ false).
-    ap (λ (b : Bool). b || is_among address (map (wallet_opened rows) others)) apart ∙ none-among rows address others (omega arith))
-    (cases_Bool (is_same address first.address))
-
-cells-apart : (rows : List PlainRow) (accounts : List PlainAccount) → ((address : Address) → times address (map address_of accounts) ≤ 1)
-    → AreApart (map (wallet_opened rows) accounts)
-cells-apart rows [] once = tt
-cells-apart rows (first ∷ others) once = (
-  none-among rows first.address others
-      (omega (arith, once first.address, times-cons first.address first.address (map address_of others), ap one (is_same-refl first.address))),
-  cells-apart rows others (λ address. omega (arith, once address, times-cons address first.address (map address_of others))),
+cells-apart : (rows : List PlainRow) (accounts : List PlainAccount) → AreDistinct (map address_of accounts) → AreApart (map (wallet_opened rows) accounts)
+cells-apart rows [] distinct = tt
+cells-apart rows (first ∷ others) distinct = (
+  none-among others (λ k d within. distinct 0 (suc k) d (omega arith) (omega (arith, within))),
+  cells-apart rows others (λ i j d less within. distinct (suc i) (suc j) d (omega (arith, less)) (omega (arith, within))),
 )
+  where
+    -- an address that is none of theirs is that of no cell
+    none-among : (some : List PlainAccount) → All (λ (other : Address). is_same first.address other ≡ false) (map address_of some)
+        → is_among first.address (map (wallet_opened rows) some) ≡ false
+    none-among [] away = refl
+    none-among (account ∷ some) away =
+        let Away : Address → Type 0 = λ (other : Address). is_same first.address other ≡ false in
+        ap (λ (b : Bool). b || is_among first.address (map (wallet_opened rows) some)) (All-head Away account.address (map address_of some) away)
+        ∙ none-among some (All-tail Away account.address (map address_of some) away)
 
 pub wallets-apart : (rows : List PlainRow) (accounts : PlainAccounts) → AreAccepted accounts → AreApart (map (wallet_opened rows) accounts.wallets)
-wallets-apart rows accounts accepted =
-    cells-apart rows accounts.wallets
-    (λ address.
-    omega (
-      arith,
-      accepted.once address,
-      times-append address (map address_of accounts.mints) (map address_of accounts.wallets ++ flat_map all_of_market accounts.markets),
-      times-append address (map address_of accounts.wallets) (flat_map all_of_market accounts.markets),
-    ))
+wallets-apart rows accounts accepted = cells-apart rows accounts.wallets (wallets-distinct accounts accepted)
 
 -- ---- all of them
 

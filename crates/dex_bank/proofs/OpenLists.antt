@@ -1,7 +1,5 @@
 -- Lists that are mapped.
 use Rattle.std.proofs.Common.{◌≡◌, ℕ, ◌<◌, List, [], ◌∷◌, ◌++◌, get_or, length, map, sym, ap, ◌∙◌, arith}
-use Rattle.dex_fold.proofs.Common.{All-cons, All-head, All-nil, All-tail}
-use Rattle.std.specs.List.{All}
 use Rattle.std.proofs.lemmas.List.{get_or-map, length-map, map-append}
 
 -- what is made of the items so far, and of one more
@@ -22,8 +20,3 @@ told-at f g xs x i place told is at same =
     ∙ ap (λ (l : List ℕ). get_or l i 0) is
     ∙ get_or-map f (map g xs) i (g x) 0 (omega (arith, at.0, length-map xs g))
     ∙ ap f (get_or-map g xs i x (g x) at.0 ∙ ap g (sym at.1))
-
--- what holds of what each item is mapped to
-pub unmapped : {A B : Type 0} (P : B → Type 0) (f : A → B) (xs : List A) → All P (map f xs) → All (λ x. P (f x)) xs
-unmapped P f [] all = All-nil (λ x. P (f x))
-unmapped P f (x ∷ xs) all = All-cons (λ x. P (f x)) x xs (All-head P (f x) (map f xs) all) (unmapped P f xs (All-tail P (f x) (map f xs) all))

@@ -1,5 +1,7 @@
 -- Where the market and the wallets of rows stand among cells.
-use Rattle.std.proofs.Common.{◌≡◌, ℕ, zero, suc, ◌<◌, Bool, true, false, ◌||◌, List, [], ◌∷◌, Option, None, Some, get_or, length, map, refl, sym, ap, ◌∙◌, arith, ⊎_elim}
+use Rattle.std.proofs.Common.{◌≡◌, ℕ, zero, suc, ◌<◌, Bool, true, false, ◌||◌, List, [], ◌∷◌, Option, None, Some, get_or, length, map, sym, ap, ◌∙◌, arith, ⊎_elim}
+use Rattle.std.proofs.Math.Bool.{or-true}
+use Rattle.std.proofs.lemmas.Option.{none-some}
 use Rattle.dex_fold.proofs.Common.{Address, PlainAccount, PlainAccounts, PlainMarketAccounts, PlainRow, cases_Bool, cond-false, cond-true, false≢true, is_same, is_same-true, length-map, wallet_at}
 use Rattle.dex_bank.proofs.Common.{AreCells, CellState, CellsState, IsFirstAt, MarketCellState, is_among, made_of, market_opened, opened_of, wallet_opened, wallet_state_of}
 use Rattle.std.specs.List.{All}
@@ -8,7 +10,7 @@ use Rattle.std.proofs.lemmas.List.Quantifiers.{position-Some}
 use Rattle.dex_types.specs.declared.rows.RowPlaces.{RowPlaces}
 use Rattle.dex_types.specs.declared.terms.Program.{Program}
 use Rattle.dex_wallet.specs.CellState.{seen_of}
-use Rattle.dex_script.specs.Places.{ArePlaced, IsPlaced, IsRolePlaced, market_place}
+use Rattle.dex_script_facts.specs.Places.{ArePlaced, IsPlaced, IsRolePlaced, market_place}
 use Rattle.dex_act.specs.declared.places.WalletPlaces.{WalletPlaces}
 use Rattle.dex_act.specs.Wallets.{AreApart, IsAt, IsRoleAt, wallet_places}
 use Rattle.dex_fold.proofs.MappedLists.{map-agree, map-map}
@@ -18,13 +20,10 @@ use Rattle.dex_bank.proofs.StepWorld.{opened_market}
 
 -- ---- a script's rows among the cells with which it starts
 
-nowhere : (place : ℕ) → ◌≡◌ {A = Option ℕ} None (Some place) → ⊥
-nowhere place is = cc
-
 module _ (rows : List PlainRow) where
   first-opened : (address : Address) (markets : List PlainMarketAccounts) (place : ℕ) → market_place address markets ≡ Some place
       → IsFirstAt address (map (market_opened rows) markets) place
-  first-opened address [] place is = absurd (nowhere place is)
+  first-opened address [] place is = absurd (none-some place is)
   first-opened address (first ∷ others) place is =
       let told = position-Some (λ (market : PlainMarketAccounts). is_same address market.address) (first ∷ others) place first is in
       let cell : (k : ℕ) (default : MarketCellState) → k < length (first ∷ others)
@@ -40,7 +39,7 @@ module _ (rows : List PlainRow) where
   role-opened : (wallets : List PlainAccount) (role : Option Address) (place : ℕ) → IsRolePlaced wallets role place
       → IsRoleAt (map (wallet_opened rows) wallets) role place
   role-opened wallets None place is = tt
-  role-opened [] (Some address) place is = absurd (nowhere place is)
+  role-opened [] (Some address) place is = absurd (none-some place is)
   role-opened (first ∷ others) (Some address) place is =
       let told = position-Some (λ (wallet : PlainAccount). is_same address wallet.address) (first ∷ others) place first is in
       record {
@@ -67,16 +66,6 @@ module _ (rows : List PlainRow) where
     placed-stand (row ∷ some) [] are = absurd are
     placed-stand (row ∷ some) (first ∷ others) are = (placed-stands row first are.0, placed-stand some others are.1)
 
--- the row and the places at one index
-pub stand-at : (cells : CellsState) (rows : List PlainRow) (places : List RowPlaces) → ArePlacedIn cells rows places
-    → (index : ℕ) (row : PlainRow) (default : RowPlaces) → index < length rows → ArePlacesIn cells (get_or rows index row) (get_or places index default)
-stand-at cells [] [] are index row default within = absurd (omega (arith, within))
-stand-at cells [] (place ∷ places) are index row default within = absurd are
-stand-at cells (first ∷ rows) [] are index row default within = absurd are
-stand-at cells (first ∷ rows) (place ∷ places) are zero row default within = are.0
-stand-at cells (first ∷ rows) (place ∷ places) are (suc index) row default within =
-    stand-at cells rows places are.1 index row default (omega (arith, within))
-
 -- ---- no row moves a cell
 
 -- a market's cell has the address of its start
@@ -85,6 +74,11 @@ HasItsAddress cell = cell.accounts.address ≡ cell.start.address
 
 pub its-address : (cells : CellsState) → AreCells cells → All HasItsAddress cells.markets
 its-address cells kept = λ k d within. (kept.markets k d within).one_market.address
+
+-- one of the items where there is one
+pub some-of : {A : Type 0} (all : List A) (place : ℕ) → place < length all → A
+some-of [] place none = absurd (omega (arith, none))
+some-of (first ∷ others) place some = first
 
 -- lists of the same addresses have the same one at each place
 same-at : {A : Type 0} (of : A → Address) (xs ys : List A) → map of ys ≡ map of xs → (place : ℕ) (default : A) → place < length xs
@@ -127,10 +121,6 @@ module _ (before after : CellsState) (was : All HasItsAddress before.markets) (i
     within = (same-at wallet_address before.wallets after.wallets same-wallets place (some-of before.wallets place at.within) at.within).0;
     here = λ default. ap (is_same address) (same-at wallet_address before.wallets after.wallets same-wallets place default at.within).1 ∙ at.here default;
   }
-    where
-      some-of : (cells : List CellState) (place : ℕ) → place < length cells → CellState
-      some-of [] place none = absurd (omega (arith, none))
-      some-of (cell ∷ cells) place some = cell
 
   first-still : (address : Address) (place : ℕ) → IsFirstAt address before.markets place → IsFirstAt address after.markets place
   first-still address place first = record {
@@ -142,10 +132,6 @@ module _ (before after : CellsState) (was : All HasItsAddress before.markets) (i
       still : (k : ℕ) (default : MarketCellState) → k < length before.markets
           → (k < length after.markets) × (market_address (get_or after.markets k default) ≡ market_address (get_or before.markets k default))
       still k default within = same-at market_address before.markets after.markets same-markets k default within
-
-      some-of : (cells : List MarketCellState) (place : ℕ) → place < length cells → MarketCellState
-      some-of [] place none = absurd (omega (arith, none))
-      some-of (cell ∷ cells) place some = cell
 
   -- so a row stands where it stood
   pub stands-still : (row : PlainRow) (place : ℕ) (wallets : WalletPlaces) → StandsAt before row place wallets → StandsAt after row place wallets
@@ -174,11 +160,7 @@ among-at address [] place at = absurd (omega (arith, at.within))
 among-at address (first ∷ others) zero at = ap (λ (b : Bool). b || is_among address others) (at.here first)
 among-at address (first ∷ others) (suc place) at =
     let later : IsAt address others place = record { within = omega (arith, at.within); here = at.here } in
-    ap (λ (b : Bool). is_same address first.address || b) (among-at address others place later) ∙ either (is_same address first.address)
-  where
-    either : (b : Bool) → (b || true) ≡ true
-    either true = refl
-    either false = refl
+    ap (λ (b : Bool). is_same address first.address || b) (among-at address others place later) ∙ or-true (is_same address first.address)
 
 -- the wallet of an address is that of the cell that stands there
 pub found-there : (address : Address) (cells : List CellState) (place : ℕ) (default : CellState) → AreApart cells → IsAt address cells place

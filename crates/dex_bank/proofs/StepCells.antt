@@ -1,13 +1,17 @@
 -- All cells before and after a row.
-use Rattle.std.proofs.Common.{◌≡◌, ℕ, true, List, map, get_or, Option, Some, refl, sym, ap, ◌∙◌, subst}
-use Rattle.dex_fold.proofs.Common.{Market, MarketState, PlainRow, Reply, Row, Seen, Sees, WalletState, World, act, acted, asked_of, is_same, is_same-true, markets_acted, request_of, row_of, row_step, seen_by, wallet_acted, why, why_in, why_on}
-use Rattle.dex_bank.proofs.Common.{AreCells, CanAct, CanActAt, CanHold, CanWait, CellState, CellsState, Fits, HasBecomeAt, HaveActed, IsFirstAt, IsMarketCell, MarketCellState, SeesCells, made_of, opened_of, roles_of, wallet_state_of, world_of}
+use Rattle.std.proofs.Common.{◌≡◌, ℕ, Bool, true, List, map, get_or, set, Option, Some, refl, sym, ap, ◌∙◌, subst}
+use Rattle.dex_fold.proofs.Common.{Market, MarketState, PlainMarketAccounts, PlainRow, Reply, Row, Seen, Sees, WalletState, World, act, acted, asked_of, is_same, is_same-true, markets_acted, request_of, row_of, row_step, seen_by, wallet_acted, why, why_in, why_on}
+use Rattle.dex_bank.proofs.Common.{AreCells, CanAct, CanHold, CanWait, CellState, CellsState, Fits, IsFirstAt, IsMarketCell, IsReply, MarketCellState, SeesCells, made_of, opened_of, roles_of, wallet_state_of, world_of}
 use Rattle.std.specs.List.{All}
-use Rattle.std.proofs.lemmas.List.Elements.{All-get_or}
+use Rattle.std.proofs.lemmas.List.Elements.{All-get_or, All-set}
+use Rattle.std.proofs.Math.Seq.{map-set_same}
 use Rattle.dex_cell.specs.CellState as market
 use Rattle.dex_fold.specs.World.{market_at}
 use Rattle.dex_act.proofs.Sights.{row-sees, sees-cells}
-use Rattle.dex_bank.proofs.StepMarkets.{market-found, markets-become-at, markets-kept, markets-opened}
+use Rattle.dex_bank.specs.Stepped.{HasActedOrWaited}
+use Rattle.dex_bank.specs.Stepping.{CanActOn, HasDone, doing}
+use Rattle.dex_bank.proofs.StepMarkets.{become-first, market-found, others-stay}
+use Rattle.dex_bank.proofs.StepWorld.{opened_market}
 
 module _ (row : Row) (seen : Seen) (place : ℕ) (cells : CellsState) (seen_is : seen ≡ seen_by (row_of row) (world_of cells))
     (first : IsFirstAt row.market cells.markets place) where
@@ -19,92 +23,89 @@ module _ (row : Row) (seen : Seen) (place : ℕ) (cells : CellsState) (seen_is :
   row-seen : CanAct (row_of row) cells → Sees (asked_of (row_of row)) seen
   row-seen can = subst (Sees (asked_of (row_of row))) (sym seen_is) (row-sees (row_of row) world cells.wallets refl can.wallets)
 
-  -- a row can act where its market stands
-  pub can-act-at : AreCells cells → CanAct (row_of row) cells → All Fits (roles_of seen) → CanActAt row seen place cells.markets cells.wallets
-  can-act-at are can fits = record {
-    within = first.within;
-    for = λ default. record { market = is_same-true row.market (get_or cells.markets place default).accounts.address (first.here default); sees = row-seen can };
-    market = λ default. All-get_or IsMarketCell cells.markets place default first.within are.markets;
-    spare = λ default.
-        All-get_or (λ (cell : MarketCellState). is_same row.market cell.accounts.address ≡ true → market.HasSpare cell) cells.markets place default first.within can.market_spare
-        (first.here default);
-    sees =
-        subst (λ (s : Seen). SeesCells s cells.wallets) (sym seen_is)
-        (sees-cells (row_of row) world cells.wallets refl are.apart are.wallets can.wallets can.wallet_spare
-        (subst (λ (s : Seen). All Fits (roles_of s)) seen_is fits));
-  }
+  module _ (default : MarketCellState) where
+    abbrev cell : MarketCellState
+    cell = get_or cells.markets place default
 
-  -- and is held back there
-  pub can-hold : CanWait (row_of row) cells → (default : MarketCellState) → CanHold row seen (get_or cells.markets place default)
-  can-hold can default =
-      let here : Market = market.market_at (get_or cells.markets place default) in
-      let found : market_at row.market world.markets ≡ Some here = market-found row.market cells.markets place default first in
-      record {
-        take = can.take;
-        spared =
-            ap (λ (s : Seen). why (request_of (row_of row)) s here) seen_is
-            ∙ ap (why_on (row_of row) (seen_by (row_of row) world)) (sym found)
-            ∙ can.spared;
-      }
+    -- a row can act where its market stands
+    pub can-act-on : AreCells cells → CanAct (row_of row) cells → All Fits (roles_of seen) → CanActOn row seen cell cells.wallets
+    can-act-on are can fits = record {
+      for = record { market = is_same-true row.market cell.accounts.address (first.here default); sees = row-seen can };
+      market = All-get_or IsMarketCell cells.markets place default first.within are.markets;
+      spare =
+          All-get_or (λ (cell : MarketCellState). is_same row.market cell.accounts.address ≡ true → market.HasSpare cell) cells.markets place default first.within can.market_spare
+          (first.here default);
+      sees =
+          subst (λ (s : Seen). SeesCells s cells.wallets) (sym seen_is)
+          (sees-cells (row_of row) world cells.wallets refl are.apart are.wallets can.wallets can.wallet_spare
+          (subst (λ (s : Seen). All Fits (roles_of s)) seen_is fits));
+    }
 
-  -- it is refused there or nowhere
-  pub refused-here : (default : MarketCellState) → why (request_of (row_of row)) seen (market.market_at (get_or cells.markets place default)) ≡ why_in world (row_of row)
-  refused-here default =
-      let here : Market = market.market_at (get_or cells.markets place default) in
-      let found : market_at row.market world.markets ≡ Some here = market-found row.market cells.markets place default first in
-      ap (λ (s : Seen). why (request_of (row_of row)) s here) seen_is ∙ ap (why_on (row_of row) (seen_by (row_of row) world)) (sym found)
+    -- it is refused there or nowhere
+    pub refused-here : why (request_of (row_of row)) seen (market.market_at cell) ≡ why_in world (row_of row)
+    refused-here =
+        ap (λ (s : Seen). why (request_of (row_of row)) s (market.market_at cell)) seen_is
+        ∙ ap (why_on (row_of row) (seen_by (row_of row) world)) (sym (market-found row.market cells.markets place default first))
+
+    -- and is held back there
+    pub can-hold : CanWait (row_of row) cells → CanHold row seen cell
+    can-hold can = record { take = can.take; spared = refused-here ∙ can.spared }
 
 -- ---- after
 
-module _ (doing : PlainRow) (seen : Seen) (place : ℕ) (cells : CellsState) (seen_is : seen ≡ seen_by doing (world_of cells))
-    (first : IsFirstAt doing.market cells.markets place) (markets : List MarketCellState) (wallets : List CellState)
-    (has : HasBecomeAt doing seen place cells.markets markets)
-    (have :
-    (default : MarketCellState)
-    → HaveActed doing seen (row_step doing seen (market.market_at (get_or cells.markets place default))).transfers cells.wallets wallets) where
+module _ (row : PlainRow) (waits : Bool) (seen : Seen) (place : ℕ) (cells : CellsState) (seen_is : seen ≡ seen_by row (world_of cells))
+    (first : IsFirstAt row.market cells.markets place) (are : AreCells cells) (answer : Reply) (default cell : MarketCellState) (wallets : List CellState)
+    (has : HasDone row waits seen answer (get_or cells.markets place default) cell cells.wallets wallets) where
+  abbrev done : PlainRow
+  done = doing waits row
+
   abbrev before : World
   before = world_of cells
 
-  abbrev stepped : CellsState
-  stepped = record cells { markets = markets; wallets = wallets }
+  abbrev after : CellsState
+  after = record cells { markets = set cells.markets place cell; wallets = wallets }
 
   abbrev here : Market
-  here = market.market_at (get_or cells.markets place has.cell)
+  here = market.market_at (get_or cells.markets place default)
 
-  found : market_at doing.market before.markets ≡ Some here
-  found = market-found doing.market cells.markets place has.cell first
+  found : market_at row.market before.markets ≡ Some here
+  found = market-found row.market cells.markets place default first
 
   -- the world that they are has acted
-  pub stepped-acted : world_of stepped ≡ act doing before
-  stepped-acted =
+  world-acted : world_of after ≡ act done before
+  world-acted =
       let made : List MarketState → List WalletState → World = λ ms ws. record before { markets = ms; wallets = ws } in
-      let after : Seen → World = λ s.
-      made (markets_acted doing s before.markets) (map (wallet_acted doing s (row_step doing s here).transfers) before.wallets) in
-      ap (λ (ms : List MarketState). made ms (map wallet_state_of wallets)) (markets-become-at doing seen place cells.markets markets first has)
-      ∙ ap (made (markets_acted doing seen before.markets)) (have has.cell).states
-      ∙ ap after seen_is
-      ∙ sym (ap (λ (m : Option Market). acted doing m before) found)
-
-  -- each cell is as it was opened
-  pub stepped-opened : opened_of stepped ≡ opened_of cells
-  stepped-opened =
-      let made : List MarketCellState → List CellState → CellsState = λ ms ws. record cells { markets = ms; wallets = ws } in
-      ap (λ (ms : List MarketCellState). made ms (map made_of wallets)) (markets-opened doing seen place cells.markets markets has)
-      ∙ ap (made (opened_of cells).markets) (have has.cell).made
-
-  -- and each is one
-  pub stepped-cells : AreCells cells → AreCells stepped
-  stepped-cells are = record {
-    markets = markets-kept doing seen place cells.markets markets has are.markets;
-    wallets = (have has.cell).kept;
-    apart = (have has.cell).apart;
-  }
+      let by : Seen → World = λ s.
+      made (markets_acted done s before.markets) (map (wallet_acted done s (row_step done s here).transfers) before.wallets) in
+      ap (λ (ms : List MarketState). made ms (map wallet_state_of wallets)) (become-first done seen cells.markets place cell default first has.state)
+      ∙ ap (made (markets_acted done seen before.markets)) has.wallets.states
+      ∙ ap by seen_is
+      ∙ sym (ap (λ (m : Option Market). acted done m before) found)
 
   -- the reply is that of the market that was found
-  pub stepped-reply : (reply : Reply) → ((default : MarketCellState) → reply ≡ (row_step doing seen (market.market_at (get_or cells.markets place default))).reply) → (m : Market) → market_at doing.market before.markets ≡ Some m
-      → reply ≡ (row_step doing (seen_by doing before) m).reply
-  stepped-reply reply given m at =
+  told : IsReply before done answer
+  told m at =
       let is : here ≡ m = let both : Some here ≡ Some m = sym found ∙ at in cc in
-      given has.cell
-      ∙ ap (λ (s : Seen). (row_step doing s here).reply) seen_is
-      ∙ ap (λ (x : Market). (row_step doing (seen_by doing before) x).reply) is
+      has.reply
+      ∙ ap (λ (s : Seen). (row_step done s here).reply) seen_is
+      ∙ ap (λ (x : Market). (row_step done (seen_by row before) x).reply) is
+
+  pub stepped : HasActedOrWaited row waits answer cells after
+  stepped = record {
+    reply = told;
+    acted = world-acted;
+    kept =
+        let made : List MarketCellState → List CellState → CellsState = λ ms ws. record cells { markets = ms; wallets = ws } in
+        let old : MarketCellState = get_or cells.markets place default in
+        ap (λ (ms : List MarketCellState). made ms (map made_of wallets))
+        (map-set_same opened_market cells.markets place cell default
+        (ap (λ (start : PlainMarketAccounts). market.new_cell start cell.room) has.start ∙ ap (market.new_cell old.start) has.room))
+        ∙ ap (made (opened_of cells).markets) has.wallets.made;
+    others = others-stay row.market cells.markets place cell first;
+    refused = λ refused. map-set_same (λ (c : MarketCellState). c.accounts) cells.markets place cell default (has.refused refused);
+    cells = record {
+      markets = All-set IsMarketCell cells.markets place cell has.kept are.markets;
+      wallets = has.wallets.kept;
+      apart = has.wallets.apart;
+    };
+  }

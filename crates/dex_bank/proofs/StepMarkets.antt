@@ -1,16 +1,12 @@
 -- Cells of markets, the first of whose at an address acts.
-use Rattle.std.proofs.Common.{◌≡◌, ℕ, zero, suc, true, false, List, [], ◌∷◌, ◌++◌, map, set, get_or, Some, refl, sym, ap, ◌∙◌, subst, arith}
+use Rattle.std.proofs.Common.{◌≡◌, ℕ, zero, suc, true, false, List, [], ◌∷◌, ◌++◌, map, set, get_or, Some, refl, sym, ap, ◌∙◌, arith}
 use Rattle.dex_fold.proofs.Common.{Address, Call, Entry, Market, MarketState, PlainMarketAccounts, PlainRow, Row, Seen, Step, cond-false, cond-true, entry_by, false≢true, idle-step, idle_row, is_same, market_acted, markets_acted, row_of}
-use Rattle.dex_bank.proofs.Common.{HasBecomeAt, IsFirstAt, IsMarketCell, MarketCellState, OthersStay, accounts_in, call_on, entries_of, market_state_of, step_on}
+use Rattle.dex_bank.proofs.Common.{IsFirstAt, MarketCellState, OthersStay, call_on, entries_of, market_state_of, step_on}
 use Rattle.dex_accounts.specs.Decoded.{market_in}
-use Rattle.std.specs.List.{All}
 use Rattle.std.proofs.lemmas.List.{map-append}
-use Rattle.std.proofs.lemmas.List.Elements.{All-set}
-use Rattle.std.proofs.Math.Seq.{map-set_same}
 use Rattle.dex_cell.specs.CellState as cells
-use Rattle.dex_cell.specs.CellState.{HasActed, held_made, held_on, new_cell}
+use Rattle.dex_cell.specs.CellState.{HasActed, held_made, held_on}
 use Rattle.dex_fold.specs.World.{market_at}
-use Rattle.dex_bank.specs.Stepping.{HasActedAt, HasHeldAt}
 
 -- the address of the market that accounts tell is theirs
 listing-address : (accounts : PlainMarketAccounts) → (market_in accounts).listing.address ≡ accounts.address
@@ -44,7 +40,7 @@ market-found address (cell ∷ others) (suc place) default first =
 -- ---- the step of a row
 
 -- a cell that acted, and its journal
-acted-state : (row : Row) (seen : Seen) (cell after : MarketCellState) → HasActed row seen cell after
+pub acted-state : (row : Row) (seen : Seen) (cell after : MarketCellState) → HasActed row seen cell after
     → market_state_of after ≡ market_acted (row_of row) seen (market_state_of cell)
 acted-state row seen cell after acted =
     let entry : Call → Entry = λ call. call.entry in
@@ -52,20 +48,8 @@ acted-state row seen cell after acted =
     ap (λ (m : Market). state m (entries_of after)) acted.market
     ∙ ap (state (step_on row seen cell).market) (ap (map entry) acted.calls ∙ map-append entry cell.calls (call_on row seen cell ∷ []))
 
--- where it acts
-pub acted-became : (row : Row) (seen : Seen) (place : ℕ) (before after : List MarketCellState) → HasActedAt row seen place before after
-    → HasBecomeAt (row_of row) seen place before after
-acted-became row seen place before after has = record {
-  cell = has.cell;
-  is = has.is;
-  kept = has.kept;
-  state = λ default. acted-state row seen (get_or before place default) has.cell (has.acted default);
-  start = λ default. (has.acted default).start;
-  room = λ default. (has.acted default).room;
-}
-
 -- and where it is held back, as a row with nothing to do
-held-state : (row : Row) (seen : Seen) (cell : MarketCellState) → market_state_of (held_on row seen cell) ≡ market_acted (idle_row (row_of row)) seen (market_state_of cell)
+pub held-state : (row : Row) (seen : Seen) (cell : MarketCellState) → market_state_of (held_on row seen cell) ≡ market_acted (idle_row (row_of row)) seen (market_state_of cell)
 held-state row seen cell =
     let entry : Call → Entry = λ call. call.entry in
     let m : Market = cells.market_at cell in
@@ -75,49 +59,18 @@ held-state row seen cell =
     ap of (map-append entry cell.calls (held_made (row_of row) seen ∷ []))
     ∙ ap state (sym (idle-step (row_of row) seen m))
 
-pub held-became : (row : Row) (seen : Seen) (place : ℕ) (before after : List MarketCellState) → HasHeldAt row seen place before after
-    → HasBecomeAt (idle_row (row_of row)) seen place before after
-held-became row seen place before after has = record {
-  cell = has.cell;
-  is = has.is;
-  kept = has.kept;
-  state = λ default. ap market_state_of (has.held default) ∙ held-state row seen (get_or before place default);
-  start = λ default. ap (λ (cell : MarketCellState). cell.start) (has.held default);
-  room = λ default. ap (λ (cell : MarketCellState). cell.room) (has.held default);
-}
-
-become-first : (doing : PlainRow) (seen : Seen) (markets : List MarketCellState) (place : ℕ) (after : MarketCellState) → IsFirstAt doing.market markets place
-    → ((default : MarketCellState) → market_state_of after ≡ market_acted doing seen (market_state_of (get_or markets place default)))
+-- the markets after it
+pub become-first : (doing : PlainRow) (seen : Seen) (markets : List MarketCellState) (place : ℕ) (after default : MarketCellState) → IsFirstAt doing.market markets place
+    → market_state_of after ≡ market_acted doing seen (market_state_of (get_or markets place default))
     → map market_state_of (set markets place after) ≡ markets_acted doing seen (map market_state_of markets)
-become-first doing seen [] place after first state = absurd (omega (arith, first.within))
-become-first doing seen (cell ∷ others) zero after first state =
+become-first doing seen [] place after default first state = absurd (omega (arith, first.within))
+become-first doing seen (cell ∷ others) zero after default first state =
     let same : is_same doing.market (market_in cell.accounts).listing.address ≡ true = ap (is_same doing.market) (listing-address cell.accounts) ∙ first.here cell in
-    ap (λ (one : MarketState). one ∷ map market_state_of others) (state cell) ∙ sym (cond-true _ _ _ same)
-become-first doing seen (cell ∷ others) (suc place) after first state =
+    ap (λ (one : MarketState). one ∷ map market_state_of others) state ∙ sym (cond-true _ _ _ same)
+become-first doing seen (cell ∷ others) (suc place) after default first state =
     let later = first-later doing.market cell others place first in
     let other : is_same doing.market (market_in cell.accounts).listing.address ≡ false = ap (is_same doing.market) (listing-address cell.accounts) ∙ later.0 in
-    ap (λ (states : List MarketState). market_state_of cell ∷ states) (become-first doing seen others place after later.1 state) ∙ sym (cond-false _ _ _ other)
-
--- the markets after it
-pub markets-become-at : (doing : PlainRow) (seen : Seen) (place : ℕ) (before after : List MarketCellState) → IsFirstAt doing.market before place
-    → HasBecomeAt doing seen place before after → map market_state_of after ≡ markets_acted doing seen (map market_state_of before)
-markets-become-at doing seen place before after first has =
-    ap (map market_state_of) has.is ∙ become-first doing seen before place has.cell first has.state
-
--- each is the one that it was, with the same start and the same room
-pub markets-opened : (doing : PlainRow) (seen : Seen) (place : ℕ) (before after : List MarketCellState) → HasBecomeAt doing seen place before after
-    → map (λ (cell : MarketCellState). new_cell cell.start cell.room) after ≡ map (λ (cell : MarketCellState). new_cell cell.start cell.room) before
-markets-opened doing seen place before after has =
-    let opened : MarketCellState → MarketCellState = λ cell. new_cell cell.start cell.room in
-    ap (map opened) has.is
-    ∙ map-set_same opened before place has.cell has.cell
-    (ap (λ (start : PlainMarketAccounts). new_cell start has.cell.room) (has.start has.cell)
-    ∙ ap (new_cell (get_or before place has.cell).start) (has.room has.cell))
-
--- and each is kept
-pub markets-kept : (doing : PlainRow) (seen : Seen) (place : ℕ) (before after : List MarketCellState) → HasBecomeAt doing seen place before after → All IsMarketCell before
-    → All IsMarketCell after
-markets-kept doing seen place before after has all = subst (All IsMarketCell) (sym has.is) (All-set IsMarketCell before place has.cell has.kept all)
+    ap (λ (states : List MarketState). market_state_of cell ∷ states) (become-first doing seen others place after default later.1 state) ∙ sym (cond-false _ _ _ other)
 
 -- the others stay
 pub others-stay : (address : Address) (before : List MarketCellState) (place : ℕ) (cell : MarketCellState) → IsFirstAt address before place
@@ -131,8 +84,3 @@ others-stay address (old ∷ others) zero cell first =
     all-stay address (one ∷ cells) = ((λ other. refl), all-stay address cells)
 others-stay address (old ∷ others) (suc place) cell first =
     ((λ other. refl), others-stay address others place cell (first-later address old others place first).1)
-
--- all accounts stay where those at the place do
-pub accounts-stay : (before : List MarketCellState) (place : ℕ) (cell default : MarketCellState) → cell.accounts ≡ (get_or before place default).accounts
-    → accounts_in (set before place cell) ≡ accounts_in before
-accounts-stay before place cell default same = map-set_same (λ (c : MarketCellState). c.accounts) before place cell default same

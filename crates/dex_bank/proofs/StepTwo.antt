@@ -1,7 +1,8 @@
 -- Two rows that share nothing, one behind the other.
 use Rattle.std.proofs.Common.{◌≡◌, ℕ, ◌<◌, ◌||◌, ◌&&◌, not, Bool, true, false, cond, List, [], ◌∷◌, length, map, is_some, Option, Some, None, refl, sym, ap, ◌∙◌, subst, ⊎_elim}
-use Rattle.dex_fold.proofs.Common.{Address, All-cons, All-head, All-nil, All-tail, Market, PlainRow, Refusal, Reply, Seen, ShareNothing, Transfers, WalletEntry, WalletState, World, act, acted, cases_Bool, chosen, decoded, false≢true, idle_row, is_refusal, is_same, is_same-refl, is_same-true, is_take, movement_of, names, request_of, row_step, row_wallets, seen_by, step-refused, wallet_acted, wallet_moved, why-far, why_in, why_on}
-use Rattle.dex_bank.proofs.Common.{AreCells, CanAct, CanWait, CellState, CellsState, IsMarketCell, IsReply, MarketCellState, OthersStay, made_of, opened_of, wallet_state_of, world_of}
+use Rattle.std.proofs.lemmas.List.{map-id}
+use Rattle.dex_fold.proofs.Common.{Address, All-cons, All-head, All-nil, All-tail, AllZip, Market, PlainRow, Refusal, Reply, Seen, ShareNothing, Transfers, WalletEntry, WalletState, World, act, acted, cases_Bool, chosen, decoded, false≢true, fold, idle_row, is_refusal, is_same, is_same-refl, is_same-true, is_take, movement_of, names, request_of, row_step, row_wallets, seen_by, step-refused, wallet_acted, wallet_moved, why-far, why_in, why_on}
+use Rattle.dex_bank.proofs.Common.{AreCells, CanAct, CanWait, CellState, CellsState, IsMarketCell, IsReply, MarketCellState, OthersStay, made_of, wallet_state_of, world_of}
 use Rattle.std.specs.List.{All}
 use Rattle.dex_cell.specs.CellState as market
 use Rattle.dex_wallet.specs.CellState as wallet
@@ -9,6 +10,7 @@ use Rattle.dex_fold.specs.World.{market_at}
 use Rattle.dex_fold.proofs.FarLaws.{market-far, seen-far}
 pub use Rattle.dex_fold.proofs.ItemLaws.{not-refused}
 use Rattle.dex_bank.specs.Cells.{IsTakeOrRefused, OthersThanTwoStay}
+use Rattle.dex_bank.specs.Stepped.{HasActedOrWaited, HaveBothStepped}
 use Rattle.dex_bank.specs.Stepping.{doing}
 use Rattle.dex_bank.proofs.StepWorld.{opened_market, same-markets, same-wallets}
 
@@ -101,58 +103,47 @@ module _ (one other : PlainRow) (share : ShareNothing one other) where
   acted-spare : (found : Option Market) (world : World) (before after : List CellState) → world.wallets ≡ map wallet_state_of before
       → map wallet_state_of after ≡ (acted one found world).wallets → map made_of after ≡ map made_of before → All Spare before → All Spare after
   acted-spare None world before after was is alike spare =
-      wallets-spare (λ (state : WalletState). state) (λ state away. refl) before after (is ∙ was ∙ sym (map-same (map wallet_state_of before))) alike spare
-    where
-      map-same : (states : List WalletState) → map (λ (state : WalletState). state) states ≡ states
-      map-same [] = refl
-      map-same (state ∷ states) = ap (λ (all : List WalletState). state ∷ all) (map-same states)
+      wallets-spare (λ (state : WalletState). state) (λ state away. refl) before after (is ∙ was ∙ sym (map-id (map wallet_state_of before))) alike spare
   acted-spare (Some m) world before after was is alike spare =
       let seen : Seen = seen_by one world in
       let t : Transfers = (row_step one seen m).transfers in
       wallets-spare (wallet_acted one seen t) (row-leaves seen t) before after (is ∙ ap (map (wallet_acted one seen t)) was) alike spare
 
-  module _ (before after : CellsState) (were : AreCells before) (are : AreCells after) (kept : opened_of after ≡ opened_of before)
-      (others : OthersStay one.market before.markets after.markets) (acts : world_of after ≡ act one (world_of before)) where
-    -- so it can act there where it could before
-    pub act-behind : CanAct other before → CanAct other after
-    act-behind can = record {
-      market = same-markets other.market after before are.markets were.markets kept ∙ can.market;
-      wallets =
-          subst (λ (Has : Address → Bool). All (λ (address : Address). Has address ≡ true) (row_wallets other))
-          (sym (λ i address. same-wallets address after before kept i)) can.wallets;
-      market_spare =
-          markets-free before.markets after.markets others were.markets are.markets (ap (λ (cells : CellsState). cells.markets) kept) can.market_spare;
-      wallet_spare =
-          acted-spare (market_at one.market (world_of before).markets) (world_of before) before.wallets after.wallets refl
-          (ap (λ (world : World). world.wallets) acts) (ap (λ (cells : CellsState). cells.wallets) kept) can.wallet_spare;
-    }
+module _ (one other : PlainRow) (share : ShareNothing one other) (waits : Bool) (answer : Reply) (before after : CellsState) (were : AreCells before)
+    (step : HasActedOrWaited one waits answer before after) where
+  abbrev done : PlainRow
+  done = doing waits one
 
-    -- and is refused where it was
-    pub why-behind : why_in (world_of after) other ≡ why_in (world_of before) other
-    why-behind = ap (λ (world : World). why_in world other) acts ∙ why-far one other share (world_of before)
-
--- ---- whether the first acts or waits
-
-module _ (one other : PlainRow) (share : ShareNothing one other) (before after : CellsState) (were : AreCells before) (are : AreCells after)
-    (kept : opened_of after ≡ opened_of before) (others : OthersStay one.market before.markets after.markets)
-    (waits : Bool) (acts : world_of after ≡ act (doing waits one) (world_of before)) where
-  done-share : ShareNothing (doing waits one) other
+  done-share : ShareNothing done other
   done-share = record { markets = share.markets; wallets = share.wallets }
 
+  -- it can act there where it could before
   pub can-behind : CanAct other before → CanAct other after
-  can-behind = act-behind (doing waits one) other done-share before after were are kept others acts
+  can-behind can = record {
+    market = same-markets other.market after before step.cells.markets were.markets step.kept ∙ can.market;
+    wallets =
+        subst (λ (Has : Address → Bool). All (λ (address : Address). Has address ≡ true) (row_wallets other))
+        (sym (λ i address. same-wallets address after before step.kept i)) can.wallets;
+    market_spare =
+        markets-free done other done-share before.markets after.markets step.others were.markets step.cells.markets (ap (λ (cells : CellsState). cells.markets) step.kept)
+        can.market_spare;
+    wallet_spare =
+        acted-spare done other done-share (market_at one.market (world_of before).markets) (world_of before) before.wallets after.wallets refl
+        (ap (λ (world : World). world.wallets) step.acted) (ap (λ (cells : CellsState). cells.wallets) step.kept) can.wallet_spare;
+  }
 
+  -- is refused where it was
   pub why-still : why_in (world_of after) other ≡ why_in (world_of before) other
-  why-still = why-behind (doing waits one) other done-share before after were are kept others acts
+  why-still = ap (λ (world : World). why_in world other) step.acted ∙ why-far done other done-share (world_of before)
 
   -- and is answered as it would be before it
-  pub reply-still : (other_waits : Bool) (reply : Reply) → IsReply (world_of after) (doing other_waits other) reply → IsReply (world_of before) (doing other_waits other) reply
+  reply-still : (other_waits : Bool) (reply : Reply) → IsReply (world_of after) (doing other_waits other) reply → IsReply (world_of before) (doing other_waits other) reply
   reply-still other_waits reply told m at =
-      told m (ap (λ (world : World). market_at other.market world.markets) acts ∙ market-far (doing waits one) other done-share (world_of before) ∙ at)
-      ∙ ap (λ (seen : Seen). (row_step (doing other_waits other) seen m).reply) (ap (seen_by other) acts ∙ seen-far (doing waits one) other done-share (world_of before))
+      told m (ap (λ (world : World). market_at other.market world.markets) step.acted ∙ market-far done other done-share (world_of before) ∙ at)
+      ∙ ap (λ (seen : Seen). (row_step (doing other_waits other) seen m).reply) (ap (seen_by other) step.acted ∙ seen-far done other done-share (world_of before))
 
 -- markets of neither stay
-pub both-stay : (one other : Address) (before mid after : List MarketCellState) → OthersStay one before mid → OthersStay other mid after
+both-stay : (one other : Address) (before mid after : List MarketCellState) → OthersStay one before mid → OthersStay other mid after
     → OthersThanTwoStay one other before after
 both-stay one other [] [] [] first second = tt
 both-stay one other [] [] (a ∷ after) first second = absurd second
@@ -169,7 +160,7 @@ both-stay one other (b ∷ before) (m ∷ mid) (a ∷ after) first second = (
 -- ---- each waits where one of the two is refused and it is not
 
 -- what the item makes them do
-pub chosen-two : (world : World) (first second : PlainRow) (one two any waits other_waits : Bool) → one ≡ is_some (why_in world first) → two ≡ is_some (why_in world second)
+chosen-two : (world : World) (first second : PlainRow) (one two any waits other_waits : Bool) → one ≡ is_some (why_in world first) → two ≡ is_some (why_in world second)
     → any ≡ (one || two) → waits ≡ (any && not one) → other_waits ≡ (any && not two) → chosen world (first ∷ second ∷ []) ≡ doing waits first ∷ doing other_waits second ∷ []
 chosen-two world first second one two any waits other_waits one_is two_is any_is waits_is other_is =
     ap (λ (b : Bool). rows_by b (is_some (why_in world second))) (sym one_is)
@@ -189,8 +180,39 @@ chosen-two world first second one two any waits other_waits one_is two_is any_is
     by false false = refl
 
 -- a row that waits where it is not refused waits, or is answered by a refusal
-pub waits-or-refused : (row : PlainRow) (world : World) (waits refused : Bool) (reply : Reply) → IsReply world (doing waits row) reply
+waits-or-refused : (row : PlainRow) (world : World) (waits refused : Bool) (reply : Reply) → IsReply world (doing waits row) reply
     → refused ≡ is_some (why_in world row) → (refused ≡ false → waits ≡ true) → (waits || is_refusal reply) ≡ true
 waits-or-refused row world true refused reply told is spared = refl
 waits-or-refused row world false true reply told is spared = refused-reply row world reply told (sym is)
 waits-or-refused row world false false reply told is spared = absurd (false≢true (spared refl))
+
+-- what two rows leave, each of which waits where the other is refused and it is not
+module _ (first second : PlainRow) (share : ShareNothing first second) (one two any waits other_waits : Bool) (answer other_answer : Reply)
+    (before between after : CellsState) (were : AreCells before) (step : HasActedOrWaited first waits answer before between)
+    (other_step : HasActedOrWaited second other_waits other_answer between after) (one_is : one ≡ is_some (why_in (world_of before) first))
+    (two_is : two ≡ is_some (why_in (world_of before) second)) (any_is : any ≡ (one || two)) (waits_is : waits ≡ (any && not one))
+    (other_is : other_waits ≡ (any && not two)) where
+  -- they did what the item chooses for them
+  done-both : doing waits first ∷ doing other_waits second ∷ [] ≡ chosen (world_of before) (first ∷ second ∷ [])
+  done-both = sym (chosen-two (world_of before) first second one two any waits other_waits one_is two_is any_is waits_is other_is)
+
+  pub both-stepped : HaveBothStepped first second (answer, other_answer) before after
+  both-stepped = record {
+    replies =
+        subst (λ (rows : List PlainRow). AllZip (IsReply (world_of before)) rows (answer ∷ other_answer ∷ [])) done-both
+        (step.reply, (reply-still first second share waits answer before between were step other_waits other_answer other_step.reply, tt));
+    acted = other_step.acted
+        ∙ ap (act (doing other_waits second)) step.acted
+        ∙ ap (λ (rows : List PlainRow). fold rows (world_of before)) done-both;
+    kept = other_step.kept ∙ step.kept;
+    others = both-stay first.market second.market before.markets between.markets after.markets step.others other_step.others;
+    stays = λ some.
+        let either : (one || two) ≡ true = ap (λ (b : Bool). b || two) one_is ∙ ap (λ (b : Bool). is_some (why_in (world_of before) first) || b) two_is ∙ some in
+        let told : two ≡ is_some (why_in (world_of between) second) =
+        two_is ∙ ap (λ (found : Option Refusal). is_some found) (sym (why-still first second share waits answer before between were step)) in
+        let spared : (refused held : Bool) → held ≡ (any && not refused) → refused ≡ false → held ≡ true =
+        λ refused held is spared. is ∙ ap (λ (b : Bool). b && not refused) (any_is ∙ either) ∙ ap not spared in
+        other_step.refused (waits-or-refused second (world_of between) other_waits two other_answer other_step.reply told (spared two other_waits other_is))
+        ∙ step.refused (waits-or-refused first (world_of before) waits one answer step.reply one_is (spared one waits waits_is));
+    cells = other_step.cells;
+  }

@@ -23,11 +23,6 @@ is_there place (Some other) = place == other
 abbrev pub is_told : ℕ → List (Option ℕ) → Bool
 is_told place told = list_any (is_there place) told
 
--- there are so many places that this one is among them
-abbrev pub IsWithin : ℕ → Option ℕ → Type 0
-IsWithin count None = Unit {0}
-IsWithin count (Some place) = place < count
-
 -- no count is so high that so many more would not fit
 abbrev pub HaveSpare : ℕ → List ℕ → Type 0
 HaveSpare more counts = (place : ℕ) → place < length counts → slice_index_or counts place 0 + more < 2 ^ 64

@@ -5,5 +5,6 @@ pub mod CellsInside
 pub mod Room
 pub mod RoomInside
 pub mod Stepping
+pub mod Stepped
 pub mod Counts
 pub mod Places

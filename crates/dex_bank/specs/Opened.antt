@@ -5,7 +5,7 @@ use Rattle.dex_types.specs.Accounts.{PlainAccount, PlainAccounts, PlainMarketAcc
 use Rattle.dex_types.specs.Rows.{PlainRow}
 pub use Rattle.dex_act.specs.Opened.{market_opened, wallet_opened}
 pub use Rattle.dex_fold.specs.RowsOf.{rows_naming, rows_on}
-use Rattle.dex_script.specs.Drafts.{PlainScript}
+use Rattle.dex_script_facts.specs.PlainScript.{PlainScript}
 use Rattle.dex_bank.specs.Cells.{CellsState}
 
 -- how many rows are on each of these markets

@@ -1,6 +1,6 @@
 //! All cells of an exchange.
 
-ghost use Rattle.std.specs.Prelude.{◌≡◌, ◌≤◌, ◌||◌, is_some, true, IfErr, IfOk, length, map};
+ghost use Rattle.std.specs.Prelude.{◌≡◌, ◌≤◌, IfErr, IfOk, length, map};
 
 use crate::closing::{closed, left_by};
 use crate::copying::accounts_copy;
@@ -10,7 +10,7 @@ use crate::standing::Standing;
 use crate::stepping::{act_or_wait, stepped_both};
 use dex_cell::MarketCell;
 use dex_report::Outcome;
-use dex_script::Script;
+use dex_script_facts::Script;
 use dex_types::{Address, Named, NoMemory, Program, Reply, Row, RowPlaces};
 use dex_wallet::WalletCell;
 use std::alloc::Global;
@@ -43,17 +43,14 @@ impl Model for Cells {
 impl Cells {
     ghost use Rattle.dex_types.specs.Accounts.{named_of};
     ghost use Rattle.dex_types.specs.Rows.{row_of};
-    ghost use Rattle.dex_history.specs.Journal.{is_refusal};
-    ghost use Rattle.dex_fold.specs.Fold.{act};
-    ghost use Rattle.dex_fold.specs.Items.{act_item, pair_of, why_in};
     ghost use Rattle.dex_report.specs.Outcomes.{outcome_of};
-    ghost use Rattle.dex_script.specs.Facts.{IsScript};
-    ghost use Rattle.dex_script.specs.Places.{ArePlaced};
-    ghost use Rattle.dex_bank.specs.Cells as spec;
+    ghost use Rattle.dex_script_facts.specs.Facts.{IsScript};
+    ghost use Rattle.dex_script_facts.specs.Places.{ArePlaced};
     ghost use Rattle.dex_bank.specs.Cells.{AreCells, CanAct, CanActBoth};
     ghost use Rattle.dex_bank.specs.Closed as left;
     ghost use Rattle.dex_bank.specs.Opened as first;
     ghost use Rattle.dex_bank.specs.Places.{ArePlacedIn, ArePlacesIn};
+    ghost use Rattle.dex_bank.specs.Stepped.{HasStepped, HaveBothStepped};
 
     /// The cells with which a script starts: one for each market and each wallet, with room for an entry of each row that names it.
     /// The script keeps its accounts: the cells have copies of them.
@@ -144,13 +141,7 @@ impl Cells {
     /// A row acts on its market and on the wallets that it names, and this is its market's reply. It takes no memory.
     pub fn step(&mut self, row: &Row) -> Reply
         requires { CanAct (row_of row.now) self.old }
-        ensures reply { spec.IsReply (spec.world_of self.old) (row_of row.entry.now) result }
-        ensures acted { spec.world_of self.new ≡ act (row_of row.entry.now) (spec.world_of self.old) }
-        ensures kept { spec.opened_of self.new ≡ spec.opened_of self.old }
-        ensures others { spec.OthersStay row.entry.now.market self.old.markets self.new.markets }
-        ensures refused { is_refusal result ≡ true
-            → spec.accounts_in self.new.markets ≡ spec.accounts_in self.old.markets }
-        ensures cells { AreCells self.new }
+        ensures { HasStepped (row_of row.entry.now) result self.old self.new }
     {
         let standing = Standing::among(self, row);
         act_or_wait(self, row, &standing, false)
@@ -160,13 +151,7 @@ impl Cells {
     pub fn step_at(&mut self, row: &Row, places: &RowPlaces) -> Reply
         requires row { CanAct (row_of row.now) self.old }
         requires places { ArePlacesIn self.old (row_of row.now) places.now }
-        ensures reply { spec.IsReply (spec.world_of self.old) (row_of row.entry.now) result }
-        ensures acted { spec.world_of self.new ≡ act (row_of row.entry.now) (spec.world_of self.old) }
-        ensures kept { spec.opened_of self.new ≡ spec.opened_of self.old }
-        ensures others { spec.OthersStay row.entry.now.market self.old.markets self.new.markets }
-        ensures refused { is_refusal result ≡ true
-            → spec.accounts_in self.new.markets ≡ spec.accounts_in self.old.markets }
-        ensures cells { AreCells self.new }
+        ensures { HasStepped (row_of row.entry.now) result self.old self.new }
     {
         act_or_wait(self, row, &Standing::of(places), false)
     }
@@ -174,17 +159,7 @@ impl Cells {
     /// Two legs of one swap act, both or neither, and these are their markets' replies. It takes no memory.
     pub fn step_two(&mut self, first: &Row, second: &Row) -> (Reply, Reply)
         requires { CanActBoth (row_of first.now) (row_of second.now) self.old }
-        ensures replies { spec.AreReplies (spec.world_of self.old)
-            (pair_of (row_of first.entry.now) (row_of second.entry.now)) result }
-        ensures acted { spec.world_of self.new
-            ≡ act_item (pair_of (row_of first.entry.now) (row_of second.entry.now)) (spec.world_of self.old) }
-        ensures kept { spec.opened_of self.new ≡ spec.opened_of self.old }
-        ensures others { spec.OthersThanTwoStay first.entry.now.market second.entry.now.market
-            self.old.markets self.new.markets }
-        ensures stays { (is_some (why_in (spec.world_of self.old) (row_of first.entry.now))
-            || is_some (why_in (spec.world_of self.old) (row_of second.entry.now))) ≡ true
-            → spec.accounts_in self.new.markets ≡ spec.accounts_in self.old.markets }
-        ensures cells { AreCells self.new }
+        ensures { HaveBothStepped (row_of first.entry.now) (row_of second.entry.now) result self.old self.new }
     {
         let one = Standing::among(self, first);
         let two = Standing::among(self, second);
@@ -202,17 +177,7 @@ impl Cells {
         requires rows { CanActBoth (row_of first.now) (row_of second.now) self.old }
         requires places { ArePlacesIn self.old (row_of first.now) first_places.now
             × ArePlacesIn self.old (row_of second.now) second_places.now }
-        ensures replies { spec.AreReplies (spec.world_of self.old)
-            (pair_of (row_of first.entry.now) (row_of second.entry.now)) result }
-        ensures acted { spec.world_of self.new
-            ≡ act_item (pair_of (row_of first.entry.now) (row_of second.entry.now)) (spec.world_of self.old) }
-        ensures kept { spec.opened_of self.new ≡ spec.opened_of self.old }
-        ensures others { spec.OthersThanTwoStay first.entry.now.market second.entry.now.market
-            self.old.markets self.new.markets }
-        ensures stays { (is_some (why_in (spec.world_of self.old) (row_of first.entry.now))
-            || is_some (why_in (spec.world_of self.old) (row_of second.entry.now))) ≡ true
-            → spec.accounts_in self.new.markets ≡ spec.accounts_in self.old.markets }
-        ensures cells { AreCells self.new }
+        ensures { HaveBothStepped (row_of first.entry.now) (row_of second.entry.now) result self.old self.new }
     {
         let one = Standing::of(first_places);
         let two = Standing::of(second_places);

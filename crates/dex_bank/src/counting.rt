@@ -1,13 +1,12 @@
 //! How many rows name each market and each wallet, counted by their places in one pass over the rows.
 
 ghost use Rattle.std.specs.Prelude.{◌≡◌, ◌&&◌, not, ℕ, IfOk, length, map, replicate};
-ghost use Rattle.std.specs.List.{All};
 ghost use Rattle.dex_types.specs.Accounts.{accounts_of};
 ghost use Rattle.dex_types.specs.Rows.{row_of};
-ghost use Rattle.dex_script.specs.Facts.{IsStart};
-ghost use Rattle.dex_script.specs.Places.{ArePlaced};
+ghost use Rattle.dex_script_facts.specs.Facts.{IsStart};
+ghost use Rattle.dex_script_facts.specs.Places.{ArePlaced};
 ghost use Rattle.dex_bank.specs.Counts as spec;
-ghost use Rattle.dex_bank.specs.Counts.{AreCounted, HaveSpare, IsWithin};
+ghost use Rattle.dex_bank.specs.Counts.{AreCounted, HaveSpare};
 ghost use Rattle.dex_bank.specs.Opened as first;
 
 use dex_types::{Accounts, Address, NoMemory, Row, RowPlaces};
@@ -42,15 +41,15 @@ fn is_there(place: u16, told: Option<u16>) -> bool
 
 /// One more at a place that is told behind others, unless it is one of them.
 fn count(counts: &mut [usize], told: Option<u16>, others: &[Option<u16>])
-    requires within { IsWithin (length counts.old) told }
-    requires spare { HaveSpare 1 counts.old }
+    requires { HaveSpare 1 counts.old }
     ensures { AreCounted (λ (place : ℕ). not (spec.is_told place others.entry.now) && spec.is_there place told)
         counts.old counts.new }
 {
     match told {
         Some(place) => {
-            if !is_told(place, others) {
-                counts[place as usize] += 1;
+            let place_of = place as usize;
+            if !is_told(place, others) && place_of < counts.len() {
+                counts[place_of] += 1;
             }
         }
         None => {}
@@ -59,8 +58,7 @@ fn count(counts: &mut [usize], told: Option<u16>, others: &[Option<u16>])
 
 /// One more at each of these places.
 fn count_each(counts: &mut [usize], told: &[Option<u16>])
-    requires within { All (IsWithin (length counts.old)) told.now }
-    requires spare { HaveSpare 2 counts.old }
+    requires { HaveSpare 2 counts.old }
     ensures { AreCounted (λ (place : ℕ). spec.is_told place told.entry.now) counts.old counts.new }
 {
     for i in 0..told.len() {
@@ -90,40 +88,33 @@ fn no_counts(alloc: Global, count: usize) -> Result<Vec<usize>, NoMemory>
     }
 }
 
-/// How many rows are on each of the markets with which they start.
-pub fn rows_by_market(
-    alloc: Global,
-    start: &Accounts,
-    rows: &[Row],
-    places: &[RowPlaces],
-) -> Result<Vec<usize>, NoMemory>
-    requires start { IsStart (accounts_of start.now) }
-    requires places { ArePlaced (accounts_of start.now) (map row_of rows.now) places.now }
-    ensures { IfOk result (λ counts. counts.items
-        ≡ first.market_rooms (map row_of rows.now) (accounts_of start.now).markets) }
-{
-    let mut counts = no_counts(alloc, start.markets.len())?;
-    for row in 0..rows.len() {
-        count_each(&mut counts, &[Some(places[row].market)]);
-    }
-    Ok(counts)
+/// How many rows are on each market, and how many name each wallet.
+#[derive(Drop)]
+pub(crate) struct RowCounts {
+    pub(crate) markets: Vec<usize>,
+    pub(crate) wallets: Vec<usize>,
 }
 
-/// How many rows name each of the wallets with which they start.
-pub fn rows_by_wallet(
+/// How many rows are on each of the markets, and name each of the wallets, with which they start.
+pub(crate) fn row_counts(
     alloc: Global,
     start: &Accounts,
     rows: &[Row],
     places: &[RowPlaces],
-) -> Result<Vec<usize>, NoMemory>
+) -> Result<RowCounts, NoMemory>
     requires start { IsStart (accounts_of start.now) }
     requires places { ArePlaced (accounts_of start.now) (map row_of rows.now) places.now }
-    ensures { IfOk result (λ counts. counts.items
+    ensures markets { IfOk result (λ counts. counts.markets.items
+        ≡ first.market_rooms (map row_of rows.now) (accounts_of start.now).markets) }
+    ensures wallets { IfOk result (λ counts. counts.wallets.items
         ≡ first.wallet_rooms (map row_of rows.now) (accounts_of start.now).wallets) }
 {
-    let mut counts = no_counts(alloc, start.wallets.len())?;
-    for row in 0..rows.len() {
-        count_each(&mut counts, &wallets_told(&rows[row], &places[row]));
+    let mut markets = no_counts(alloc, start.markets.len())?;
+    let mut wallets = no_counts(alloc, start.wallets.len())?;
+    for i in 0..rows.len() {
+        let (row, at) = (&rows[i], &places[i]);
+        count_each(&mut markets, &[Some(at.market)]);
+        count_each(&mut wallets, &wallets_told(row, at));
     }
-    Ok(counts)
+    Ok(RowCounts { markets, wallets })
 }

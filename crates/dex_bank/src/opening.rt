@@ -10,15 +10,15 @@ ghost use Rattle.dex_accounts.specs.Accepted.{IsAccepted};
 ghost use Rattle.dex_accounts.specs.Decoded.{AreSound};
 ghost use Rattle.dex_token.specs.TokenAccount.{IsWallet};
 ghost use Rattle.dex_cell.specs.CellState as market;
-ghost use Rattle.dex_script.specs.Facts.{IsStart};
-ghost use Rattle.dex_script.specs.Places.{ArePlaced};
+ghost use Rattle.dex_script_facts.specs.Facts.{IsStart};
+ghost use Rattle.dex_script_facts.specs.Places.{ArePlaced};
 ghost use Rattle.dex_wallet.specs.CellState as wallet;
 ghost use Rattle.dex_wallet.specs.CellState.{IsWalletCell};
 ghost use Rattle.dex_wallet.specs.TokenAmount.{held_in};
 ghost use Rattle.dex_bank.specs.Opened as first;
 
 use crate::cells::Cells;
-use crate::counting::{rows_by_market, rows_by_wallet};
+use crate::counting::row_counts;
 use dex_cell::MarketCell;
 use dex_token::WalletRef;
 use dex_types::{Accounts, MarketAccounts, Named, NoMemory, Program, Row, RowPlaces};
@@ -122,8 +122,7 @@ pub(crate) fn opened(
     requires places { ArePlaced (accounts_of start) (map row_of rows.now) places.now }
     ensures { IfOk result (λ cells. cells ≡ first.opened_with (accounts_of start) (map row_of rows.now) program) }
 {
-    let market_rooms = rows_by_market(alloc, &start, rows, places)?;
-    let wallet_rooms = rows_by_wallet(alloc, &start, rows, places)?;
+    let rooms = row_counts(alloc, &start, rows, places)?;
     let Accounts {
         mints,
         srm,
@@ -131,8 +130,8 @@ pub(crate) fn opened(
         wallets,
         markets,
     } = start;
-    let markets = market_cells(alloc, markets, &market_rooms)?;
-    let wallets = wallet_cells(alloc, wallets, &wallet_rooms)?;
+    let markets = market_cells(alloc, markets, &rooms.markets)?;
+    let wallets = wallet_cells(alloc, wallets, &rooms.wallets)?;
     Ok(Cells {
         mints,
         srm,

@@ -1,23 +1,16 @@
 //! One row on all cells.
 
-ghost use Rattle.std.specs.Prelude.{◌≡◌, ◌<◌, ◌||◌, ◌&&◌, length, None, not, true, is_some, map, slice_index_or};
-ghost use Rattle.std.specs.Prelude.{slice_set};
+ghost use Rattle.std.specs.Prelude.{◌≡◌, ◌&&◌, None, not, true, is_some, map};
 ghost use Rattle.std.specs.List.{All};
-ghost use Rattle.dex_types.specs.declared.replies.Reply.TheVariants.{Done};
 ghost use Rattle.dex_types.specs.Rows.{row_of};
-ghost use Rattle.dex_types.specs.Transfers.{no_transfers};
-ghost use Rattle.dex_types.specs.Why.{why};
-ghost use Rattle.dex_history.specs.Journal.{is_refusal, request_of};
-ghost use Rattle.dex_cell.specs.CellState.{IsFor, MarketCellState, market_at, refused_on, step_on};
-ghost use Rattle.dex_fold.specs.Fold as fold;
-ghost use Rattle.dex_fold.specs.Items.{act_item, pair_of, why_in};
+ghost use Rattle.dex_cell.specs.CellState.{CanHold};
+ghost use Rattle.dex_fold.specs.Items.{why_in};
 ghost use Rattle.dex_fold.specs.World as world;
 ghost use Rattle.dex_act.specs.Wallets.{AreApart, ArePlacesAmong, Fits, IsRoleAt, roles_of, wallet_state_of};
-ghost use Rattle.dex_bank.specs.Cells.{AreCells, AreReplies, CanAct, CanActBoth, CanWait, IsReply, OthersStay};
-ghost use Rattle.dex_bank.specs.Cells.{OthersThanTwoStay, accounts_in, opened_of, world_of};
+ghost use Rattle.dex_bank.specs.Cells.{AreCells, CanAct, CanActBoth, CanWait, world_of};
 ghost use Rattle.dex_bank.specs.Places.{StandsAt};
-ghost use Rattle.dex_bank.specs.Stepping.{CanActAt, CanHoldAt, HasActedAt, HasBecomeAt, HasHeldAt, HaveActed};
-ghost use Rattle.dex_bank.specs.Stepping.{StaysIf, doing, step_at};
+ghost use Rattle.dex_bank.specs.Stepped.{HasActedOrWaited, HaveBothStepped};
+ghost use Rattle.dex_bank.specs.Stepping.{CanActOn, HasDone};
 
 use crate::cells::Cells;
 use crate::standing::Standing;
@@ -72,72 +65,24 @@ fn seen_by(cells: &Cells, row: &Row, places: &WalletPlaces) -> Seen
     seen
 }
 
-/// A row acts on the market at a place and on the wallets that it names.
-fn act_at(
-    markets: &mut [MarketCell],
-    place: usize,
-    wallets: &mut [WalletCell],
-    row: &Row,
-    seen: &Seen,
-    places: &WalletPlaces,
-) -> Reply
-    requires row { CanActAt row.now seen.now place markets.old wallets.old }
-    requires places { ArePlacesAmong wallets.old (row_of row.now) places.now }
-    ensures reply { (default : MarketCellState) →
-        result ≡ (step_on row.entry.now seen.now (slice_index_or markets.old place default)).reply }
-    ensures market { HasActedAt row.entry.now seen.now place markets.old markets.new }
-    ensures refused { is_refusal result ≡ true → (default : MarketCellState) → markets.new
-        ≡ slice_set markets.old place (refused_on row.entry.now seen.now (slice_index_or markets.old place default)) }
-    ensures wallets { (default : MarketCellState) →
-        HaveActed (row_of row.entry.now) seen.now
-        (step_on row.entry.now seen.now (slice_index_or markets.old place default)).transfers wallets.old wallets.new }
-{
-    act(&mut markets[place], wallets, row, seen, places)
-}
-
-/// A take is held back at the market at a place, and looks at the wallets that it names.
-fn hold_at(
-    markets: &mut [MarketCell],
-    place: usize,
-    wallets: &mut [WalletCell],
-    row: &Row,
-    seen: &Seen,
-    places: &WalletPlaces,
-) -> Reply
-    requires row { CanActAt row.now seen.now place markets.old wallets.old }
-    requires places { ArePlacesAmong wallets.old (row_of row.now) places.now }
-    requires held { CanHoldAt row.now seen.now place markets.old }
-    ensures reply { result ≡ Done }
-    ensures market { HasHeldAt row.entry.now seen.now place markets.old markets.new }
-    ensures wallets { HaveActed (row_of row.entry.now) seen.now no_transfers wallets.old wallets.new }
-{
-    hold(&mut markets[place], wallets, row, seen, places)
-}
-
-/// A row acts, or is held back, at the market at a place.
-fn do_at(
-    markets: &mut [MarketCell],
-    place: usize,
+/// A row acts on its market's cell and on the wallets that it names, or is held back there.
+fn do_on(
+    market: &mut MarketCell,
     wallets: &mut [WalletCell],
     row: &Row,
     seen: &Seen,
     places: &WalletPlaces,
     waits: bool,
 ) -> Reply
-    requires row { CanActAt row.now seen.now place markets.old wallets.old }
+    requires row { CanActOn row.now seen.now market.old wallets.old }
     requires places { ArePlacesAmong wallets.old (row_of row.now) places.now }
-    requires held { waits ≡ true → CanHoldAt row.now seen.now place markets.old }
-    ensures reply { (default : MarketCellState) → result
-        ≡ (step_at (doing waits (row_of row.entry.now)) seen.now place markets.old default).reply }
-    ensures market { HasBecomeAt (doing waits (row_of row.entry.now)) seen.now place markets.old markets.new }
-    ensures stays { StaysIf (waits || is_refusal result) markets.old markets.new }
-    ensures wallets { (default : MarketCellState) → let done = doing waits (row_of row.entry.now) in
-        HaveActed done seen.now (step_at done seen.now place markets.old default).transfers wallets.old wallets.new }
+    requires held { waits ≡ true → CanHold row.now seen.now market.old }
+    ensures { HasDone (row_of row.entry.now) waits seen.entry.now result market.old market.new wallets.old wallets.new }
 {
     if waits {
-        hold_at(markets, place, wallets, row, seen, places)
+        hold(market, wallets, row, seen, places)
     } else {
-        act_at(markets, place, wallets, row, seen, places)
+        act(market, wallets, row, seen, places)
     }
 }
 
@@ -146,33 +91,17 @@ pub(crate) fn act_or_wait(cells: &mut Cells, row: &Row, standing: &Standing, wai
     requires row { CanAct (row_of row.now) cells.old }
     requires places { StandsAt cells.old (row_of row.now) standing.now.market standing.now.wallets }
     requires held { waits ≡ true → CanWait (row_of row.now) cells.old }
-    ensures reply { IsReply (world_of cells.old) (doing waits (row_of row.entry.now)) result }
-    ensures acted { world_of cells.new ≡ fold.act (doing waits (row_of row.entry.now)) (world_of cells.old) }
-    ensures kept { opened_of cells.new ≡ opened_of cells.old }
-    ensures others { OthersStay row.entry.now.market cells.old.markets cells.new.markets }
-    ensures stays { StaysIf (waits || is_refusal result) cells.old.markets cells.new.markets }
-    ensures cells { AreCells cells.new }
+    ensures { HasActedOrWaited (row_of row.entry.now) waits result cells.old cells.new }
 {
     let seen = seen_by(cells, row, &standing.wallets);
-    do_at(
-        &mut cells.markets,
-        standing.market,
+    do_on(
+        &mut cells.markets[standing.market],
         &mut cells.wallets,
         row,
         &seen,
         &standing.wallets,
         waits,
     )
-}
-
-/// Whether the market at a place would refuse a row.
-fn is_refused_at(markets: &[MarketCell], place: usize, row: &Row, seen: &Seen) -> bool
-    requires within { place < length markets.now }
-    requires row { (default : MarketCellState) → IsFor row.now seen.now (slice_index_or markets.now place default) }
-    ensures { (default : MarketCellState) → let m = market_at (slice_index_or markets.now place default) in
-        result ≡ is_some (why (request_of (row_of row.entry.now)) seen.now m) }
-{
-    markets[place].decide(row, seen).is_err()
 }
 
 /// Whether a row would be refused now.
@@ -183,7 +112,7 @@ fn is_refused(cells: &Cells, row: &Row, standing: &Standing) -> bool
     ensures cells { AreCells cells.now }
 {
     let seen = seen_by(cells, row, &standing.wallets);
-    is_refused_at(&cells.markets, standing.market, row, &seen)
+    cells.markets[standing.market].decide(row, &seen).is_err()
 }
 
 /// Whether a row of an item waits: one of the item is refused, and not this one.
@@ -204,17 +133,7 @@ pub(crate) fn stepped_both(
     requires rows { CanActBoth (row_of first.now) (row_of second.now) cells.old }
     requires first { StandsAt cells.old (row_of first.now) first_standing.now.market first_standing.now.wallets }
     requires second { StandsAt cells.old (row_of second.now) second_standing.now.market second_standing.now.wallets }
-    ensures replies { AreReplies (world_of cells.old)
-        (pair_of (row_of first.entry.now) (row_of second.entry.now)) result }
-    ensures acted { world_of cells.new
-        ≡ act_item (pair_of (row_of first.entry.now) (row_of second.entry.now)) (world_of cells.old) }
-    ensures kept { opened_of cells.new ≡ opened_of cells.old }
-    ensures others { OthersThanTwoStay first.entry.now.market second.entry.now.market
-        cells.old.markets cells.new.markets }
-    ensures stays { (is_some (why_in (world_of cells.old) (row_of first.entry.now))
-        || is_some (why_in (world_of cells.old) (row_of second.entry.now))) ≡ true
-        → accounts_in cells.new.markets ≡ accounts_in cells.old.markets }
-    ensures cells { AreCells cells.new }
+    ensures { HaveBothStepped (row_of first.entry.now) (row_of second.entry.now) result cells.old cells.new }
 {
     let first_refused = is_refused(cells, first, first_standing);
     let second_refused = is_refused(cells, second, second_standing);

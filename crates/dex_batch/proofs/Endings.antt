@@ -25,15 +25,15 @@ use Rattle.dex_replay.proofs.Ends.{is-left}
 use Rattle.dex_replay.proofs.Singles.{rows-single, script-acts}
 use Rattle.dex_replay.proofs.Starts.{are-of-script}
 use Rattle.dex_replay.specs.Replays.{IsReplayOf}
-use Rattle.dex_script.specs.Drafts.{PlainScript}
-use Rattle.dex_script.specs.Facts.{HasNoSwap, IsScript}
-use Rattle.dex_script.specs.Starts.{start_world}
-use Rattle.dex_script.proofs.Apart.{AreDistinct, wallets-distinct}
+use Rattle.dex_script_facts.specs.PlainScript.{PlainScript}
+use Rattle.dex_script_facts.specs.Facts.{HasNoSwap, IsScript}
+use Rattle.dex_script_facts.specs.Starts.{start_world}
+use Rattle.dex_script_facts.proofs.Apart.{AreDistinct, wallets-distinct}
 use Rattle.dex_stage.proofs.Frames as frame
 use Rattle.dex_stage.proofs.Frames.{fold-msrm, fold-program, fold-srm}
 use Rattle.dex_stage.specs.Stages.{world_at}
 use Rattle.dex_team.specs.Closing.{HaveAllActed}
-use Rattle.dex_team.specs.Slots.{wallet_addresses}
+use Rattle.dex_script_facts.specs.Places.{wallet_addresses}
 
 -- ---- lists, place by place
 

@@ -4,7 +4,7 @@ ghost use Rattle.std.specs.Prelude.{◌≡◌, IfOk, map};
 ghost use Rattle.dex_types.specs.Accounts.{named_of};
 ghost use Rattle.dex_report.specs.Outcomes.{outcome_of};
 ghost use Rattle.dex_replay.specs.Replays.{IsReplayOf};
-ghost use Rattle.dex_script.specs.Facts.{HasNoSwap, IsScript};
+ghost use Rattle.dex_script_facts.specs.Facts.{HasNoSwap, IsScript};
 ghost use Rattle.dex_team.specs.Closing.{HaveAllActed};
 ghost use Rattle.dex_team.specs.Packets.{AreTermsOf};
 

@@ -1,59 +1,24 @@
 //! All rows of a script, in their order, on several threads.
 
-ghost use Rattle.std.specs.Prelude.{◌≡◌, ◌++◌, ◌∷◌, [], ◌≤◌, IfOk, OnOk, map};
-ghost use Rattle.dex_types.specs.Accounts.{PlainAccount, PlainMarketAccounts, market_accounts_of, named_of};
+ghost use Rattle.std.specs.Prelude.{◌≡◌, ◌≤◌, IfOk};
 ghost use Rattle.dex_report.specs.Outcomes.{outcome_of};
 ghost use Rattle.dex_replay.specs.Replays.{IsReplayOf};
 ghost use Rattle.dex_replay.specs.Runs.{IsRunOf};
-ghost use Rattle.dex_script.specs.Facts.{HasNoSwap, IsScript};
+ghost use Rattle.dex_script_facts.specs.Facts.{HasNoSwap, IsScript};
 
 use crate::closing::left_by;
 use dex_bank::Cells;
 use dex_io::Pace;
 use dex_replay::laws::{a_replay_is_in_one_order, what_one_order_leaves_is_a_run};
 use dex_report::Outcome;
-use dex_script::Script;
+use dex_script_facts::{Script, addresses_of_markets, addresses_of_wallets};
 use dex_stage::Terms;
 use dex_team::{Lists, Naming, work_all};
-use dex_types::{Address, MarketAccounts, Named, NoMemory};
+use dex_types::NoMemory;
 use std::alloc::Global;
 use std::marker::{Brand, Send, Sync};
 use std::sync::Wait;
 use std::thread::Threads;
-
-/// An address more.
-fn push(addresses: &mut Vec<Address>, address: Address) -> Result<(), NoMemory>
-    ensures { OnOk result (addresses.new.items ≡ addresses.old.items ++ address ∷ []) }
-{
-    match addresses.push(address) {
-        Ok(()) => Ok(()),
-        Err(_) => Err(NoMemory),
-    }
-}
-
-/// The addresses of markets.
-fn addresses_of_markets(alloc: Global, markets: &[MarketAccounts]) -> Result<Vec<Address>, NoMemory>
-    ensures { IfOk result (λ addresses. addresses.items
-        ≡ map (λ (accounts : PlainMarketAccounts). accounts.address) (map market_accounts_of markets.now)) }
-{
-    let mut addresses = Vec::new(alloc);
-    for accounts in markets {
-        push(&mut addresses, accounts.address)?;
-    }
-    Ok(addresses)
-}
-
-/// The addresses of wallets.
-fn addresses_of_wallets(alloc: Global, wallets: &[Named]) -> Result<Vec<Address>, NoMemory>
-    ensures { IfOk result (λ addresses. addresses.items
-        ≡ map (λ (account : PlainAccount). account.address) (map named_of wallets.now)) }
-{
-    let mut addresses = Vec::new(alloc);
-    for account in wallets {
-        push(&mut addresses, account.address)?;
-    }
-    Ok(addresses)
-}
 
 /// How many helpers there are beside the leader: no more than there are markets to work on beside.
 fn helpers_for(workers: u32, markets: usize) -> usize {

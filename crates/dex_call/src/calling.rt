@@ -5,7 +5,8 @@ ghost use Rattle.dex_words.specs.Spelling.{IsPlain, IsWithin};
 ghost use Rattle.dex_call.specs.Calls.{Ends, done};
 
 use crate::writing::put;
-use dex_answers::{Status, answer_to};
+use dex_answers::Status;
+use dex_commands::answer_to;
 use dex_words::Command;
 use std::alloc::Global;
 

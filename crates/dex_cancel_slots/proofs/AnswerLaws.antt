@@ -1,8 +1,9 @@
 -- what the slots of an account tell of its orders: which they are, how many, the oldest, and those of a side in book order
-use Rattle.std.proofs.Common.{ℕ, ◌≡◌, true, false, eqb, List, [], ◌∷◌, ◌++◌, Option, Some, append-nil, filter, length, refl, sym, ap, ◌∙◌, subst, arith, ⊎_elim}
+use Rattle.std.proofs.Common.{ℕ, ◌+◌, ◌≡◌, true, false, eqb, ltb, List, [], ◌∷◌, ◌++◌, Option, Some, append-nil, filter, length, refl, sym, ap, ◌∙◌, subst, arith, ⊎_elim}
 use Rattle.std.specs.List.{All}
+use Rattle.std.specs.Option.{is_some}
 use Rattle.std.specs.List.Sorted.{IsPermutation}
-use Rattle.std.proofs.lemmas.Bool.{cases_Bool, cond_both, cond-true, cond-false}
+use Rattle.std.proofs.lemmas.Bool.{cases_Bool, cond_both, cond-true, cond-false, lt-ltb}
 use Rattle.std.proofs.lemmas.List.Elements.{All-nil, All-cons, All-head, All-tail, filter-append}
 use Rattle.dex_types.specs.declared.addresses.Address.{Address}
 use Rattle.dex_types.specs.declared.orders.Order.{Order}
@@ -59,6 +60,15 @@ passing-other owner side other [] differ = refl
 passing-other owner side other (first ∷ others) differ =
     cond_both (is_same owner first.owner) (on other first ∷ orders_of owner other others) (orders_of owner other others) (λ os. filter (passes (is_on side)) os ≡ [])
     (λ own. cond-false _ _ _ differ ∙ passing-other owner side other others differ) (λ not. passing-other owner side other others differ)
+
+-- one of a client id rests where it counts one
+pub any-client : (client : ℕ) (orders : List RestingOrder) → ltb 0 (count_of_client client orders) ≡ is_some (oldest client orders)
+any-client client [] = refl
+any-client client (first ∷ others) =
+    ⊎_elim
+    (λ (same : eqb first.order.client client ≡ true). rw same (lt-ltb 0 (count_of_client client others + 1) (omega arith)))
+    (λ (other : eqb first.order.client client ≡ false). rw other (any-client client others))
+    (cases_Bool (eqb first.order.client client))
 
 -- ---- what the slots tell
 

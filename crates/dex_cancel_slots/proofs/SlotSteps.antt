@@ -1,12 +1,10 @@
 -- one step along the slots of an account
-use Rattle.std.proofs.Common.{ℕ, ◌+◌, ◌<◌, ◌≤◌, ◌≡◌, Bool, true, false, List, [], ◌∷◌, ◌++◌, Option, Some, None, length, drop, get_or, refl, sym, ap, ◌∙◌, arith}
-use Rattle.std.specs.Option.{is_some}
+use Rattle.std.proofs.Common.{ℕ, ◌+◌, ◌<◌, ◌≤◌, ◌≡◌, Bool, List, [], ◌∷◌, ◌++◌, Option, Some, None, length, drop, get_or, refl, sym, ap, ◌∙◌, arith}
 use Rattle.std.proofs.lemmas.List.{at_drop_more}
 use Rattle.dex_types.specs.declared.orders.Order.{Order}
 use Rattle.dex_types.specs.Cancel.{RestingOrder, at_most_one}
 use Rattle.dex_types.specs.Trader.{Holding}
-use Rattle.dex_cancel.specs.declared.found.Found.{Found}
-use Rattle.dex_cancel.specs.Finding.{maybe_resting, older_of}
+use Rattle.dex_cancel.specs.Finding.{older_of}
 use Rattle.dex_cancel.proofs.WalkSteps.{older_of-older}
 use Rattle.dex_cancel_slots.specs.Slots.{named_by_slot, oldest_of, orders_in}
 
@@ -23,18 +21,6 @@ older_of-none (Some a) = refl
 oldest_of-first : (first : Option RestingOrder) (later : List RestingOrder) → oldest_of (at_most_one first ++ later) ≡ older_of first (oldest_of later)
 oldest_of-first None later = refl
 oldest_of-first (Some first) later = refl
-
-pub some-resting : (found : Option Found) → is_some (maybe_resting found) ≡ is_some found
-some-resting None = refl
-some-resting (Some found) = refl
-
-some-older : (a b : Option RestingOrder) → is_some a ≡ true → is_some (older_of a b) ≡ true
-some-older None b is = absurd cc
-some-older (Some a) b is = refl
-
-none-older : (a b : Option RestingOrder) → is_some a ≡ false → older_of a b ≡ b
-none-older None b is = refl
-none-older (Some a) b is = absurd cc
 
 pub length-at_most_one : (one : Option RestingOrder) → length (at_most_one one) ≤ 1
 length-at_most_one None = omega arith
@@ -55,18 +41,6 @@ module _ (test : Holding → Bool) (bids asks : List Order) (slots : List (Optio
       ∙ older_of-older_of before found (oldest_of later)
       ∙ ap (older_of before) (sym (oldest_of-first found later) ∙ ap (λ o. oldest_of (o ++ later)) is
       ∙ sym (at_drop_more (λ s. oldest_of (orders_in test bids asks s)) slots slot None lt))
-
-  -- there is one where the slot names one
-  pub some-step : (found : Option RestingOrder) → at_most_one found ≡ named_by_slot test bids asks (get_or slots slot None) → is_some found ≡ true
-      → is_some (oldest_of (orders_in test bids asks (drop slot slots))) ≡ true
-  some-step found is some =
-      ap is_some (sym (oldest-step None found found is refl)) ∙ some-older found (oldest_of (orders_in test bids asks (drop (slot + 1) slots))) some
-
-  -- where it names none, the oldest is that of the later ones
-  pub none-step : (found : Option RestingOrder) → at_most_one found ≡ named_by_slot test bids asks (get_or slots slot None) → is_some found ≡ false
-      → oldest_of (orders_in test bids asks (drop (slot + 1) slots)) ≡ oldest_of (orders_in test bids asks (drop slot slots))
-  none-step found is none =
-      sym (none-older found (oldest_of (orders_in test bids asks (drop (slot + 1) slots))) none) ∙ oldest-step None found found is refl
 
   -- how many one slot and the later ones name
   pub count-step : length (orders_in test bids asks (drop slot slots))

@@ -4,7 +4,9 @@ use Rattle.dex_types.specs.declared.addresses.Address.{Address}
 use Rattle.dex_types.specs.declared.orders.Order.{Order}
 use Rattle.dex_types.specs.Trader.{Holding}
 use Rattle.dex_orders.specs.declared.orders_ref.OrdersRef.{OrdersRef}
-use Rattle.dex_orders.specs.OrdersAccount.{account_of}
+use Rattle.dex_orders.specs.OrdersAccount.{IsOpen, account_of}
+use Rattle.dex_cancel_slots.specs.declared.owned.Owned.{Owned}
+use Rattle.dex_cancel_slots.specs.Slots.{DoSlotsName}
 use Rattle.dex_accounts.specs.Parts.{AreSoundParts, HasOpen, MarketParts}
 
 -- what a call is given, by what it takes of a market's parts, is of one sound market, in which the owner's account is open, with
@@ -31,3 +33,10 @@ sides_given parts = sides_by parts.bids parts.asks
 -- the slots of an account that is shown
 abbrev pub slots_in : OrdersRef → List (Option Holding)
 slots_in orders = (account_of orders.bytes.now).slots
+
+-- what is read of an account's orders: the account is open, both sides hold, and its slots name its orders there
+pub record IsNamed {B A : Type 0} (bids_hold : B → Type 0) (bids_of : B → List Order) (asks_hold : A → Type 0) (asks_of : A → List Order) (own : Owned B A) : Type 0 where
+  pub opened : IsOpen own.orders.bytes.now
+  pub bids : bids_hold own.bids.now
+  pub asks : asks_hold own.asks.now
+  pub names : DoSlotsName own.account (slots_in own.orders) (bids_of own.bids.now) (asks_of own.asks.now)

@@ -2,13 +2,11 @@
 
 ghost use Rattle.std.specs.Prelude.{◌≡◌};
 ghost use Rattle.dex_types.specs.Cancel as cancel;
-ghost use Rattle.dex_orders.specs.OrdersAccount.{IsOpen};
 ghost use Rattle.dex_cancel.specs.Cancelling.{decided, named_by};
-ghost use Rattle.dex_cancel_slots.specs.Given.{IsGiven, sides_by, sides_given, slots_in};
-ghost use Rattle.dex_cancel_slots.specs.Slots.{DoSlotsName};
+ghost use Rattle.dex_cancel_slots.specs.Given.{IsGiven, IsNamed, sides_by, sides_given};
 
-use crate::counting::{count_first, count_listed};
-use crate::finding::has_any;
+use crate::counting::{count_first, count_listed, has_more};
+use crate::owned::{Owned, gathered};
 use dex_cancel::steps::with_room;
 use dex_cancel::{CancelWhat, decide_cancel};
 use dex_orders::OrdersRef;
@@ -16,23 +14,18 @@ use dex_types::{Address, Refusal, SideRead};
 
 /// A cancel by client id, which is not 0 and has to be one of the account's resting orders.
 fn decide_by_client<B: SideRead, A: SideRead>(
-    account: Address,
-    orders: &OrdersRef<'_>,
-    bids: &B,
-    asks: &A,
+    own: &Owned<'_, '_, '_, B, A>,
     room: u32,
     client: u64,
 ) -> Result<u32, Refusal>
-    requires open { IsOpen orders.now.bytes.now }
-    requires bids { B.holds bids.now }
-    requires asks { A.holds asks.now }
-    requires names { DoSlotsName account (slots_in orders.now) (B.orders bids.now) (A.orders asks.now) }
-    ensures { result ≡ decided (cancel.ByClient client) account (B.orders bids.now) (A.orders asks.now) room }
+    requires own { IsNamed B.holds B.orders A.holds A.orders own.now }
+    ensures { result ≡ decided (cancel.ByClient client) own.now.account (B.orders own.now.bids.now)
+        (A.orders own.now.asks.now) room }
 {
     if client == 0 {
         return Err(Refusal::ClientIdZero);
     }
-    if has_any(account, orders, bids, asks, client) {
+    if has_more(own, client, 0) {
         with_room(1, room)
     } else {
         Err(Refusal::ClientIdNotFound)
@@ -41,20 +34,15 @@ fn decide_by_client<B: SideRead, A: SideRead>(
 
 /// A cancel of the account's first orders, at most so many.
 fn decide_prune<B: SideRead, A: SideRead>(
-    account: Address,
-    orders: &OrdersRef<'_>,
-    bids: &B,
-    asks: &A,
+    own: &Owned<'_, '_, '_, B, A>,
     room: u32,
     limit: u16,
 ) -> Result<u32, Refusal>
-    requires open { IsOpen orders.now.bytes.now }
-    requires bids { B.holds bids.now }
-    requires asks { A.holds asks.now }
-    requires names { DoSlotsName account (slots_in orders.now) (B.orders bids.now) (A.orders asks.now) }
-    ensures { result ≡ decided (cancel.First limit) account (B.orders bids.now) (A.orders asks.now) room }
+    requires own { IsNamed B.holds B.orders A.holds A.orders own.now }
+    ensures { result ≡ decided (cancel.First limit) own.now.account (B.orders own.now.bids.now)
+        (A.orders own.now.asks.now) room }
 {
-    let needed = count_first(account, orders, bids, asks, u32::from(limit));
+    let needed = count_first(own, u32::from(limit));
     with_room(needed, room)
 }
 
@@ -77,14 +65,11 @@ pub fn decide_cancel_by_slots<B: SideRead>(
         IsGiven sides_given sides account orders.now.bytes.now }
     ensures { result ≡ decided (named_by what.now) account (B.orders bids.now) (B.orders asks.now) room }
 {
+    let own = &gathered(account, *orders, bids, asks);
     match what {
         CancelWhat::ById { .. } => decide_cancel(bids, asks, room, account, what),
-        CancelWhat::ByClient(client) => {
-            decide_by_client(account, orders, bids, asks, room, *client)
-        }
-        CancelWhat::ByClients(ids) => {
-            with_room(count_listed(account, orders, bids, asks, ids), room)
-        }
-        CancelWhat::Prune(limit) => decide_prune(account, orders, bids, asks, room, *limit),
+        CancelWhat::ByClient(client) => decide_by_client(own, room, *client),
+        CancelWhat::ByClients(ids) => with_room(count_listed(own, ids), room),
+        CancelWhat::Prune(limit) => decide_prune(own, room, *limit),
     }
 }

@@ -1,12 +1,13 @@
 //! Orders that the slots of an account name by their client id.
 
-ghost use Rattle.std.specs.Prelude.{◌≡◌, ◌<◌, None, is_some, slice_index_or};
+ghost use Rattle.std.specs.Prelude.{◌≡◌, ◌<◌, None, slice_index_or};
 ghost use Rattle.dex_types.specs.Cancel.{all_orders_of, at_most_one, oldest};
 ghost use Rattle.dex_orders.specs.OrdersAccount.{IsOpen};
 ghost use Rattle.dex_cancel.specs.Finding.{maybe_resting};
-ghost use Rattle.dex_cancel_slots.specs.Given.{slots_in};
+ghost use Rattle.dex_cancel_slots.specs.Given.{IsNamed, slots_in};
 ghost use Rattle.dex_cancel_slots.specs.Slots.{DoSlotsName, has_client, named_by_slot};
 
+use crate::owned::{Owned, gathered};
 use crate::taken::{client_at, taken_end};
 use dex_cancel::steps::{Found, find_on, older_of};
 use dex_orders::OrdersRef;
@@ -14,25 +15,21 @@ use dex_types::{Address, SideRead};
 
 /// The order that a slot names, where the slot has the client id.
 pub fn named_at<B: SideRead, A: SideRead>(
-    orders: &OrdersRef<'_>,
-    bids: &B,
-    asks: &A,
+    own: &Owned<'_, '_, '_, B, A>,
     slot: u8,
     client: u64,
 ) -> Option<Found>
-    requires open { IsOpen orders.now.bytes.now }
-    requires bids { B.holds bids.now }
-    requires asks { A.holds asks.now }
+    requires own { IsNamed B.holds B.orders A.holds A.orders own.now }
     requires slot { slot < 128 }
-    ensures { let held = slice_index_or (slots_in orders.now) slot None in
+    ensures { let held = slice_index_or (slots_in own.now.orders) slot None in
         at_most_one (maybe_resting result)
-        ≡ named_by_slot (has_client client) (B.orders bids.now) (A.orders asks.now) held }
+        ≡ named_by_slot (has_client client) (B.orders own.now.bids.now) (A.orders own.now.asks.now) held }
 {
-    if client_at(orders, slot) != client {
+    if client_at(&own.orders, slot) != client {
         return None;
     }
-    let (id, side, _) = orders.slot(slot)?;
-    let order = find_on(bids, asks, side, id)?;
+    let (id, side, _) = own.orders.slot(slot)?;
+    let order = find_on(own.bids, own.asks, side, id)?;
     Some(Found { side, order })
 }
 
@@ -50,38 +47,13 @@ pub fn find_oldest<B: SideRead, A: SideRead>(
     requires names { DoSlotsName account (slots_in orders.now) (B.orders bids.now) (A.orders asks.now) }
     ensures { maybe_resting result ≡ oldest client (all_orders_of account (B.orders bids.now) (A.orders asks.now)) }
 {
+    let own = &gathered(account, *orders, bids, asks);
     let mut found = None;
     let end = taken_end(orders);
     let mut slot = 0;
     'slots: while slot < end {
-        found = older_of(found, named_at(orders, bids, asks, slot, client));
+        found = older_of(found, named_at(own, slot, client));
         slot += 1;
     }
     found
-}
-
-/// Whether an order of the account has the client id. It looks up no more orders once it found one.
-pub fn has_any<B: SideRead, A: SideRead>(
-    account: Address,
-    orders: &OrdersRef<'_>,
-    bids: &B,
-    asks: &A,
-    client: u64,
-) -> bool
-    requires open { IsOpen orders.now.bytes.now }
-    requires bids { B.holds bids.now }
-    requires asks { A.holds asks.now }
-    requires names { DoSlotsName account (slots_in orders.now) (B.orders bids.now) (A.orders asks.now) }
-    ensures { let own = all_orders_of account (B.orders bids.now) (A.orders asks.now) in
-        result ≡ is_some (oldest client own) }
-{
-    let end = taken_end(orders);
-    let mut slot = 0;
-    'slots: while slot < end {
-        if named_at(orders, bids, asks, slot, client).is_some() {
-            return true;
-        }
-        slot += 1;
-    }
-    false
 }

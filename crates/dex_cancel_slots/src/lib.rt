@@ -7,6 +7,7 @@ mod deciding;
 mod finding;
 mod first_own;
 mod laws;
+mod owned;
 mod pruning;
 mod taken;
 

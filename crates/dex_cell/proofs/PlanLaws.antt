@@ -12,37 +12,24 @@ use Rattle.dex_types.specs.Steps.{refused, step}
 use Rattle.dex_types.specs.Transfers.{Transfers}
 use Rattle.dex_types.specs.Why.{why}
 use Rattle.dex_plan.specs.declared.plan.Plan.{Plan}
-use Rattle.dex_plan.specs.Owing.{deposit_of}
+use Rattle.dex_plan.specs.Owing.{plan_transfers}
 use Rattle.dex_plan.specs.Plans.{decided, plan_decoded}
 use Rattle.dex_plan.proofs.StepLaws as laws
 use Rattle.dex_history.specs.Journal.{is_refusal, request_of}
 use Rattle.dex_history.proofs.RefusalLaws.{step-refused}
 use Rattle.dex_cell.specs.CellState.{MarketCellState, answer_on, market_at, step_on}
-use Rattle.dex_cell.specs.PlanAmounts.{plan_transfers}
-
--- a plan that was decided moves what its row's step moves
-pub planned-moves : (plan : Plan) (request : Request) (seen : Seen) (m : Market) → Ok plan ≡ decided request seen m
-    → plan_transfers plan ≡ (step request seen m).transfers
-planned-moves = laws.planned-moves
 
 -- a row that is refused by deciding makes the refused step
 pub refused-step : (refusal : Refusal) (request : Request) (seen : Seen) (m : Market) → Err refusal ≡ decided request seen m
     → step request seen m ≡ refused refusal m
 refused-step refusal request seen m is = laws.step-refused request seen m refusal (sym is)
 
--- so what a plan moves that was decided for a cell is what the row's step at the end of its calls moves
+-- what a plan moves that was decided for a cell is what the row's step at the end of its calls moves
 pub plan-moves-cell : (cell now : MarketCellState) (row : Row) (seen : Seen) (plan : Plan) (t : Transfers) → cell ≡ now
     → Ok plan ≡ answer_on row seen now → t ≡ plan_transfers plan → t ≡ (step_on row seen cell).transfers
 plan-moves-cell cell now row seen plan t same decided_is is =
-    is ∙ planned-moves plan (request_of (row_of row)) seen (market_at cell)
+    is ∙ laws.planned-moves plan (request_of (row_of row)) seen (market_at cell)
     (subst (λ (cell : MarketCellState). Ok plan ≡ answer_on row seen cell) (sym same) decided_is)
-
--- what a plan takes into the vaults
-pub coin-enters : (plan : Plan) → (plan_transfers plan).coin_in ≡ (deposit_of plan).coin
-coin-enters plan = refl
-
-pub pc-enters : (plan : Plan) → (plan_transfers plan).pc_in ≡ (deposit_of plan).pc
-pc-enters plan = refl
 
 -- ---- an accepted row is answered by no refusal
 

@@ -1,4 +1,3 @@
 pub mod CellState
 pub mod CellInside
 pub mod Paying
-pub mod PlanAmounts

@@ -4,7 +4,7 @@ ghost use Rattle.std.specs.Prelude.{◌≡◌};
 ghost use Rattle.dex_types.specs.Side.{locked_token};
 ghost use Rattle.dex_types.specs.Transfers.{exchange};
 ghost use Rattle.dex_movements.specs.Amounts.{transfers_of};
-ghost use Rattle.dex_cell.specs.PlanAmounts.{plan_transfers};
+ghost use Rattle.dex_plan.specs.Owing.{plan_transfers};
 
 use dex_decide::Plan;
 use dex_movements::Amounts;

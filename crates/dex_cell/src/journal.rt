@@ -7,11 +7,12 @@ ghost use Rattle.dex_movements.specs.Amounts.{CanMoveEach, transfers_of};
 ghost use Rattle.dex_movements.specs.Entries.{entry_by};
 
 use crate::call_record::CallRecord;
-use dex_movements::{Amounts, moves_of};
+use dex_movements::{Amounts, put_moves};
 use dex_types::{Entry, Reply, Row, Seen};
 use http_server::Log as CallLog;
 
-/// Writes the entry of a row with this reply that moves these amounts behind the others, where room for it is reserved.
+/// Writes the entry of a row with this reply that moves these amounts behind the others, where room for it is reserved. Its
+/// movements are put where they stay.
 pub(crate) fn write_down(
     calls: &mut CallLog<Row, CallRecord>,
     entries: &mut Vec<Entry>,
@@ -34,12 +35,22 @@ pub(crate) fn write_down(
     ) ∷ [] }
     ensures reserved { vec_capacity entries.old ≤ vec_capacity entries.new }
 {
-    let entry = Entry {
-        lane: row.lane,
-        row: row.number,
-        reply,
-        moves: moves_of(row, seen, amounts),
-    };
-    *calls = calls.and(row, &CallRecord { seen: *seen, entry });
-    entries.push(entry).unwrap();
+    let place = entries.len();
+    entries
+        .push(Entry {
+            lane: row.lane,
+            row: row.number,
+            reply,
+            moves: [None, None, None, None],
+        })
+        .unwrap();
+    let entry = &mut entries[place];
+    put_moves(row, seen, amounts, &mut entry.moves);
+    *calls = calls.and(
+        row,
+        &CallRecord {
+            seen: *seen,
+            entry: *entry,
+        },
+    );
 }

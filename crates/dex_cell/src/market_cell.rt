@@ -156,6 +156,14 @@ impl MarketCell {
         dex_decide::decide(&self.accounts, row, seen, &self.pending)
     }
 
+    /// The same, written where it is wanted.
+    pub fn decide_into(&self, row: &Row, seen: &Seen, answer: &mut Result<Plan, Refusal>)
+        requires { IsFor row.now seen.now self.now }
+        ensures { answer.new ≡ answer_on row.entry.now seen.now self.now }
+    {
+        dex_decide::decide_into(&self.accounts, row, seen, &self.pending, answer);
+    }
+
     /// Does a row as it was decided, with the parcels of the plan's deposit, and answers its reply, which is no refusal, and
     /// the parcels that it pays out. The journal has one entry more.
     pub fn apply(
@@ -202,14 +210,8 @@ impl MarketCell {
         let amounts = amounts_of(plan);
         let reply = dex_step::apply(&mut self.accounts, row, seen, plan, &mut self.pending);
         let payouts = pay(&mut self.coin, &mut self.pc, &amounts, coin, pc);
-        write_down(
-            &mut self.calls,
-            &mut self.entries,
-            row,
-            seen,
-            reply,
-            &amounts,
-        );
+        let MarketCell { calls, entries, .. } = self;
+        write_down(calls, entries, row, seen, reply, &amounts);
         payouts
     }
 
@@ -220,14 +222,8 @@ impl MarketCell {
         ensures noted { self.new ≡ cells.noted_on row.entry.now seen.now reply self.old }
         ensures cell { IsMarketCell self.new }
     {
-        write_down(
-            &mut self.calls,
-            &mut self.entries,
-            row,
-            seen,
-            reply,
-            &Amounts::none(),
-        );
+        let MarketCell { calls, entries, .. } = self;
+        write_down(calls, entries, row, seen, reply, &Amounts::none());
     }
 
     /// Writes down that a row is refused, as it was decided: the journal has one entry more, and all accounts stay as they are,

@@ -1,13 +1,11 @@
 //! A row that acts on a market's cell.
 
-ghost use Rattle.dex_cell.specs.CellState.{HasSpare, IsFor, IsMarketCell, answer_on, market_at};
+ghost use Rattle.dex_cell.specs.CellState.{HasSpare, IsFor, IsMarketCell, answer_on};
 ghost use Rattle.dex_cell.specs.Paying.{parcel_of};
-ghost use Rattle.dex_history.specs.Balances.{mint_of};
 ghost use Rattle.dex_history.specs.Journal.{Agree, Sees, asked_of};
 ghost use Rattle.dex_types.specs.Rows.{row_of};
-ghost use Rattle.dex_types.specs.Side.{Coin, Pc};
 ghost use Rattle.dex_types.specs.Wallets.{address_seen};
-ghost use Rattle.std.specs.Prelude.{◌≡◌, IfSome, IsTrue, Ok};
+ghost use Rattle.std.specs.Prelude.{◌≡◌, IsTrue, Ok};
 
 use dex_cell::{MarketCell, Payouts, Plan};
 use dex_market::MarketRef;
@@ -68,28 +66,6 @@ pub(crate) fn sees(row: &Row, seen: &Seen) -> bool
     coin_pc & coin_discount & coin_referrer & pc_discount & pc_referrer & discount_referrer
 }
 
-/// The mint of the market's base.
-#[tactic(auto, unfolding(dex_accounts::specs::Decoded::market_in))]
-fn coin_mint(cell: &MarketCell) -> Address
-    ensures { result ≡ mint_of Coin (market_at cell.now) }
-{
-    let market = MarketRef {
-        bytes: &cell.accounts().market,
-    };
-    market.coin_mint()
-}
-
-/// The mint of the market's quote.
-#[tactic(auto, unfolding(dex_accounts::specs::Decoded::market_in))]
-fn pc_mint(cell: &MarketCell) -> Address
-    ensures { result ≡ mint_of Pc (market_at cell.now) }
-{
-    let market = MarketRef {
-        bytes: &cell.accounts().market,
-    };
-    market.pc_mint()
-}
-
 /// So much of a mint, and none of nothing.
 fn parcel(mint: Address, amount: u64) -> Option<Parcel>
     ensures { result ≡ parcel_of mint amount }
@@ -109,6 +85,7 @@ fn end(parcel: Option<Parcel>) {
 }
 
 /// Does a row as it was decided.
+#[tactic(auto, unfolding(dex_accounts::specs::Decoded::market_in))]
 fn accept(cell: &mut MarketCell, row: &Row, seen: &Seen, plan: Plan)
     requires row { IsFor row.now seen.now cell.old }
     requires cell { IsMarketCell cell.old }
@@ -116,8 +93,11 @@ fn accept(cell: &mut MarketCell, row: &Row, seen: &Seen, plan: Plan)
     requires decided { Ok plan ≡ answer_on row.now seen.now cell.old }
 {
     let deposit = plan.deposit();
-    let coin = parcel(coin_mint(cell), deposit.coin);
-    let pc = parcel(pc_mint(cell), deposit.pc);
+    let market = MarketRef {
+        bytes: &cell.accounts().market,
+    };
+    let coin = parcel(market.coin_mint(), deposit.coin);
+    let pc = parcel(market.pc_mint(), deposit.pc);
     let (_, payouts) = cell.apply(row, seen, plan, coin, pc);
     let Payouts { coin, pc, referrer } = payouts;
     end(coin);

@@ -9,9 +9,9 @@ use crate::acting::{act, role, sees};
 use crate::making::new_cell;
 use crate::words::{add_line, row_of};
 use dex_cell::MarketCell;
-use dex_rows::records::Rows;
+use dex_rows::records::{Fields, Rows};
 use dex_statement::{InstructionWords, Statement, statement_of};
-use dex_types::{Address, MarketAccounts, MoveKind, Movement, Program, Row, Seen, WalletSeen};
+use dex_types::{MarketAccounts, MoveKind, Movement, Program, Row, Seen, WalletSeen};
 use std::alloc::Global;
 use std::test::Fail;
 
@@ -69,10 +69,11 @@ impl Exchange {
     pub fn run(&mut self, text: &[u8]) -> Result<String, Fail> {
         let mut lines = String::new(self.alloc);
         let mut rows = Rows::new(self.alloc, text);
+        let mut row = Fields::new();
         for _ in 0..u64::MAX {
-            let Some(row) = rows.next_row()? else {
+            if !rows.next_row(&mut row)? {
                 return Ok(lines);
-            };
+            }
             let statement = statement_of(self.alloc, &row)?;
             self.take(statement, &mut lines)?;
         }

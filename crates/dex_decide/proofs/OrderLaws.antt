@@ -1,5 +1,6 @@
 -- A new order, over a sound market's accounts.
 use Rattle.std.proofs.Common.{◌≡◌, ℕ, List, [], ◌∷◌, ◌++◌, Option, Some, None, refl, sym, ap, ◌∙◌, subst}
+use Rattle.std.specs.Prelude.{IsSomeAnd}
 use Rattle.dex_types.specs.declared.addresses.Address.{Address}
 use Rattle.dex_types.specs.declared.refusals.Refusal.{Refusal}
 use Rattle.dex_types.specs.declared.refusals.Refusal.TheVariants.{NoAccount}
@@ -9,7 +10,7 @@ use Rattle.dex_types.specs.declared.terms.Side.{Side}
 use Rattle.dex_types.specs.declared.terms.Side.TheVariants.{Bid, Ask}
 use Rattle.dex_types.specs.Accounts.{PlainMarketAccounts}
 use Rattle.dex_types.specs.NewOrder.{NewOrder, Ordering, order_on}
-use Rattle.dex_types.specs.Reasons.{first_of, missing, not_person, not_signed_by, other_discount_mint, other_mint}
+use Rattle.dex_types.specs.Reasons.{answered, first_of, missing, not_person, not_signed_by, other_discount_mint, other_mint}
 use Rattle.dex_types.specs.Requests.{Party, Request}
 use Rattle.dex_types.specs.Side.{opposite}
 use Rattle.dex_types.specs.Why.{order_reading, payer, payer_mint, why_order_early, why_order_of, why_ordering}
@@ -18,7 +19,7 @@ use Rattle.dex_ring.specs.Ring.{Ring}
 use Rattle.dex_match.specs.declared.order_plan.Decided.{Decided}
 use Rattle.dex_match.specs.OrderParts.{IsGiven, OrderGiven, given_by, order_given}
 use Rattle.dex_match.specs.OrderParts as orders
-use Rattle.dex_match.specs.Ordering.{order_reason, ordering_in, plan_by, sums_after}
+use Rattle.dex_match.specs.Ordering.{order_outcome, order_reason, ordering_in, plan_by}
 use Rattle.dex_match.proofs.PartsLaws.{given-of, ordering-is, reason-is}
 use Rattle.dex_orders.specs.OrdersAccount.{account_of}
 use Rattle.dex_reasons.proofs.FirstReasons.{first_of-one}
@@ -61,36 +62,40 @@ module _ (accounts : PlainMarketAccounts) (sound : AreSound accounts) where
     is = refl;
   }
 
-  -- what is decided, once wallets and the signer have passed
-  pub order-late : (side : Side) (n : NewOrder) (request : Request) (seen : Seen) (address : Address) (bytes : List ℕ) (wallet : WalletSeen)
-      → HasOpen n.owner bytes (parts_of accounts) → payer side seen ≡ Some wallet
+  -- why it is refused, once wallets and the signer have passed
+  order-late : (side : Side) (n : NewOrder) (request : Request) (seen : Seen) (address : Address) (bytes : List ℕ) (balance : ℕ)
+      → HasOpen n.owner bytes (parts_of accounts)
+      → (paying : Option WalletSeen) → payer side seen ≡ paying → IsSomeAnd paying (λ (w : WalletSeen). w.balance ≡ balance)
       → why_order_early side request seen (market_in accounts) (party_by address bytes) ≡ None
-      → order_reason side n (orders.parts_of (order_given side bytes (parts_of accounts))) wallet.balance
+      → order_reason side n (orders.parts_of (order_given side bytes (parts_of accounts))) balance
       ≡ why_order_of side n request seen (market_in accounts) (party_by address bytes)
-  order-late side n request seen address bytes wallet has pays none =
+  order-late side n request seen address bytes balance has None pays has_it none = absurd has_it
+  order-late side n request seen address bytes balance has (Some wallet) pays is none =
       let m = market_in accounts in
       let late = why_ordering side n (order_reading side n seen m (account_of bytes)) in
-      reason-is side n _ m wallet.balance seen wallet sound.sound (given-of side n.owner bytes (parts_of accounts) m (are accounts sound) has) pays refl
+      reason-is side n _ m balance seen wallet sound.sound (given-of side n.owner bytes (parts_of accounts) m (are accounts sound) has) pays is
       ∙ sym (first_of-one late)
       ∙ ap (λ (r : Option Refusal). first_of (r ∷ late ∷ [])) (sym none)
 
-  -- what is planned is the market's
-  pub order-planned : (side : Side) (n : NewOrder) (bytes : List ℕ) → HasOpen n.owner bytes (parts_of accounts)
-      → ordering_in side n (orders.parts_of (order_given side bytes (parts_of accounts))) ≡ order_on side (market_in accounts) (account_of bytes) n
-  order-planned side n bytes has =
-      ordering-is side n _ (market_in accounts) (given-of side n.owner bytes (parts_of accounts) (market_in accounts) (are accounts sound) has)
-
-  pub order-decided : (side : Side) (n : NewOrder) (bytes : List ℕ) → HasOpen n.owner bytes (parts_of accounts)
-      → (let parts = orders.parts_of (order_given side bytes (parts_of accounts)) in
-      let o = ordering_in side n parts in
-      let decided : Decided = record { plan = plan_by n o; pending = sums_after parts o } in
-      let on = order_on side (market_in accounts) (account_of bytes) n in
-      decided ≡ record { plan = plan_by n on; pending = sums_with on.events (market_in accounts) })
-  order-decided side n bytes has =
+  -- what is answered then is the market's: its first reason, or else what is planned with the sums after it
+  pub order-told : (side : Side) (n : NewOrder) (request : Request) (seen : Seen) (address : Address) (bytes : List ℕ) (balance : ℕ)
+      → IsActing request.named accounts.orders address bytes → n.owner ≡ address
+      → IsSomeAnd (payer side seen) (λ (w : WalletSeen). w.balance ≡ balance)
+      → why_order_early side request seen (market_in accounts) (party_by address bytes) ≡ None
+      → (let on = order_on side (market_in accounts) (account_of bytes) n in
+      let told : Decided = record { plan = plan_by n on; pending = sums_with on.events (market_in accounts) } in
+      order_outcome side n (orders.parts_of (order_given side bytes (parts_of accounts))) balance
+      ≡ answered (why_order_of side n request seen (market_in accounts) (party_by address bytes)) told)
+  order-told side n request seen address bytes balance acting whose pays none =
+      let m = market_in accounts in
       let parts = orders.parts_of (order_given side bytes (parts_of accounts)) in
+      let has : HasOpen n.owner bytes (parts_of accounts) =
+      subst (λ (a : Address). HasOpen a bytes (parts_of accounts)) (sym whose) (has-open accounts sound request.named address bytes acting) in
       let made : Ordering → Ring → Decided = λ o r. record { plan = plan_by n o; pending = pending_fills_of (r.events ++ o.events) } in
-      ap (λ (o : Ordering). made o parts.ring) (order-planned side n bytes has)
-      ∙ ap (made (order_on side (market_in accounts) (account_of bytes) n)) sound.stands.events.ring
+      let why = why_order_of side n request seen m (party_by address bytes) in
+      ap (λ (r : Option Refusal). answered r (made (ordering_in side n parts) parts.ring)) (order-late side n request seen address bytes balance has _ refl pays none)
+      ∙ ap (λ (o : Ordering). answered why (made o parts.ring)) (ordering-is side n _ m (given-of side n.owner bytes (parts_of accounts) m (are accounts sound) has))
+      ∙ ap (λ (r : Ring). answered why (made (order_on side m (account_of bytes) n) r)) sound.stands.events.ring
 
   -- without a wallet that pays
   pub order-unpaid : (side : Side) (n : NewOrder) (request : Request) (seen : Seen) (party : Party) → payer side seen ≡ None

@@ -1,6 +1,6 @@
 //! Whether a new order is refused. Each function reads only.
 
-ghost use Rattle.std.specs.Prelude.{◌≡◌, Some};
+ghost use Rattle.std.specs.Prelude.{◌≡◌};
 ghost use Rattle.dex_types.specs.Accounts.{market_accounts_of};
 ghost use Rattle.dex_types.specs.Reasons as each;
 ghost use Rattle.dex_types.specs.Terms.{tier_seen};
@@ -20,9 +20,7 @@ use dex_match::{Decided, Taker, decide_order_with_pending};
 use dex_meet::PendingFills;
 use dex_orders::OrdersRef;
 use dex_plan::Plan;
-use dex_reasons::{
-    is_mint, missing, not_owner, not_signed, other_discount_mint, other_mint, payer,
-};
+use dex_reasons::{is_mint, missing, not_owner, not_signed, other_discount_mint, other_mint};
 use dex_ring::RingRef;
 use dex_slab::SlabRef;
 use dex_types::{Address, MarketAccounts, Refusal, Row, Seen, Side, Tier, WalletSeen};
@@ -98,12 +96,32 @@ fn wallet_reason(
         bytes: acting.bytes,
     };
     let paying = payer_seen(side, seen);
-    missing(*paying)
-        .or(not_owner(orders.owner(), row.signer))
-        .or(other_mint(payer_mint(accounts, side), *paying))
-        .or(other_discount_mint(seen, seen.discount))
-        .or(not_signed(row.signer, *paying))
-        .or(not_signed(row.signer, seen.discount))
+    if let Some(why) = missing(*paying) {
+        return Some(why);
+    }
+    if let Some(why) = not_owner(orders.owner(), row.signer) {
+        return Some(why);
+    }
+    if let Some(why) = other_mint(payer_mint(accounts, side), *paying) {
+        return Some(why);
+    }
+    if let Some(why) = discount_mint_reason(seen) {
+        return Some(why);
+    }
+    if let Some(why) = not_signed(row.signer, *paying) {
+        return Some(why);
+    }
+    not_signed(row.signer, seen.discount)
+}
+
+/// Why the discount wallet, where one is named, is of another mint. It is not handed on where there is none.
+fn discount_mint_reason(seen: &Seen) -> Option<Refusal>
+    ensures { result ≡ each.other_discount_mint seen.now seen.now.discount }
+{
+    match seen.discount {
+        None => None,
+        Some(_) => other_discount_mint(seen, seen.discount),
+    }
 }
 
 /// What the order does, or why it is refused, apart from wallets and the signer.
@@ -111,16 +129,17 @@ fn decide_order_with(
     accounts: &MarketAccounts,
     row: &Row,
     acting: Acting<'_>,
-    taker: Taker,
+    taker: &Taker,
     balance: u64,
     pending: &PendingFills,
 ) -> Result<Decided, Refusal>
     requires sound { AreSound (market_accounts_of accounts.now) }
     requires acting { IsActing row.now.named.items (market_accounts_of accounts.now).orders
         acting.address acting.bytes.now }
-    requires account { taker.account ≡ acting.address }
+    requires account { taker.now.account ≡ acting.address }
     requires pending { pending.now ≡ pending_fills_of (market_of accounts.now).events }
-    ensures { result ≡ outcome_in taker (given_on taker.id_side acting.entry.bytes.now accounts.now) balance }
+    ensures { result ≡ outcome_in taker.entry.now
+        (given_on taker.entry.now.id_side acting.entry.bytes.now accounts.now) balance }
 {
     let market = MarketRef {
         bytes: &accounts.market,
@@ -137,41 +156,8 @@ fn decide_order_with(
     let own = side_of(accounts, taker.id_side);
     let opposite = side_of(accounts, taker.id_side.opposite());
     decide_order_with_pending(
-        &market, &requests, &own, &opposite, &ring, &orders, &taker, balance, pending,
+        &market, &requests, &own, &opposite, &ring, &orders, taker, balance, pending,
     )
-}
-
-/// A new order of an open account, which this wallet pays for.
-fn decide_order_paid(
-    accounts: &MarketAccounts,
-    row: &Row,
-    seen: &Seen,
-    acting: Acting<'_>,
-    taker: Taker,
-    wallet: WalletSeen,
-    pending: &PendingFills,
-) -> Result<Plan, Refusal>
-    requires sound { AreSound (market_accounts_of accounts.now) }
-    requires acting { IsActing row.now.named.items (market_accounts_of accounts.now).orders
-        acting.address acting.bytes.now }
-    requires account { taker.account ≡ acting.address }
-    requires pays { reasons.payer taker.id_side seen.now ≡ Some wallet }
-    requires pending { pending.now ≡ pending_fills_of (market_of accounts.now).events }
-    ensures { result ≡ each.answered (reasons.why_order_of taker.id_side (order_of taker) (asked_by row.entry.now)
-        seen.now (market_of accounts.now) (party_by acting.entry.address acting.entry.bytes.now))
-        (order_planned taker.id_side (order_of taker) (market_of accounts.now) (account_of acting.entry.bytes.now)) }
-{
-    if let Some(why) = wallet_reason(accounts, row, seen, acting, taker.id_side) {
-        return Err(why);
-    }
-    match decide_order_with(accounts, row, acting, taker, wallet.balance, pending) {
-        Ok(decided) => Ok(Plan::Order {
-            taker,
-            plan: decided.plan,
-            pending: decided.pending,
-        }),
-        Err(why) => Err(why),
-    }
 }
 
 /// A new order of an open account.
@@ -180,25 +166,43 @@ fn decide_order_by(
     row: &Row,
     seen: &Seen,
     acting: Acting<'_>,
-    taker: Taker,
+    taker: &Taker,
     pending: &PendingFills,
-) -> Result<Plan, Refusal>
+    answer: &mut Result<Plan, Refusal>,
+)
     requires sound { AreSound (market_accounts_of accounts.now) }
     requires acting { IsActing row.now.named.items (market_accounts_of accounts.now).orders
         acting.address acting.bytes.now }
-    requires account { taker.account ≡ acting.address }
+    requires account { taker.now.account ≡ acting.address }
     requires pending { pending.now ≡ pending_fills_of (market_of accounts.now).events }
-    ensures { result ≡ each.answered (reasons.why_order_of taker.id_side (order_of taker) (asked_by row.entry.now)
-        seen.now (market_of accounts.now) (party_by acting.entry.address acting.entry.bytes.now))
-        (order_planned taker.id_side (order_of taker) (market_of accounts.now) (account_of acting.entry.bytes.now)) }
+    ensures { answer.new ≡ each.answered (reasons.why_order_of taker.entry.now.id_side (order_of taker.entry.now)
+        (asked_by row.entry.now) seen.now (market_of accounts.now)
+        (party_by acting.entry.address acting.entry.bytes.now))
+        (order_planned taker.entry.now.id_side (order_of taker.entry.now) (market_of accounts.now)
+        (account_of acting.entry.bytes.now)) }
 {
-    match payer(taker.id_side, seen) {
-        None => Err(Refusal::NoAccount),
-        Some(wallet) => decide_order_paid(accounts, row, seen, acting, taker, wallet, pending),
+    let Some(wallet) = payer_seen(taker.id_side, seen) else {
+        *answer = Err(Refusal::NoAccount);
+        return;
+    };
+    if let Some(why) = wallet_reason(accounts, row, seen, acting, taker.id_side) {
+        *answer = Err(why);
+        return;
+    }
+    match decide_order_with(accounts, row, acting, taker, wallet.balance, pending) {
+        Ok(decided) => {
+            *answer = Ok(Plan::Order {
+                taker: *taker,
+                plan: decided.plan,
+                pending: decided.pending,
+            });
+        }
+        Err(why) => *answer = Err(why),
     }
 }
 
-/// A new order of the account that the row names first; the taker's own account is not looked at.
+/// A new order of the account that the row names first; the taker's own account is not looked at. The answer is written
+/// where it is wanted: a plan has some 250 bytes.
 #[inline(never)]
 pub fn decide_order_row(
     accounts: &MarketAccounts,
@@ -206,21 +210,22 @@ pub fn decide_order_row(
     seen: &Seen,
     taker: Taker,
     pending: &PendingFills,
-) -> Result<Plan, Refusal>
+    answer: &mut Result<Plan, Refusal>,
+)
     requires sound { AreSound (market_accounts_of accounts.now) }
     requires pending { pending.now ≡ pending_fills_of (market_of accounts.now).events }
-    ensures { result ≡ answered_by (reasons.why_order taker.id_side (order_by taker) (asked_by row.entry.now)
+    ensures { answer.new ≡ answered_by (reasons.why_order taker.id_side (order_by taker) (asked_by row.entry.now)
         seen.now (market_of accounts.now)) (order_plan taker.id_side (order_by taker) (market_of accounts.now))
         (party_on (asked_by row.entry.now) (market_of accounts.now)) }
 {
     match open_named(&accounts.orders, &row.named) {
-        None => Err(Refusal::NoAccount),
+        None => *answer = Err(Refusal::NoAccount),
         Some(acting) => {
             let taker = Taker {
                 account: acting.address,
                 ..taker
             };
-            decide_order_by(accounts, row, seen, acting, taker, pending)
+            decide_order_by(accounts, row, seen, acting, &taker, pending, answer);
         }
     }
 }

@@ -32,20 +32,21 @@ fn decide_new_order(
     seen: &Seen,
     taker: Taker,
     pending: &PendingFills,
-) -> Result<Plan, Refusal>
+    answer: &mut Result<Plan, Refusal>,
+)
     requires sound { AreSound (market_accounts_of accounts.now) }
     requires pending { pending.now ≡ pending_fills_of (market_of accounts.now).events }
-    ensures { result ≡ planning.order_answer taker.id_side (planning.order_by taker) (asked_by row.entry.now)
+    ensures { answer.new ≡ planning.order_answer taker.id_side (planning.order_by taker) (asked_by row.entry.now)
         seen.now (market_of accounts.now) }
 {
     match is_disabled(accounts) {
-        Some(why) => Err(why),
-        None => decide_order_row(accounts, row, seen, taker, pending),
+        Some(why) => *answer = Err(why),
+        None => decide_order_row(accounts, row, seen, taker, pending, answer),
     }
 }
 
 /// A new order as its row states it; the signer stands in the place of its account.
-fn order_taker(
+pub fn order_taker(
     row: &Row,
     seen: &Seen,
     side: Side,
@@ -79,7 +80,7 @@ fn order_taker(
 }
 
 /// A take as its row states it; the signer stands in the place of an account.
-fn take_taker(
+pub fn take_taker(
     row: &Row,
     seen: &Seen,
     side: Side,
@@ -115,21 +116,22 @@ fn decide_instruction(
     seen: &Seen,
     ix: Ix,
     pending: &PendingFills,
-) -> Result<Plan, Refusal>
+    answer: &mut Result<Plan, Refusal>,
+)
     requires sound { AreSound (market_accounts_of accounts.now) }
     requires sees { Sees (asked_of (row_of row.now)) seen.now }
     requires pending { pending.now ≡ pending_fills_of (market_of accounts.now).events }
-    ensures { result ≡ each.answered
+    ensures { answer.new ≡ each.answered
         (reasons.why_instruction ix (asked_by row.entry.now) seen.now (market_of accounts.now))
         (planning.plan_on ix (asked_by row.entry.now) seen.now (market_of accounts.now)) }
 {
     match ix {
-        Ix::InitializeMarket { .. } => Err(Refusal::AccountExists),
-        Ix::MatchOrders { .. } => Ok(Plan::Nothing),
-        Ix::ConsumeEvents { limit } => Ok(Plan::Consume { limit }),
-        Ix::SettleFunds => decide_settle_row(accounts, row, seen),
-        Ix::DisableMarket => decide_disable_row(accounts, row),
-        Ix::SweepFees => decide_sweep_row(accounts, row, seen),
+        Ix::InitializeMarket { .. } => *answer = Err(Refusal::AccountExists),
+        Ix::MatchOrders { .. } => *answer = Ok(Plan::Nothing),
+        Ix::ConsumeEvents { limit } => *answer = Ok(Plan::Consume { limit }),
+        Ix::SettleFunds => *answer = decide_settle_row(accounts, row, seen),
+        Ix::DisableMarket => *answer = decide_disable_row(accounts, row),
+        Ix::SweepFees => *answer = decide_sweep_row(accounts, row, seen),
         Ix::NewOrderV3 {
             side,
             limit_price,
@@ -155,14 +157,14 @@ fn decide_instruction(
                 limit,
                 max_ts,
             );
-            decide_new_order(accounts, row, seen, taker, pending)
+            decide_new_order(accounts, row, seen, taker, pending, answer);
         }
         Ix::CancelOrderV2 { side, order_id } => {
             let what = CancelWhat::ById { side, id: order_id };
-            decide_cancel_row(accounts, row, what)
+            *answer = decide_cancel_row(accounts, row, what);
         }
         Ix::CancelOrderByClientIdV2 { client_order_id } => {
-            decide_cancel_row(accounts, row, CancelWhat::ByClient(client_order_id))
+            *answer = decide_cancel_row(accounts, row, CancelWhat::ByClient(client_order_id));
         }
         Ix::SendTake {
             side,
@@ -175,7 +177,7 @@ fn decide_instruction(
         } => {
             let lock = max_native_pc_qty_including_fees;
             let taker = take_taker(row, seen, side, limit_price, max_coin_qty, lock, limit);
-            decide_take_row(
+            *answer = decide_take_row(
                 accounts,
                 row,
                 seen,
@@ -183,13 +185,13 @@ fn decide_instruction(
                 min_coin_qty,
                 min_native_pc_qty,
                 pending,
-            )
+            );
         }
-        Ix::CloseOpenOrders => decide_close_row(accounts, row),
-        Ix::InitOpenOrders => decide_init_row(accounts, row),
-        Ix::Prune { limit } => decide_prune_row(accounts, row, limit),
+        Ix::CloseOpenOrders => *answer = decide_close_row(accounts, row),
+        Ix::InitOpenOrders => *answer = decide_init_row(accounts, row),
+        Ix::Prune { limit } => *answer = decide_prune_row(accounts, row, limit),
         Ix::CancelOrdersByClientIds { ids } => {
-            decide_cancel_row(accounts, row, CancelWhat::ByClients(ids))
+            *answer = decide_cancel_row(accounts, row, CancelWhat::ByClients(ids));
         }
     }
 }
@@ -211,8 +213,26 @@ pub fn decide(
     requires pending { pending.now ≡ pending_fills_of (market_of accounts.now).events }
     ensures { result ≡ planning.decided (asked_by row.entry.now) seen.now (market_of accounts.now) }
 {
+    let mut answer = Err(Refusal::NoAccount);
+    decide_into(accounts, row, seen, pending, &mut answer);
+    answer
+}
+
+/// The same, written where it is wanted.
+pub fn decide_into(
+    accounts: &MarketAccounts,
+    row: &Row,
+    seen: &Seen,
+    pending: &PendingFills,
+    answer: &mut Result<Plan, Refusal>,
+)
+    requires sound { AreSound (market_accounts_of accounts.now) }
+    requires sees { Sees (asked_of (row_of row.now)) seen.now }
+    requires pending { pending.now ≡ pending_fills_of (market_of accounts.now).events }
+    ensures { answer.new ≡ planning.decided (asked_by row.entry.now) seen.now (market_of accounts.now) }
+{
     match decode(&row.bytes) {
-        Ok(ix) => decide_instruction(accounts, row, seen, ix, pending),
-        Err(rule) => Err(Refusal::BadData(rule)),
+        Ok(ix) => decide_instruction(accounts, row, seen, ix, pending, answer),
+        Err(rule) => *answer = Err(Refusal::BadData(rule)),
     }
 }

@@ -1,5 +1,5 @@
 -- What is written of accepted accounts is read back as them.
-use Rattle.std.proofs.Common.{◌≡◌, ◌≤◌, ◌+◌, ◌∷◌, ◌++◌, ◌∙◌, [], ℕ, List, All, IfSome, true, false, Option, Some, None, Ok, append_assoc, append-nil, arith, codes, refl, sym, ap, subst, inl, inr, length, map, nat_lt}
+use Rattle.std.proofs.Common.{◌≡◌, ◌≤◌, ◌<◌, zero, suc, get_or, ◌+◌, ◌∷◌, ◌++◌, ◌∙◌, [], ℕ, List, All, IfSome, true, false, Option, Some, None, Ok, append_assoc, append-nil, arith, codes, refl, sym, ap, subst, inl, inr, length, map, nat_lt}
 use Rattle.std.specs.List.{flat_map}
 use Rattle.std.proofs.lemmas.Bool.{and_from, cases_Bool, lt-ltb, not_from_false}
 use Rattle.std.proofs.lemmas.List.{length-append, map-append}
@@ -59,6 +59,11 @@ few-first taken x left few = among-none x taken (few-none taken x left few)
 few-rest : (taken : List Address) (x : Address) (left : List Address) → FewLeft taken (x ∷ left) → FewLeft taken left
 few-rest taken x left few = λ address. omega (arith, few address, times-cons address x left)
 
+few-at : (taken xs left : List Address) (k : ℕ) (d : Address) → FewLeft taken (xs ++ left) → k < length xs → is_among (get_or xs k d) taken ≡ false
+few-at taken [] left k d few below = absurd (omega arith)
+few-at taken (x ∷ xs) left zero d few below = few-first taken x (xs ++ left) few
+few-at taken (x ∷ xs) left (suc k) d few below = few-at taken xs left k d (few-rest taken x (xs ++ left) few) (omega arith)
+
 few-moved : (taken xs left : List Address) → FewLeft taken (xs ++ left) → FewLeft (taken ++ xs) left
 few-moved taken xs left few = λ address. omega (arith, few address, times-append address xs left, times-append address taken xs)
 
@@ -88,6 +93,11 @@ with-last (other ∷ done) market account none = elim (cases_Bool (is_same marke
       let rest = with-last done market account (omega (arith, times-cons market.address other.address (names done))) in
       rw apart (ap (λ (markets : List PlainMarketAccounts). other ∷ markets) rest)
 ]
+
+-- one fact, and the others
+infixr 4 ◌⨾◌
+abbrev ◌⨾◌ : {A B : Type 0} → A → B → A × B
+one ⨾ others = (one, others)
 
 -- a mint may have the second name
 name-allowed : (accounts : PlainAccounts) (mint : Address) (other : Option Address) → IsMintOf accounts mint → NamesApart other (Some mint)
@@ -123,26 +133,40 @@ module _ (whole : PlainAccounts) (behind : List Fields) where
         ),
       )
 
+  -- ---- accounts of one kind
+
+  -- what was read with one account more, at its address
+  abbrev Step : (List PlainAccount → List Address → PlainReading) → (PlainAccount → Fields) → (PlainAccount → Type 0) → ℕ → Type 0
+  Step at row_of IsKind limit =
+      (x : PlainAccount) (done : List PlainAccount) (taken : List Address) (rows : List Fields) → IsHeld x → IsKind x → is_among x.address taken ≡ false
+      → nat_lt (length done) limit ≡ true → Back (at (done ++ x ∷ []) (taken ++ x.address ∷ [])) rows → Back (at done taken) (row_of x ∷ rows)
+
+  back-each : (at : List PlainAccount → List Address → PlainReading) (row_of : PlainAccount → Fields) (IsKind : PlainAccount → Type 0) (limit : ℕ)
+      → Step at row_of IsKind limit → (xs done : List PlainAccount) (taken left : List Address) (rows : List Fields) → All IsHeld xs → All IsKind xs
+      → FewLeft taken (map address_of xs ++ left) → length done + length xs ≤ limit → Back (at (done ++ xs) (taken ++ map address_of xs)) rows
+      → Back (at done taken) (map row_of xs ++ rows)
+  back-each at row_of IsKind limit step [] done taken left rows held are few size next = rw (append-nil done, append-nil taken) at next
+  back-each at row_of IsKind limit step (x ∷ xs) done taken left rows held are few size next =
+      let behind = map address_of xs ++ left in
+      step x done taken (map row_of xs ++ rows) (All-head IsHeld x xs held) (All-head IsKind x xs are) (few-first taken x.address behind few)
+      (lt-ltb (length done) limit (omega arith))
+      (back-each at row_of IsKind limit step xs (done ++ x ∷ []) (taken ++ x.address ∷ []) left rows (All-tail IsHeld x xs held) (All-tail IsKind x xs are)
+      (few-moved taken (x.address ∷ []) behind few) (omega (arith, length-append done (x ∷ [])))
+      (rw (append_assoc done (x ∷ []) xs, append_assoc taken (x.address ∷ []) (map address_of xs)) next))
+
   -- ---- mints
 
   abbrev with_mints : List PlainAccount → List Address → PlainReading
   with_mints mints taken = record { accounts = record { mints = mints; srm = None; msrm = None; wallets = []; markets = [] }; taken = taken }
 
-  back-mints : (mints done : List PlainAccount) (taken left : List Address) (rows : List Fields) → All IsHeld mints
-      → All (λ (mint : PlainAccount). IsMint mint.bytes) mints → FewLeft taken (map address_of mints ++ left) → length done + length mints ≤ 16
-      → Back (with_mints (done ++ mints) (taken ++ map address_of mints)) rows → Back (with_mints done taken) (map mint_row mints ++ rows)
+  abbrev IsMintKind : PlainAccount → Type 0
+  IsMintKind mint = IsMint mint.bytes
+
+  mint-step : Step with_mints mint_row IsMintKind 16
   unfolding checks
-  back-mints [] done taken left rows held are few size next = rw (append-nil done, append-nil taken) at next
-  back-mints (mint ∷ mints) done taken left rows held are few size next =
-      let here : PlainReading = with_mints done taken in
-      let allowed : is_allowed here (Mint mint) ≡ true =
-      and_from _ _ (not_from_false _ (few-first taken mint.address (map address_of mints ++ left) few)) (lt-ltb (length done) 16 (omega arith)) in
-      let hold : AllHold (checks here (Mint mint)) = (none_from_mint mint.bytes (All-head (λ (other : PlainAccount). IsMint other.bytes) mint mints are), tt) in
-      let moved : FewLeft (taken ++ mint.address ∷ []) (map address_of mints ++ left) = few-moved taken (mint.address ∷ []) (map address_of mints ++ left) few in
-      back-row here (mint_row mint) (Mint mint) (map mint_row mints ++ rows) (mint_stated mint (All-head IsHeld mint mints held)) (λ e. cc e) allowed hold
-      (back-mints mints (done ++ mint ∷ []) (taken ++ mint.address ∷ []) left rows (All-tail IsHeld mint mints held)
-      (All-tail (λ (other : PlainAccount). IsMint other.bytes) mint mints are) moved (omega (arith, length-append done (mint ∷ [])))
-      (rw (append_assoc done (mint ∷ []) mints, append_assoc taken (mint.address ∷ []) (map address_of mints)) next))
+  mint-step mint done taken rows held is free room next =
+      back-row (with_mints done taken) (mint_row mint) (Mint mint) rows (mint_stated mint held) (λ e. cc e) (and_from _ _ (not_from_false _ free) room)
+      (none_from_mint mint.bytes is, tt) next
 
   -- ---- the two names
 
@@ -169,29 +193,15 @@ module _ (whole : PlainAccounts) (behind : List Fields) where
   abbrev with_wallets : List PlainAccount → List Address → PlainReading
   with_wallets wallets taken = record { accounts = record whole { wallets = wallets; markets = [] }; taken = taken }
 
-  abbrev IsOfMint : PlainAccount → Type 0
-  IsOfMint wallet = IsMintOf whole (wallet_words wallet.bytes).mint
+  abbrev IsWalletKind : PlainAccount → Type 0
+  IsWalletKind wallet = IsWallet wallet.bytes × IsMintOf whole (wallet_words wallet.bytes).mint
 
-  back-wallets : (wallets done : List PlainAccount) (taken left : List Address) (rows : List Fields) → All IsHeld wallets
-      → All (λ (wallet : PlainAccount). IsWallet wallet.bytes) wallets → All IsOfMint wallets → FewLeft taken (map address_of wallets ++ left)
-      → length done + length wallets ≤ 256
-      → Back (with_wallets (done ++ wallets) (taken ++ map address_of wallets)) rows → Back (with_wallets done taken) (map wallet_row wallets ++ rows)
+  wallet-step : Step with_wallets wallet_row IsWalletKind 256
   unfolding checks
-  back-wallets [] done taken left rows held are of few size next = rw (append-nil done, append-nil taken) at next
-  back-wallets (wallet ∷ wallets) done taken left rows held are of few size next =
-      let here : PlainReading = with_wallets done taken in
-      let allowed : is_allowed here (Wallet wallet) ≡ true =
-      and_from _ _ (not_from_false _ (few-first taken wallet.address (map address_of wallets ++ left) few)) (lt-ltb (length done) 256 (omega arith)) in
-      let hold : AllHold (checks here (Wallet wallet)) = (
-        wallet_passes here.accounts wallet.bytes (All-head (λ (other : PlainAccount). IsWallet other.bytes) wallet wallets are) (All-head IsOfMint wallet wallets of),
-        tt,
-      ) in
-      let moved : FewLeft (taken ++ wallet.address ∷ []) (map address_of wallets ++ left) = few-moved taken (wallet.address ∷ []) (map address_of wallets ++ left) few in
-      back-row here (wallet_row wallet) (Wallet wallet) (map wallet_row wallets ++ rows) (wallet_stated wallet (All-head IsHeld wallet wallets held)) (λ e. cc e) allowed hold
-      (back-wallets wallets (done ++ wallet ∷ []) (taken ++ wallet.address ∷ []) left rows (All-tail IsHeld wallet wallets held)
-      (All-tail (λ (other : PlainAccount). IsWallet other.bytes) wallet wallets are) (All-tail IsOfMint wallet wallets of) moved
-      (omega (arith, length-append done (wallet ∷ [])))
-      (rw (append_assoc done (wallet ∷ []) wallets, append_assoc taken (wallet.address ∷ []) (map address_of wallets)) next))
+  wallet-step wallet done taken rows held is free room next =
+      let here = with_wallets done taken in
+      back-row here (wallet_row wallet) (Wallet wallet) rows (wallet_stated wallet held) (λ e. cc e) (and_from _ _ (not_from_false _ free) room)
+      (wallet_passes here.accounts wallet.bytes is.0 is.1, tt) next
 
   -- ---- open-orders accounts of the market that was read last
 
@@ -201,95 +211,48 @@ module _ (whole : PlainAccounts) (behind : List Fields) where
   abbrev with_last : List PlainMarketAccounts → PlainMarketAccounts → List PlainAccount → List Address → PlainReading
   with_last done market orders taken = with_markets (done ++ (record market { orders = orders }) ∷ []) taken
 
-  back-orders : (done : List PlainMarketAccounts) (market : PlainMarketAccounts) → times market.address (names done) ≡ 0 → IsAddress market.address
-      → (orders before : List PlainAccount) (taken left : List Address) (rows : List Fields) → All IsHeld orders
-      → All (λ (account : PlainAccount). IsOrders account.bytes) orders → All (NamesMarket market.address) orders
-      → FewLeft taken (map address_of orders ++ left) → length before + length orders ≤ 64
-      → Back (with_last done market (before ++ orders) (taken ++ map address_of orders)) rows
-      → Back (with_last done market before taken) (map (orders_row market.address) orders ++ rows)
+  abbrev IsOrdersKind : Address → PlainAccount → Type 0
+  IsOrdersKind market account = IsOrders account.bytes × NamesMarket market account
+
+  orders-step : (done : List PlainMarketAccounts) (market : PlainMarketAccounts) → times market.address (names done) ≡ 0 → IsAddress market.address
+      → Step (with_last done market) (orders_row market.address) (IsOrdersKind market.address) 64
   unfolding checks
-  back-orders done market none at [] before taken left rows held are named few size next = rw (append-nil before, append-nil taken) at next
-  back-orders done market none at (account ∷ orders) before taken left rows held are named few size next =
-      let here : PlainReading = with_last done market before taken in
+  orders-step done market none at account before taken rows held is free room next =
       let last : PlainMarketAccounts = record market { orders = before } in
-      let room : has_room market.address (done ++ last ∷ []) ≡ true = room-last done last none ∙ lt-ltb (length before) 64 (omega arith) in
-      let allowed : is_allowed here (Orders market.address account) ≡ true =
-      and_from _ _ (not_from_false _ (few-first taken account.address (map address_of orders ++ left) few)) room in
-      let hold : AllHold (checks here (Orders market.address account)) = (
-        orders_pass market.address account.bytes (All-head (λ (other : PlainAccount). IsOrders other.bytes) account orders are)
-            (All-head (NamesMarket market.address) account orders named),
-        tt,
-      ) in
-      let moved : FewLeft (taken ++ account.address ∷ []) (map address_of orders ++ left) = few-moved taken (account.address ∷ []) (map address_of orders ++ left) few in
-      let more : Back (with_last done market (before ++ account ∷ []) (taken ++ account.address ∷ [])) (map (orders_row market.address) orders ++ rows) =
-      back-orders done market none at orders (before ++ account ∷ []) (taken ++ account.address ∷ []) left rows (All-tail IsHeld account orders held)
-      (All-tail (λ (other : PlainAccount). IsOrders other.bytes) account orders are) (All-tail (NamesMarket market.address) account orders named) moved
-      (omega (arith, length-append before (account ∷ [])))
-      (rw (append_assoc before (account ∷ []) orders, append_assoc taken (account.address ∷ []) (map address_of orders)) next) in
-      back-row here (orders_row market.address account) (Orders market.address account) (map (orders_row market.address) orders ++ rows)
-      (orders_stated market.address at account (All-head IsHeld account orders held)) (λ e. cc e) allowed hold
-      (subst (λ (markets : List PlainMarketAccounts). Back (with_markets markets (taken ++ account.address ∷ [])) (map (orders_row market.address) orders ++ rows))
-      (sym (with-last done last account none)) more)
+      back-row (with_last done market before taken) (orders_row market.address account) (Orders market.address account) rows
+      (orders_stated market.address at account held) (λ e. cc e) (and_from _ _ (not_from_false _ free) (room-last done last none ∙ room))
+      (orders_pass market.address account.bytes is.0 is.1, tt)
+      (subst (λ (markets : List PlainMarketAccounts). Back (with_markets markets (taken ++ account.address ∷ [])) rows) (sym (with-last done last account none)) next)
 
   -- ---- markets
 
   market-here : (done : List PlainMarketAccounts) (taken left : List Address) (market : PlainMarketAccounts) → IsAccepted market → HasMints whole market
       → FewLeft taken (market_addresses market ++ left) → IsMarketHere (with_markets done taken) market.address market.market
   market-here done taken left market accepted mints few =
-      let t = market_terms market.market in
-      let behind_bids : List Address = t.asks ∷ left in
-      let behind_events : List Address = t.bids ∷ behind_bids in
-      let behind_requests : List Address = t.event_q ∷ behind_events in
-      let behind_pc : List Address = t.req_q ∷ behind_requests in
-      let behind_coin : List Address = t.pc_vault ∷ behind_pc in
-      let from_coin : FewLeft taken (t.coin_vault ∷ behind_coin) = few-rest taken market.address (t.coin_vault ∷ behind_coin) few in
-      let from_pc : FewLeft taken behind_coin = few-rest taken t.coin_vault behind_coin from_coin in
-      let from_requests : FewLeft taken behind_pc = few-rest taken t.pc_vault behind_pc from_pc in
-      let from_events : FewLeft taken behind_requests = few-rest taken t.req_q behind_requests from_requests in
-      let from_bids : FewLeft taken behind_events = few-rest taken t.event_q behind_events from_events in
-      let from_asks : FewLeft taken behind_bids = few-rest taken t.bids behind_bids from_bids in
+      let free = λ (k : ℕ) (below : k < 7). few-at taken (market_addresses market) left k market.address few below in
       record {
         market = accepted.market;
         own_address = accepted.own_address;
         coin_mint = mints.coin;
         pc_mint = mints.pc;
-        coin_vault = few-first taken t.coin_vault behind_coin from_coin;
-        pc_vault = few-first taken t.pc_vault behind_pc from_pc;
-        requests = few-first taken t.req_q behind_requests from_requests;
-        events = few-first taken t.event_q behind_events from_events;
-        bids = few-first taken t.bids behind_bids from_bids;
-        asks = few-first taken t.asks left from_asks;
+        coin_vault = free 1 (omega arith);
+        pc_vault = free 2 (omega arith);
+        requests = free 3 (omega arith);
+        events = free 4 (omega arith);
+        bids = free 5 (omega arith);
+        asks = free 6 (omega arith);
       }
 
   market-holds : (done : List PlainMarketAccounts) (taken left : List Address) (market : PlainMarketAccounts) → IsAccepted market → HasMints whole market
       → FewLeft taken (market_addresses market ++ left) → AllHold (checks (with_markets done taken) (Market (record market { orders = [] })))
   unfolding checks
   market-holds done taken left market accepted mints few =
-      let t = market_terms market.market in (
-        market_passes (with_markets done taken) market.address market.market (market-here done taken left market accepted mints few),
-        (
-          vault_passes t.coin_mint market.coin_vault accepted.coin_vault accepted.coin_mint,
-          (
-            vault_passes t.pc_mint market.pc_vault accepted.pc_vault accepted.pc_mint,
-            (
-              none_from_requests market.requests accepted.requests,
-              (
-                none_from_queue market.events accepted.events,
-                (
-                  side_passes Bid market.bids accepted.bids,
-                  (
-                    accepted.bids.slab,
-                    (
-                      side_passes Ask market.asks accepted.asks,
-                      (accepted.asks.slab, tt),
-                    ),
-                  ),
-                ),
-              ),
-            ),
-          ),
-        ),
-      )
+      let t = market_terms market.market in
+      market_passes (with_markets done taken) market.address market.market (market-here done taken left market accepted mints few)
+      ⨾ vault_passes t.coin_mint market.coin_vault accepted.coin_vault accepted.coin_mint
+      ⨾ vault_passes t.pc_mint market.pc_vault accepted.pc_vault accepted.pc_mint
+      ⨾ none_from_requests market.requests accepted.requests ⨾ none_from_queue market.events accepted.events
+      ⨾ side_passes Bid market.bids accepted.bids ⨾ accepted.bids.slab ⨾ side_passes Ask market.asks accepted.asks ⨾ accepted.asks.slab ⨾ tt
 
   abbrev HasFew : PlainMarketAccounts → Type 0
   HasFew market = length market.orders ≤ 64
@@ -346,8 +309,9 @@ module _ (whole : PlainAccounts) (behind : List Fields) where
       }) (taken-more done market taken at) (few-moved taken (all_of_market market) left few) (omega (arith, length-append done (market ∷ [])))
       (λ end. rw (append_assoc done (market ∷ []) markets) (next end)) in
       let accounts : Back (with_last done market [] (taken ++ market_addresses market)) (map (orders_row market.address) market.orders ++ (flat_map market_rows markets ++ rows)) =
-      back-orders done market none held.address market.orders [] (taken ++ market_addresses market) left (flat_map market_rows markets ++ rows) held.orders
-      accepted.orders accepted.named (few-moved taken (market_addresses market) (orders ++ left) split) room
+      back-each (with_last done market) (orders_row market.address) (IsOrdersKind market.address) 64 (orders-step done market none held.address)
+      market.orders [] (taken ++ market_addresses market) left (flat_map market_rows markets ++ rows) held.orders
+      (λ k d below. (accepted.orders k d below, accepted.named k d below)) (few-moved taken (market_addresses market) (orders ++ left) split) room
       (rw (append_assoc taken (market_addresses market) orders) more) in
       back-row here (market_row market) (Market bare) ((map (orders_row market.address) market.orders ++ flat_map market_rows markets) ++ rows)
       (market_stated market held) (λ e. cc e) allowed
@@ -378,11 +342,11 @@ accounts-back accounts are held behind =
       mints = are.market_mints;
       few = are.few_orders;
     }) (λ address. omega arith) few_markets (omega (arith, are.few_markets)) (λ end. back-last accounts behind end) in
-    let from_wallets = back-wallets accounts behind accounts.wallets [] of_mints of_markets (markets ++ last) held.wallets are.wallets are.wallet_mints
-    few_wallets (omega (arith, are.few_wallets)) from_markets in
+    let from_wallets = back-each accounts behind (with_wallets accounts behind) wallet_row (IsWalletKind accounts behind) 256 (wallet-step accounts behind)
+    accounts.wallets [] of_mints of_markets (markets ++ last) held.wallets (λ k d below. (are.wallets k d below, are.wallet_mints k d below)) few_wallets (omega (arith, are.few_wallets)) from_markets in
     let from_msrm = back-msrm accounts behind accounts.srm accounts.msrm of_mints (wallets ++ (markets ++ last)) held.msrm are.msrm are.apart from_wallets in
     let from_srm = back-srm accounts behind accounts.srm of_mints (msrms ++ (wallets ++ (markets ++ last))) held.srm are.srm from_msrm in
-    let all = back-mints accounts behind accounts.mints [] [] (of_wallets ++ of_markets) (srms ++ (msrms ++ (wallets ++ (markets ++ last)))) held.mints are.mints few
+    let all = back-each accounts behind (with_mints accounts behind) mint_row (IsMintKind accounts behind) 16 (mint-step accounts behind) accounts.mints [] [] (of_wallets ++ of_markets) (srms ++ (msrms ++ (wallets ++ (markets ++ last)))) held.mints are.mints few
     (omega (arith, are.few_mints)) from_srm in
     rw (
       append_assoc mints (srms ++ (msrms ++ (wallets ++ markets))) last,

@@ -16,3 +16,4 @@ pub mod SoFarLaws
 pub mod PassLaws
 pub mod OneAnswer
 pub mod BackLaws
+pub mod WholeLaws

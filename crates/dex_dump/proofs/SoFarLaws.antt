@@ -1,8 +1,9 @@
 -- The accounts read so far are accepted: each row that is added keeps that, so what a dump is read as is accepted.
-use Rattle.std.proofs.Common.{◌≡◌, ◌<◌, ◌≤◌, ◌+◌, ◌∷◌, ◌++◌, ◌∙◌, [], ℕ, zero, suc, get_or, List, Bool, All, IfOk, IfSome, true, false, not, Option, Some, None, Result, Ok, Err, arith, refl, sym, ap, subst, inl, inr, length, nat_lt}
+use Rattle.std.proofs.Common.{◌≡◌, ◌<◌, ◌≤◌, ◌+◌, ◌∷◌, ◌++◌, ◌∙◌, [], ℕ, zero, suc, get_or, List, All, IfOk, IfSome, true, false, not, Option, Some, None, Result, Ok, Err, arith, refl, sym, ap, subst, inl, inr, length, nat_lt}
 use Rattle.std.specs.List.{list_any}
 use Rattle.std.proofs.lemmas.Bool.{and_parts, cases_Bool, false≢true, ltb-true, not-true}
 use Rattle.std.proofs.lemmas.List.{length-append}
+use Rattle.std.proofs.lemmas.List.Folds.{list_any-append}
 use Rattle.std.proofs.lemmas.List.Elements.{All-cons, All-head, All-nil, All-push, All-same, All-tail, All-weaker}
 use Rattle.std.proofs.lemmas.Option.{cond_some, none-some}
 use Rattle.dex_fields.proofs.Reading.{length-bytes_in}
@@ -43,16 +44,9 @@ pub record IsSoFar (reading : PlainReading) : Type 0 where
 
 -- ---- mints that are declared stay declared
 
-list_any-push : {A : Type 0} (p : A → Bool) (xs : List A) (x : A) → list_any p xs ≡ true → list_any p (xs ++ x ∷ []) ≡ true
-list_any-push p [] x h = absurd (false≢true h)
-list_any-push p (y ∷ xs) x h = elim (cases_Bool (p y)) [
-  | inl here ↦ rw here refl
-  | inr other ↦ rw other (list_any-push p xs x (rw other at h))
-]
-
 mint-stays : (accounts : PlainAccounts) (mint : PlainAccount) (address : Address) → IsMintOf accounts address
     → IsMintOf (record accounts { mints = accounts.mints ++ mint ∷ [] }) address
-mint-stays accounts mint address h = list_any-push (λ (other : PlainAccount). is_same address other.address) accounts.mints mint h
+mint-stays accounts mint address h = rw (list_any-append (λ (other : PlainAccount). is_same address other.address) accounts.mints (mint ∷ []), h) refl
 
 name-stays : (accounts : PlainAccounts) (mint : PlainAccount) (name : Option Address) → IfSome name (IsMintOf accounts)
     → IfSome name (IsMintOf (record accounts { mints = accounts.mints ++ mint ∷ [] }))
@@ -245,6 +239,25 @@ names-swapped : (mint : Address) (other : Option Address) → NamesApart (Some m
 names-swapped mint None h = tt
 names-swapped mint (Some other) h = is_same-sym other mint ∙ h
 
+-- the names of mints alone are others
+names-accepted : (accounts : PlainAccounts) (srm msrm : Option Address) → AreAccepted accounts → ((address : Address) → times address (addresses_of accounts) ≤ 1)
+    → IfSome srm (IsMintOf accounts) → IfSome msrm (IsMintOf accounts) → NamesApart srm msrm → AreAccepted (record accounts { srm = srm; msrm = msrm })
+names-accepted accounts srm msrm old once is_srm is_msrm apart = record {
+  mints = old.mints;
+  wallets = old.wallets;
+  markets = old.markets;
+  wallet_mints = old.wallet_mints;
+  market_mints = same-mints accounts (record accounts { srm = srm; msrm = msrm }) refl accounts.markets old.market_mints;
+  once = once;
+  srm = is_srm;
+  msrm = is_msrm;
+  apart = apart;
+  few_mints = old.few_mints;
+  few_wallets = old.few_wallets;
+  few_markets = old.few_markets;
+  few_orders = old.few_orders;
+}
+
 line-accepted : (reading : PlainReading) (line : PlainLine) → IsSoFar reading → IsRead line → is_allowed reading line ≡ true
     → AllHold (checks reading line) → ((address : Address) → times address (addresses_of (with_line reading.accounts line)) ≤ 1)
     → AreAccepted (with_line reading.accounts line)
@@ -273,41 +286,13 @@ line-accepted reading (Mint mint) so read allowed hold once =
       few_orders = old.few_orders;
     }
 line-accepted reading (Srm mint) so read allowed hold once =
-    let old = so.accepted in
-    let named = named-mint reading.accounts mint reading.accounts.srm reading.accounts.msrm allowed in
-    record {
-      mints = old.mints;
-      wallets = old.wallets;
-      markets = old.markets;
-      wallet_mints = old.wallet_mints;
-      market_mints = same-mints reading.accounts (with_line reading.accounts (Srm mint)) refl reading.accounts.markets old.market_mints;
-      once = once;
-      srm = named.0;
-      msrm = old.msrm;
-      apart = named.1;
-      few_mints = old.few_mints;
-      few_wallets = old.few_wallets;
-      few_markets = old.few_markets;
-      few_orders = old.few_orders;
-    }
+    let accounts = reading.accounts in
+    let named = named-mint accounts mint accounts.srm accounts.msrm allowed in
+    names-accepted accounts (Some mint) accounts.msrm so.accepted once named.0 so.accepted.msrm named.1
 line-accepted reading (Msrm mint) so read allowed hold once =
-    let old = so.accepted in
-    let named = named-mint reading.accounts mint reading.accounts.msrm reading.accounts.srm allowed in
-    record {
-      mints = old.mints;
-      wallets = old.wallets;
-      markets = old.markets;
-      wallet_mints = old.wallet_mints;
-      market_mints = same-mints reading.accounts (with_line reading.accounts (Msrm mint)) refl reading.accounts.markets old.market_mints;
-      once = once;
-      srm = old.srm;
-      msrm = named.0;
-      apart = names-swapped mint reading.accounts.srm named.1;
-      few_mints = old.few_mints;
-      few_wallets = old.few_wallets;
-      few_markets = old.few_markets;
-      few_orders = old.few_orders;
-    }
+    let accounts = reading.accounts in
+    let named = named-mint accounts mint accounts.msrm accounts.srm allowed in
+    names-accepted accounts accounts.srm (Some mint) so.accepted once so.accepted.srm named.0 (names-swapped mint accounts.srm named.1)
 line-accepted reading (Wallet wallet) so read allowed hold once =
     let accounts = reading.accounts in
     let old = so.accepted in

@@ -2,7 +2,7 @@
 use Rattle.std.proofs.Common.{◌≡◌, ◌<◌, ◌+◌, [], ◌∷◌, ◌++◌, ◌∙◌, ℕ, List, append_assoc, append-nil, refl, sym, All, ap, map, take, get_or, length, subst}
 use Rattle.std.specs.List.{flat_map}
 use Rattle.std.proofs.lemmas.List.Elements.{All-push}
-use Rattle.std.proofs.lemmas.List.{map-append, map_more}
+use Rattle.std.proofs.lemmas.List.{map-append, map_more, take_more}
 use Rattle.std.proofs.lemmas.Grind.{flat_map-append}
 use Rattle.dex_dump_rows.specs.Lines.{Fields}
 use Rattle.dex_dump.specs.DumpText.{line_text, lines_text}
@@ -13,6 +13,14 @@ unfolding lines_text
 lines_text-append [] others = refl
 lines_text-append (row ∷ rows) others =
     ap (λ (t : List ℕ). line_text row ++ t) (lines_text-append rows others) ∙ sym (append_assoc (line_text row) (lines_text rows) (lines_text others))
+
+-- a row in front of four parts
+pub lines_text-four : (row : Fields) (a b c d : List Fields)
+    → lines_text (row ∷ (a ++ (b ++ (c ++ d)))) ≡ line_text row ++ (lines_text a ++ (lines_text b ++ (lines_text c ++ lines_text d)))
+unfolding lines_text
+lines_text-four row a b c d =
+    ap (λ t. line_text row ++ t) (lines_text-append a (b ++ (c ++ d))
+    ∙ ap (λ t. lines_text a ++ t) (lines_text-append b (c ++ d) ∙ ap (λ t. lines_text b ++ t) (lines_text-append c d)))
 
 -- the text of one row
 pub lines_text-one : (row : Fields) → lines_text (row ∷ []) ≡ line_text row
@@ -26,12 +34,20 @@ pub lines_more : {A B : Type 0} (row : B → Fields) (plain : A → B) (text bef
 lines_more row plain text before xs i x h here e =
     rw (e, map_more plain xs i x, ← here, map-append row, lines_text-append, lines_text-one) (append_assoc text _ _)
 
--- the same where an element has several rows
+-- the same where an element has several rows, which stand behind those of others
+pub rows-pushed : {A B : Type 0} (rows : B → List Fields) (plain : A → B) (text before : List ℕ) (xs : List A) (x : A)
+    → before ≡ text ++ lines_text (flat_map rows (map plain xs))
+    → before ++ lines_text (rows (plain x)) ≡ text ++ lines_text (flat_map rows (map plain (xs ++ x ∷ [])))
+rows-pushed rows plain text before xs x e =
+    rw (e, map-append plain, flat_map-append rows, lines_text-append) (rw append-nil (append_assoc text _ _))
+
+-- up to a place
 pub rows_more : {A B : Type 0} (rows : B → List Fields) (plain : A → B) (text before : List ℕ) (xs : List A) (i : ℕ) (x : A) → i < length xs
     → x ≡ get_or xs i x → before ≡ text ++ lines_text (flat_map rows (map plain (take i xs)))
     → before ++ lines_text (rows (plain x)) ≡ text ++ lines_text (flat_map rows (map plain (take (i + 1) xs)))
 rows_more rows plain text before xs i x h here e =
-    rw (e, map_more plain xs i x, ← here, flat_map-append rows, lines_text-append) (rw append-nil (append_assoc text _ _))
+    subst (λ (most : _). before ++ lines_text (rows (plain x)) ≡ text ++ lines_text (flat_map rows (map plain most)))
+    (ap (λ (y : _). take i xs ++ y ∷ []) here ∙ sym (take_more xs i x h)) (rows-pushed rows plain text before (take i xs) x e)
 
 -- pieces that are written one behind the other
 pub pieces : (t a b c d e f g h : List ℕ)

@@ -6,6 +6,7 @@ pub mod faults;
 mod laws;
 mod reader;
 mod reading;
+mod taking;
 mod writing;
 
 pub use dex_dump_rows::is_first_row;
@@ -14,4 +15,5 @@ pub use laws::{
     one_text_is_of_one_exchange, what_is_read_is_accepted, what_is_written_is_read_back,
 };
 pub use reader::{DumpRead, read_dump, read_rows};
-pub use writing::{append_dump, write_dump};
+pub use taking::{append_taken, into_dump};
+pub use writing::{append_dump, write_dump, write_front, write_market_rows};

@@ -30,7 +30,7 @@ pub fn read_dump(alloc: Global, bytes: &[u8]) -> Result<Accounts, DumpError>
 {
     let mut rows = Rows::new(alloc, bytes);
     let dump = read_rows(alloc, &mut rows)?;
-    if rows.next_row()?.is_some() {
+    if rows.next_row(&mut Fields::new())? {
         return Err(grammar_fault(next_number(dump.count)).into());
     }
     Ok(dump.accounts)
@@ -43,10 +43,8 @@ pub fn read_rows(alloc: Global, rows: &mut Rows<'_>) -> Result<DumpRead, DumpErr
     ensures accepted { IfOk result (λ read. AreAccepted (accounts_of read.accounts)) }
     ensures bytes { IfOk result (λ read. HoldBytes (accounts_of read.accounts)) }
 {
-    let Some(first) = rows.next_row()? else {
-        return Err(grammar_fault(1).into());
-    };
-    if !is_first_row(&first) {
+    let mut first = Fields::new();
+    if !rows.next_row(&mut first)? || !is_first_row(&first) {
         return Err(grammar_fault(1).into());
     }
     read_accounts(alloc, rows)
@@ -58,7 +56,8 @@ fn read_accounts(alloc: Global, rows: &mut Rows<'_>) -> Result<DumpRead, DumpErr
 {
     let mut reading = Reading::new(alloc);
     let mut number = 2;
-    'rows: while let Some(row) = rows.next_row()? {
+    let mut row = Fields::new();
+    'rows: while rows.next_row(&mut row)? {
         match read_row(alloc, &mut reading, number, &row) {
             Ok(true) => {
                 return Ok(DumpRead {

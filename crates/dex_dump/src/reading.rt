@@ -1,6 +1,6 @@
 //! What the rows of a dump have declared, and what one more row adds.
 
-ghost use Rattle.std.specs.Prelude.{◌≡◌, ◌<◌, [], ◌∷◌, ◌++◌, ◌&&◌, IfSome, OnOk, length, map, nat_lt};
+ghost use Rattle.std.specs.Prelude.{◌≡◌, ◌<◌, [], ◌++◌, ◌&&◌, IfSome, OnOk, length, map, nat_lt};
 ghost use Rattle.std.specs.List.{list_any};
 ghost use Rattle.dex_types.specs.Accounts.{accounts_of, market_accounts_of, named_of, orders_account_of};
 ghost use Rattle.dex_types.specs.Addresses as addresses;
@@ -17,7 +17,7 @@ use crate::checks::{
 use dex_dump_rows::Line;
 use dex_fields::market;
 use dex_token::check_mint;
-use dex_types::{Accounts, Address, MarketAccounts, Named, NoMemory, OrdersAccount, is_same};
+use dex_types::{Accounts, Address, MarketAccounts, Named, OrdersAccount, is_same};
 use std::alloc::{AllocFailed, Global};
 
 /// The accounts that rows have declared, and every address that is taken: those of these accounts, and those of each
@@ -42,14 +42,6 @@ impl From<Failed> for Stop {
 
     fn from(failed: Failed) -> Stop {
         Stop::Failed(failed)
-    }
-}
-
-impl From<NoMemory> for Stop {
-    ghost from_gives = { λ _ e. e ≡ stop.NoMemory };
-
-    fn from(_error: NoMemory) -> Stop {
-        Stop::NoMemory
     }
 }
 
@@ -227,48 +219,30 @@ fn add_orders(
     markets: &mut [MarketAccounts],
     address: Address,
     account: OrdersAccount,
-) -> Result<(), NoMemory>
+) -> Result<(), AllocFailed<OrdersAccount>>
     ensures { OnOk result (map market_accounts_of markets.new
         ≡ spec.with_orders address (orders_account_of account) (map market_accounts_of markets.old)) }
 {
     for place in 0..markets.len() {
         if is_same(address, markets[place].address) {
             let market = &mut markets[place];
-            add_account(&mut market.orders, account)?;
+            market.orders.push(account)?;
             return Ok(());
         }
     }
     Ok(())
 }
 
-fn add_account(orders: &mut Vec<OrdersAccount>, account: OrdersAccount) -> Result<(), NoMemory>
-    ensures { OnOk result (orders.new.items ≡ orders.old.items ++ (account ∷ [])) }
-{
-    match orders.push(account) {
-        Ok(()) => Ok(()),
-        Err(_) => Err(NoMemory),
-    }
-}
-
 /// The addresses of a market's vaults, queues and sides are taken.
-fn take_parts(taken: &mut Vec<Address>, bytes: &[u8]) -> Result<(), NoMemory>
+fn take_parts(taken: &mut Vec<Address>, bytes: &[u8]) -> Result<(), AllocFailed<Address>>
     requires { length bytes.now ≡ 388 }
     ensures { OnOk result (taken.new.items ≡ taken.old.items ++ spec.parts_of (market_terms bytes.now)) }
 {
-    take_address(taken, address_in(bytes, market::COIN_VAULT))?;
-    take_address(taken, address_in(bytes, market::PC_VAULT))?;
-    take_address(taken, address_in(bytes, market::REQ_Q))?;
-    take_address(taken, address_in(bytes, market::EVENT_Q))?;
-    take_address(taken, address_in(bytes, market::BIDS))?;
-    take_address(taken, address_in(bytes, market::ASKS))?;
+    taken.push(address_in(bytes, market::COIN_VAULT))?;
+    taken.push(address_in(bytes, market::PC_VAULT))?;
+    taken.push(address_in(bytes, market::REQ_Q))?;
+    taken.push(address_in(bytes, market::EVENT_Q))?;
+    taken.push(address_in(bytes, market::BIDS))?;
+    taken.push(address_in(bytes, market::ASKS))?;
     Ok(())
-}
-
-fn take_address(taken: &mut Vec<Address>, address: Address) -> Result<(), NoMemory>
-    ensures { OnOk result (taken.new.items ≡ taken.old.items ++ (address ∷ [])) }
-{
-    match taken.push(address) {
-        Ok(()) => Ok(()),
-        Err(_) => Err(NoMemory),
-    }
 }

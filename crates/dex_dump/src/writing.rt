@@ -7,7 +7,8 @@ ghost use Rattle.dex_types.specs.Text.{address_text};
 ghost use Rattle.hex.specs.Hex.{IsBytes};
 ghost use Rattle.dex_dump.specs.Accepted.{AreAccepted, HoldBytes, IsAddress, IsHeld, IsHeldMarket};
 ghost use Rattle.dex_dump.specs.Answers.{IsReadAs};
-ghost use Rattle.dex_dump.specs.DumpText.{account_row, base64_text, behind_first, dump_text, line_text, lines_text, market_fields, market_row, market_rows, named_rows, orders_row};
+ghost use Rattle.dex_dump.specs.DumpText.{account_row, account_rows, base64_text, behind_first, dump_text, first_row, line_text, lines_text};
+ghost use Rattle.dex_dump.specs.DumpText.{market_fields, market_row, market_rows, named_rows, orders_row};
 
 use base64::engine::general_purpose::STANDARD;
 use dex_types::{Accounts, Address, MarketAccounts, Named, NoMemory, OrdersAccount};
@@ -36,13 +37,23 @@ pub fn append_dump(text: &mut Vec<u8>, accounts: &Accounts) -> Result<(), AllocE
     ensures text { OnOk result (text.new.items ≡ text.old.items ++ dump_text (accounts_of accounts.now)) }
     ensures held { OnOk result (HoldBytes (accounts_of accounts.now)) }
 {
+    write_front(text, accounts)?;
+    write_markets(text, &accounts.markets)?;
+    write_word(text, "enddump\n")?;
+    Ok(())
+}
+
+/// The rows in front of those of markets.
+pub fn write_front(text: &mut Vec<u8>, accounts: &Accounts) -> Result<(), AllocError>
+    ensures text { let front = account_rows (record (accounts_of accounts.now) { markets = [] }) in
+        OnOk result (text.new.items ≡ text.old.items ++ lines_text (first_row ∷ front)) }
+    ensures held { OnOk result (HoldBytes (record (accounts_of accounts.now) { markets = [] })) }
+{
     write_word(text, "dump\n")?;
     write_accounts(text, "mint", &accounts.mints)?;
     write_name(text, "srm", accounts.srm)?;
     write_name(text, "msrm", accounts.msrm)?;
     write_accounts(text, "wallet", &accounts.wallets)?;
-    write_markets(text, &accounts.markets)?;
-    write_word(text, "enddump\n")?;
     Ok(())
 }
 
@@ -64,9 +75,19 @@ fn write_markets(text: &mut Vec<u8>, markets: &[MarketAccounts]) -> Result<(), A
     ensures held { OnOk result (All IsHeldMarket (map market_accounts_of markets.now)) }
 {
     for market in markets {
-        write_market(text, market)?;
-        write_orders(text, market.address, &market.orders)?;
+        write_market_rows(text, market)?;
     }
+    Ok(())
+}
+
+/// The row of a market, and those of its open-orders accounts.
+pub fn write_market_rows(text: &mut Vec<u8>, market: &MarketAccounts) -> Result<(), AllocError>
+    ensures text { OnOk result (text.new.items
+        ≡ text.old.items ++ lines_text (market_rows (market_accounts_of market.now))) }
+    ensures held { OnOk result (IsHeldMarket (market_accounts_of market.now)) }
+{
+    write_market(text, market)?;
+    write_orders(text, market.address, &market.orders)?;
     Ok(())
 }
 
@@ -162,7 +183,7 @@ fn write_market_fields(text: &mut Vec<u8>, market: &MarketAccounts) -> Result<()
     Ok(())
 }
 
-fn write_word(text: &mut Vec<u8>, word: &str) -> Result<(), AllocError>
+pub(crate) fn write_word(text: &mut Vec<u8>, word: &str) -> Result<(), AllocError>
     ensures { OnOk result (text.new.items ≡ text.old.items ++ word.now) }
 {
     text.extend_from_slice(word.as_bytes())

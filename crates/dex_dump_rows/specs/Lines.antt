@@ -1,15 +1,12 @@
 -- What a row of a dump states by itself.
-use Rattle.std.specs.Prelude.{ℕ, ◌+◌, Bool, ◌==◌, ◌&&◌, if◌then◌else◌, List, [], length, codes, Option, Some, None, slice_index_or}
+use Rattle.std.specs.Prelude.{ℕ, ◌+◌, Bool, ◌==◌, ◌&&◌, if◌then◌else◌, List, [], length, codes, Option, Some, None}
 use Rattle.std.specs.Str.{bytes_eq}
 use Rattle.dex_types.specs.declared.addresses.Address.{Address}
 use Rattle.dex_types.specs.Accounts.{PlainAccount, PlainMarketAccounts}
 use Rattle.dex_rows.specs.Addresses.{address_of}
 use Rattle.dex_rows.specs.Base64.{base64_of}
 use Rattle.dex_rows.specs.Printable.{row_is_printable}
-
--- the fields of one row
-abbrev pub Fields : Type 0
-Fields = List (List ℕ)
+pub use Rattle.dex_rows.specs.Records.{Fields, field_at}
 
 -- a row between the first and the last: an account, a name of a mint, or the end
 pub data PlainLine : Type 0 where
@@ -22,10 +19,6 @@ pub data PlainLine : Type 0 where
   -- an open-orders account of the market with this address
   Orders : Address → PlainAccount → PlainLine
   End : PlainLine
-
--- the field at a place, from 0; nothing behind the last
-abbrev pub field_at : Fields → ℕ → List ℕ
-field_at row place = slice_index_or row place []
 
 -- goes on with what was found
 infixl 10 ◌>>=◌

@@ -1,7 +1,6 @@
 -- What the answer of a call about a row tells, without its buffers.
 use Rattle.std.specs.Prelude.{◌≡◌, Option, Some, None, Result, Ok, Err}
-use Rattle.dex_types.specs.declared.account_bytes.Named.{Named}
-use Rattle.dex_types.specs.Accounts.{PlainAccount, market_accounts_of, named_of, orders_account_of}
+use Rattle.dex_types.specs.Accounts.{market_accounts_of, named_of, orders_account_of}
 use Rattle.dex_dump_rows.specs.declared.lines.Line.{Line}
 use Rattle.dex_dump_rows.specs.declared.lines.Line.TheVariants as row
 use Rattle.dex_dump_rows.specs.declared.lines.LineError.{LineError}
@@ -19,14 +18,12 @@ plain_line (row.Market market) = Market (market_accounts_of market)
 plain_line (row.Orders market account) = Orders market (orders_account_of account)
 plain_line row.End = End
 
--- The answer is what is meant: a line, or that the row has none of the forms. Want of memory tells nothing.
-abbrev pub TellsLine : Result Line LineError → Option PlainLine → Type 0
-TellsLine (Ok line) meant = meant ≡ Some (plain_line line)
-TellsLine (Err Grammar) meant = meant ≡ None
-TellsLine (Err NoMemory) meant = Unit {0}
+-- The answer is what is meant, as a view shows it, or that the row has no such form. Want of memory tells nothing.
+abbrev pub TellsAs : {A B : Type 0} → (A → B) → Result A LineError → Option B → Type 0
+TellsAs view (Ok x) meant = meant ≡ Some (view x)
+TellsAs view (Err Grammar) meant = meant ≡ None
+TellsAs view (Err NoMemory) meant = Unit {0}
 
--- the answer is what is meant: an account, or that the row has no such form; want of memory tells nothing
-abbrev pub TellsAccount : Result Named LineError → Option PlainAccount → Type 0
-TellsAccount (Ok account) meant = meant ≡ Some (named_of account)
-TellsAccount (Err Grammar) meant = meant ≡ None
-TellsAccount (Err NoMemory) meant = Unit {0}
+-- the same of a line
+abbrev pub TellsLine : Result Line LineError → Option PlainLine → Type 0
+TellsLine result meant = TellsAs plain_line result meant

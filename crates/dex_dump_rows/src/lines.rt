@@ -1,15 +1,18 @@
 //! One row of a dump by itself.
 
 ghost use Rattle.std.specs.Prelude.{◌≡◌, ◌<◌};
+ghost use Rattle.dex_types.specs.Accounts.{named_of};
+ghost use Rattle.dex_rows.specs.Addresses.{address_of};
+ghost use Rattle.dex_rows.specs.Base64.{base64_of};
 ghost use Rattle.dex_dump_rows.specs.Lines as spec;
-ghost use Rattle.dex_dump_rows.specs.Lines.{field_at, is_first_row};
-ghost use Rattle.dex_dump_rows.specs.Telling.{TellsAccount, TellsLine};
+ghost use Rattle.dex_dump_rows.specs.Lines.{is_first_row};
+ghost use Rattle.dex_dump_rows.specs.Telling.{TellsAs, TellsLine};
 ghost use Rattle.dex_dump_rows.specs.declared.lines.LineError.TheVariants.{Grammar, NoMemory as OutOfMemory};
 
 use dex_rows::addresses::address_word;
 use dex_rows::base64_words::base64_word;
 use dex_rows::printable::row_is_printable;
-use dex_rows::records::{Fields, field, field_count};
+use dex_rows::records::{Fields, field_at, field_count};
 use dex_types::{Address, MarketAccounts, Named, NoMemory, OrdersAccount};
 use std::alloc::Global;
 use thiserror::Error;
@@ -66,18 +69,18 @@ pub fn line_of(alloc: Global, row: &Fields<'_>) -> Result<Line, LineError>
     form_of(alloc, field_at(row, 0), row)
 }
 
-#[tactic(auto, unfolding(crate::specs::Lines::form_of))]
+#[tactic(auto, unfolding(crate::specs::Lines::form_of, crate::specs::Lines::mint_of, crate::specs::Lines::srm_of, crate::specs::Lines::msrm_of, crate::specs::Lines::wallet_of))]
 fn form_of(alloc: Global, word: &[u8], row: &Fields<'_>) -> Result<Line, LineError>
     ensures { TellsLine result (spec.form_of word.now row.now) }
 {
     if word == b"mint".as_slice() {
-        mint_of(alloc, row)
+        Ok(Line::Mint(account_of(alloc, row)?))
     } else if word == b"srm".as_slice() {
-        srm_of(row)
+        Ok(Line::Srm(name_of(row)?))
     } else if word == b"msrm".as_slice() {
-        msrm_of(row)
+        Ok(Line::Msrm(name_of(row)?))
     } else if word == b"wallet".as_slice() {
-        wallet_of(alloc, row)
+        Ok(Line::Wallet(account_of(alloc, row)?))
     } else if word == b"market".as_slice() {
         market_of(alloc, row)
     } else if word == b"orders".as_slice() {
@@ -89,48 +92,24 @@ fn form_of(alloc: Global, word: &[u8], row: &Fields<'_>) -> Result<Line, LineErr
     }
 }
 
-#[tactic(auto, unfolding(crate::specs::Lines::mint_of))]
-fn mint_of(alloc: Global, row: &Fields<'_>) -> Result<Line, LineError>
-    ensures { TellsLine result (spec.mint_of row.now) }
+/// The mint or wallet of a row.
+fn account_of(alloc: Global, row: &Fields<'_>) -> Result<Named, LineError>
+    ensures { TellsAs named_of result (spec.with_fields row.now 3 (spec.account_at row.now 1)) }
 {
     if field_count(row) != 3 {
         return Err(LineError::Grammar);
     }
-    let account = account_at(alloc, row, 1)?;
-    Ok(Line::Mint(account))
+    account_at(alloc, row, 1)
 }
 
-#[tactic(auto, unfolding(crate::specs::Lines::wallet_of))]
-fn wallet_of(alloc: Global, row: &Fields<'_>) -> Result<Line, LineError>
-    ensures { TellsLine result (spec.wallet_of row.now) }
-{
-    if field_count(row) != 3 {
-        return Err(LineError::Grammar);
-    }
-    let account = account_at(alloc, row, 1)?;
-    Ok(Line::Wallet(account))
-}
-
-#[tactic(auto, unfolding(crate::specs::Lines::srm_of))]
-fn srm_of(row: &Fields<'_>) -> Result<Line, LineError>
-    ensures { TellsLine result (spec.srm_of row.now) }
+/// The mint to which a row gives a name.
+fn name_of(row: &Fields<'_>) -> Result<Address, LineError>
+    ensures { TellsAs (λ mint. mint) result (spec.with_fields row.now 2 (address_of (spec.field_at row.now 1))) }
 {
     if field_count(row) != 2 {
         return Err(LineError::Grammar);
     }
-    let mint = address_word(field_at(row, 1)).ok_or(LineError::Grammar)?;
-    Ok(Line::Srm(mint))
-}
-
-#[tactic(auto, unfolding(crate::specs::Lines::msrm_of))]
-fn msrm_of(row: &Fields<'_>) -> Result<Line, LineError>
-    ensures { TellsLine result (spec.msrm_of row.now) }
-{
-    if field_count(row) != 2 {
-        return Err(LineError::Grammar);
-    }
-    let mint = address_word(field_at(row, 1)).ok_or(LineError::Grammar)?;
-    Ok(Line::Msrm(mint))
+    address_at(row, 1)
 }
 
 #[tactic(auto, unfolding(crate::specs::Lines::orders_of))]
@@ -140,7 +119,7 @@ fn orders_of(alloc: Global, row: &Fields<'_>) -> Result<Line, LineError>
     if field_count(row) != 4 {
         return Err(LineError::Grammar);
     }
-    let market = address_word(field_at(row, 1)).ok_or(LineError::Grammar)?;
+    let market = address_at(row, 1)?;
     let Named { address, bytes } = account_at(alloc, row, 2)?;
     Ok(Line::Orders(market, OrdersAccount { address, bytes }))
 }
@@ -152,15 +131,15 @@ fn market_of(alloc: Global, row: &Fields<'_>) -> Result<Line, LineError>
     if field_count(row) != 10 {
         return Err(LineError::Grammar);
     }
-    let address = address_word(field_at(row, 1)).ok_or(LineError::Grammar)?;
-    let authority = address_word(field_at(row, 2)).ok_or(LineError::Grammar)?;
-    let market = base64_word(alloc, field_at(row, 3))?.ok_or(LineError::Grammar)?;
-    let coin_vault = base64_word(alloc, field_at(row, 4))?.ok_or(LineError::Grammar)?;
-    let pc_vault = base64_word(alloc, field_at(row, 5))?.ok_or(LineError::Grammar)?;
-    let requests = base64_word(alloc, field_at(row, 6))?.ok_or(LineError::Grammar)?;
-    let events = base64_word(alloc, field_at(row, 7))?.ok_or(LineError::Grammar)?;
-    let bids = base64_word(alloc, field_at(row, 8))?.ok_or(LineError::Grammar)?;
-    let asks = base64_word(alloc, field_at(row, 9))?.ok_or(LineError::Grammar)?;
+    let address = address_at(row, 1)?;
+    let authority = address_at(row, 2)?;
+    let market = bytes_at(alloc, row, 3)?;
+    let coin_vault = bytes_at(alloc, row, 4)?;
+    let pc_vault = bytes_at(alloc, row, 5)?;
+    let requests = bytes_at(alloc, row, 6)?;
+    let events = bytes_at(alloc, row, 7)?;
+    let bids = bytes_at(alloc, row, 8)?;
+    let asks = bytes_at(alloc, row, 9)?;
     Ok(Line::Market(MarketAccounts {
         address,
         authority,
@@ -189,21 +168,25 @@ fn end_of(row: &Fields<'_>) -> Result<Line, LineError>
 #[tactic(auto, unfolding(crate::specs::Lines::account_at))]
 fn account_at(alloc: Global, row: &Fields<'_>, place: usize) -> Result<Named, LineError>
     requires { place < 8 }
-    ensures { TellsAccount result (spec.account_at row.now place) }
+    ensures { TellsAs named_of result (spec.account_at row.now place) }
 {
-    let address = address_word(field_at(row, place)).ok_or(LineError::Grammar)?;
-    let bytes = base64_word(alloc, field_at(row, place + 1))?.ok_or(LineError::Grammar)?;
+    let address = address_at(row, place)?;
+    let bytes = bytes_at(alloc, row, place + 1)?;
     Ok(Named { address, bytes })
 }
 
-/// The field at a place of a row, counted from 0; no bytes behind the last.
-fn field_at<'r>(row: &'r Fields<'_>, place: usize) -> &'r [u8]
+/// The address that a field names.
+fn address_at(row: &Fields<'_>, place: usize) -> Result<Address, LineError>
     requires { place < 12 }
-    ensures { result.now ≡ field_at row.now place }
+    ensures { TellsAs (λ address. address) result (address_of (spec.field_at row.now place)) }
 {
-    if place < field_count(row) {
-        field(row, place)
-    } else {
-        &[]
-    }
+    address_word(field_at(row, place)).ok_or(LineError::Grammar)
+}
+
+/// The bytes that a field writes.
+fn bytes_at(alloc: Global, row: &Fields<'_>, place: usize) -> Result<Vec<u8>, LineError>
+    requires { place < 12 }
+    ensures { TellsAs (λ bytes. bytes.items) result (base64_of (spec.field_at row.now place)) }
+{
+    base64_word(alloc, field_at(row, place))?.ok_or(LineError::Grammar)
 }

@@ -7,7 +7,6 @@ ghost use Rattle.dex_history.specs.Journal.{request_of};
 ghost use Rattle.dex_match.specs.OrderTerms.{order_of};
 ghost use Rattle.dex_take.specs.TakeTerms.{take_of};
 ghost use Rattle.dex_types.specs.Rows.{row_of};
-ghost use Rattle.dex_types.specs.Terms as terms;
 ghost use Rattle.dex_eager_market.specs.Accounts.{entry_of};
 ghost use Rattle.dex_eager_market.specs.Acting as acts;
 ghost use Rattle.dex_types.specs.NewOrder.{NewOrder};
@@ -19,9 +18,9 @@ use crate::cancelling::{cancel_client, cancel_clients, cancel_first, cancel_id};
 use crate::states::State;
 use crate::trading::{order_in, take_in};
 use dex_cancel::CancelWhat;
+use dex_decide::{order_taker, take_taker};
 use dex_match::Taker;
-use dex_reasons::is_mint;
-use dex_types::{Address, Ix, OrderType, Row, Seen, SelfTrade, Side, Tier, is_same};
+use dex_types::{Address, Ix, Row, Seen, Side, is_same};
 
 /// The address is that of an account.
 fn has_account(accounts: &[Account], owner: Address) -> bool
@@ -47,16 +46,6 @@ fn acting(state: &State, named: &[Address]) -> Option<Address>
         return None;
     }
     Some(owner)
-}
-
-/// The tier that a row reaches by its discount wallet.
-fn tier_seen(seen: &Seen) -> Tier
-    ensures { result ≡ terms.tier_seen seen.now }
-{
-    match seen.discount {
-        None => Tier::Base,
-        Some(wallet) => dex_fees::tier_of(is_mint(seen.msrm, wallet.mint), wallet.balance),
-    }
 }
 
 /// A new order of an account.
@@ -95,72 +84,6 @@ fn take(state: &mut State, taker: Taker)
     match taker.id_side {
         Side::Bid => take_in(state.sizes, taker, &mut state.asks, &mut state.till),
         Side::Ask => take_in(state.sizes, taker, &mut state.bids, &mut state.till),
-    }
-}
-
-/// A new order as a row states it; the signer stands in the place of its account.
-fn order_taker(
-    row: &Row,
-    seen: &Seen,
-    side: Side,
-    price: u64,
-    lots: u64,
-    lock: u64,
-    self_trade: SelfTrade,
-    order_type: OrderType,
-    client: u64,
-    limit: u16,
-    max_ts: Option<i64>,
-) -> Taker
-    ensures side { result.id_side ≡ side }
-    ensures order { (owner : AddressOf) → acts.order_for owner result ≡ terms.terms_order
-        (request_of (row_of row.entry.now)) seen.now price lots lock self_trade order_type client limit max_ts owner }
-{
-    Taker {
-        id_side: side,
-        price,
-        lots,
-        lock,
-        self_trade,
-        order_type,
-        client,
-        limit,
-        tier: tier_seen(seen),
-        account: row.signer,
-        now: row.now,
-        max_ts,
-        program: seen.program,
-    }
-}
-
-/// A take as a row states it; the signer stands in the place of an account.
-fn take_taker(
-    row: &Row,
-    seen: &Seen,
-    side: Side,
-    price: u64,
-    lots: u64,
-    lock: u64,
-    limit: u16,
-) -> Taker
-    ensures side { result.id_side ≡ side }
-    ensures take { (min_lots min_pc : ℕ) → take_of result min_lots min_pc
-        ≡ terms.terms_take seen.now price lots lock min_lots min_pc limit }
-{
-    Taker {
-        id_side: side,
-        price,
-        lots,
-        lock,
-        self_trade: SelfTrade::Decrement,
-        order_type: OrderType::Ioc,
-        client: 0,
-        limit,
-        tier: tier_seen(seen),
-        account: row.signer,
-        now: row.now,
-        max_ts: None,
-        program: seen.program,
     }
 }
 

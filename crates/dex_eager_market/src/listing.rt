@@ -1,6 +1,7 @@
 //! The resting orders of an account, in a list whose room was reserved.
 
-ghost use Rattle.std.specs.Prelude.{◌≡◌, ◌<◌, ◌≤◌, ◌+◌, ◌++◌, ◌==◌, [], ◌∷◌, drop, length, map, slice_get, take, Some, if◌then◌else◌};
+ghost use Rattle.std.specs.Prelude.{◌≡◌, ◌<◌, ◌≤◌, ◌+◌, ◌++◌, ◌==◌, [], ◌∷◌, drop, length, map, slice_get, take};
+ghost use Rattle.std.specs.Prelude.{Some, if◌then◌else◌};
 ghost use Rattle.std.specs.Vec.{vec_capacity};
 ghost use Rattle.dex_types.specs.Cancel as cancel;
 ghost use Rattle.dex_types.specs.Tokens as tokens;

@@ -1,6 +1,7 @@
 -- Numbers as bytes, the lowest byte first, at any width.
 use Rattle.std.proofs.Common.{◌≡◌, ℕ, zero, suc, ◌+◌, ◌*◌, ◌/◌, ◌%◌, ◌^◌, ◌<◌, ◌≤◌, List, [], ◌∷◌, ◌++◌, length, take, get_or, refl, sym, ap, ◌∙◌, arith, add-one}
-use Rattle.std.proofs.Math.Nat.{div-div-eq-div-mul, div-one, pow-suc, mul_assoc, mul_comm}
+use Rattle.std.proofs.Math.Arith.{mod-mul}
+use Rattle.std.proofs.Math.Nat.{div-div-eq-div-mul, div-one, mul_assoc, mul_comm, one-le-pow, pow-suc, pow-succ', suc-add, zero-add}
 use Rattle.std.proofs.lemmas.List.{length-take-le, take_all, take_more}
 use Rattle.std.proofs.lemmas.Nat.{div_below}
 use Rattle.std.specs.Int.{byte_at, byte_worth, bytes_low_first, sum_through}
@@ -57,6 +58,17 @@ number_of_bytes-append (b ∷ low) high =
     let wide : 256 ^ suc (length low) ≡ 256 ^ length low * 256 = pow-suc 256 (length low) in
     let weight : (256 ^ length low * 256) * number_of_bytes high ≡ 256 ^ length low * (256 * number_of_bytes high) = mul_assoc (256 ^ length low) 256 (number_of_bytes high) in
     rw (behind, wide) (omega arith)
+
+-- the bytes of a number are those of its lower part, and those of what stands above it
+pub bytes_of_number-append : (low high x : ℕ) → bytes_of_number (low + high) x ≡ bytes_of_number low (x % 256 ^ low) ++ bytes_of_number high (x / 256 ^ low)
+unfolding bytes_of_number
+bytes_of_number-append zero high x = rw (zero-add high, div-one x) refl
+bytes_of_number-append (suc low) high x =
+    let part : x % 256 ^ suc low ≡ (x / 256 % 256 ^ low) * 256 + x % 256 = ap (λ (p : ℕ). x % p) (pow-suc 256 low) ∙ mod-mul x (one-le-pow low 256 (omega arith)) (omega arith) in
+    let first : x % 256 ^ suc low % 256 ≡ x % 256 = omega arith in
+    let rest : x % 256 ^ suc low / 256 ≡ x / 256 % 256 ^ low = omega arith in
+    let above : x / 256 ^ suc low ≡ x / 256 / 256 ^ low = ap (λ (p : ℕ). x / p) (pow-succ' 256 low) ∙ sym (div-div-eq-div-mul x 256 (256 ^ low)) in
+    rw (suc-add low high, first, rest, above, bytes_of_number-append low high (x / 256)) refl
 
 -- ---- the words of std
 

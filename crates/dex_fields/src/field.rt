@@ -1,6 +1,6 @@
 //! A field of an account, and reading it.
 
-ghost use Rattle.std.specs.Prelude.{◌≡◌, ◌+◌, ◌*◌, ◌^◌, ◌<◌, ◌≤◌, length, IsTrue};
+ghost use Rattle.std.specs.Prelude.{◌≡◌, ◌+◌, ◌*◌, ◌^◌, ◌<◌, length, IsTrue};
 ghost use Rattle.dex_fields.specs.Tiling.{Tile, tiles_from};
 ghost use Rattle.dex_fields.specs.Bytes.{IsWithin, bytes_in, number_in};
 

@@ -1,7 +1,7 @@
 //! Writing one field in place.
 
 ghost use Rattle.std.specs.Prelude.{◌≡◌, length};
-ghost use Rattle.dex_fields.specs.Bytes.{ChangesOnly, IsWithin, bytes_in, number_in, with_bytes, with_number};
+ghost use Rattle.dex_fields.specs.Bytes.{ChangesOnly, IsWithin, bytes_in, bytes_of_number, number_in, with_bytes, with_number};
 
 use crate::Field;
 
@@ -56,7 +56,20 @@ pub fn put_u128(bytes: &mut [u8], field: Field, value: u128)
     ensures given { number_in bytes.new field ≡ value }
     ensures others { ChangesOnly field bytes.old bytes.new }
 {
-    put_piece(bytes, field, &u128::to_le_bytes(value));
+    put_piece(bytes, field, &halves(value));
+}
+
+/// The bytes of a number, its lowest first: those of its lower half, and those of its upper half. Each half is one word of the
+/// processor, so no byte is moved alone.
+fn halves(value: u128) -> [u8; 16]
+    ensures { result ≡ bytes_of_number 16 value }
+{
+    let low = (value % 0x1_0000_0000_0000_0000) as u64;
+    let high = (value >> 64) as u64;
+    let mut bytes = [0; 16];
+    bytes[..8].copy_from_slice(&low.to_le_bytes());
+    bytes[8..].copy_from_slice(&high.to_le_bytes());
+    bytes
 }
 
 /// Writes the 32 bytes into the field; all other bytes stay.

@@ -46,8 +46,8 @@ impl Bells {
         self.wake(next.wrapping_add(1));
     }
 
-    // Takes the bell of a ticket back, where it is set, and wakes who sleeps on it.
-    fn wake(&self, ticket: u64) {
+    /// Takes the bell of a ticket back, where it is set, and wakes who sleeps on it.
+    pub(crate) fn wake(&self, ticket: u64) {
         let bell = self.of(ticket);
         if bell.load(Ordering::SeqCst) == SET && bell.swap(0, Ordering::SeqCst) == SET {
             bell.wake_all();

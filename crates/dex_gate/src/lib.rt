@@ -7,6 +7,7 @@
 
 mod bells;
 mod board;
+mod door;
 mod gate;
 mod journaled;
 mod no_memory;
@@ -16,6 +17,7 @@ mod stage;
 mod steps;
 mod turn;
 
+pub use door::Door;
 pub use gate::Gate;
 pub use journaled::Journaled;
 pub use no_memory::NoMemory;

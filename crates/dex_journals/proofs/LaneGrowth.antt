@@ -1,8 +1,8 @@
 -- A lane, and an item more of it.
 use Rattle.std.proofs.Common.{◌≡◌, ℕ, suc, ◌<◌, ◌+◌, false, eqb, List, [], ◌∷◌, ◌++◌, length, map, take, get_or, refl, sym, ap, ◌∙◌, subst, arith}
 use Rattle.dex_fold.proofs.Common.{All-append, All-cons, All-head, All-nil, All-tail, All-weaker, AllPairs, Asked, Call, Group, PlainRow, asked_of, eq-eqb, false≢true, grouped, length-map, rows_of_lane}
-use Rattle.dex_script.specs.Drafts.{PlainScript}
-use Rattle.dex_script.specs.Sight.{IsSight}
+use Rattle.dex_script_facts.specs.PlainScript.{PlainScript}
+use Rattle.dex_script_facts.specs.Sight.{IsSight}
 use Rattle.dex_stamps.specs.Stamped.{Stamped}
 use Rattle.dex_journals.specs.Lanes.{AreAllOrNone, IsBefore, IsLane, MovesEach, number_in}
 use Rattle.std.specs.List.{All}

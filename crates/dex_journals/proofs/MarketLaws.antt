@@ -1,5 +1,5 @@
 -- A market's journal with one call more.
-use Rattle.std.proofs.Common.{◌≡◌, ℕ, ◌≤◌, ◌<◌, List, [], ◌∷◌, ◌++◌, length, sym, ap, ◌∙◌, subst, arith}
+use Rattle.std.proofs.Common.{◌≡◌, ℕ, ◌≤◌, ◌<◌, List, [], ◌∷◌, ◌++◌, length, sym, ap, ◌∙◌, subst, arith, refl}
 use Rattle.std.specs.List.{filter}
 use Rattle.std.proofs.lemmas.List.{length_push}
 use Rattle.std.proofs.lemmas.List.Sums.{length-filter}
@@ -10,20 +10,16 @@ use Rattle.dex_types.specs.Addresses.{is_same}
 use Rattle.dex_types.specs.Rows.{PlainRow, row_of}
 use Rattle.dex_history.specs.Journal.{Call}
 use Rattle.dex_cell.specs.CellState.{HasActed, HasSpare, IsMarketCell, MarketCellState, call_on, held_made, held_on}
-use Rattle.dex_script.specs.Drafts.{PlainScript}
+use Rattle.dex_script_facts.specs.PlainScript.{PlainScript}
 use Rattle.dex_fold.specs.RowsOf.{rows_of_market, rows_on}
 use Rattle.dex_stamps.specs.Stamped.{AreRising, items_of, stamped}
-use Rattle.dex_journals.specs.Journals.{BankMarketState, IsBankMarket, calls_by, market_calls}
+use Rattle.dex_journals.specs.Journals.{BankMarketState, IsBankMarket, calls_by, market_calls, market_more}
 use Rattle.dex_journals.proofs.Counting.{fewer}
 use Rattle.dex_journals.proofs.StampedLists.{below-more, items_of-stamped, lanes-more, length-stamped, rising-more, stamped-more}
 
 -- how many rows of a lane are on the market
 abbrev rows_left : BankMarketState → ℕ → ℕ
 rows_left market lane = length (rows_of_market lane market.cell.start.address market.script.rows)
-
--- the market with one call more, under a stamp
-abbrev pub market_more : BankMarketState → MarketCellState → ℕ → BankMarketState
-market_more market cell stamp = record market { cell = cell; stamps = market.stamps ++ stamp ∷ []; last = stamp }
 
 -- where a lane has a row left, there is room for its call
 pub spare-market : (market : BankMarketState) → IsBankMarket market → (lane : ℕ)
@@ -87,29 +83,30 @@ market-more market cell call stamp kept is_cell more start room few above = reco
 abbrev pub market_of : MarketCellState → PlainScript → List ℕ → ℕ → BankMarketState
 market_of cell script stamps last = record { cell = cell; stamps = stamps; last = last; script = script }
 
+-- a cell with one call more
+pub record AddsCall (call : Call) (before after : MarketCellState) : Type 0 where
+  pub calls : after.calls ≡ before.calls ++ call ∷ []
+  pub start : after.start ≡ before.start
+  pub room : after.room ≡ before.room
+
+pub acted-adds : (row : Row) (seen : Seen) (before after : MarketCellState) → HasActed row seen before after → AddsCall (call_on row seen before) before after
+acted-adds row seen before after acted = record { calls = acted.calls; start = acted.start; room = acted.room }
+
+pub held-adds : (row : Row) (seen : Seen) (before after : MarketCellState) → after ≡ held_on row seen before → AddsCall (held_made (row_of row) seen) before after
+held-adds row seen before after held = subst (AddsCall (held_made (row_of row) seen) before) (sym held) (record { calls = refl; start = refl; room = refl })
+
 -- what an acting row needs of its market: its lane has a row left, and its stamp is above all others
 pub record MayAct (row : Row) (stamp : ℕ) (market : BankMarketState) : Type 0 where
   pub lane : calls_by row.lane market.cell.calls
       < length (rows_of_market row.lane market.cell.start.address market.script.rows)
   pub above : market.last < stamp
 
-pub has-acted : (market : BankMarketState) (row : Row) (seen : Seen) (cell : MarketCellState) (stamp last : ℕ)
-    (stamps : List ℕ) → IsBankMarket market → MayAct row stamp market → IsMarketCell cell
-    → HasActed row seen market.cell cell → stamps ≡ market.stamps ++ stamp ∷ [] → last ≡ stamp
-    → IsBankMarket (market_of cell market.script stamps last)
-has-acted market row seen cell stamp last stamps kept may is_cell acted stamped_is last_is =
+-- it has one call more, and what always holds of it holds again
+pub has-more : (market : BankMarketState) (row : Row) (cell : MarketCellState) (call : Call) (stamp last : ℕ) (stamps : List ℕ)
+    → IsBankMarket market → MayAct row stamp market → IsMarketCell cell → AddsCall call market.cell cell → call.asked.lane ≡ row.lane
+    → stamps ≡ market.stamps ++ stamp ∷ [] → last ≡ stamp → IsBankMarket (market_of cell market.script stamps last)
+has-more market row cell call stamp last stamps kept may is_cell adds lane_is stamped_is last_is =
     subst (λ (one : List ℕ). IsBankMarket (market_of cell market.script one last)) (sym stamped_is)
     (subst (λ (one : ℕ). IsBankMarket (market_of cell market.script (market.stamps ++ stamp ∷ []) one)) (sym last_is)
-    (market-more market cell (call_on row seen market.cell) stamp kept is_cell acted.calls acted.start acted.room
-    may.lane may.above))
-
--- the same where it was held back
-pub has-held : (market : BankMarketState) (row : Row) (seen : Seen) (cell : MarketCellState) (stamp last : ℕ)
-    (stamps : List ℕ) → IsBankMarket market → MayAct row stamp market → IsMarketCell cell
-    → cell ≡ held_on row seen market.cell → stamps ≡ market.stamps ++ stamp ∷ [] → last ≡ stamp
-    → IsBankMarket (market_of cell market.script stamps last)
-has-held market row seen cell stamp last stamps kept may is_cell held stamped_is last_is =
-    subst (λ (one : List ℕ). IsBankMarket (market_of cell market.script one last)) (sym stamped_is)
-    (subst (λ (one : ℕ). IsBankMarket (market_of cell market.script (market.stamps ++ stamp ∷ []) one)) (sym last_is)
-    (market-more market cell (held_made (row_of row) seen) stamp kept is_cell (ap (λ (one : MarketCellState). one.calls) held)
-    (ap (λ (one : MarketCellState). one.start) held) (ap (λ (one : MarketCellState). one.room) held) may.lane may.above))
+    (market-more market cell call stamp kept is_cell adds.calls adds.start adds.room
+    (subst (λ (lane : ℕ). calls_by lane market.cell.calls < rows_left market lane) (sym lane_is) may.lane) may.above))

@@ -3,7 +3,8 @@ use Rattle.std.proofs.Common.{◌≡◌, ℕ, ◌+◌, ◌≤◌, ◌<◌, Bool,
 use Rattle.std.specs.Prelude.{◌==◌}
 use Rattle.std.specs.List.{filter}
 use Rattle.std.proofs.lemmas.Bool.{eqb-true}
-use Rattle.std.proofs.lemmas.List.Elements.{All-append, All-cons, All-head, All-nil, All-tail}
+use Rattle.std.proofs.lemmas.List.{length-append, length-map}
+use Rattle.std.proofs.lemmas.List.Elements.{All-append, All-cons, All-head, All-nil, All-tail, filter-append}
 use Rattle.std.proofs.lemmas.List.Quantifiers.{all_pairs_push}
 use mathlib.Core.List.{map-append}
 use Rattle.dex_stamps.specs.declared.stamp.Stamp.{Stamp}
@@ -13,15 +14,6 @@ use Rattle.dex_journals.specs.Inside.{numbers_in}
 -- ---- as many stamps as items
 
 module _ {A : Type 0} where
-  pub length-stamped : (items : List A) (stamps : List ℕ) → length stamps ≡ length items
-      → length (stamped items stamps) ≡ length items
-  length-stamped [] [] long = refl
-  length-stamped [] (stamp ∷ stamps) long = absurd (omega (arith, long))
-  length-stamped (item ∷ items) [] long = absurd (omega (arith, long))
-  length-stamped (item ∷ items) (stamp ∷ stamps) long =
-      let rest = length-stamped items stamps (omega (arith, long)) in
-      omega (arith, rest)
-
   pub items_of-stamped : (items : List A) (stamps : List ℕ) → length stamps ≡ length items
       → items_of (stamped items stamps) ≡ items
   items_of-stamped [] [] long = refl
@@ -29,6 +21,10 @@ module _ {A : Type 0} where
   items_of-stamped (item ∷ items) [] long = absurd (omega (arith, long))
   items_of-stamped (item ∷ items) (stamp ∷ stamps) long =
       ap (λ (rest : List A). item ∷ rest) (items_of-stamped items stamps (omega (arith, long)))
+
+  pub length-stamped : (items : List A) (stamps : List ℕ) → length stamps ≡ length items → length (stamped items stamps) ≡ length items
+  length-stamped items stamps long =
+      sym (length-map (stamped items stamps) (λ (made : Stamped A). made.item)) ∙ ap length (items_of-stamped items stamps long)
 
   -- one more behind
   pub stamped-more : (items : List A) (stamps : List ℕ) (item : A) (stamp : ℕ) → length stamps ≡ length items
@@ -83,23 +79,13 @@ numbers-more pairs more stamp is =
 
 filter-more : {A : Type 0} (test : A → Bool) (items : List A) (item : A)
     → length (filter test (items ++ item ∷ [])) ≡ length (filter test items) + cond (test item) 1 0
-filter-more {A} test [] item = by-case (test item)
+filter-more {A} test items item =
+    ap length (filter-append test items (item ∷ [])) ∙ length-append (filter test items) (filter test (item ∷ []))
+    ∙ ap (λ (n : ℕ). length (filter test items) + n) (by-case (test item))
   where
-    by-case : (passes : Bool) → length (cond passes (item ∷ []) []) ≡ 0 + cond passes 1 0
+    by-case : (passes : Bool) → length (cond passes (item ∷ []) []) ≡ cond passes 1 0
     by-case true = refl
     by-case false = refl
-filter-more {A} test (one ∷ items) item = by-case (filter-more test items item) (test one)
-  where
-    before : List A
-    before = filter test items
-
-    after : List A
-    after = filter test (items ++ item ∷ [])
-
-    by-case : length after ≡ length before + cond (test item) 1 0 → (passes : Bool)
-        → length (cond passes (one ∷ after) after) ≡ length (cond passes (one ∷ before) before) + cond (test item) 1 0
-    by-case rest true = omega (arith, rest)
-    by-case rest false = rest
 
 -- each lane has as many items as it may have, and one more of a lane that may have one more
 pub lanes-more : {A : Type 0} (lane_of : A → ℕ) (rows : ℕ → ℕ) (items : List A) (item : A)

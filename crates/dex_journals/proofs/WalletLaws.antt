@@ -8,10 +8,10 @@ use Rattle.dex_types.specs.declared.movements.WalletEntry.{WalletEntry}
 use Rattle.dex_types.specs.Rows.{PlainRow}
 use Rattle.dex_fold.specs.Fold.{names}
 use Rattle.dex_wallet.specs.CellState.{CellState, HasSpare, IsWalletCell}
-use Rattle.dex_script.specs.Drafts.{PlainScript}
+use Rattle.dex_script_facts.specs.PlainScript.{PlainScript}
 use Rattle.dex_fold.specs.RowsOf.{rows_naming, rows_of_wallet}
 use Rattle.dex_stamps.specs.Stamped.{AreRising, items_of, stamped}
-use Rattle.dex_journals.specs.Journals.{AddsEntry, BankWalletState, IsBankWallet, MayComeBack, TrailState}
+use Rattle.dex_journals.specs.Journals.{AddsEntry, BankWalletState, IsBankWallet, MayComeBack, TrailState, wallet_more}
 use Rattle.dex_journals.specs.Journals.{entries_by, left_by, wallet_entries}
 use Rattle.dex_journals.proofs.Counting.{fewer}
 use Rattle.dex_journals.proofs.StampedLists.{below-more, items_of-stamped, lanes-more, length-stamped, rising-more, stamped-more}
@@ -19,10 +19,6 @@ use Rattle.dex_journals.proofs.StampedLists.{below-more, items_of-stamped, lanes
 -- how many rows of a lane name the wallet
 abbrev rows_left : BankWalletState → ℕ → ℕ
 rows_left wallet lane = length (rows_of_wallet lane wallet.cell.address wallet.script.rows)
-
--- the wallet with one entry more, under a stamp
-abbrev pub wallet_more : BankWalletState → CellState → ℕ → BankWalletState
-wallet_more wallet cell stamp = record wallet { cell = cell; stamps = wallet.stamps ++ stamp ∷ []; last = stamp }
 
 -- where a lane has a row left, there is room for its entry
 pub spare-wallet : (wallet : BankWalletState) → IsBankWallet wallet → (lane : ℕ)

@@ -14,7 +14,7 @@ numbers_in pairs = map (λ (pair : Stamp × Unit {0}). pair.0.number) pairs
 -- the shared market that its fields stand for
 abbrev pub market_inside : market.Inside → BankMarketState
 market_inside inside = record {
-  cell = inside.cell;
+  cell = inside.cell.value;
   stamps = numbers_in inside.stamps.items;
   last = inside.last.number;
   script = inside.script.value;

@@ -7,7 +7,7 @@ use Rattle.dex_history.specs.Journal.{Call}
 use Rattle.dex_cell.specs.CellState.{IsMarketCell, MarketCellState}
 use Rattle.dex_wallet.specs.CellState.{CellState, IsWalletCell}
 use Rattle.dex_act.specs.Wallets.{made_of}
-use Rattle.dex_script.specs.Drafts.{PlainScript}
+use Rattle.dex_script_facts.specs.PlainScript.{PlainScript}
 use Rattle.dex_fold.specs.RowsOf.{rows_naming, rows_of_market, rows_of_wallet, rows_on}
 use Rattle.dex_stamps.specs.Stamped.{AreRising, Stamped, stamped}
 
@@ -36,6 +36,10 @@ market_origin market = record { start = market.cell.start; script = market.scrip
 -- how many calls of a lane there are
 abbrev pub calls_by : ℕ → List Call → ℕ
 calls_by lane calls = length (filter (λ (call : Call). call.asked.lane == lane) calls)
+
+-- with one call more, under a stamp
+abbrev pub market_more : BankMarketState → MarketCellState → ℕ → BankMarketState
+market_more market cell stamp = record market { cell = cell; stamps = market.stamps ++ stamp ∷ []; last = stamp }
 
 -- what always holds of it: the calls have rising stamps; each lane has made at most as many as it has rows on the market; and
 -- there is room for all rows on the market
@@ -74,6 +78,10 @@ wallet_origin wallet =
 -- how many entries of a lane there are
 abbrev pub entries_by : ℕ → List WalletEntry → ℕ
 entries_by lane entries = length (filter (λ (entry : WalletEntry). entry.lane == lane) entries)
+
+-- with one entry more, under a stamp
+abbrev pub wallet_more : BankWalletState → CellState → ℕ → BankWalletState
+wallet_more wallet cell stamp = record wallet { cell = cell; stamps = wallet.stamps ++ stamp ∷ []; last = stamp }
 
 -- what always holds of it: the entries have rising stamps; each lane has made at most as many as it has rows that name the
 -- wallet; and there is room for all rows that name it

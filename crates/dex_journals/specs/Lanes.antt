@@ -5,8 +5,8 @@ use Rattle.dex_fold.specs.Groups.{Group, grouped, members}
 use Rattle.dex_fold.specs.Items.{rows_of_lane}
 use Rattle.dex_types.specs.declared.movements.Movement.{Movement}
 use Rattle.dex_history.specs.Journal.{Call, asked_of, asked_wallets, front, is_held, is_refused}
-use Rattle.dex_script.specs.Drafts.{PlainScript}
-use Rattle.dex_script.specs.Sight.{IsSight}
+use Rattle.dex_script_facts.specs.PlainScript.{PlainScript}
+use Rattle.dex_script_facts.specs.Sight.{IsSight}
 use Rattle.dex_stamps.specs.Stamped.{Stamped}
 
 -- a call moves each wallet that its row names, once, by rising address

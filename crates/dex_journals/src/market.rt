@@ -1,35 +1,34 @@
 //! A market that threads share.
 
-ghost use Rattle.std.specs.Prelude.{◌≡◌, ◌<◌, ◌++◌, ◌∷◌, [], All, length, map, max};
+ghost use Rattle.std.specs.Prelude.{◌≡◌, ◌<◌, [], All, IfOk, length, map, max};
 ghost use Rattle.dex_types.specs.declared.refusals.Refusal.{Refusal};
 ghost use Rattle.dex_types.specs.declared.replies.Reply.TheVariants.{Done, Refused};
 ghost use Rattle.dex_types.specs.Rows.{row_of};
-ghost use Rattle.dex_history.specs.Journal.{Call};
 ghost use Rattle.dex_types.specs.Transfers.{no_transfers};
 ghost use Rattle.dex_cell.specs.CellState.{CanHold, HasActed, IsFor, held_on, refused_on, step_on};
 ghost use Rattle.dex_wallet.specs.CellState.{IsWalletCell};
 ghost use Rattle.dex_act.specs.Wallets.{AreApart, SeesCells, made_of, states_acted, wallet_state_of};
 ghost use Rattle.dex_fold.specs.Fold.{wallet_acted};
 ghost use Rattle.dex_fold.specs.RowsOf.{rows_of_market, rows_on};
-ghost use Rattle.dex_stamps.specs.Stamped.{Stamped};
-ghost use Rattle.dex_journals.specs.Journals.{IsBankMarket, calls_by, market_calls, market_origin};
+ghost use Rattle.dex_journals.specs.Journals.{IsBankMarket, calls_by, market_more};
 
 use crate::items::{MarketStart, StampedCall};
 use dex_act::{act, hold, places_in};
 use dex_cell::MarketCell;
 use dex_gate::Journaled;
-use dex_script::Script;
+use dex_script_facts::Script;
 use dex_stamps::{Kept, Stamp};
-use dex_types::{Reply, Row, Seen};
+use dex_types::{NoMemory, Reply, Row, Seen};
 use dex_wallet::WalletCell;
 use http_server::Log as StampLog;
+use std::alloc::Global;
 use std::marker::Model;
 
 /// A market's cell with its journal's stamps, as the value of a gate. Each lane makes at most as many calls as it has rows on
-/// the market, and there is room for all rows on it.
+/// the market, and there is room for all rows on it. The cell stays where it is when the market goes into a turn and out of it.
 #[derive(Drop)]
 pub struct BankMarket {
-    cell: MarketCell,
+    cell: Box<MarketCell>,
     stamps: StampLog<Stamp, ()>,
     last: Stamp,
     script: Kept<Script>,
@@ -65,17 +64,25 @@ impl Journaled for BankMarket {
 }
 
 impl BankMarket {
-    /// A market of a script, of whose rows none has acted.
-    pub fn open(cell: MarketCell, script: Kept<Script>) -> BankMarket
+    /// A market of a script, of whose rows none has acted. Where there is no memory for it, the cell is given up.
+    pub fn open(
+        alloc: Global,
+        cell: MarketCell,
+        script: Kept<Script>,
+    ) -> Result<BankMarket, NoMemory>
         requires fresh { cell.calls ≡ [] }
         requires room { cell.room ≡ rows_on cell.start.address script.value.rows }
-        ensures { result ≡ record { cell = cell; stamps = []; last = 0; script = script.value } }
+        ensures { IfOk result (λ market. market
+            ≡ record { cell = cell; stamps = []; last = 0; script = script.value }) }
     {
-        BankMarket {
-            cell,
-            stamps: StampLog::new(),
-            last: Stamp::first(),
-            script,
+        match Box::new(alloc, cell) {
+            Ok(cell) => Ok(BankMarket {
+                cell,
+                stamps: StampLog::new(),
+                last: Stamp::first(),
+                script,
+            }),
+            Err(_) => Err(NoMemory),
         }
     }
 
@@ -84,7 +91,7 @@ impl BankMarket {
         ensures cell { result.now ≡ self.now.cell }
         ensures kept { IsBankMarket self.now }
     {
-        &self.cell
+        self.cell.as_ref()
     }
 
     /// The later of a stamp and the last of the journal's.
@@ -112,11 +119,7 @@ impl BankMarket {
         ensures acted { HasActed row.entry.now seen.now self.old.cell self.new.cell }
         ensures refused { (why : Refusal) → result ≡ Refused why
             → self.new.cell ≡ refused_on row.entry.now seen.now self.old.cell }
-        ensures stamped { self.new ≡ record self.old {
-          cell = self.new.cell;
-          stamps = self.old.stamps ++ stamp.now.number ∷ [];
-          last = stamp.now.number;
-        } }
+        ensures stamped { self.new ≡ market_more self.old self.new.cell stamp.now.number }
         ensures states { map wallet_state_of wallets.new
             ≡ states_acted row.entry.now seen.now self.old.cell (map wallet_state_of wallets.old) }
         ensures wallets { All IsWalletCell wallets.new }
@@ -125,7 +128,7 @@ impl BankMarket {
         ensures kept { IsBankMarket self.new }
     {
         let places = places_in(wallets, row);
-        let reply = act(&mut self.cell, wallets, row, seen, &places);
+        let reply = act(self.cell.as_mut(), wallets, row, seen, &places);
         self.stamps = self.stamps.and(stamp, &());
         self.last = stamp.later(stamp);
         reply
@@ -148,11 +151,7 @@ impl BankMarket {
         requires stamp { self.old.last < stamp.now.number }
         ensures reply { result ≡ Done }
         ensures held { self.new.cell ≡ held_on row.entry.now seen.now self.old.cell }
-        ensures stamped { self.new ≡ record self.old {
-          cell = self.new.cell;
-          stamps = self.old.stamps ++ stamp.now.number ∷ [];
-          last = stamp.now.number;
-        } }
+        ensures stamped { self.new ≡ market_more self.old self.new.cell stamp.now.number }
         ensures states { map wallet_state_of wallets.new
             ≡ map (wallet_acted (row_of row.entry.now) seen.now no_transfers) (map wallet_state_of wallets.old) }
         ensures wallets { All IsWalletCell wallets.new }
@@ -161,7 +160,7 @@ impl BankMarket {
         ensures kept { IsBankMarket self.new }
     {
         let places = places_in(wallets, row);
-        let reply = hold(&mut self.cell, wallets, row, seen, &places);
+        let reply = hold(self.cell.as_mut(), wallets, row, seen, &places);
         self.stamps = self.stamps.and(stamp, &());
         self.last = stamp.later(stamp);
         reply
@@ -172,12 +171,7 @@ impl BankMarket {
         ensures cell { result ≡ self.cell }
         ensures kept { IsBankMarket self }
     {
-        let BankMarket {
-            cell,
-            stamps: _,
-            last: _,
-            script: _,
-        } = self;
-        cell
+        let BankMarket { cell, .. } = self;
+        Box::into_inner(cell)
     }
 }

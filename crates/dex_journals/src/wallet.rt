@@ -1,12 +1,12 @@
 //! A wallet that threads share.
 
-ghost use Rattle.std.specs.Prelude.{◌≡◌, ◌<◌, ◌++◌, ◌∷◌, [], max};
+ghost use Rattle.std.specs.Prelude.{◌≡◌, ◌<◌, [], max};
 ghost use Rattle.dex_fold.specs.RowsOf.{rows_naming};
-ghost use Rattle.dex_journals.specs.Journals.{IsBankWallet, MayComeBack, left_by};
+ghost use Rattle.dex_journals.specs.Journals.{IsBankWallet, MayComeBack, left_by, wallet_more};
 
 use crate::items::{StampedEntry, WalletStart};
 use dex_gate::Journaled;
-use dex_script::Script;
+use dex_script_facts::Script;
 use dex_stamps::{Kept, Stamp};
 use dex_wallet::WalletCell;
 use http_server::Log as StampLog;
@@ -121,12 +121,7 @@ impl BankWallet {
         ensures cell { result ≡ self.cell }
         ensures kept { IsBankWallet self }
     {
-        let BankWallet {
-            cell,
-            stamps: _,
-            last: _,
-            script: _,
-        } = self;
+        let BankWallet { cell, .. } = self;
         cell
     }
 }
@@ -144,20 +139,10 @@ impl WalletTrail {
     pub fn with(self, cell: WalletCell, stamp: &Stamp) -> BankWallet
         requires entry { MayComeBack self cell }
         requires stamp { self.last < stamp.now.number }
-        ensures wallet { result ≡ record {
-          cell = cell;
-          stamps = self.stamps ++ stamp.now.number ∷ [];
-          last = stamp.now.number;
-          script = self.script;
-        } }
+        ensures wallet { result ≡ wallet_more (left_by self) cell stamp.now.number }
         ensures kept { IsBankWallet result }
     {
-        let WalletTrail {
-            before: _,
-            stamps,
-            last: _,
-            script,
-        } = self;
+        let WalletTrail { stamps, script, .. } = self;
         BankWallet {
             cell,
             stamps: stamps.and(stamp, &()),

@@ -11,6 +11,11 @@ use Rattle.dex_fields.proofs.Places.{are_apart, bytes_in-other, number_in-other}
 use Rattle.dex_fields.proofs.Writing.{length-with_number}
 use Rattle.dex_market.specs.MarketAccount.{AreMarketFlags, AreTerms, IsMarket, market_terms, market_words}
 
+-- a number that stands where it was put is the one that was written
+pub put-given : (bytes left : List ℕ) (field : Field) (x : ℕ) → left ≡ with_number bytes field x → number_in left field ≡ x
+    → number_in (with_number bytes field x) field ≡ x
+put-given bytes left field x is given = subst (λ (b : List ℕ). number_in b field ≡ x) is given
+
 -- the fields of the terms
 abbrev pub term_fields : List Field
 term_fields =

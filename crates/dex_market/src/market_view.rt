@@ -4,13 +4,12 @@ ghost use Rattle.std.specs.Prelude.{◌≡◌};
 ghost use Rattle.dex_fields.specs.Bytes.{with_number};
 ghost use Rattle.dex_market.specs.MarketAccount.{AreMarketFlags, IsMarket, market_words};
 
+use crate::MarketRef;
 use dex_fields::market::{
-    ACCOUNT_FLAGS, ASKS, BIDS, COIN_DEPOSITS_TOTAL, COIN_FEES_ACCRUED, COIN_LOT_SIZE, COIN_MINT,
-    COIN_VAULT, EVENT_Q, FEE_RATE_BPS, OWN_ADDRESS, PC_DEPOSITS_TOTAL, PC_DUST_THRESHOLD,
-    PC_FEES_ACCRUED, PC_LOT_SIZE, PC_MINT, PC_VAULT, REFERRER_REBATES_ACCRUED, REQ_Q,
-    VAULT_SIGNER_NONCE,
+    ACCOUNT_FLAGS, COIN_DEPOSITS_TOTAL, COIN_FEES_ACCRUED, PC_DEPOSITS_TOTAL, PC_FEES_ACCRUED,
+    REFERRER_REBATES_ACCRUED,
 };
-use dex_fields::{get_addr, get_u64, put_u64};
+use dex_fields::put_u64;
 use dex_types::Address;
 
 /// A market account, for reading and for writing in place. Each call needs bytes that `check_market` accepts, and
@@ -21,12 +20,19 @@ pub struct MarketView<'a> {
 }
 
 impl MarketView<'_> {
+    /// The account, for reading.
+    fn as_ref(&self) -> MarketRef<'_>
+        ensures { result.bytes.now ≡ self.now.bytes.now }
+    {
+        MarketRef { bytes: self.bytes }
+    }
+
     /// The account's flags: 3, or 131 where the market is disabled.
     pub fn account_flags(&self) -> u64
         requires { IsMarket self.now.bytes.now }
         ensures { result ≡ (market_words self.now.bytes.now).account_flags }
     {
-        get_u64(self.bytes, ACCOUNT_FLAGS)
+        self.as_ref().account_flags()
     }
 
     /// The market's own address.
@@ -34,7 +40,7 @@ impl MarketView<'_> {
         requires { IsMarket self.now.bytes.now }
         ensures { result ≡ (market_words self.now.bytes.now).terms.own_address }
     {
-        Address(get_addr(self.bytes, OWN_ADDRESS))
+        self.as_ref().own_address()
     }
 
     /// Stored, with no effect.
@@ -42,7 +48,7 @@ impl MarketView<'_> {
         requires { IsMarket self.now.bytes.now }
         ensures { result ≡ (market_words self.now.bytes.now).terms.vault_signer_nonce }
     {
-        get_u64(self.bytes, VAULT_SIGNER_NONCE)
+        self.as_ref().vault_signer_nonce()
     }
 
     /// The mint that the market trades.
@@ -50,7 +56,7 @@ impl MarketView<'_> {
         requires { IsMarket self.now.bytes.now }
         ensures { result ≡ (market_words self.now.bytes.now).terms.coin_mint }
     {
-        Address(get_addr(self.bytes, COIN_MINT))
+        self.as_ref().coin_mint()
     }
 
     /// The mint in which prices are counted.
@@ -58,7 +64,7 @@ impl MarketView<'_> {
         requires { IsMarket self.now.bytes.now }
         ensures { result ≡ (market_words self.now.bytes.now).terms.pc_mint }
     {
-        Address(get_addr(self.bytes, PC_MINT))
+        self.as_ref().pc_mint()
     }
 
     /// The token account that holds the coin of all traders.
@@ -66,7 +72,7 @@ impl MarketView<'_> {
         requires { IsMarket self.now.bytes.now }
         ensures { result ≡ (market_words self.now.bytes.now).terms.coin_vault }
     {
-        Address(get_addr(self.bytes, COIN_VAULT))
+        self.as_ref().coin_vault()
     }
 
     /// The coin vault's amount less the coin fees, in native coin.
@@ -74,7 +80,7 @@ impl MarketView<'_> {
         requires { IsMarket self.now.bytes.now }
         ensures { result ≡ (market_words self.now.bytes.now).coin_deposits_total }
     {
-        get_u64(self.bytes, COIN_DEPOSITS_TOTAL)
+        self.as_ref().coin_deposits_total()
     }
 
     /// Coin fees in the vault, in native coin.
@@ -82,7 +88,7 @@ impl MarketView<'_> {
         requires { IsMarket self.now.bytes.now }
         ensures { result ≡ (market_words self.now.bytes.now).coin_fees_accrued }
     {
-        get_u64(self.bytes, COIN_FEES_ACCRUED)
+        self.as_ref().coin_fees_accrued()
     }
 
     /// The token account that holds the pc of all traders.
@@ -90,7 +96,7 @@ impl MarketView<'_> {
         requires { IsMarket self.now.bytes.now }
         ensures { result ≡ (market_words self.now.bytes.now).terms.pc_vault }
     {
-        Address(get_addr(self.bytes, PC_VAULT))
+        self.as_ref().pc_vault()
     }
 
     /// The pc vault's amount less pc fees and referrer rebates, in native pc.
@@ -98,7 +104,7 @@ impl MarketView<'_> {
         requires { IsMarket self.now.bytes.now }
         ensures { result ≡ (market_words self.now.bytes.now).pc_deposits_total }
     {
-        get_u64(self.bytes, PC_DEPOSITS_TOTAL)
+        self.as_ref().pc_deposits_total()
     }
 
     /// Fees that can be swept, in native pc.
@@ -106,7 +112,7 @@ impl MarketView<'_> {
         requires { IsMarket self.now.bytes.now }
         ensures { result ≡ (market_words self.now.bytes.now).pc_fees_accrued }
     {
-        get_u64(self.bytes, PC_FEES_ACCRUED)
+        self.as_ref().pc_fees_accrued()
     }
 
     /// Stored, with no effect.
@@ -114,7 +120,7 @@ impl MarketView<'_> {
         requires { IsMarket self.now.bytes.now }
         ensures { result ≡ (market_words self.now.bytes.now).terms.pc_dust_threshold }
     {
-        get_u64(self.bytes, PC_DUST_THRESHOLD)
+        self.as_ref().pc_dust_threshold()
     }
 
     /// The address of the request queue.
@@ -122,7 +128,7 @@ impl MarketView<'_> {
         requires { IsMarket self.now.bytes.now }
         ensures { result ≡ (market_words self.now.bytes.now).terms.req_q }
     {
-        Address(get_addr(self.bytes, REQ_Q))
+        self.as_ref().req_q()
     }
 
     /// The address of the event queue.
@@ -130,7 +136,7 @@ impl MarketView<'_> {
         requires { IsMarket self.now.bytes.now }
         ensures { result ≡ (market_words self.now.bytes.now).terms.event_q }
     {
-        Address(get_addr(self.bytes, EVENT_Q))
+        self.as_ref().event_q()
     }
 
     /// The address of the bids.
@@ -138,7 +144,7 @@ impl MarketView<'_> {
         requires { IsMarket self.now.bytes.now }
         ensures { result ≡ (market_words self.now.bytes.now).terms.bids }
     {
-        Address(get_addr(self.bytes, BIDS))
+        self.as_ref().bids()
     }
 
     /// The address of the asks.
@@ -146,7 +152,7 @@ impl MarketView<'_> {
         requires { IsMarket self.now.bytes.now }
         ensures { result ≡ (market_words self.now.bytes.now).terms.asks }
     {
-        Address(get_addr(self.bytes, ASKS))
+        self.as_ref().asks()
     }
 
     /// How much native coin a coin lot has; never 0.
@@ -154,7 +160,7 @@ impl MarketView<'_> {
         requires { IsMarket self.now.bytes.now }
         ensures { result ≡ (market_words self.now.bytes.now).terms.coin_lot_size }
     {
-        get_u64(self.bytes, COIN_LOT_SIZE)
+        self.as_ref().coin_lot_size()
     }
 
     /// How much native pc a pc lot has; never 0.
@@ -162,7 +168,7 @@ impl MarketView<'_> {
         requires { IsMarket self.now.bytes.now }
         ensures { result ≡ (market_words self.now.bytes.now).terms.pc_lot_size }
     {
-        get_u64(self.bytes, PC_LOT_SIZE)
+        self.as_ref().pc_lot_size()
     }
 
     /// Stored, with no effect.
@@ -170,7 +176,7 @@ impl MarketView<'_> {
         requires { IsMarket self.now.bytes.now }
         ensures { result ≡ (market_words self.now.bytes.now).terms.fee_rate_bps }
     {
-        get_u64(self.bytes, FEE_RATE_BPS)
+        self.as_ref().fee_rate_bps()
     }
 
     /// Referrer parts that no trader has settled yet, in native pc.
@@ -178,7 +184,7 @@ impl MarketView<'_> {
         requires { IsMarket self.now.bytes.now }
         ensures { result ≡ (market_words self.now.bytes.now).referrer_rebates_accrued }
     {
-        get_u64(self.bytes, REFERRER_REBATES_ACCRUED)
+        self.as_ref().referrer_rebates_accrued()
     }
 
     /// Writes the flags. All other bytes stay.

@@ -25,17 +25,6 @@ pub struct RequestView<'a> {
     pub bytes: &'a mut [u8],
 }
 
-fn next_of(bytes: &[u8]) -> Result<u64, SequenceExhausted>
-    requires { IsRequestQueue bytes.now }
-    ensures found { IfOk result (λ number. number ≡ next_sequence bytes.now) }
-    ensures exhausted { IsErr result ↔ (next_sequence bytes.now ≡ 2 ^ 64 - 1) }
-{
-    match get_u64(bytes, NEXT_SEQ_NUM) {
-        u64::MAX => Err(SequenceExhausted),
-        number => Ok(number),
-    }
-}
-
 impl RequestRef<'_> {
     /// The sequence number of the next order, or that every number is used.
     pub fn next_seq(&self) -> Result<u64, SequenceExhausted>
@@ -43,7 +32,10 @@ impl RequestRef<'_> {
         ensures found { IfOk result (λ number. number ≡ next_sequence self.now.bytes.now) }
         ensures exhausted { IsErr result ↔ (next_sequence self.now.bytes.now ≡ 2 ^ 64 - 1) }
     {
-        next_of(self.bytes)
+        match get_u64(self.bytes, NEXT_SEQ_NUM) {
+            u64::MAX => Err(SequenceExhausted),
+            number => Ok(number),
+        }
     }
 }
 
@@ -54,7 +46,7 @@ impl RequestView<'_> {
         ensures found { IfOk result (λ number. number ≡ next_sequence self.now.bytes.now) }
         ensures exhausted { IsErr result ↔ (next_sequence self.now.bytes.now ≡ 2 ^ 64 - 1) }
     {
-        next_of(self.bytes)
+        RequestRef { bytes: self.bytes }.next_seq()
     }
 
     /// Uses the next sequence number.

@@ -79,11 +79,6 @@ abbrev pub parts_by : MarketWords → ℕ → Ring → Account → List Order �
 parts_by words next ring account own room opposing =
     record { words = words; next_sequence = next; ring = ring; account = account; own = own; own_room = room; opposing = opposing }
 
-pub same-parts : (words words' : MarketWords) (next next' : ℕ) (ring ring' : Ring) (account account' : Account) (own own' : List Order) (room room' : ℕ) (opposing opposing' : List Order)
-    → words ≡ words' → next ≡ next' → ring ≡ ring' → account ≡ account' → own ≡ own' → room ≡ room' → opposing ≡ opposing'
-    → parts_by words next ring account own room opposing ≡ parts_by words' next' ring' account' own' room' opposing'
-same-parts words words' next next' ring ring' account account' own own' room room' opposing opposing' a b c d e f g = rw (a, b, c, d, e, f, g) refl
-
 -- what a new order of the account reads of a market
 abbrev pub parts_in : Side → Market → Account → OrderParts
 parts_in side m account =

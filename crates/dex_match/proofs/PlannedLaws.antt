@@ -15,7 +15,7 @@ use Rattle.dex_match.specs.LentParts.{events_in, ordered}
 use Rattle.dex_match.specs.OrderParts.{OrderGiven, parts_of}
 use Rattle.dex_match.specs.OrderTerms.{order_of}
 use Rattle.dex_match.specs.Ordering.{IsDecided}
-use Rattle.dex_match.specs.Planned.{planned, planned_parts}
+use Rattle.dex_match.specs.Planned.{planned, planned_list}
 use Rattle.dex_market.specs.MarketAccount.{market_words, sizes_of}
 use Rattle.dex_match.proofs.PartsLaws.{SoundGiven, same-given}
 use Rattle.dex_match.proofs.RoomLaws.{events-are, given-funds}
@@ -43,7 +43,7 @@ planned-ordered taker given plan sound decided =
 
 -- the queue, as it is read
 pub planned-list : (taker : Taker) (given : OrderGiven) (plan : OrderPlan) → IsDecided plan taker.id_side (order_of taker) (parts_of given)
-    → (planned_parts taker.id_side (order_of taker) plan (parts_of given)).ring ≡ appended (events_in taker given) (ring_of given.events)
+    → planned_list taker.id_side (order_of taker) plan (parts_of given) ≡ appended (events_in taker given) (ring_of given.events)
 planned-list taker given plan decided =
     let side : Side = taker.id_side in
     let n : NewOrder = order_of taker in

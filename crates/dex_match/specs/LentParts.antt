@@ -1,5 +1,6 @@
 -- What a new order is handed by views, and what it makes of that.
 use Rattle.std.specs.Prelude.{◌≡◌, ℕ, ◌^◌, ◌<◌, ◌≤◌, List, None, Result}
+use Rattle.dex_accounts.specs.Keeps.{KeepsEvents, KeepsMarket, KeepsOpen, KeepsRequests}
 use Rattle.dex_accounts.specs.Parts.{MarketParts, with_account, with_side}
 use Rattle.dex_market.specs.declared.market_ref.MarketRef.{MarketRef}
 use Rattle.dex_market.specs.declared.market_view.MarketView.{MarketView}
@@ -26,10 +27,32 @@ use Rattle.dex_match.specs.OrderParts.{OrderGiven, given_by, parts_of}
 use Rattle.dex_match.specs.Ordering.{order_answer, order_outcome, order_reason}
 use Rattle.dex_match.specs.OrderTerms.{order_of}
 
--- what doing an order is handed: by the members of both sides' traits, their orders and the room of the order's own side
-abbrev pub handed : {B A : Type 0} → (B → List Order) → (B → ℕ) → (A → List Order) → MarketView → RequestView → RingView → OrdersView → B → A → OrderGiven
-handed own_orders own_room opposing market requests ring account own opposite =
-    given_by market.bytes.now requests.bytes.now ring.bytes.now account.bytes.now (own_orders own) (own_room own) (opposing opposite)
+-- what doing an order is handed: four views, the orders and the room of its own side, and the orders that it meets
+pub record Handed : Type 0 where
+  pub market : MarketView
+  pub requests : RequestView
+  pub events : RingView
+  pub account : OrdersView
+  pub own : List Order
+  pub own_room : ℕ
+  pub opposing : List Order
+
+-- the same, by the members of both sides' traits
+abbrev pub handed : {B A : Type 0} → (B → List Order) → (B → ℕ) → (A → List Order) → MarketView → RequestView → RingView → OrdersView → B → A → Handed
+handed own_orders own_room opposing market requests ring account own opposite = record {
+  market = market;
+  requests = requests;
+  events = ring;
+  account = account;
+  own = own_orders own;
+  own_room = own_room own;
+  opposing = opposing opposite;
+}
+
+-- what the order is given by it
+abbrev pub given_in : Handed → OrderGiven
+given_in by =
+    given_by by.market.bytes.now by.requests.bytes.now by.events.bytes.now by.account.bytes.now by.own by.own_room by.opposing
 
 -- what deciding it is shown
 abbrev pub shown : {B A : Type 0} → (B → List Order) → (B → ℕ) → (A → List Order) → MarketRef → RequestRef → RingRef → OrdersRef → B → A → OrderGiven
@@ -68,6 +91,17 @@ ordered taker given =
       own_room = given.own_room;
       opposing = o.met.left;
     }
+
+-- an order was done on what was handed, and was answered: its reply, what it leaves, and the queue with its events behind the
+-- others; each view looks at the same slice, the accounts are accepted, and the trader's is open
+pub record HasOrdered (taker : Taker) (reply : Reply) (before after : Handed) : Type 0 where
+  pub reply_is : reply ≡ reply_in taker (given_in before)
+  pub does : given_in after ≡ ordered taker (given_in before)
+  pub list : ring_of after.events.bytes.now ≡ appended (events_in taker (given_in before)) (ring_of before.events.bytes.now)
+  pub market : KeepsMarket before.market after.market
+  pub requests : KeepsRequests before.requests after.requests
+  pub events : KeepsEvents before.events after.events
+  pub account : KeepsOpen before.account after.account
 
 -- the parts of a market with what an order made of them
 abbrev pub with_ordered : Taker → OrderGiven → MarketParts → MarketParts

@@ -1,26 +1,18 @@
 -- What a plan asks of what it is handed, and what it leaves of that.
-use Rattle.std.specs.Prelude.{◌≡◌, ◌+◌, ◌-◌, ◌<◌, ◌≤◌, ◌^◌, None, Some, slice_index_or, slice_set}
+use Rattle.std.specs.Prelude.{◌≡◌, ◌+◌, ◌-◌, ◌<◌, ◌≤◌, ◌^◌, None, slice_index_or}
 use Rattle.dex_types.specs.Fees.{referrer_part}
 use Rattle.dex_types.specs.Meeting.{Meeting}
 use Rattle.dex_types.specs.Posting.{Posting}
 use Rattle.dex_types.specs.declared.terms.Side.{Side}
 use Rattle.dex_types.specs.NewOrder.{NewOrder}
-use Rattle.dex_market.specs.MarketAccount.{IsMarket, sizes_of}
-use Rattle.dex_market.specs.RequestQueue.{IsRequestQueue}
-use Rattle.dex_orders.specs.OrdersAccount.{HasNoOrder, IsOpen, added, funded, funds_of, with_funds}
+use Rattle.dex_market.specs.MarketAccount.{sizes_of}
+use Rattle.dex_orders.specs.OrdersAccount.{HasNoOrder, added, funded, funds_of}
 use Rattle.dex_ring.specs.Appended.{appended, pushed_all}
-use Rattle.dex_ring.specs.Ring.{IsEventQueue}
+use Rattle.dex_ring.specs.Ring.{Ring}
 use Rattle.dex_match.specs.declared.order_plan.OrderPlan.{OrderPlan}
 use Rattle.dex_match.specs.declared.intake.Intake.{Intake}
-use Rattle.dex_match.specs.Applying.{CanPay, CanTakeIn, CanTrade, bytes_with, events_by, funds_with, intake_by, met_with, moves_by, posted_by, requests_after, words_with}
+use Rattle.dex_match.specs.Applying.{CanPay, CanTakeIn, CanTrade, bytes_with, events_by, funds_with, intake_by, met_with, moves_by, posted_by, requests_after}
 use Rattle.dex_match.specs.OrderParts.{OrderGiven, OrderParts, parts_of}
-
--- the market account and both queues are accepted and the trader's account is open, each by itself
-pub record AreAccepted (given : OrderGiven) : Type 0 where
-  pub market : IsMarket given.market
-  pub requests : IsRequestQueue given.requests
-  pub events : IsEventQueue given.events
-  pub account : IsOpen given.account
 
 -- a plan can be done on what is read: a sequence number is left, the book, the queue and the market's words have room, the fee covers
 -- the referrer's part and the rebates, the slot is free, no slot holds its id, and the trader's funds pay
@@ -61,16 +53,6 @@ planned side n plan given =
       opposing = (met_in side n parts).left;
     }
 
--- what a plan leaves of what is read of the accounts and the sides
-abbrev pub planned_parts : Side → NewOrder → OrderPlan → OrderParts → OrderParts
-planned_parts side n plan parts = record {
-  words = words_with (intake_in side n plan parts) parts.words;
-  next_sequence = parts.next_sequence + 1;
-  ring = appended (events_by side (sizes_of parts.words) n plan (met_in side n parts) (posted_in side n plan parts)) parts.ring;
-  account = with_funds (funds_with side (moves_by side (sizes_of parts.words) n plan) (funds_of parts.account)) (record parts.account {
-    slots = slice_set parts.account.slots plan.slot (Some (record { id = plan.id; side = side; client = n.client }));
-  });
-  own = (posted_in side n plan parts).side;
-  own_room = parts.own_room;
-  opposing = (met_in side n parts).left;
-}
+-- the queue, as it is read, with a plan's events behind those that wait
+abbrev pub planned_list : Side → NewOrder → OrderPlan → OrderParts → Ring
+planned_list side n plan parts = appended (events_by side (sizes_of parts.words) n plan (met_in side n parts) (posted_in side n plan parts)) parts.ring

@@ -2,15 +2,11 @@
 
 ghost use Rattle.std.specs.Prelude.{◌≡◌, ◌≤◌, ◌<◌, ◌^◌};
 ghost use Rattle.dex_types.specs.declared.replies.Reply.TheVariants as replies;
-ghost use Rattle.dex_accounts.specs.Keeps.{KeepsEvents, KeepsMarket, KeepsOpen, KeepsRequests, KeepsSide};
-ghost use Rattle.dex_match.specs.LentParts.{events_in, handed, ordered, reply_in};
+ghost use Rattle.dex_accounts.specs.Keeps.{KeepsSide};
+ghost use Rattle.dex_match.specs.LentParts.{HasOrdered, given_in, handed};
 ghost use Rattle.dex_match.specs.Ordering.{IsDecided};
 ghost use Rattle.dex_match.specs.OrderParts.{IsGiven, parts_of};
 ghost use Rattle.dex_match.specs.OrderTerms.{order_of};
-ghost use Rattle.dex_match.specs.Planned.{AreAccepted, CanApply, planned, planned_parts};
-ghost use Rattle.dex_orders.specs.OrdersAccount.{market_of};
-ghost use Rattle.dex_ring.specs.Appended.{appended};
-ghost use Rattle.dex_ring.specs.Ring.{ring_of};
 
 use crate::intake::{intake_by, take_in};
 use crate::order_plan::OrderPlan;
@@ -43,49 +39,6 @@ fn amounts_fit(taker: Taker)
     ensures lock { taker.lock < 2 ^ 64 }
 {}
 
-/// Does a plan, where the book, the queues, the market's words and the trader's funds have room for it.
-pub(crate) fn apply<B: SideBook, A: SideBook>(
-    plan: &OrderPlan,
-    taker: Taker,
-    market: &mut MarketView<'_>,
-    requests: &mut RequestView<'_>,
-    own: &mut B,
-    opposite: &mut A,
-    ring: &mut RingView<'_>,
-    orders: &mut OrdersView<'_>,
-) -> Reply
-    requires own { B.holds own.old }
-    requires opposite { A.holds opposite.old }
-    requires side { B.side own.old ≡ taker.id_side }
-    requires accepted { AreAccepted
-        (handed B.orders B.room A.orders market.old requests.old ring.old orders.old own.old opposite.old) }
-    requires can { CanApply taker.id_side (order_of taker) plan.now
-        (parts_of (handed B.orders B.room A.orders market.old requests.old ring.old orders.old own.old opposite.old)) }
-    ensures reply { result ≡ replies.Ordered plan.now.id plan.now.slot plan.now.lots plan.now.pc plan.now.fee
-        plan.now.rested }
-    ensures does { handed B.orders B.room A.orders market.new requests.new ring.new orders.new own.new opposite.new
-        ≡ planned taker.id_side (order_of taker) plan.now
-        (handed B.orders B.room A.orders market.old requests.old ring.old orders.old own.old opposite.old) }
-    ensures parts { parts_of
-        (handed B.orders B.room A.orders market.new requests.new ring.new orders.new own.new opposite.new)
-        ≡ planned_parts taker.id_side (order_of taker) plan.now (parts_of
-        (handed B.orders B.room A.orders market.old requests.old ring.old orders.old own.old opposite.old)) }
-    ensures on_market { market_of orders.new.bytes.now ≡ market_of orders.old.bytes.now }
-    ensures market { KeepsMarket market.old market.new }
-    ensures requests { KeepsRequests requests.old requests.new }
-    ensures events { KeepsEvents ring.old ring.new }
-    ensures account { KeepsOpen orders.old orders.new }
-    ensures own { KeepsSide B.holds B.same_place B.side B.room own.old own.new }
-    ensures opposite { KeepsSide A.holds A.same_place A.side A.room opposite.old opposite.new }
-{
-    let sizes = market.sizes();
-    let rebates = trade(plan, sizes, taker, own, opposite, ring);
-    requests.advance();
-    take_in(intake_by(taker.id_side, plan, rebates), market);
-    pay(plan, taker, moves_by(sizes, taker, plan), orders);
-    reply_by(plan)
-}
-
 /// Does a new order as it was decided. It meets the other side, and what it meets leaves the book or loses lots there; what is
 /// left of it rests on its own side, where the last order of a full side leaves for it; all its events are appended; the
 /// market gives out one more sequence number, and its words take in the deposit and the fee; and the trader's account pays,
@@ -106,25 +59,22 @@ pub fn apply_order<B: SideBook, A: SideBook>(
     requires opposite { A.holds opposite.old }
     requires side { B.side own.old ≡ taker.now.id_side }
     requires price { 1 ≤ taker.now.price }
-    requires given { IsGiven taker.now.id_side taker.now.account
-        (handed B.orders B.room A.orders market.old requests.old ring.old orders.old own.old opposite.old) }
-    requires decided { IsDecided plan.now taker.now.id_side (order_of taker.now)
-        (parts_of (handed B.orders B.room A.orders market.old requests.old ring.old orders.old own.old opposite.old)) }
-    ensures reply { result ≡ reply_in taker.entry.now
-        (handed B.orders B.room A.orders market.old requests.old ring.old orders.old own.old opposite.old) }
-    ensures does { handed B.orders B.room A.orders market.new requests.new ring.new orders.new own.new opposite.new
-        ≡ ordered taker.entry.now
-        (handed B.orders B.room A.orders market.old requests.old ring.old orders.old own.old opposite.old) }
-    ensures list { ring_of ring.new.bytes.now ≡ appended (events_in taker.entry.now
-        (handed B.orders B.room A.orders market.old requests.old ring.old orders.old own.old opposite.old))
-        (ring_of ring.old.bytes.now) }
-    ensures market { KeepsMarket market.old market.new }
-    ensures requests { KeepsRequests requests.old requests.new }
-    ensures events { KeepsEvents ring.old ring.new }
-    ensures account { KeepsOpen orders.old orders.new }
+    requires given { IsGiven taker.now.id_side taker.now.account (given_in
+        (handed B.orders B.room A.orders market.old requests.old ring.old orders.old own.old opposite.old)) }
+    requires decided { IsDecided plan.now taker.now.id_side (order_of taker.now) (parts_of (given_in
+        (handed B.orders B.room A.orders market.old requests.old ring.old orders.old own.old opposite.old))) }
+    ensures does { HasOrdered taker.entry.now result
+        (handed B.orders B.room A.orders market.old requests.old ring.old orders.old own.old opposite.old)
+        (handed B.orders B.room A.orders market.new requests.new ring.new orders.new own.new opposite.new) }
     ensures own { KeepsSide B.holds B.same_place B.side B.room own.old own.new }
     ensures opposite { KeepsSide A.holds A.same_place A.side A.room opposite.old opposite.new }
 {
-    amounts_fit(*taker);
-    apply(plan, *taker, market, requests, own, opposite, ring, orders)
+    let taker = *taker;
+    amounts_fit(taker);
+    let sizes = market.sizes();
+    let rebates = trade(plan, sizes, taker, own, opposite, ring);
+    requests.advance();
+    take_in(intake_by(taker.id_side, plan, rebates), market);
+    pay(plan, taker, moves_by(sizes, taker, plan), orders);
+    reply_by(plan)
 }

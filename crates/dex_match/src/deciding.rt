@@ -158,34 +158,6 @@ fn decide_with<B: SideRead, A: SideRead>(
     answered(refused_beyond(vaults, pending), decided)
 }
 
-/// The plan or the refusal, where the orders of the other side lock less than 2^64 and the own side has room for one.
-pub(crate) fn decide<B: SideRead, A: SideRead>(
-    market: &MarketRef<'_>,
-    requests: &RequestRef<'_>,
-    own: &B,
-    opposite: &A,
-    ring: &RingRef<'_>,
-    orders: &OrdersRef<'_>,
-    taker: &Taker,
-    balance: u64,
-) -> Result<OrderPlan, Refusal>
-    requires own { B.holds own.now }
-    requires opposite { A.holds opposite.now }
-    requires market { IsMarket market.now.bytes.now }
-    requires requests { IsRequestQueue requests.now.bytes.now }
-    requires events { IsEventQueue ring.now.bytes.now }
-    requires account { IsOpen orders.now.bytes.now }
-    requires room { 1 ≤ B.room own.now }
-    requires locks { locked (book.opposite taker.now.id_side) (sizes_of (market_words market.now.bytes.now))
-        (A.orders opposite.now) < 2 ^ 64 }
-    ensures { result ≡ decided_in taker.entry.now (shown B.orders B.room A.orders market.now requests.now ring.now
-        orders.now own.now opposite.now) balance }
-{
-    plan_of(decide_with(
-        None, market, requests, own, opposite, ring, orders, taker, balance,
-    ))
-}
-
 /// What a new order of an open account does, or why it is refused; `own` is the order's side of the book, `opposite` the
 /// one that it meets, and the balance that of the wallet which pays the deposit, a native amount. It reads only.
 ///
@@ -211,9 +183,9 @@ pub fn decide_order<B: SideRead>(
     ensures { result ≡ decided_in taker.entry.now
         (shown B.orders B.room B.orders market.now requests.now ring.now orders.now own.now opposite.now) balance }
 {
-    decide(
-        market, requests, own, opposite, ring, orders, taker, balance,
-    )
+    plan_of(decide_with(
+        None, market, requests, own, opposite, ring, orders, taker, balance,
+    ))
 }
 
 /// What a new order does, or why it is refused, where the sums of pending makers' fills are handed in: no event is

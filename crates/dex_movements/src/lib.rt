@@ -6,5 +6,4 @@ mod movement;
 mod places;
 
 pub use amounts::Amounts;
-pub use movement::is_moved;
-pub use places::moves_of;
+pub use places::put_moves;

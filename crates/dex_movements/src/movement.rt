@@ -1,11 +1,11 @@
 //! The movement of one wallet.
 
-ghost use Rattle.std.specs.Prelude.{◌≡◌, ◌∷◌, ◌&&◌, ◌<◌, ◌==◌, ◌^◌, List, Option, if◌then◌else◌, not};
+ghost use Rattle.std.specs.Prelude.{◌≡◌, ◌∷◌, List, Option, if◌then◌else◌};
 ghost use Rattle.dex_types.specs.Addresses.{is_same};
 ghost use Rattle.dex_types.specs.declared.rows.WalletSeen.{WalletSeen};
 ghost use Rattle.dex_types.specs.Wallets as wallets;
 ghost use Rattle.dex_types.specs.WalletJournal.{CanMove};
-ghost use Rattle.dex_movements.specs.Amounts.{CanMoveEach, is_probe, transfers_of};
+ghost use Rattle.dex_movements.specs.Amounts.{CanMoveEach, transfers_of};
 
 use crate::amounts::Amounts;
 use dex_types::{Address, MoveKind, Movement, Seen, WalletSeen, is_same};
@@ -88,26 +88,6 @@ pub(crate) fn movement_by(wallet: Address, before: u64, taken: u128, brought: u1
         kind,
         amount,
         before,
-    }
-}
-
-/// Whether a row that moves these amounts takes something from a wallet or brings something to it: its movement is no probe.
-pub fn is_moved(seen: &Seen, amounts: &Amounts, wallet: Address) -> bool
-    ensures { result ≡ not (is_probe (wallets.movement_of seen.now (transfers_of amounts.now) wallet).kind) }
-{
-    is_moved_at(wallet, &seen.coin, amounts.coin_in, amounts.coin_out)
-        || is_moved_at(wallet, &seen.pc, amounts.pc_in, amounts.pc_out)
-        || is_moved_at(wallet, &seen.referrer, 0, amounts.referrer_out)
-}
-
-/// Whether something is taken or brought under a role whose wallet is this one.
-fn is_moved_at(wallet: Address, role: &Option<WalletSeen>, taken: u64, brought: u64) -> bool
-    ensures { result ≡ not (wallets.amount_at wallet role.now taken == 0
-        && wallets.amount_at wallet role.now brought == 0) }
-{
-    match role {
-        Some(other) => (taken != 0 || brought != 0) && is_same(wallet, other.address),
-        None => false,
     }
 }
 

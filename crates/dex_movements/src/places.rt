@@ -1,6 +1,6 @@
 //! The movements of a row, each in its place.
 
-ghost use Rattle.std.specs.Prelude.{◌≡◌, map};
+ghost use Rattle.std.specs.Prelude.{◌≡◌, []};
 ghost use Rattle.dex_types.specs.Rows.{row_of};
 ghost use Rattle.dex_types.specs.Wallets as wallets;
 ghost use Rattle.dex_history.specs.Journal.{Sees, asked_of, places};
@@ -22,68 +22,71 @@ fn moved_at(seen: &Seen, amounts: &Amounts, place: Option<Address>) -> Option<Mo
     }
 }
 
-/// The movements of a row that moves these amounts: one for each wallet that it names, under whichever roles, by rising address,
-/// from the front. Each is a debit of all that is taken from the wallet, else a credit of all that is brought to it, else a
-/// probe of nothing, and has the balance that the row saw.
-pub fn moves_of(row: &Row, seen: &Seen, amounts: &Amounts) -> [Option<Movement>; 4]
+/// Puts the movements of a row that moves these amounts into empty places: one for each wallet that it names, under whichever
+/// roles, by rising address, from the front. Each is a debit of all that is taken from the wallet, else a credit of all that is
+/// brought to it, else a probe of nothing, and has the balance that the row saw.
+pub fn put_moves(row: &Row, seen: &Seen, amounts: &Amounts, moves: &mut [Option<Movement>; 4])
+    requires empty { moves.old ≡ places [] }
     requires sees { Sees (asked_of (row_of row.now)) seen.now }
     requires moves { CanMoveEach seen.now (transfers_of amounts.now) }
-    ensures { result ≡ places (wallets.movements seen.now (transfers_of amounts.now)) }
+    ensures { moves.new ≡ places (wallets.movements seen.now (transfers_of amounts.now)) }
 {
     match (&seen.coin, &seen.pc, &seen.discount, &seen.referrer) {
         (Some(coin), Some(pc), None, None) => {
             if is_same(coin.address, pc.address) {
-                moves_of_any(row, seen, amounts)
+                put_moves_of_any(row, seen, amounts, moves);
             } else {
-                moves_of_two(seen, coin, pc, amounts)
+                put_moves_of_two(seen, coin, pc, amounts, moves);
             }
         }
-        _ => moves_of_any(row, seen, amounts),
+        _ => put_moves_of_any(row, seen, amounts, moves),
     }
 }
 
 /// The movements of the two wallets of nearly all rows: no wallet is compared with another one for its amount.
-fn moves_of_two(
+fn put_moves_of_two(
     seen: &Seen,
     coin: &WalletSeen,
     pc: &WalletSeen,
     amounts: &Amounts,
-) -> [Option<Movement>; 4]
+    moves: &mut [Option<Movement>; 4],
+)
+    requires empty { moves.old ≡ places [] }
     requires two { SeesTwo seen.now coin.now pc.now }
     requires moves { CanMoveEach seen.now (transfers_of amounts.now) }
-    ensures { result ≡ places (wallets.movements seen.now (transfers_of amounts.now)) }
+    ensures { moves.new ≡ places (wallets.movements seen.now (transfers_of amounts.now)) }
 {
-    let of_coin = movement_by(
+    let (of_coin, of_pc) = if is_lower(coin.address, pc.address) {
+        (0, 1)
+    } else {
+        (1, 0)
+    };
+    moves[of_coin] = Some(movement_by(
         coin.address,
         coin.balance,
         amounts.coin_in as u128,
         amounts.coin_out as u128,
-    );
-    let of_pc = movement_by(
+    ));
+    moves[of_pc] = Some(movement_by(
         pc.address,
         pc.balance,
         amounts.pc_in as u128,
         amounts.pc_out as u128,
-    );
-    if is_lower(coin.address, pc.address) {
-        [Some(of_coin), Some(of_pc), None, None]
-    } else {
-        [Some(of_pc), Some(of_coin), None, None]
-    }
+    ));
 }
 
 /// The movements of the wallets of any roles.
 #[inline(never)]
-fn moves_of_any(row: &Row, seen: &Seen, amounts: &Amounts) -> [Option<Movement>; 4]
+fn put_moves_of_any(row: &Row, seen: &Seen, amounts: &Amounts, moves: &mut [Option<Movement>; 4])
     requires sees { Sees (asked_of (row_of row.now)) seen.now }
     requires moves { CanMoveEach seen.now (transfers_of amounts.now) }
-    ensures { result ≡ places (wallets.movements seen.now (transfers_of amounts.now)) }
+    ensures { moves.new ≡ places (wallets.movements seen.now (transfers_of amounts.now)) }
 {
     let [first, second, third, fourth] = plan_locks(row).wallets;
-    [
+    *moves = [
         moved_at(seen, amounts, first),
         moved_at(seen, amounts, second),
         moved_at(seen, amounts, third),
         moved_at(seen, amounts, fourth),
-    ]
+    ];
 }

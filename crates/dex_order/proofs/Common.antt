@@ -9,6 +9,6 @@ pub use Rattle.dex_replay.proofs.Ends.{is-left}
 pub use Rattle.dex_replay.proofs.Groups.{each-two, each-two-weaker, filter-all, filter-none}
 pub use Rattle.dex_replay.proofs.LastAccounts.{listing-in, market_after-listing}
 pub use Rattle.dex_replay.proofs.Starts.{AreOfScript, start_account}
-pub use Rattle.dex_script.proofs.Apart.{market-once, wallet-once}
-pub use Rattle.dex_script.proofs.Roles.{roles-all}
+pub use Rattle.dex_script_facts.proofs.Apart.{market-once, wallet-once}
+pub use Rattle.dex_script_facts.proofs.Roles.{roles-all}
 pub use Rattle.dex_stamps.specs.Stamped.{Stamped, stamped}

@@ -6,8 +6,8 @@ use Rattle.dex_types.specs.Accounts.{PlainAccount, PlainMarketAccounts}
 use Rattle.dex_history.specs.Journal.{Call}
 use Rattle.dex_bank.specs.Closed.{closed}
 use Rattle.dex_report.specs.Outcomes.{PlainOutcome}
-use Rattle.dex_script.specs.Drafts.{PlainScript}
-use Rattle.dex_script.specs.Facts.{IsScript}
+use Rattle.dex_script_facts.specs.PlainScript.{PlainScript}
+use Rattle.dex_script_facts.specs.Facts.{IsScript}
 use Rattle.dex_stamps.specs.Stamped.{Stamped}
 use Rattle.dex_journals.specs.Journals.{BankMarketState, BankWalletState, IsBankMarket, IsBankWallet}
 use Rattle.dex_journals.specs.Journals.{market_calls, market_origin, wallet_entries, wallet_origin}

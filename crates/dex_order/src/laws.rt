@@ -1,6 +1,6 @@
 //! The law of one order. A law is a function without a body, and its clause is the law.
 
-ghost use Rattle.dex_script.specs.Drafts.{PlainScript};
+ghost use Rattle.dex_script_facts.specs.PlainScript.{PlainScript};
 ghost use Rattle.dex_replay.specs.Runs.{IsOneOrder};
 ghost use Rattle.dex_order.specs.Merged.{AreMerged, Histories, left};
 

@@ -1,6 +1,6 @@
 //! How an open-orders account is opened and closed.
 
-ghost use Rattle.std.specs.Prelude.{◌≡◌, ◌<◌, ◌↔◌, length};
+ghost use Rattle.std.specs.Prelude.{◌≡◌, ◌↔◌, length};
 ghost use Rattle.dex_fields.specs.Bytes.{IsWithin, with_bytes, with_number};
 ghost use Rattle.dex_types.specs.Trader.{no_slots};
 ghost use Rattle.dex_orders.specs.OrdersAccount.{IsBlank, IsClosed, IsEmptyAccount, IsOpen, IsOrders, account_of, market_of, opened};

@@ -1,19 +1,19 @@
 //! An open account, for reading and for writing in place.
 
-ghost use Rattle.std.specs.Prelude.{◌≡◌, ◌<◌, ◌≤◌, ◌↔◌, length, IsNone, IfSome, IsSome, None, Some, slice_index_or, slice_set};
+ghost use Rattle.std.specs.Prelude.{◌≡◌, ◌<◌, ◌≤◌, ◌↔◌, IsNone, IfSome, IsSome, None, Some, slice_index_or, slice_set};
 ghost use Rattle.std.specs.Option.{option_map};
 ghost use Rattle.dex_types.specs.Trader.{free_slot};
 ghost use Rattle.dex_types.specs.Upkeep.{taken_slots};
 ghost use Rattle.dex_orders.specs.OrdersAccount.{HasNoOrder, IsOpen, account_of, added, funded, funds_of, market_of, removed, told_holding, with_funds};
 
-use crate::Funds;
-use crate::orders_ref::read_funds;
-use crate::slots::{add_order, lowest_free, remove_order, slot_of, taken_of};
+use crate::bits::{with_bit, without_bit};
+use crate::slots::{with_side, write_slot};
+use crate::{Funds, OrdersRef};
 use dex_fields::open_orders::{
-    MARKET, NATIVE_COIN_FREE, NATIVE_COIN_TOTAL, NATIVE_PC_FREE, NATIVE_PC_TOTAL, OWNER,
-    REFERRER_REBATES_ACCRUED,
+    FREE_SLOT_BITS, IS_BID_BITS, NATIVE_COIN_FREE, NATIVE_COIN_TOTAL, NATIVE_PC_FREE,
+    NATIVE_PC_TOTAL, REFERRER_REBATES_ACCRUED,
 };
-use dex_fields::{get_addr, put_u64};
+use dex_fields::{get_u128, put_u64};
 use dex_types::{Address, Side};
 
 /// A trader's open account, for reading and for writing in place.
@@ -22,29 +22,20 @@ pub struct OrdersView<'a> {
     pub bytes: &'a mut [u8],
 }
 
-fn write_funds(bytes: &mut [u8], funds: &Funds)
-    requires accepted { IsOpen bytes.old }
-    requires coin { funds.now.coin_free ≤ funds.now.coin_total }
-    requires pc { funds.now.pc_free ≤ funds.now.pc_total }
-    ensures bytes { bytes.new ≡ funded bytes.old funds.now }
-    ensures market { market_of bytes.new ≡ market_of bytes.old }
-    ensures words { account_of bytes.new ≡ with_funds funds.now (account_of bytes.old) }
-    ensures accepted { IsOpen bytes.new }
-{
-    put_u64(bytes, NATIVE_COIN_FREE, funds.coin_free);
-    put_u64(bytes, NATIVE_COIN_TOTAL, funds.coin_total);
-    put_u64(bytes, NATIVE_PC_FREE, funds.pc_free);
-    put_u64(bytes, NATIVE_PC_TOTAL, funds.pc_total);
-    put_u64(bytes, REFERRER_REBATES_ACCRUED, funds.referrer);
-}
-
 impl OrdersView<'_> {
+    /// The account, for reading.
+    fn as_ref(&self) -> OrdersRef<'_>
+        ensures { result.bytes.now ≡ self.now.bytes.now }
+    {
+        OrdersRef { bytes: self.bytes }
+    }
+
     /// The address of the account's market.
     pub fn market(&self) -> Address
         requires { IsOpen self.now.bytes.now }
         ensures { result ≡ market_of self.now.bytes.now }
     {
-        Address(get_addr(self.bytes, MARKET))
+        self.as_ref().market()
     }
 
     /// The person whose account it is.
@@ -52,7 +43,7 @@ impl OrdersView<'_> {
         requires { IsOpen self.now.bytes.now }
         ensures { result ≡ (account_of self.now.bytes.now).person }
     {
-        Address(get_addr(self.bytes, OWNER))
+        self.as_ref().owner()
     }
 
     /// The trader's funds and the referrer part, in native amounts.
@@ -60,7 +51,7 @@ impl OrdersView<'_> {
         requires { IsOpen self.now.bytes.now }
         ensures { result ≡ funds_of (account_of self.now.bytes.now) }
     {
-        read_funds(self.bytes)
+        self.as_ref().funds()
     }
 
     /// The id, side and client id of the order in the slot; None where the slot is free, and from 128 on.
@@ -68,7 +59,7 @@ impl OrdersView<'_> {
         requires { IsOpen self.now.bytes.now }
         ensures { result ≡ option_map told_holding (slice_index_or (account_of self.now.bytes.now).slots slot None) }
     {
-        slot_of(self.bytes, slot)
+        self.as_ref().slot(slot)
     }
 
     /// How many slots are taken, of 128.
@@ -76,7 +67,7 @@ impl OrdersView<'_> {
         requires { IsOpen self.now.bytes.now }
         ensures { result ≡ taken_slots (account_of self.now.bytes.now).slots }
     {
-        taken_of(self.bytes)
+        self.as_ref().taken()
     }
 
     /// The lowest free slot; None where all 128 are taken.
@@ -87,7 +78,7 @@ impl OrdersView<'_> {
         ensures within { IfSome result (λ slot. slot < 128) }
         ensures free { IfSome result (λ slot. slice_index_or (account_of self.now.bytes.now).slots slot None ≡ None) }
     {
-        lowest_free(self.bytes)
+        self.as_ref().free_slot()
     }
 
     /// Takes a free slot for an order. It writes the slot's bits, id and client id; all other bytes stay.
@@ -105,7 +96,10 @@ impl OrdersView<'_> {
         } }
         ensures accepted { IsOpen self.new.bytes.now }
     {
-        add_order(self.bytes, slot, id, side, client);
+        let bytes = &mut *self.bytes;
+        let free_bits = without_bit(get_u128(bytes, FREE_SLOT_BITS), slot);
+        let bid_bits = with_side(get_u128(bytes, IS_BID_BITS), slot, side);
+        write_slot(bytes, slot, free_bits, bid_bits, id, client);
     }
 
     /// Frees a taken slot, and sets its id, client id and side bit to zero. All other bytes stay.
@@ -120,7 +114,10 @@ impl OrdersView<'_> {
         } }
         ensures accepted { IsOpen self.new.bytes.now }
     {
-        remove_order(self.bytes, slot);
+        let bytes = &mut *self.bytes;
+        let free_bits = with_bit(get_u128(bytes, FREE_SLOT_BITS), slot);
+        let bid_bits = without_bit(get_u128(bytes, IS_BID_BITS), slot);
+        write_slot(bytes, slot, free_bits, bid_bits, 0, 0);
     }
 
     /// Writes the funds and the referrer part. All other bytes stay.
@@ -134,6 +131,11 @@ impl OrdersView<'_> {
         ensures words { account_of self.new.bytes.now ≡ with_funds funds (account_of self.old.bytes.now) }
         ensures accepted { IsOpen self.new.bytes.now }
     {
-        write_funds(self.bytes, &funds);
+        let bytes = &mut *self.bytes;
+        put_u64(bytes, NATIVE_COIN_FREE, funds.coin_free);
+        put_u64(bytes, NATIVE_COIN_TOTAL, funds.coin_total);
+        put_u64(bytes, NATIVE_PC_FREE, funds.pc_free);
+        put_u64(bytes, NATIVE_PC_TOTAL, funds.pc_total);
+        put_u64(bytes, REFERRER_REBATES_ACCRUED, funds.referrer);
     }
 }

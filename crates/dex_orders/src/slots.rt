@@ -1,13 +1,11 @@
 //! The 128 slots of an open-orders account.
 
-ghost use Rattle.std.specs.Prelude.{◌≡◌, ◌≢◌, ℕ, ◌<◌, ◌↔◌, length, IsNone, IfSome, None, Some, slice_index_or, slice_set};
+ghost use Rattle.std.specs.Prelude.{◌≡◌, ◌≢◌, ℕ, ◌<◌, length, None, Some, slice_set};
 ghost use Rattle.std.specs.Option.{option_map};
 ghost use Rattle.dex_fields.specs.Bytes.{number_in};
 ghost use Rattle.dex_types.specs.Side.{by_side};
-ghost use Rattle.dex_types.specs.Trader.{free_slot};
 ghost use Rattle.dex_orders.specs.Bits.{is_set, with_bit, without_bit};
-ghost use Rattle.dex_types.specs.Upkeep.{taken_slots};
-ghost use Rattle.dex_orders.specs.OrdersAccount.{AreDistinct, HasNoOrder, IsOpen, account_of, added, client_field, hold_one, holding_of, id_field, market_of, removed, side_by_bit, slot_in, slots_of, told_holding, with_slot};
+ghost use Rattle.dex_orders.specs.OrdersAccount.{AreDistinct, IsOpen, account_of, client_field, hold_one, holding_of, id_field, market_of, side_by_bit, slot_in, slots_of, told_holding, with_slot};
 
 use crate::bits::{is_set, with_bit, without_bit};
 use dex_fields::open_orders::{CLIENT_ORDER_IDS, FREE_SLOT_BITS, IS_BID_BITS, ORDERS};
@@ -57,7 +55,7 @@ fn side_in(bytes: &[u8], slot: u8) -> Side
 
 /// The order's id, side and client id, where the slot is taken.
 #[tactic(auto, unfolding(crate::specs::OrdersAccount::slot_in))]
-fn holding(bytes: &[u8], slot: u8) -> Option<(u128, Side, u64)>
+pub fn holding(bytes: &[u8], slot: u8) -> Option<(u128, Side, u64)>
     requires size { length bytes.now ≡ 3228 }
     requires slot { slot < 128 }
     ensures { result ≡ option_map told_holding (slot_in bytes.now slot) }
@@ -70,18 +68,6 @@ fn holding(bytes: &[u8], slot: u8) -> Option<(u128, Side, u64)>
             side_in(bytes, slot),
             client_in(bytes, slot),
         ))
-    }
-}
-
-/// The same of any number; there are no slots from 128 on.
-pub fn slot_of(bytes: &[u8], slot: u8) -> Option<(u128, Side, u64)>
-    requires { length bytes.now ≡ 3228 }
-    ensures { result ≡ option_map told_holding (slice_index_or (slots_of bytes.now) slot None) }
-{
-    if slot < SLOT_COUNT {
-        holding(bytes, slot)
-    } else {
-        None
     }
 }
 
@@ -101,30 +87,15 @@ pub fn hold_one(bytes: &[u8], slot: u8, other: u8) -> bool
     }
 }
 
-/// How many slots are taken.
-pub fn taken_of(bytes: &[u8]) -> u8
-    requires { length bytes.now ≡ 3228 }
-    ensures { result ≡ taken_slots (slots_of bytes.now) }
-{
-    SLOT_COUNT - get_u128(bytes, FREE_SLOT_BITS).count_ones() as u8
-}
-
-/// The lowest free slot.
-pub fn lowest_free(bytes: &[u8]) -> Option<u8>
-    requires { length bytes.now ≡ 3228 }
-    ensures none { IsNone result ↔ (taken_slots (slots_of bytes.now) ≡ 128) }
-    ensures lowest { IfSome result (λ slot. slot ≡ free_slot (slots_of bytes.now)) }
-    ensures within { IfSome result (λ slot. slot < 128) }
-    ensures free { IfSome result (λ slot. slice_index_or (slots_of bytes.now) slot None ≡ None) }
-{
-    match get_u128(bytes, FREE_SLOT_BITS) {
-        0 => None,
-        bits => Some(bits.trailing_zeros() as u8),
-    }
-}
-
 /// Writes the four parts of a slot; the bits of the other slots are as they were.
-fn write_slot(bytes: &mut [u8], slot: u8, free_bits: u128, bid_bits: u128, id: u128, client: u64)
+pub fn write_slot(
+    bytes: &mut [u8],
+    slot: u8,
+    free_bits: u128,
+    bid_bits: u128,
+    id: u128,
+    client: u64,
+)
     requires accepted { IsOpen bytes.old }
     requires slot { slot < 128 }
     requires free_others { (other : ℕ) → other < 128 → other ≢ slot
@@ -145,7 +116,7 @@ fn write_slot(bytes: &mut [u8], slot: u8, free_bits: u128, bid_bits: u128, id: u
 }
 
 /// The side bits with the slot's for this side.
-fn with_side(bid_bits: u128, slot: u8, side: Side) -> u128
+pub fn with_side(bid_bits: u128, slot: u8, side: Side) -> u128
     requires { slot < 128 }
     ensures bits { result ≡ by_side side (with_bit bid_bits slot) (without_bit bid_bits slot) }
     ensures same { side_by_bit (is_set result slot) ≡ side }
@@ -155,37 +126,4 @@ fn with_side(bid_bits: u128, slot: u8, side: Side) -> u128
         Side::Bid => with_bit(bid_bits, slot),
         Side::Ask => without_bit(bid_bits, slot),
     }
-}
-
-/// Writes an order into a free slot.
-pub fn add_order(bytes: &mut [u8], slot: u8, id: u128, side: Side, client: u64)
-    requires accepted { IsOpen bytes.old }
-    requires slot { slot < 128 }
-    requires fresh { HasNoOrder id side (slots_of bytes.old) }
-    ensures bytes { bytes.new ≡ added bytes.old slot id side client }
-    ensures market { market_of bytes.new ≡ market_of bytes.old }
-    ensures words { account_of bytes.new ≡ record (account_of bytes.old) {
-      slots = slice_set (slots_of bytes.old) slot (Some (record { id = id; side = side; client = client }));
-    } }
-    ensures accepted { IsOpen bytes.new }
-{
-    let free_bits = without_bit(get_u128(bytes, FREE_SLOT_BITS), slot);
-    let bid_bits = with_side(get_u128(bytes, IS_BID_BITS), slot, side);
-    write_slot(bytes, slot, free_bits, bid_bits, id, client);
-}
-
-/// Frees the slot, with zeros as its id, client id and side bit.
-pub fn remove_order(bytes: &mut [u8], slot: u8)
-    requires accepted { IsOpen bytes.old }
-    requires slot { slot < 128 }
-    ensures bytes { bytes.new ≡ removed bytes.old slot }
-    ensures market { market_of bytes.new ≡ market_of bytes.old }
-    ensures words { account_of bytes.new ≡ record (account_of bytes.old) {
-      slots = slice_set (slots_of bytes.old) slot None;
-    } }
-    ensures accepted { IsOpen bytes.new }
-{
-    let free_bits = with_bit(get_u128(bytes, FREE_SLOT_BITS), slot);
-    let bid_bits = without_bit(get_u128(bytes, IS_BID_BITS), slot);
-    write_slot(bytes, slot, free_bits, bid_bits, 0, 0);
 }

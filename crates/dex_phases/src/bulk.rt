@@ -1,19 +1,15 @@
 //! The phases of a made script and its summary.
 
-ghost use Rattle.std.specs.Prelude.{◌≡◌, ◌≤◌, ◌∷◌, [], IfOk, IsTrue, map};
-ghost use Rattle.dex_report.specs.Bulk.{IsOfMade, made_markets};
-ghost use Rattle.dex_report.specs.Outcomes.{PlainMarketJournal, outcome_of};
-ghost use Rattle.dex_types.specs.Accounts.{PlainMarketAccounts};
-ghost use Rattle.dex_types.specs.Addresses.{is_same};
-ghost use Rattle.dex_types.specs.Text.{label_address};
+ghost use Rattle.std.specs.Prelude.{◌≤◌};
+ghost use Rattle.dex_report.specs.Outcomes.{outcome_of};
 ghost use Rattle.dex_dump.specs.Accepted.{AreAccepted};
 
 use crate::watch::{ROUNDS, Watch};
 use anyhow::{Error, bail};
+use dex_answers::is_of_made;
 use dex_replay::replay;
 use dex_report::{Outcome, bulk_text, make_script};
 use dex_script::read_script;
-use dex_types::Address;
 use std::alloc::Global;
 use std::mem::drop;
 use std::time::Clock;
@@ -111,39 +107,4 @@ fn summary_of(alloc: Global, rows: u32, outcome: &Outcome) -> Result<Vec<u8>, Er
         bail!("the markets are not those of a made script");
     }
     Ok(bulk_text(alloc, 1, rows, outcome)?)
-}
-
-/// Whether the journals and the accounts of an outcome are those of a made script's two markets.
-fn is_of_made(outcome: &Outcome) -> bool
-    ensures journals { IsTrue result
-        → map (λ (journal : PlainMarketJournal). journal.address) (outcome_of outcome.now).markets ≡ made_markets }
-    ensures markets { let markets = (outcome_of outcome.now).accounts.markets in
-        IsTrue result → map (λ (accounts : PlainMarketAccounts). accounts.address) markets ≡ made_markets }
-{
-    let journals = match outcome.markets.as_slice() {
-        [first, second] => are_made(first.address, second.address),
-        _ => false,
-    };
-    let accounts = match outcome.accounts.markets.as_slice() {
-        [first, second] => are_made(first.address, second.address),
-        _ => false,
-    };
-    journals && accounts
-}
-
-/// Whether two addresses are those of a made script's markets, `m0` and `m1`.
-fn are_made(first: Address, second: Address) -> bool
-    ensures { IsTrue result → (first ∷ second ∷ []) ≡ made_markets }
-{
-    first == market(b'0') && second == market(b'1')
-}
-
-/// The address of the label `m` and a digit.
-fn market(digit: u8) -> Address
-    ensures { result ≡ label_address (109 ∷ digit ∷ []) }
-{
-    let mut bytes = [0; 32];
-    bytes[0] = b'm';
-    bytes[1] = digit;
-    Address(bytes)
 }

@@ -12,7 +12,7 @@ use crate::watch::ROUNDS;
 use anyhow::{Error, bail, ensure};
 use dex_io::{StdSource, read_all};
 use dex_replay::replay;
-use dex_report::report_text;
+use dex_report::into_report_text;
 use dex_script::read_script;
 use std::env;
 use std::io::Print;
@@ -67,7 +67,7 @@ fn check<R: Print + Input + Clock + AllocGlobal>(rt: &R) -> Result<(), Error> {
         report,
     } = replay::round(rt, &bytes)?;
     let script = read_script(alloc, &bytes, false)?;
-    let whole = report_text(alloc, &replay(alloc, script)?, rows)?;
+    let whole = into_report_text(alloc, replay(alloc, script)?, rows)?;
     let told = report.len();
     println!(rt; "{rows} rows in {lanes} lanes: a report of {told} bytes")?;
     println!(rt; "the report of replay: {}", report == whole)?;

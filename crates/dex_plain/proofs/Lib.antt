@@ -1,3 +1,4 @@
 pub mod Endings
 pub mod LaneAnswerLaws
 mod OneOutcome
+mod Pieces

@@ -21,6 +21,6 @@ pub fn one_report_is_of_one_outcome()
     ensures run { (bytes others text : List ℕ) (one : Ran bytes text) (other : Ran others text) → one.1 ≡ other.1 }
     ensures replay { (batch twin : Bool) (bytes others text : List ℕ) (one : Reported batch bytes text)
         (other : Reported twin others text) → one.1 ≡ other.1 }
-    ensures both { (batch : Bool) (bytes others text : List ℕ) (one : Ran bytes text) (other : Reported batch others text)
-        → one.1 ≡ other.1 }
+    ensures both { (batch : Bool) (bytes others text : List ℕ)
+        (one : Ran bytes text) (other : Reported batch others text) → one.1 ≡ other.1 }
 {}

@@ -8,7 +8,8 @@ ghost use Rattle.dex_plain.specs.Stops.{line_of, status_of};
 use crate::input::read_input;
 use crate::output::written;
 use crate::stop::Stop;
-use dex_answers::{Status, StatusText, answer_to};
+use dex_answers::{Status, StatusText};
+use dex_commands::answer_taking;
 use dex_io::{Sink, Source};
 use dex_words::Command;
 use std::alloc::Global;
@@ -64,7 +65,7 @@ fn answer<S: Source>(alloc: Global, command: Command, source: &mut S) -> Result<
         (input (S.left source.old) (S.left source.new) (S.faults source.old) (S.faults source.new)) (line_of stop)) }
 {
     let bytes = read_input(alloc, command, source)?;
-    let built = answer_to(alloc, command, &bytes)?;
+    let built = answer_taking(alloc, command, bytes)?;
     Ok(built)
 }
 

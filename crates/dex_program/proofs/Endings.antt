@@ -10,7 +10,7 @@ use Rattle.dex_plain.specs.Ending.{Ends, HasRead, Input, Output}
 use Rattle.dex_plain.specs.LaneAnswers.{HaveRun}
 use Rattle.dex_report.specs.Outcomes.{PlainOutcome}
 use Rattle.dex_report.specs.Report.{report_text}
-use Rattle.dex_script.specs.Drafts.{PlainScript}
+use Rattle.dex_script_facts.specs.PlainScript.{PlainScript}
 use Rattle.dex_script.specs.Scripts.{Reads}
 use Rattle.dex_program.specs.Ending.{IsListed, ListedOrder, OneLegalHistory, OneOrder, WhereListed, WhereRun}
 

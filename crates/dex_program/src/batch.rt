@@ -2,8 +2,10 @@
 
 ghost use Rattle.std.specs.Prelude.{◌≤◌, IfOk};
 ghost use Rattle.dex_plain.specs.LaneAnswers.{AnswersBatch};
+ghost use Rattle.dex_program.specs.Told.{text_of};
 
-use dex_answers::{StatusText, items_in, no_script, report_of};
+use crate::told::{StatusPieces, refused, report_of};
+use dex_answers::items_in;
 use dex_batch::run_batch;
 use dex_io::Pace;
 use dex_replay::laws::without_swaps_rows_act_one_by_one;
@@ -22,17 +24,17 @@ pub fn batch_answer<R: Threads + Wait + Sync, P: Pace + Sync>(
     bytes: &[u8],
     workers: u32,
     pace: &P,
-) -> Result<StatusText, NoMemory>
+) -> Result<StatusPieces, NoMemory>
     requires { (1 ≤ workers) × (workers ≤ 16) }
-    ensures { IfOk result (λ told. AnswersBatch bytes.now told.status told.text.items) }
+    ensures { IfOk result (λ told. AnswersBatch bytes.now told.status (text_of told)) }
 {
     match read_script(alloc, bytes, true) {
         Ok(script) => {
             let rows = items_in(&script.rows);
             let outcome = run_batch(rt, alloc, script, workers, pace)?;
             without_swaps_rows_act_one_by_one();
-            report_of(alloc, &outcome, rows)
+            report_of(rt, alloc, outcome, rows)
         }
-        Err(error) => no_script(alloc, error),
+        Err(error) => refused(alloc, error),
     }
 }

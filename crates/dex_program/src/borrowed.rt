@@ -1,7 +1,7 @@
 //! The calls that only borrow a script come to what those come to that take it.
 
 use dex_bank::Cells;
-use dex_report::{Outcome, report_text};
+use dex_report::{Outcome, into_report_text, report_text};
 use dex_run::{build, close};
 use dex_script::{Script, read_script};
 use std::alloc::Global;
@@ -35,7 +35,7 @@ fn left(alloc: Global, cells: Cells) -> Result<Outcome, Fail> {
     }
 }
 
-// The report of what is left when the script's own accounts went into the cells.
+// The report of what is left when the script's own accounts went into the cells, by the call that only borrows it.
 fn wanted(alloc: Global, script: Script) -> Result<Vec<u8>, Fail> {
     let (cells, rows, _) = Cells::of_script(alloc, script)?;
     if rows.len() != 3 {
@@ -49,7 +49,10 @@ fn cells_are_opened(rt: HostRuntime) -> Result<(), Fail> {
     let alloc = rt.alloc();
     let script = script(alloc)?;
     let outcome = left(alloc, Cells::open(alloc, &script)?)?;
-    assert_eq!(rt; report_text(alloc, &outcome, 0)?, wanted(alloc, script)?);
+    assert_eq!(rt;
+        into_report_text(alloc, outcome, 0)?,
+        wanted(alloc, script)?
+    );
     Ok(())
 }
 
@@ -62,6 +65,9 @@ fn a_bank_is_built(rt: HostRuntime) -> Result<(), Fail> {
     let Ok(outcome) = close(alloc, bank, seats) else {
         return Err(Fail::new("no memory"));
     };
-    assert_eq!(rt; report_text(alloc, &outcome, 0)?, wanted(alloc, script)?);
+    assert_eq!(rt;
+        into_report_text(alloc, outcome, 0)?,
+        wanted(alloc, script)?
+    );
     Ok(())
 }

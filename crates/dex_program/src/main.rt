@@ -10,6 +10,7 @@ mod run;
 #[cfg(test)]
 mod tests;
 mod threads;
+mod told;
 
 use crate::program::dex_main;
 use dex_answers::Status;

@@ -6,12 +6,14 @@ ghost use Rattle.dex_words.specs.Commands.{command_of};
 ghost use Rattle.dex_words.specs.Spelling.{IsPlain, IsWithin};
 ghost use Rattle.dex_plain.specs.Ending.{Completes, Ends, Stands, input, output};
 ghost use Rattle.dex_plain.specs.Stops.{line_of, status_of};
+ghost use Rattle.dex_program.specs.Told.{text_of};
 ghost use Rattle.dex_program.specs.Ending.{ListedOrder, OneLegalHistory, OneOrder, WhereListed, WhereRun};
 
 use crate::threads::answer_on_threads;
-use dex_answers::{Status, StatusText};
+use crate::told::StatusPieces;
+use dex_answers::Status;
 use dex_io::{Pace, Sink, Source};
-use dex_plain::{Stop, is_plain, plain, read_input, written};
+use dex_plain::{Stop, is_plain, plain, read_input, written, written_each};
 use dex_words::{Command, WordsError, read_words};
 use std::alloc::Global;
 use std::marker::Sync;
@@ -96,7 +98,7 @@ fn on_threads<R: Threads + Wait + Sync, S: Source, K: Sink, P: Pace + Sync>(
         (output (K.taken sink.old) (K.taken sink.new) (K.faults sink.old) (K.faults sink.new)) result }
 {
     match threads_answer(rt, alloc, command, source, pace) {
-        Ok(report) => written(sink, &report.text, report.status),
+        Ok(report) => written_each(sink, &report.pieces, report.status),
         Err(stop) => written(sink, stop.line(), stop.status()),
     }
 }
@@ -108,11 +110,11 @@ fn threads_answer<R: Threads + Wait + Sync, S: Source, P: Pace + Sync>(
     command: Command,
     source: &mut S,
     pace: &P,
-) -> Result<StatusText, Stop>
+) -> Result<StatusPieces, Stop>
     requires within { IsWithin command }
     requires threads { ¬ (IsPlain command) }
     ensures built { IfOk result (λ built. Stands built.status (Some command)
-        (input (S.left source.old) (S.left source.new) (S.faults source.old) (S.faults source.new)) built.text.items) }
+        (input (S.left source.old) (S.left source.new) (S.faults source.old) (S.faults source.new)) (text_of built)) }
     ensures stopped { IfErr result (λ stop. Stands (status_of stop) (Some command)
         (input (S.left source.old) (S.left source.new) (S.faults source.old) (S.faults source.new)) (line_of stop)) }
 {

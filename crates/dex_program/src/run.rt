@@ -2,8 +2,10 @@
 
 ghost use Rattle.std.specs.Prelude.{IfOk};
 ghost use Rattle.dex_plain.specs.LaneAnswers.{AnswersRun};
+ghost use Rattle.dex_program.specs.Told.{text_of};
 
-use dex_answers::{StatusText, items_in, no_script, report_of};
+use crate::told::{StatusPieces, refused, report_of};
+use dex_answers::items_in;
 use dex_io::Pace;
 use dex_replay::laws::without_swaps_rows_act_one_by_one;
 use dex_run::run;
@@ -21,16 +23,16 @@ pub fn run_answer<R: Threads + Wait + Sync, P: Pace + Sync>(
     alloc: Global,
     bytes: &[u8],
     pace: &P,
-) -> Result<StatusText, NoMemory>
-    ensures { IfOk result (λ told. AnswersRun bytes.now told.status told.text.items) }
+) -> Result<StatusPieces, NoMemory>
+    ensures { IfOk result (λ told. AnswersRun bytes.now told.status (text_of told)) }
 {
     match read_script(alloc, bytes, false) {
         Ok(script) => {
             let rows = items_in(&script.rows);
             let outcome = run(rt, alloc, script, pace)?;
             without_swaps_rows_act_one_by_one();
-            report_of(alloc, &outcome, rows)
+            report_of(rt, alloc, outcome, rows)
         }
-        Err(error) => no_script(alloc, error),
+        Err(error) => refused(alloc, error),
     }
 }

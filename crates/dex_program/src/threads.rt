@@ -3,10 +3,11 @@
 ghost use Rattle.std.specs.Prelude.{IfOk};
 ghost use Rattle.dex_words.specs.Spelling.{IsPlain, IsWithin};
 ghost use Rattle.dex_plain.specs.LaneAnswers.{AnswersAll};
+ghost use Rattle.dex_program.specs.Told.{text_of};
 
 use crate::batch::batch_answer;
 use crate::run::run_answer;
-use dex_answers::StatusText;
+use crate::told::StatusPieces;
 use dex_io::Pace;
 use dex_types::NoMemory;
 use dex_words::Command;
@@ -23,10 +24,10 @@ pub fn answer_on_threads<R: Threads + Wait + Sync, P: Pace + Sync>(
     command: Command,
     bytes: &[u8],
     pace: &P,
-) -> Result<StatusText, NoMemory>
+) -> Result<StatusPieces, NoMemory>
     requires within { IsWithin command }
     requires threads { ¬ (IsPlain command) }
-    ensures { IfOk result (λ told. AnswersAll command bytes.now told.status told.text.items) }
+    ensures { IfOk result (λ told. AnswersAll command bytes.now told.status (text_of told)) }
 {
     match command {
         Command::Run => run_answer(rt, alloc, bytes, pace),

@@ -1,5 +1,6 @@
 -- In the journals that a run leaves, the rows of an item were all done, or each that was not refused was held back.
 use Rattle.std.proofs.Common.{◌≡◌, ℕ, ◌&&◌, ◌||◌, not, Bool, true, false, eqb, List, [], ◌∷◌, get_or, map, refl, sym, ap, ◌∙◌, subst, ⊎_elim}
+use Rattle.std.proofs.Math.Bool.{and-false, or-false}
 use Rattle.dex_fold.proofs.Common.{Address, All-cons, All-head, All-map, All-nil, All-tail, All-weaker, AllZip, Asked, Call, EachTwo, Entry, IsLegal, Market, MarketState, PlainMarketAccounts, PlainRow, Reply, cases_Bool, cond-false, cond-true, cond_both, decoded, eq-eqb, eqb-true, false_from_ne_true, false≢true, filter, is_done, is_refusal, is_same, is_same-refl, is_same-sym, is_same-true, is_take, list_any, members, step_of}
 use Rattle.dex_replay.proofs.Common.{IsAllOrNone, PlainMarketJournal, PlainScript, has_market, is_answered, market_in, was_held}
 use Rattle.std.specs.List.{All}
@@ -7,7 +8,7 @@ use Rattle.std.proofs.lemmas.List.Elements.{All-contains}
 use Rattle.dex_fold.specs.Items.{Item}
 use Rattle.dex_replay.specs.Lawful.{entries_at}
 use Rattle.dex_replay.proofs.Items.{IsSettled, is_refused_told, row_told}
-use Rattle.dex_replay.proofs.MappedLists.{head-same, list_any-agree, list_any-map, tail-same}
+use Rattle.dex_replay.proofs.MappedLists.{All-unmap, head-same, list_any-agree, list_any-map, tail-same}
 use Rattle.dex_replay.proofs.Orders.{OnApart}
 use Rattle.dex_replay.proofs.Runs.{IsHistory, RowReply, on, said, said_of}
 
@@ -32,14 +33,10 @@ apart-not test one other apart =
     (λ (differ : eqb one.row.number other.row.number ≡ false).
     let back : eqb other.row.number one.row.number ≡ false =
     false_from_ne_true (eqb other.row.number one.row.number) (λ is. false≢true (sym differ ∙ eq-eqb one.row.number other.row.number (sym (eqb-true other.row.number one.row.number is)))) in (
-      ap (λ (b : Bool). is_same other.row.market one.row.market && (b && test other.reply)) back ∙ and-none (is_same other.row.market one.row.market),
-      ap (λ (b : Bool). is_same one.row.market other.row.market && (b && test one.reply)) differ ∙ and-none (is_same one.row.market other.row.market),
+      ap (λ (b : Bool). is_same other.row.market one.row.market && (b && test other.reply)) back ∙ and-false (is_same other.row.market one.row.market),
+      ap (λ (b : Bool). is_same one.row.market other.row.market && (b && test one.reply)) differ ∙ and-false (is_same one.row.market other.row.market),
     ))
     (cases_Bool (eqb one.row.number other.row.number))
-  where
-    and-none : (b : Bool) → (b && false) ≡ false
-    and-none true = refl
-    and-none false = refl
 
 none-of : {A : Type 0} (p : A → Bool) (xs : List A) → All (λ x. p x ≡ false) xs → list_any p xs ≡ false
 none-of p [] none = refl
@@ -53,23 +50,13 @@ told-once test (first ∷ all) apart =
     (ap (λ (b : Bool). (b && (eqb first.row.number first.row.number && test first.reply)) || list_any (is_it test first) all) (is_same-refl first.row.market)
     ∙ ap (λ (b : Bool). (b && test first.reply) || list_any (is_it test first) all) (eq-eqb first.row.number first.row.number refl)
     ∙ ap (λ (b : Bool). test first.reply || b) (none-of (is_it test first) all (λ k d within. (away k d within).0))
-    ∙ or-none (test first.reply))
+    ∙ or-false (test first.reply))
     (λ k d within.
     ap (λ (b : Bool). b || list_any (is_it test (get_or all k d)) all) (away k d within).1 ∙ told-once test all apart.1 k d within)
   where
-    or-none : (b : Bool) → (b || false) ≡ b
-    or-none true = refl
-    or-none false = refl
-
-    rows-each : (some : List RowReply) → All (OnApart first.row) (map row_told some) → All (λ (told : RowReply). OnApart first.row told.row) some
-    rows-each [] each = All-nil _
-    rows-each (told ∷ some) each =
-        All-cons (λ (one : RowReply). OnApart first.row one.row) told some (All-head (OnApart first.row) told.row (map row_told some) each)
-        (rows-each some (All-tail (OnApart first.row) told.row (map row_told some) each))
-
     away : All (λ (other : RowReply). (is_it test first other ≡ false) × (is_it test other first ≡ false)) all
     away = All-weaker (λ (other : RowReply). OnApart first.row other.row) (λ (other : RowReply). (is_it test first other ≡ false) × (is_it test other first ≡ false))
-        (λ other far. apart-not test first other far) all (rows-each all apart.0)
+        (λ other far. apart-not test first other far) all (All-unmap (OnApart first.row) row_told all apart.0)
 
 -- ---- the journals
 

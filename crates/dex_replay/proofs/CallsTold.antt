@@ -1,8 +1,8 @@
 -- The calls of lawful journals are those that their entries tell.
-use Rattle.std.proofs.Common.{◌≡◌, ◌==◌, ℕ, Bool, true, false, cond, List, [], ◌∷◌, map, Option, Some, refl, sym, ap, subst, ◌∙◌}
+use Rattle.std.proofs.Common.{◌≡◌, ◌==◌, ℕ, List, [], ◌∷◌, get_or, map, Option, Some, refl, sym, ap, ◌∙◌}
 use Rattle.std.specs.List.{All, Contains, filter}
-use Rattle.std.proofs.lemmas.Bool.{cond-true, eq-eqb}
-use Rattle.std.proofs.lemmas.List.Elements.{All-cons, All-contains_itself, All-filter, All-head, All-nil, All-tail, All-weaker}
+use Rattle.std.proofs.lemmas.Bool.{eq-eqb}
+use Rattle.std.proofs.lemmas.List.Elements.{All-contains_itself, All-filter, All-head, All-tail, All-weaker}
 use Rattle.dex_types.specs.declared.addresses.Address.{Address}
 use Rattle.dex_types.specs.declared.movements.Entry.{Entry}
 use Rattle.dex_types.specs.declared.rows.Seen.{Seen}
@@ -14,11 +14,12 @@ use Rattle.dex_accounts.specs.Decoded.{market_in}
 use Rattle.dex_sound.proofs.KeepLaws.{step-keeps}
 use Rattle.dex_history.specs.Journal.{Asked, Call, IsLegal, acted_of, asked_of, step_of}
 use Rattle.dex_report.specs.Outcomes.{PlainMarketJournal, PlainOutcome}
-use Rattle.dex_script.specs.Drafts.{PlainScript}
-use Rattle.dex_script.specs.Facts.{IsScript}
-use Rattle.dex_script.specs.Firsts.{first_of}
+use Rattle.dex_script_facts.specs.PlainScript.{PlainScript}
+use Rattle.dex_script_facts.specs.Facts.{IsScript}
+use Rattle.dex_script_facts.specs.Firsts.{first_of}
 use Rattle.dex_replay.specs.Lawful.{AllThree, IsLawful, IsLawfulMarket, IsSight, rows_of_market}
 use Rattle.dex_replay.proofs.LastAccounts.{listing-in}
+use Rattle.dex_replay.proofs.Groups.{unfilter}
 use Rattle.dex_replay.proofs.MappedLists.{All-across}
 use Rattle.dex_replay.specs.EntryCalls.{IsCallOf, TellsHistory, call_by, call_told, calls_told, is_row_on, with_call}
 use Rattle.dex_replay.proofs.Finding.{row-found, wallets-once}
@@ -69,23 +70,6 @@ calls-told script facts m (call ∷ calls) legal asked sees =
 
 -- ---- a lawful market
 
--- what holds of the elements of each lane holds of all
-module _ {X : Type 0} (lane_of : X → ℕ) (P : X → Type 0) where
-  abbrev in_lane : ℕ → List X → List X
-  in_lane lane xs = filter (λ (x : X). lane_of x == lane) xs
-
-  each-lane : (xs : List X) → ((lane : ℕ) → All P (in_lane lane xs)) → All P xs
-  each-lane [] each = All-nil P
-  each-lane (x ∷ xs) each =
-      let lane : ℕ = lane_of x in
-      let own : All P (x ∷ in_lane lane xs) =
-      subst (All P) (cond-true (lane == lane) (x ∷ in_lane lane xs) (in_lane lane xs) (eq-eqb lane lane refl)) (each lane) in
-      All-cons P x xs (All-head P x (in_lane lane xs) own) (each-lane xs (λ other. rest (lane == other) (in_lane other xs) (each other)))
-    where
-      rest : (b : Bool) (ys : List X) → All P (cond b (x ∷ ys) ys) → All P ys
-      rest true ys all = All-tail P x ys all
-      rest false ys all = all
-
 module _ (script : PlainScript) (first last : PlainMarketAccounts) (journal : PlainMarketJournal) (lawful : IsLawfulMarket script first last journal) where
   abbrev Asks : PlainRow → Type 0
   Asks row = IsAskedIn script.rows (asked_of row)
@@ -96,12 +80,14 @@ module _ (script : PlainScript) (first last : PlainMarketAccounts) (journal : Pl
 
   -- each of its calls was asked by a row of the script
   all-asked : All (λ (call : Call). IsAskedIn script.rows call.asked) lawful.calls
-  all-asked =
-      each-lane (λ (call : Call). call.asked.lane) (λ (call : Call). IsAskedIn script.rows call.asked) lawful.calls
-      (λ lane. All-across (IsAskedIn script.rows) (λ (call : Call). call.asked) asked_of
+  all-asked k d within =
+      let lane : ℕ = (get_or lawful.calls k d).asked.lane in
+      unfilter (λ (call : Call). IsAskedIn script.rows call.asked) (λ (call : Call). call.asked.lane == lane) lawful.calls
+      (All-across (IsAskedIn script.rows) (λ (call : Call). call.asked) asked_of
       (filter (λ (call : Call). call.asked.lane == lane) lawful.calls) (rows_of_market lane first.address script.rows) (lawful.rows lane)
       (All-filter (λ (row : PlainRow). row.lane == lane) Asks (filter (λ (row : PlainRow). is_same row.market first.address) script.rows)
       (All-filter (λ (row : PlainRow). is_same row.market first.address) Asks script.rows each-asks)))
+      k d within (eq-eqb lane lane refl)
 
   of-lawful : IsScript script → calls_told script first.address journal.entries ≡ Some lawful.calls
   of-lawful facts =

@@ -10,7 +10,7 @@ use Rattle.dex_types.specs.Why.{why_decoded}
 use Rattle.dex_history.specs.Journal.{is_take_or_bad}
 use Rattle.dex_history.proofs.HeldLaws.{take-tells}
 use Rattle.dex_fold.specs.Items.{Item, held_in}
-use Rattle.dex_script.specs.Facts.{IsLeg}
+use Rattle.dex_script_facts.specs.Facts.{IsLeg}
 use Rattle.dex_replay.proofs.MappedLists.{list_any-agree, list_any-map, map-agree}
 use Rattle.dex_replay.proofs.Orders.{IsItemIn, legs-apart}
 use Rattle.dex_replay.proofs.Doing.{Does, does-nothing, does-own, doing}

@@ -91,9 +91,6 @@ module _ (script : PlainScript) (cells : CellsState) (own : AreOfScript script c
       omega (arith, few, now, first, same)
 
   module _ (accepted : AreAccepted script.start) where
-    start-of : MarketCellState → PlainMarketAccounts
-    start-of cell = cell.start
-
     -- what holds of each market of the start holds of each cell's
     each-start : (P : PlainMarketAccounts → Type 0) → All P script.start.markets → All (λ (cell : MarketCellState). P cell.start) cells.markets
     each-start P all = All-unmap P (λ (cell : MarketCellState). cell.start) cells.markets

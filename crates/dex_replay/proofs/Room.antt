@@ -1,15 +1,15 @@
 -- Each row of a script finds the cells that it names, with room for one entry more.
-use Rattle.std.proofs.Common.{◌≡◌, ℕ, ◌+◌, ◌<◌, ◌≤◌, Bool, true, cond, List, ◌∷◌, ◌++◌, length, map, get_or, sym, ap, ◌∙◌, subst, arith}
-use Rattle.dex_fold.proofs.Common.{Address, Call, Listing, PlainMarketAccounts, PlainRow, Row, get_or-map, is_same, length-map, list_any, names, row_of, row_wallets, sum_by-append, sum_by-cons}
+use Rattle.std.proofs.Common.{◌≡◌, ℕ, ◌+◌, ◌≤◌, Bool, true, cond, List, ◌∷◌, ◌++◌, length, map, get_or, sym, ap, ◌∙◌, subst, arith}
+use Rattle.dex_fold.proofs.Common.{Address, Call, Listing, PlainMarketAccounts, PlainRow, is_same, length-map, list_any, names, row_wallets, sum_by-append, sum_by-cons}
 use Rattle.dex_replay.proofs.Common.{CanAct, CellState, CellsState, IsRowOf, MarketCellState, PlainScript, address_of, has_account, is_among, is_market, market_state_of, rows_naming, rows_on, wallet_state_of, world_of}
-use Rattle.std.specs.List.{All}
+use Rattle.std.specs.List.{All, count_by}
 use Rattle.dex_cell.specs.CellState as market
 use Rattle.dex_wallet.specs.CellState as wallet
 use Rattle.dex_act.proofs.CellLists.{is_among-any}
 use Rattle.dex_replay.proofs.Counting.{HasFew, HasFewMoves, IsCounted}
 use Rattle.dex_replay.proofs.LastAccounts.{listing-in}
 use Rattle.dex_replay.proofs.MappedLists.{All-unmap, list_any-map}
-use Rattle.dex_script.proofs.Roles.{roles-all}
+use Rattle.dex_script_facts.proofs.Roles.{roles-all}
 use Rattle.dex_replay.proofs.Starts.{AreOfScript, HasItsAddress, market-addresses, wallet-addresses}
 
 module _ (script : PlainScript) (cells : CellsState) (own : AreOfScript script cells) (its : All HasItsAddress cells.markets) where
@@ -35,21 +35,13 @@ module _ (script : PlainScript) (cells : CellsState) (own : AreOfScript script c
 
 -- ---- room
 
-rows_on-split : (address : Address) (done between rest rows : List PlainRow) (row : PlainRow) → done ++ (between ++ row ∷ rest) ≡ rows
-    → rows_on address rows ≡ rows_on address done + (rows_on address between + (cond (is_same row.market address) 1 0 + rows_on address rest))
-rows_on-split address done between rest rows row whole =
-    let on : PlainRow → ℕ = λ (one : PlainRow). cond (is_same one.market address) 1 0 in
-    ap (λ (all : List PlainRow). rows_on address all) (sym whole)
-    ∙ sum_by-append on done (between ++ row ∷ rest)
-    ∙ ap (λ (n : ℕ). rows_on address done + n) (sum_by-append on between (row ∷ rest) ∙ ap (λ (n : ℕ). rows_on address between + n) (sum_by-cons on row rest))
-
-rows_naming-split : (address : Address) (done between rest rows : List PlainRow) (row : PlainRow) → done ++ (between ++ row ∷ rest) ≡ rows
-    → rows_naming address rows ≡ rows_naming address done + (rows_naming address between + (cond (names row address) 1 0 + rows_naming address rest))
-rows_naming-split address done between rest rows row whole =
-    let naming : PlainRow → ℕ = λ (one : PlainRow). cond (names one address) 1 0 in
-    ap (λ (all : List PlainRow). rows_naming address all) (sym whole)
-    ∙ sum_by-append naming done (between ++ row ∷ rest)
-    ∙ ap (λ (n : ℕ). rows_naming address done + n) (sum_by-append naming between (row ∷ rest) ∙ ap (λ (n : ℕ). rows_naming address between + n) (sum_by-cons naming row rest))
+count-split : (test : PlainRow → Bool) (done between rest rows : List PlainRow) (row : PlainRow) → done ++ (between ++ row ∷ rest) ≡ rows
+    → count_by test rows ≡ count_by test done + (count_by test between + (cond (test row) 1 0 + count_by test rest))
+count-split test done between rest rows row whole =
+    let one : PlainRow → ℕ = λ (row : PlainRow). cond (test row) 1 0 in
+    ap (λ (all : List PlainRow). count_by test all) (sym whole)
+    ∙ sum_by-append one done (between ++ row ∷ rest)
+    ∙ ap (λ (n : ℕ). count_by test done + n) (sum_by-append one between (row ∷ rest) ∙ ap (λ (n : ℕ). count_by test between + n) (sum_by-cons one row rest))
 
 -- a row behind those that are done, and behind some more
 module _ (script : PlainScript) (cells : CellsState) (own : AreOfScript script cells) (its : All HasItsAddress cells.markets)
@@ -62,14 +54,14 @@ module _ (script : PlainScript) (cells : CellsState) (own : AreOfScript script c
       subst (λ (address : Address). length (map (λ (call : Call). call.entry) cell.calls) ≤ rows_on address done) (ap (λ (listing : Listing). listing.address) (listing-in cell.accounts)) few in
       let all_on : cell.room ≡ rows_on cell.accounts.address script.rows = room ∙ ap (λ (address : Address). rows_on address script.rows) (sym here) in
       let one : ◌≡◌ {A = ℕ} (cond (is_same row.market cell.accounts.address) 1 0) 1 = ap (λ (b : Bool). cond b 1 0) same in
-      let split = rows_on-split cell.accounts.address done between rest script.rows row whole in
+      let split = count-split (λ (one : PlainRow). is_same one.market cell.accounts.address) done between rest script.rows row whole in
       omega (arith, calls, done_on, all_on, one, split)
 
   wallet-spare : (cell : CellState) → cell.room ≡ rows_naming cell.address script.rows → HasFewMoves done (wallet_state_of cell)
       → names row cell.address ≡ true → wallet.HasSpare cell
   wallet-spare cell room few named =
       let one : ◌≡◌ {A = ℕ} (cond (names row cell.address) 1 0) 1 = ap (λ (b : Bool). cond b 1 0) named in
-      let split = rows_naming-split cell.address done between rest script.rows row whole in
+      let split = count-split (λ (one : PlainRow). names one cell.address) done between rest script.rows row whole in
       omega (arith, room, few, one, split)
 
   pub can-act : IsRowOf script.start row → CanAct row cells
@@ -82,19 +74,3 @@ module _ (script : PlainScript) (cells : CellsState) (own : AreOfScript script c
         market_spare = λ k d within. market-spare (get_or cells.markets k d) (its k d within) (own.market_room k d within) (few k d within);
         wallet_spare = λ k d within. wallet-spare (get_or cells.wallets k d) (own.wallet_room k d within) (few_moves k d within);
       }
-
--- ---- the row at a place
-
--- the rows of a script are those of a list of buffers
-abbrev pub AreOf : PlainScript → List Row → Type 0
-AreOf script rows = script.rows ≡ map row_of rows
-
-module _ (script : PlainScript) (rows : List Row) (are : AreOf script rows) (place : ℕ) (row : Row) (within : place < length rows) (is : row ≡ get_or rows place row) where
-  pub inside : place < length script.rows
-  inside = subst (λ (all : List PlainRow). place < length all) (sym are) (subst (λ (n : ℕ). place < n) (sym (length-map rows row_of)) within)
-
-  pub here : get_or script.rows place (row_of row) ≡ row_of row
-  here = ap (λ (all : List PlainRow). get_or all place (row_of row)) are ∙ get_or-map row_of rows place row (row_of row) within ∙ ap row_of (sym is)
-
-  pub row-of-script : All (IsRowOf script.start) script.rows → IsRowOf script.start (row_of row)
-  row-of-script each = subst (λ (one : PlainRow). IsRowOf script.start one) here (each place (row_of row) inside)

@@ -16,7 +16,7 @@ use Rattle.dex_replay.proofs.MappedLists.{head-same, tail-same}
 use Rattle.dex_replay.proofs.Orders.{own-order}
 use Rattle.dex_replay.proofs.RunSteps.{history-sound}
 use Rattle.dex_replay.proofs.Runs.{IsHistory, IsMoved, IsRun, RowReply}
-use Rattle.dex_replay.proofs.Starts.{are-of-script}
+use Rattle.dex_replay.proofs.Starts.{are-of-script, opened-opened}
 
 -- ---- what accounts hold is what their world holds
 
@@ -121,6 +121,8 @@ pub replay-is-run : (script : PlainScript) (outcome : PlainOutcome) → IsScript
 replay-is-run script outcome is replay = order-is-run script outcome is (replay-in-order script outcome is replay)
 
 -- cells on which all items of their script acted leave its replay
-pub items-replay : (script : PlainScript) (cells : CellsState) → IsScript script → opened_of cells ≡ opened script → AreCells cells
-    → world_of cells ≡ world_after script (items_of script.rows) → IsReplayOf script (closed cells)
-items-replay script cells is same kept ended = is-left script cells (are-of-script script cells same) kept (items_of script.rows) is.start.accepted ended
+pub items-replay : (script : PlainScript) (start cells : CellsState) (outcome : PlainOutcome) → IsScript script → start ≡ opened script → opened_of cells ≡ opened_of start
+    → AreCells cells → world_of cells ≡ world_after script (items_of script.rows) → outcome ≡ closed cells → IsReplayOf script outcome
+items-replay script start cells outcome is made kept are ended left =
+    subst (IsReplayOf script) (sym left)
+    (is-left script cells (are-of-script script cells (kept ∙ opened-opened script start made)) are (items_of script.rows) is.start.accepted ended)

@@ -17,9 +17,9 @@ use Rattle.dex_replay.proofs.MappedLists.{Any-map, filter-push_no, filter-push_y
 use Rattle.dex_replay.proofs.Holdings.{CanMoveIt, markets-hold, wallets-hold}
 use Rattle.dex_replay.proofs.Runs.{AllStandIn, IsHistory, IsMoved, IsRun, StandIn, StandsIn, RowReply, naming, on, origin_of, row-sees, row-sight, said, said_of, still-there}
 use Rattle.dex_replay.proofs.Sights.{AreOnce, address_in, before-movement, sees-balances}
-use Rattle.dex_script.proofs.Roles.{roles-all}
+use Rattle.dex_script_facts.proofs.Roles.{roles-all}
 use Rattle.dex_replay.proofs.Doing.{Does, doing, made, sees-doing}
-use Rattle.dex_script.proofs.Apart.{market-once, wallet-once}
+use Rattle.dex_script_facts.proofs.Apart.{market-once, wallet-once}
 
 -- a market at the end of its calls is sound
 pub history-sound : (script : PlainScript) (done : List RowReply) (first : PlainMarketAccounts) (state : MarketState) → AreSound first → IsHistory script done first state

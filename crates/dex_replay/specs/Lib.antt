@@ -3,3 +3,8 @@ pub mod Lawful
 pub mod Runs
 pub mod Alike
 pub mod EntryCalls
+pub mod Debits
+pub mod Told
+pub mod WorthTold
+pub mod WorthText
+pub mod Acting

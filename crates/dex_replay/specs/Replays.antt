@@ -10,8 +10,8 @@ use Rattle.dex_fold.specs.Fold.{fold}
 use Rattle.dex_fold.specs.Items.{Item, fold_items, items_of}
 use Rattle.dex_fold.specs.World.{MarketState, WalletState, World}
 use Rattle.dex_report.specs.Outcomes.{PlainMarketJournal, PlainOutcome, PlainWalletJournal}
-use Rattle.dex_script.specs.Drafts.{PlainScript}
-pub use Rattle.dex_script.specs.Starts.{market_state, start_world, wallet_state}
+use Rattle.dex_script_facts.specs.PlainScript.{PlainScript}
+pub use Rattle.dex_script_facts.specs.Starts.{market_state, start_world, wallet_state}
 use Rattle.dex_wallet.specs.CellState.{balance_of}
 use Rattle.dex_token.specs.TokenAccount.{with_amount}
 

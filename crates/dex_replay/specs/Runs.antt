@@ -6,7 +6,7 @@ use Rattle.dex_audit.specs.Audited.{IsConserved}
 use Rattle.dex_dump.specs.Accepted.{AreAccepted}
 use Rattle.dex_fold.specs.Items.{Item, items_of, items_of_lane, rows_of_lane}
 use Rattle.dex_report.specs.Outcomes.{PlainOutcome}
-use Rattle.dex_script.specs.Drafts.{PlainScript}
+use Rattle.dex_script_facts.specs.PlainScript.{PlainScript}
 use Rattle.dex_replay.specs.Lawful.{IsLawful}
 use Rattle.dex_replay.specs.Replays.{IsLeftBy, IsLeftByRows}
 

@@ -10,9 +10,10 @@ ghost use Rattle.dex_types.specs.Rows.{PlainRow};
 ghost use Rattle.dex_fold.specs.Groups.{alone};
 ghost use Rattle.dex_fold.specs.Items.{items_of};
 ghost use Rattle.dex_report.specs.Outcomes.{PlainMarketJournal, PlainOutcome, PlainWalletJournal};
-ghost use Rattle.dex_script.specs.Drafts.{PlainScript};
-ghost use Rattle.dex_script.specs.Facts.{AreRows, HasNoSwap, IsScript};
-ghost use Rattle.dex_replay.specs.Lawful.{IsLawful, IsLawfulMarket, IsLawfulWallet, rows_of_market, rows_of_wallet, was_held};
+ghost use Rattle.dex_script_facts.specs.PlainScript.{PlainScript};
+ghost use Rattle.dex_script_facts.specs.Facts.{AreRows, HasNoSwap, IsScript};
+ghost use Rattle.dex_replay.specs.Lawful.{IsLawful, IsLawfulMarket, IsLawfulWallet, rows_of_market, rows_of_wallet};
+ghost use Rattle.dex_replay.specs.Lawful.{was_held};
 ghost use Rattle.dex_replay.specs.Replays.{IsLeftByRows, IsReplayOf};
 ghost use Rattle.dex_replay.specs.Runs.{IsOneOrder, IsOneOrderOfRows, IsRunOf};
 

@@ -6,10 +6,10 @@ ghost use Rattle.dex_report.specs.Outcomes.{outcome_of};
 ghost use Rattle.dex_replay.specs.Replays.{IsReplayOf};
 ghost use Rattle.dex_replay.specs.Runs.{IsRunOf};
 
-use crate::acting::act_all;
+use crate::acting::{act_all, use_up};
 use dex_bank::Cells;
 use dex_report::Outcome;
-use dex_script::Script;
+use dex_script_facts::Script;
 use dex_types::{NoMemory, Row};
 use std::alloc::Global;
 
@@ -28,11 +28,14 @@ pub fn replay_with_rows(alloc: Global, script: Script) -> Result<(Outcome, Vec<R
     }
 }
 
-/// The same without the rows.
+/// The same without the rows: each is let go when it has acted.
 pub fn replay(alloc: Global, script: Script) -> Result<Outcome, NoMemory>
     ensures outcome { IfOk result (λ outcome. IsReplayOf script (outcome_of outcome)) }
     ensures run { IfOk result (λ outcome. IsRunOf script (outcome_of outcome)) }
 {
-    let (outcome, _) = replay_with_rows(alloc, script)?;
-    Ok(outcome)
+    let (cells, rows, places) = Cells::of_script(alloc, script)?;
+    match use_up(cells, rows, &places).close(alloc) {
+        Ok(outcome) => Ok(outcome),
+        Err(_) => Err(NoMemory),
+    }
 }

@@ -5,7 +5,7 @@ ghost use Rattle.std.specs.List.{All};
 ghost use Rattle.dex_fold.specs.Items.{Item};
 ghost use Rattle.dex_report.specs.Outcomes.{PlainOutcome};
 ghost use Rattle.dex_report.specs.Telling.{AreInFront, FitOutcome, IsToldOutcome};
-ghost use Rattle.dex_script.specs.Drafts.{PlainScript};
+ghost use Rattle.dex_script_facts.specs.PlainScript.{PlainScript};
 ghost use Rattle.dex_replay.specs.Alike.{AreAlike};
 ghost use Rattle.dex_replay.specs.Lawful.{IsLawful};
 ghost use Rattle.dex_replay.specs.Replays.{IsLeftBy, IsReplayOf};

@@ -7,4 +7,4 @@ pub mod Entries
 pub mod Journals
 pub mod Written
 pub mod Fronts
-mod Collected
+mod Whole

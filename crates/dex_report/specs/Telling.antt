@@ -3,6 +3,7 @@ use Rattle.std.specs.Prelude.{◌≡◌, ◌<◌, ◌^◌, Bool, true, List, [],
 use Rattle.std.specs.Int.{w64}
 use Rattle.std.specs.Int.RustNames.{FitsSigned}
 use Rattle.std.specs.List.{All, list_all}
+use Rattle.dex_types.specs.declared.addresses.Address.{Address}
 use Rattle.dex_types.specs.declared.movements.Entry.{Entry}
 use Rattle.dex_types.specs.declared.movements.Movement.{Movement}
 use Rattle.dex_types.specs.declared.movements.WalletEntry.{WalletEntry}
@@ -78,11 +79,15 @@ pub record FitWalletEntry (entry : WalletEntry) : Type 0 where
   pub amount : entry.amount < 2 ^ 64
   pub before : entry.before < 2 ^ 64
 
+-- a journal: its address has 32 bytes, its entries can be counted, and this holds of each
+pub record IsJournal {A : Type 0} (Holds : A → Type 0) (place : Address) (items : List A) : Type 0 where
+  pub address : IsAddress place
+  pub count : length items < 2 ^ 64
+  pub entries : All Holds items
+
 -- the values of a market's journal fit
-pub record FitMarket (journal : PlainMarketJournal) : Type 0 where
-  pub address : IsAddress journal.address
-  pub count : length journal.entries < 2 ^ 64
-  pub entries : All FitEntry journal.entries
+abbrev pub FitMarket : PlainMarketJournal → Type 0
+FitMarket journal = IsJournal FitEntry journal.address journal.entries
 
 -- an entry whose values fit, and whose movements stand from the front
 pub record IsTold (entry : Entry) : Type 0 where
@@ -90,16 +95,12 @@ pub record IsTold (entry : Entry) : Type 0 where
   pub front : stand_from_front entry.moves ≡ true
 
 -- the journal of a market
-pub record IsToldMarket (journal : PlainMarketJournal) : Type 0 where
-  pub address : IsAddress journal.address
-  pub count : length journal.entries < 2 ^ 64
-  pub entries : All IsTold journal.entries
+abbrev pub IsToldMarket : PlainMarketJournal → Type 0
+IsToldMarket journal = IsJournal IsTold journal.address journal.entries
 
 -- the journal of a wallet
-pub record IsToldWallet (journal : PlainWalletJournal) : Type 0 where
-  pub address : IsAddress journal.address
-  pub count : length journal.entries < 2 ^ 64
-  pub entries : All FitWalletEntry journal.entries
+abbrev pub IsToldWallet : PlainWalletJournal → Type 0
+IsToldWallet journal = IsJournal FitWalletEntry journal.address journal.entries
 
 -- an outcome whose values fit their types, and the movements of whose entries stand from the front
 pub record IsToldOutcome (outcome : PlainOutcome) : Type 0 where

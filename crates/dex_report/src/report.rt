@@ -1,15 +1,14 @@
 //! The report of a replay.
 
-ghost use Rattle.std.specs.Prelude.{◌≡◌, ◌++◌, IfOk, OnOk, length, map};
-ghost use Rattle.std.specs.List.{All, flat_map};
-ghost use Rattle.dex_report.specs.Outcomes.{market_journal_of, outcome_of, wallet_journal_of};
+ghost use Rattle.std.specs.Prelude.{◌≡◌, ◌++◌, IfOk, OnOk};
+ghost use Rattle.dex_report.specs.Outcomes.{outcome_of};
 ghost use Rattle.dex_report.specs.Report as texts;
-ghost use Rattle.dex_report.specs.Telling.{FitMarket, FitOutcome, IsToldWallet};
+ghost use Rattle.dex_report.specs.Telling.{FitOutcome};
 
-use crate::fitting::address_fits;
-use crate::lines::{LINE, write_entry, write_head, write_move};
-use crate::outcome::{MarketJournal, Outcome, WalletJournal};
-use dex_dump::append_dump;
+use crate::lines::{LINE, write_head};
+use crate::outcome::Outcome;
+use crate::told::{take_each, write_each};
+use dex_dump::{append_dump, append_taken};
 use dex_types::{MarketAccounts, NoMemory};
 use std::alloc::{AllocError, Global};
 
@@ -26,6 +25,18 @@ pub fn report_text(alloc: Global, outcome: &Outcome, rows: u32) -> Result<Vec<u8
     }
 }
 
+/// The same of an outcome that is given up: each journal, and each market's accounts, are let go when they are written, so
+/// that they and their lines are not there together.
+pub fn into_report_text(alloc: Global, outcome: Outcome, rows: u32) -> Result<Vec<u8>, NoMemory>
+    ensures fits { IfOk result (λ text. FitOutcome (outcome_of outcome)) }
+    ensures text { IfOk result (λ text. text.items ≡ texts.report_text (outcome_of outcome) rows) }
+{
+    match into_report(alloc, outcome, rows) {
+        Ok(text) => Ok(text),
+        Err(_) => Err(NoMemory),
+    }
+}
+
 fn report(alloc: Global, outcome: &Outcome, rows: u32) -> Result<Vec<u8>, AllocError>
     ensures fits { IfOk result (λ text. FitOutcome (outcome_of outcome.now)) }
     ensures text { IfOk result (λ text. text.items ≡ texts.report_text (outcome_of outcome.now) rows) }
@@ -33,9 +44,23 @@ fn report(alloc: Global, outcome: &Outcome, rows: u32) -> Result<Vec<u8>, AllocE
     let mut text = Vec::with_capacity(alloc, room_of(outcome))?;
     let mut line = [0; LINE];
     write_head(&mut text, b"report", None, rows as u64)?;
-    write_markets(&mut text, &mut line, &outcome.markets)?;
-    write_wallets(&mut text, &mut line, &outcome.wallets)?;
+    write_each(&mut text, &mut line, &outcome.markets)?;
+    write_each(&mut text, &mut line, &outcome.wallets)?;
     append_dump(&mut text, &outcome.accounts)?;
+    text.extend_from_slice(b"end\n")?;
+    Ok(text)
+}
+
+fn into_report(alloc: Global, outcome: Outcome, rows: u32) -> Result<Vec<u8>, AllocError>
+    ensures fits { IfOk result (λ text. FitOutcome (outcome_of outcome)) }
+    ensures text { IfOk result (λ text. text.items ≡ texts.report_text (outcome_of outcome) rows) }
+{
+    let mut text = Vec::with_capacity(alloc, room_of(&outcome))?;
+    let mut line = [0; LINE];
+    write_head(&mut text, b"report", None, rows as u64)?;
+    take_each(&mut text, &mut line, outcome.markets)?;
+    take_each(&mut text, &mut line, outcome.wallets)?;
+    append_taken(&mut text, outcome.accounts)?;
     text.extend_from_slice(b"end\n")?;
     Ok(text)
 }
@@ -74,70 +99,4 @@ fn room_of_market(accounts: &MarketAccounts) -> usize {
             .saturating_add(128);
     }
     bytes.saturating_add(bytes / 3)
-}
-
-fn write_markets(
-    text: &mut Vec<u8>,
-    line: &mut [u8; LINE],
-    journals: &[MarketJournal],
-) -> Result<(), AllocError>
-    ensures fits { OnOk result (All FitMarket (map market_journal_of journals.now)) }
-    ensures text { let lines = flat_map texts.market_lines (map market_journal_of journals.now) in
-        OnOk result (text.new.items ≡ text.old.items ++ lines) }
-{
-    'markets: for journal in journals {
-        write_market(text, line, journal)?;
-    }
-    Ok(())
-}
-
-fn write_market(
-    text: &mut Vec<u8>,
-    line: &mut [u8; LINE],
-    journal: &MarketJournal,
-) -> Result<(), AllocError>
-    ensures fits { OnOk result (FitMarket (market_journal_of journal.now)) }
-    ensures text { let lines = texts.market_lines (market_journal_of journal.now) in
-        OnOk result (text.new.items ≡ text.old.items ++ lines) }
-{
-    let market = journal.address;
-    address_fits(market);
-    write_head(text, b"market", Some(market), journal.entries.len() as u64)?;
-    'entries: for entry in &journal.entries {
-        write_entry(text, line, entry)?;
-    }
-    Ok(())
-}
-
-fn write_wallets(
-    text: &mut Vec<u8>,
-    line: &mut [u8; LINE],
-    journals: &[WalletJournal],
-) -> Result<(), AllocError>
-    ensures fits { OnOk result (All IsToldWallet (map wallet_journal_of journals.now)) }
-    ensures text { let lines = flat_map texts.wallet_lines (map wallet_journal_of journals.now) in
-        OnOk result (text.new.items ≡ text.old.items ++ lines) }
-{
-    'wallets: for journal in journals {
-        write_wallet(text, line, journal)?;
-    }
-    Ok(())
-}
-
-fn write_wallet(
-    text: &mut Vec<u8>,
-    line: &mut [u8; LINE],
-    journal: &WalletJournal,
-) -> Result<(), AllocError>
-    ensures fits { OnOk result (IsToldWallet (wallet_journal_of journal.now)) }
-    ensures text { let lines = texts.wallet_lines (wallet_journal_of journal.now) in
-        OnOk result (text.new.items ≡ text.old.items ++ lines) }
-{
-    let wallet = journal.address;
-    address_fits(wallet);
-    write_head(text, b"wallet", Some(wallet), journal.entries.len() as u64)?;
-    'moves: for entry in &journal.entries {
-        write_move(text, line, entry)?;
-    }
-    Ok(())
 }

@@ -1,6 +1,6 @@
 //! One event of the ring, in its own 88 bytes.
 
-ghost use Rattle.std.specs.Prelude.{◌≡◌, ◌<◌, ◌↔◌, length, IsTrue};
+ghost use Rattle.std.specs.Prelude.{◌≡◌, length};
 ghost use Rattle.dex_ring.specs.EventBytes.{are_event_flags, event_bytes, event_of};
 
 use dex_fields::event::{

@@ -1,6 +1,6 @@
 //! Where the events of a queue stand.
 
-ghost use Rattle.std.specs.Prelude.{◌≡◌, ◌-◌, ◌^◌, ◌<◌, ◌≤◌, length};
+ghost use Rattle.std.specs.Prelude.{◌≡◌, ◌-◌, ◌<◌, ◌≤◌, length};
 ghost use Rattle.dex_fields.specs.Bytes.{bytes_in, end_of, number_in, with_bytes};
 ghost use Rattle.dex_ring.specs.EventBytes.{event_bytes, event_of};
 ghost use Rattle.dex_ring.specs.Ring.{capacity_of, event_at, event_field, place_of};

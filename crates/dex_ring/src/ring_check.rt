@@ -3,7 +3,7 @@
 ghost use Rattle.std.specs.Prelude.{◌≡◌, ◌^◌, ◌<◌, ◌≤◌, ◌↔◌, length, IsNone, IsOk};
 ghost use Rattle.std.specs.Result.{result_err};
 ghost use Rattle.dex_fields.specs.Bytes.{number_in};
-ghost use Rattle.dex_ring.specs.Ring.{IsEventQueue, capacity_of, event_at};
+ghost use Rattle.dex_ring.specs.Ring.{IsEventQueue, capacity_of};
 ghost use Rattle.dex_ring.specs.Faults.{count_rule, event_fault, event_rule, events_rule, flags_rule, frame_rule, head_rule, header_rule, queue_fault, ring_fault, size_rule};
 
 use crate::event_bytes::are_event_flags;

@@ -16,22 +16,6 @@ pub struct RingRef<'a> {
     pub bytes: &'a [u8],
 }
 
-/// How many events are in use.
-pub(crate) fn count_of(bytes: &[u8]) -> u32
-    requires { IsEventQueue bytes.now }
-    ensures { result ≡ length (ring_of bytes.now).events }
-{
-    get_u64(bytes, COUNT) as u32
-}
-
-/// How many more events fit.
-pub(crate) fn room_of(bytes: &[u8]) -> u32
-    requires { IsEventQueue bytes.now }
-    ensures { result + length (ring_of bytes.now).events ≡ (ring_of bytes.now).capacity }
-{
-    capacity(bytes) as u32 - count_of(bytes)
-}
-
 /// The event with this number from the front.
 pub(crate) fn event_at(bytes: &[u8], number: u32) -> Event
     requires accepted { IsEventQueue bytes.now }
@@ -49,7 +33,7 @@ impl RingRef<'_> {
         requires { IsEventQueue self.now.bytes.now }
         ensures { result ≡ length (ring_of self.now.bytes.now).events }
     {
-        count_of(self.bytes)
+        get_u64(self.bytes, COUNT) as u32
     }
 
     /// Whether no event is pending.
@@ -57,7 +41,7 @@ impl RingRef<'_> {
         requires { IsEventQueue self.now.bytes.now }
         ensures { IsTrue result ↔ (length (ring_of self.now.bytes.now).events ≡ 0) }
     {
-        count_of(self.bytes) == 0
+        self.len() == 0
     }
 
     /// How many more events fit.
@@ -65,7 +49,7 @@ impl RingRef<'_> {
         requires { IsEventQueue self.now.bytes.now }
         ensures { result + length (ring_of self.now.bytes.now).events ≡ (ring_of self.now.bytes.now).capacity }
     {
-        room_of(self.bytes)
+        capacity(self.bytes) as u32 - self.len()
     }
 
     /// The event with this number, counted from the front.

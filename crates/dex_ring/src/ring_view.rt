@@ -9,7 +9,7 @@ ghost use Rattle.dex_fields.specs.declared.event_queue.TheConstants.{SEQ_NUM};
 ghost use Rattle.dex_ring.specs.Ring.{IsEventQueue, popped, pushed, ring_of};
 
 use crate::places::{place, write_event};
-use crate::ring_ref::{count_of, event_at, room_of};
+use crate::ring_ref::{RingRef, event_at};
 use dex_fields::event_queue::{COUNT, HEAD, SEQ_NUM};
 use dex_fields::{get_u64, put_u64};
 use dex_types::Event;
@@ -20,59 +20,20 @@ pub struct RingView<'a> {
     pub bytes: &'a mut [u8],
 }
 
-fn push_event(bytes: &mut [u8], event: &Event)
-    requires accepted { IsEventQueue bytes.old }
-    requires room { length (ring_of bytes.old).events < (ring_of bytes.old).capacity }
-    requires queued { IsQueued event.now }
-    ensures bytes { bytes.new ≡ pushed bytes.old event.now }
-    ensures list { ring_of bytes.new ≡ record (ring_of bytes.old) {
-      events = (ring_of bytes.old).events ++ decoded_event event.now ∷ [];
-      seq_num = events_counted (ring_of bytes.old).seq_num 1;
-    } }
-    ensures accepted { IsEventQueue bytes.new }
-{
-    let count = get_u64(bytes, COUNT);
-    let appended = get_u64(bytes, SEQ_NUM);
-    let place = place(bytes, count as usize);
-    write_event(bytes, place, event);
-    put_u64(bytes, COUNT, count + 1);
-    put_u64(bytes, SEQ_NUM, appended.wrapping_add(1));
-}
-
-fn pop_event(bytes: &mut [u8]) -> Event
-    requires accepted { IsEventQueue bytes.old }
-    requires pending { 0 < length (ring_of bytes.old).events }
-    ensures bytes { bytes.new ≡ popped bytes.old }
-    ensures event { (ring_of bytes.old).events ≡ decoded_event result ∷ (ring_of bytes.new).events }
-    ensures list { ring_of bytes.new ≡ record (ring_of bytes.old) { events = drop 1 (ring_of bytes.old).events } }
-    ensures queued { IsQueued result }
-    ensures accepted { IsEventQueue bytes.new }
-{
-    let event = event_at(bytes, 0);
-    let count = get_u64(bytes, COUNT);
-    let next = place(bytes, 1) as u64;
-    put_u64(bytes, HEAD, next);
-    put_u64(bytes, COUNT, count - 1);
-    event
-}
-
-/// Sets how many events were ever appended.
-fn set_seq_num_of(bytes: &mut [u8], value: u64)
-    requires { IsEventQueue bytes.old }
-    ensures bytes { bytes.new ≡ with_number bytes.old SEQ_NUM value }
-    ensures list { ring_of bytes.new ≡ record (ring_of bytes.old) { seq_num = value } }
-    ensures accepted { IsEventQueue bytes.new }
-{
-    put_u64(bytes, SEQ_NUM, value);
-}
-
 impl RingView<'_> {
+    /// The queue, for reading.
+    fn as_ref(&self) -> RingRef<'_>
+        ensures { result.bytes.now ≡ self.now.bytes.now }
+    {
+        RingRef { bytes: self.bytes }
+    }
+
     /// How many events are pending.
     pub fn len(&self) -> u32
         requires { IsEventQueue self.now.bytes.now }
         ensures { result ≡ length (ring_of self.now.bytes.now).events }
     {
-        count_of(self.bytes)
+        self.as_ref().len()
     }
 
     /// Whether no event is pending.
@@ -80,7 +41,7 @@ impl RingView<'_> {
         requires { IsEventQueue self.now.bytes.now }
         ensures { IsTrue result ↔ (length (ring_of self.now.bytes.now).events ≡ 0) }
     {
-        count_of(self.bytes) == 0
+        self.as_ref().is_empty()
     }
 
     /// How many more events fit.
@@ -88,7 +49,7 @@ impl RingView<'_> {
         requires { IsEventQueue self.now.bytes.now }
         ensures { result + length (ring_of self.now.bytes.now).events ≡ (ring_of self.now.bytes.now).capacity }
     {
-        room_of(self.bytes)
+        self.as_ref().room()
     }
 
     /// The event with this number, counted from the front.
@@ -99,7 +60,7 @@ impl RingView<'_> {
             ≡ encoded_event (slice_index_or (ring_of self.now.bytes.now).events index d) }
         ensures queued { IsQueued result }
     {
-        event_at(self.bytes, index)
+        self.as_ref().at(index)
     }
 
     /// Appends an event behind the last one. It writes the event's own bytes, the count and the count of all events ever
@@ -116,7 +77,13 @@ impl RingView<'_> {
         } }
         ensures accepted { IsEventQueue self.new.bytes.now }
     {
-        push_event(self.bytes, event);
+        let bytes = &mut *self.bytes;
+        let count = get_u64(bytes, COUNT);
+        let appended = get_u64(bytes, SEQ_NUM);
+        let place = place(bytes, count as usize);
+        write_event(bytes, place, event);
+        put_u64(bytes, COUNT, count + 1);
+        put_u64(bytes, SEQ_NUM, appended.wrapping_add(1));
     }
 
     /// Sets how many events were ever appended, modulo 2^64. It writes that word; all other bytes stay.
@@ -127,7 +94,7 @@ impl RingView<'_> {
         ensures list { ring_of self.new.bytes.now ≡ record (ring_of self.old.bytes.now) { seq_num = value } }
         ensures accepted { IsEventQueue self.new.bytes.now }
     {
-        set_seq_num_of(self.bytes, value);
+        put_u64(self.bytes, SEQ_NUM, value);
     }
 
     /// Takes the first event. It writes the head and the count; all other bytes stay, the event's own among them.
@@ -144,6 +111,12 @@ impl RingView<'_> {
         ensures queued { IsQueued result }
         ensures accepted { IsEventQueue self.new.bytes.now }
     {
-        pop_event(self.bytes)
+        let bytes = &mut *self.bytes;
+        let event = event_at(bytes, 0);
+        let count = get_u64(bytes, COUNT);
+        let next = place(bytes, 1) as u64;
+        put_u64(bytes, HEAD, next);
+        put_u64(bytes, COUNT, count - 1);
+        event
     }
 }

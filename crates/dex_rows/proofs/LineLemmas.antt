@@ -3,7 +3,7 @@ use Rattle.std.proofs.Common.{◌≡◌, ◌∙◌, ◌^◌, ◌+◌, ◌<◌, �
 use Rattle.std.proofs.lemmas.List.{at_drop_more, drop_more, get_or-map, get_or-take, length-map, length-take, take-append-le, take_all, take_more}
 use Rattle.std.proofs.lemmas.List.Elements.{All-append, All-cons, All-nil}
 use Rattle.std.proofs.lemmas.Bool.{cases_lt}
-use Rattle.dex_rows.specs.Lines.{IsCut, KeepsField, behind_ends, cells_of, ends_row, texts}
+use Rattle.dex_rows.specs.Lines.{AreCut, IsCut, KeepsField, behind_ends, cells_of, ends_row, texts}
 use Rattle.dex_rows.specs.declared.lines.Line.{Line}
 use Rattle.dex_rows.proofs.SplitLemmas.{InPart, part_at, part_cut, part_end, part_more, part_start}
 
@@ -76,13 +76,13 @@ line_comma text start at count fields after size below not comma kept h = record
 }
 
 -- the end
-pub line_end : (text : List ℕ) (start at count : ℕ) (fields : List (Bor (List ℕ))) (line : Line) → length fields ≡ 12 → line.bytes.now ≡ take at text → line.count ≡ count + 1
-    → KeepsField fields count (part_at text start at) line.fields → InLine text start at count fields → IsCut line
-line_end text start at count fields line size bytes more kept h =
-    let cells : cells_of line.bytes.now ≡ h.done ++ part_at text start at ∷ [] = ap cells_of bytes ∙ part_end is_comma text start at h.done h.part in
+pub line_end : (text : List ℕ) (start at count : ℕ) (fields after : List (Bor (List ℕ))) → length fields ≡ 12 → KeepsField fields count (part_at text start at) after
+    → InLine text start at count fields → AreCut (take at text) (count + 1) after
+line_end text start at count fields after size kept h =
+    let cells : cells_of (take at text) ≡ h.done ++ part_at text start at ∷ [] = part_end is_comma text start at h.done h.part in
     record {
-      count = more ∙ omega (arith, h.counted, length-append h.done (part_at text start at ∷ [])) ∙ sym (ap length cells);
-      kept = ap (λ n. texts (take n line.fields)) more ∙ kept_more fields line.fields count (part_at text start at) h.done size h.counted h.kept kept ∙ sym (ap (take 12) cells);
+      count = omega (arith, h.counted, length-append h.done (part_at text start at ∷ []), ap length cells);
+      kept = kept_more fields after count (part_at text start at) h.done size h.counted h.kept kept ∙ sym (ap (take 12) cells);
     }
 
 -- a place of a row is below the size of its text

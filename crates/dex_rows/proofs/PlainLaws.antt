@@ -1,9 +1,9 @@
 -- A text without quotes is read row by row where its line ends stand, and each row is cut at its commas.
-use Rattle.std.proofs.Common.{◌≡◌, ◌∙◌, ◌+◌, ◌<◌, ◌≤◌, ◌++◌, ◌==◌, ◌∷◌, [], ℕ, Bool, List, All, Option, Some, None, true, false, append_assoc, append-nil, length, drop, get_or, arith, refl, sym, ap}
+use Rattle.std.proofs.Common.{◌≡◌, ◌∙◌, ◌+◌, ◌<◌, ◌≤◌, ◌++◌, ◌==◌, ◌∷◌, [], ℕ, Bool, List, All, Option, Some, None, true, false, append_assoc, append-nil, length, take, drop, get_or, arith, refl, sym, ap, zero, suc}
 use Rattle.std.specs.Prelude.{⊤}
 use Rattle.std.specs.List.{onto_first}
 use Rattle.std.proofs.lemmas.Bool.Decides.{nat_tests}
-use Rattle.std.proofs.lemmas.List.{get_or-drop, get_or_default, length-drop, take-append-drop}
+use Rattle.std.proofs.lemmas.List.{get_or-drop, get_or_default, length-drop, length-take, take-append-drop}
 use Rattle.std.proofs.lemmas.List.Elements.{All-drop, All-head, All-tail}
 use Rattle.std.proofs.lemmas.List.Splits.{length-slice_split}
 use Rattle.csv.specs.Machine.{Read, after_end, ends_at_end, next_record, step}
@@ -177,21 +177,23 @@ unfolding next_record
 no_row text none = rows_behind text ∙ ap rows_in (empty (behind_ends text) none) ∙ rows_end st.StartRecord [] refl
 
 -- a row is not empty
-row_some : (text line : List ℕ) → 0 < length text → ends_row (get_or text 0 0) ≡ false → IsFront text line → 0 < length line
-row_some text [] some other front = cc (other, front.ended some)
-row_some text (c ∷ line) some other front = omega arith
+row_some : (text : List ℕ) (n : ℕ) → 0 < length text → ends_row (get_or text 0 0) ≡ false → IsFront text n → 0 < n
+row_some text zero some other front = cc (other, front.ended some)
+row_some text (suc n) some other front = omega arith
 
 -- the first row of a text without quotes
-pub first_row : (text line : List ℕ) → HasNoQuote text → 0 < length (behind_ends text) → IsFront (behind_ends text) line
-    → rows_in text ≡ cells_of line ∷ rows_in (drop (length line) (behind_ends text))
-first_row text line plain some front =
+pub first_row : (text : List ℕ) (n : ℕ) → HasNoQuote text → 0 < length (behind_ends text) → IsFront (behind_ends text) n
+    → rows_in text ≡ cells_of (take n (behind_ends text)) ∷ rows_in (drop n (behind_ends text))
+first_row text n plain some front =
     let here = behind_ends text in
-    let tail = drop (length line) here in
-    let whole : line ++ tail ≡ here = ap (λ first. first ++ tail) (sym front.is) ∙ take-append-drop (length line) here in
-    let at : length line + 0 ≡ length line = omega arith in
+    let line = take n here in
+    let tail = drop n here in
+    let whole : line ++ tail ≡ here = take-append-drop n here in
+    let at : n + 0 ≡ n = omega arith in
+    let long : 0 < length line = omega (arith, length-take n here, front.fits, row_some here n some (first_other text some) front) in
     let end : IsEnd tail = end_from tail (λ more.
-    ap ends_row (get_or-drop (length line) here 0 0 ∙ ap (λ n. get_or here n 0) at) ∙ front.ended (omega (arith, length-drop (length line) here, more))) in
-    let read = row_read line tail (row_some here line some (first_other text some) front) front.whole (rw whole (plain_behind text plain)) end in
+    ap ends_row (get_or-drop n here 0 0 ∙ ap (λ n. get_or here n 0) at) ∙ front.ended (omega (arith, length-drop n here, more))) in
+    let read = row_read line tail long front.whole (rw whole (plain_behind text plain)) end in
     rows_behind text ∙ ap rows_in (sym whole) ∙ ended_rows (cells_of line) (line ++ tail) tail read end
 
 absent : (byte : ℕ) (is : Bool) → (byte == 34) ≡ is → ¬ ((byte == 34) ≡ true) → (byte == 34) ≡ false

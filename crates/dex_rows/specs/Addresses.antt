@@ -1,5 +1,5 @@
 -- Words that name accounts.
-use Rattle.std.specs.Prelude.{ℕ, Bool, ◌&&◌, ◌||◌, ◌==◌, if◌then◌else◌, List, ◌∷◌, bytes_eq, codes, Option, Some, None, option_map}
+use Rattle.std.specs.Prelude.{◌≡◌, ℕ, Bool, true, false, ◌&&◌, ◌||◌, ◌==◌, if◌then◌else◌, List, ◌∷◌, bytes_eq, codes, Option, Some, None, option_map}
 use Rattle.std.specs.Char.{is_ascii_digit}
 use Rattle.std.specs.Int.{is_in_range}
 use Rattle.std.specs.List.{list_all}
@@ -29,3 +29,8 @@ address_of word = if is_label word then Some (label_address word) else prefixed_
 -- the wallet that a word gives to a role: none where it is `-`, else the address that it names
 unfoldable pub role_of : List ℕ → Option (Option Address)
 role_of word = if bytes_eq word (codes "-") then Some None else option_map Some (address_of word)
+
+-- a value was put where it is to stand, where the word has one
+abbrev pub IsRead : {A : Type 0} → Bool → Option A → A → Type 0
+IsRead true meant left = meant ≡ Some left
+IsRead false meant left = meant ≡ None

@@ -31,17 +31,20 @@ cells_of line = slice_split (λ byte. byte == 44) line
 abbrev pub texts : List (Bor (List ℕ)) → List (List ℕ)
 texts fields = map (λ (field : Bor (List ℕ)). field.now) fields
 
--- a row with its first twelve fields, and how many there are
-pub record IsCut (line : Line) : Type 0 where
-  pub count : line.count ≡ length (cells_of line.bytes.now)
-  pub kept : texts (take line.count line.fields) ≡ take 12 (cells_of line.bytes.now)
+-- a row's first twelve fields, and how many there are
+pub record AreCut (bytes : List ℕ) (n : ℕ) (fields : List (Bor (List ℕ))) : Type 0 where
+  pub count : n ≡ length (cells_of bytes)
+  pub kept : texts (take n fields) ≡ take 12 (cells_of bytes)
 
--- a row that stands at the front of a text, up to a line end or the text's
-pub record IsFront (text line : List ℕ) : Type 0 where
-  pub fits : length line ≤ length text
-  pub is : take (length line) text ≡ line
-  pub whole : All (λ byte. ends_row byte ≡ false) line
-  pub ended : length line < length text → ends_row (slice_index text (length line)) ≡ true
+-- a row with its first twelve fields, and how many there are
+abbrev pub IsCut : Line → Type 0
+IsCut line = AreCut line.bytes.now line.count line.fields
+
+-- so many bytes at the front of a text are a row, up to a line end or the text's
+pub record IsFront (text : List ℕ) (n : ℕ) : Type 0 where
+  pub fits : n ≤ length text
+  pub whole : All (λ byte. ends_row byte ≡ false) (take n text)
+  pub ended : n < length text → ends_row (slice_index text n) ≡ true
 
 -- a field is kept at this place, if it is one of the first twelve
 pub record KeepsField (fields : List (Bor (List ℕ))) (place : ℕ) (field : List ℕ) (after : List (Bor (List ℕ))) : Type 0 where

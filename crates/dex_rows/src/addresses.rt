@@ -1,31 +1,65 @@
-ghost use Rattle.std.specs.Prelude.{◌≡◌, MatchOption, false, true};
+ghost use Rattle.std.specs.Prelude.{◌≡◌, Some, true};
+ghost use Rattle.std.specs.Option.{option_map};
 ghost use Rattle.std.specs.List.{list_all};
 ghost use Rattle.dex_types.specs.Text.{is_label, is_label_character, label_address};
-ghost use Rattle.dex_rows.specs.Addresses.{address_of, digits_address, is_lower_hexdigit, prefixed_address, role_of};
+ghost use Rattle.dex_rows.specs.Addresses.{IsRead, address_of, digits_address, is_lower_hexdigit, prefixed_address, role_of};
 
 use dex_types::Address;
 use hex::FromHex;
 
 /// The address that a word names: a label's, or that of `0x` and 64 lower-case hexadecimal digits.
-#[tactic(auto, unfolding(crate::specs::Addresses::address_of))]
 pub fn address_word(text: &[u8]) -> Option<Address>
     ensures { result ≡ address_of text.now }
 {
-    match label_word(text) {
-        Some(address) => Some(address),
-        None => prefixed_address(text),
+    let mut address = Address([0; 32]);
+    if read_address(text, &mut address) {
+        Some(address)
+    } else {
+        None
     }
 }
 
+/// Puts the address that a word names where it is to stand, and answers whether the word names one.
+#[tactic(auto, unfolding(crate::specs::Addresses::address_of))]
+pub fn read_address(text: &[u8], address: &mut Address) -> bool
+    ensures { IsRead result (address_of text.now) address.new }
+{
+    read_label(text, address) || read_prefixed(text, address)
+}
+
 /// The wallet that a word gives to a role: none, for `-`, or the address that it names. It is None for any other word.
-#[tactic(auto, unfolding(crate::specs::Addresses::role_of))]
 pub fn role_word(text: &[u8]) -> Option<Option<Address>>
     ensures { result ≡ role_of text.now }
 {
-    if text == b"-".as_slice() {
-        Some(None)
+    let mut role = None;
+    if read_role(text, &mut role) {
+        Some(role)
     } else {
-        address_word(text).map(Some)
+        None
+    }
+}
+
+/// Puts the wallet that a word gives to a role where it is to stand, and answers whether the word gives one, or none.
+#[tactic(auto, unfolding(crate::specs::Addresses::role_of))]
+pub fn read_role(text: &[u8], role: &mut Option<Address>) -> bool
+    ensures { IsRead result (role_of text.now) role.new }
+{
+    if text == b"-".as_slice() {
+        *role = None;
+        true
+    } else {
+        read_wallet(text, role)
+    }
+}
+
+// The same of a word that is to name a wallet: its bytes are written where they stay.
+fn read_wallet(text: &[u8], role: &mut Option<Address>) -> bool
+    ensures { IsRead result (option_map Some (address_of text.now)) role.new }
+{
+    *role = Some(Address([0; 32]));
+    match role {
+        Some(address) => read_address(text, address),
+        None => unreachable!(),
     }
 }
 
@@ -57,34 +91,38 @@ fn is_lower_hexdigit(c: u8) -> bool
     c.is_ascii_digit() || (b'a' <= c && c <= b'f')
 }
 
-// The address of a word that is a label: one pass over its bytes.
-fn label_word(text: &[u8]) -> Option<Address>
-    ensures { MatchOption result (is_label text.now ≡ false)
-        (λ address. (is_label text.now ≡ true) × (address ≡ label_address text.now)) }
+// Puts the address of a word that is a label where it is to stand: one pass over its bytes.
+fn read_label(text: &[u8], address: &mut Address) -> bool
+    ensures label { result ≡ is_label text.now }
+    ensures address { result ≡ true → address.new ≡ label_address text.now }
 {
     if text.is_empty() || 24 < text.len() {
-        return None;
+        return false;
     }
-    let mut bytes = [0; 32];
+    address.0 = [0; 32];
     'label: for place in 0..text.len() {
         let byte = text[place];
         if !is_label_character(byte) {
-            return None;
+            return false;
         }
-        bytes[place] = byte;
+        address.0[place] = byte;
     }
-    Some(Address(bytes))
+    true
 }
 
-// The address of `0x` and 64 hexadecimal digits in lower case. It is not inlined: a label needs nothing of it.
+// Puts the address of `0x` and 64 digits where it is to stand. It is not inlined: a label needs nothing of it.
 #[inline(never)]
-fn prefixed_address(text: &[u8]) -> Option<Address>
-    ensures { result ≡ prefixed_address text.now }
+fn read_prefixed(text: &[u8], address: &mut Address) -> bool
+    ensures { IsRead result (prefixed_address text.now) address.new }
 {
-    match text {
-        [b'0', b'x', digits @ ..] => digits_address(digits),
-        _ => None,
-    }
+    let [b'0', b'x', digits @ ..] = text else {
+        return false;
+    };
+    let Some(found) = digits_address(digits) else {
+        return false;
+    };
+    *address = found;
+    true
 }
 
 // Whether each byte is a hexadecimal digit in lower case.

@@ -1,8 +1,8 @@
 //! Rows of a text without quotes, cut where they stand.
 
-ghost use Rattle.std.specs.Prelude.{◌≡◌, ◌<◌, ◌≤◌, [], ◌∷◌, ◌++◌, IfSome, MatchOption, drop, length, take};
+ghost use Rattle.std.specs.Prelude.{◌≡◌, ◌<◌, ◌≤◌, [], ◌∷◌, ◌++◌, drop, false, length, take, true};
 ghost use Rattle.csv.specs.Reading.{strip_bom};
-ghost use Rattle.dex_rows.specs.Lines.{HasNoQuote, IsCut, IsFront, KeepsField, behind_ends, cells_of, ends_row, rows_in, texts};
+ghost use Rattle.dex_rows.specs.Lines.{AreCut, HasNoQuote, IsCut, IsFront, KeepsField, behind_ends, cells_of, ends_row, rows_in, texts};
 
 /// How many fields of a row are kept: more than any row of a script or a dump may have.
 pub(crate) const KEPT: usize = 12;
@@ -13,6 +13,12 @@ pub(crate) struct Line<'a> {
     pub(crate) bytes: &'a [u8],
     pub(crate) fields: [&'a [u8]; KEPT],
     pub(crate) count: usize,
+}
+
+/// How long a row is, and how many fields it has.
+struct Cut {
+    length: usize,
+    count: usize,
 }
 
 /// A text without the byte-order mark at its start.
@@ -26,21 +32,24 @@ pub(crate) fn without_mark(text: &[u8]) -> &[u8]
     }
 }
 
-/// Takes the next row of a text without quotes: what stands up to the next line end, if anything does.
-pub(crate) fn next_line<'a>(rest: &mut &'a [u8]) -> Option<Line<'a>>
-    requires { HasNoQuote rest.old.now }
-    ensures next { MatchOption result (rows_in rest.old.now ≡ [])
-        (λ line. rows_in rest.old.now ≡ cells_of line.bytes.now ∷ rows_in rest.new.now) }
-    ensures cut { IfSome result IsCut }
+/// Puts the next row of a text without quotes into a line, if there is one: what stands up to the next line end.
+pub(crate) fn next_line<'a>(rest: &mut &'a [u8], line: &mut Line<'a>) -> bool
+    requires quotes { HasNoQuote rest.old.now }
+    requires cut { IsCut line.old }
+    ensures next { result ≡ true → rows_in rest.old.now ≡ cells_of line.new.bytes.now ∷ rows_in rest.new.now }
+    ensures end { result ≡ false → rows_in rest.old.now ≡ [] }
+    ensures cut { IsCut line.new }
     ensures left { HasNoQuote rest.new.now }
 {
     let text = behind_ends(*rest);
     if text.is_empty() {
-        return None;
+        return false;
     }
-    let line = line_at(text);
-    *rest = &text[line.bytes.len()..];
-    Some(line)
+    let Cut { length, count } = cut_at(text, &mut line.fields);
+    line.bytes = &text[..length];
+    line.count = count;
+    *rest = &text[length..];
+    true
 }
 
 // What stands behind the line ends at the front.
@@ -55,36 +64,36 @@ fn behind_ends(text: &[u8]) -> &[u8]
     &[]
 }
 
-// The row at the front of a text, up to a line end or the text's: one pass over its bytes.
-fn line_at<'a>(text: &'a [u8]) -> Line<'a>
-    ensures cut { IsCut result }
-    ensures front { IsFront text.now result.bytes.now }
+// Cuts the row at the front of a text, up to a line end or the text's: one pass over its bytes. It is not inlined, so that
+// the pass has few values in hand. Fields that stood there before stay behind those of the row.
+#[inline(never)]
+fn cut_at<'a>(text: &'a [u8], fields: &mut [&'a [u8]; KEPT]) -> Cut
+    requires { length fields.old ≡ 12 }
+    ensures size { length fields.new ≡ 12 }
+    ensures cut { AreCut (take result.length text.now) result.count fields.new }
+    ensures front { IsFront text.now result.length }
 {
-    let none: &[u8] = &[];
-    let mut fields = [none; KEPT];
     let mut count = 0;
     let mut start = 0;
     'bytes: for at in 0..text.len() {
         let byte = text[at];
         if byte <= b',' {
             if byte == b',' {
-                keep(&mut fields, count, &text[start..at]);
+                keep(fields, count, &text[start..at]);
                 count += 1;
                 start = at + 1;
             } else if ends_row(byte) {
-                keep(&mut fields, count, &text[start..at]);
-                return Line {
-                    bytes: &text[..at],
-                    fields,
+                keep(fields, count, &text[start..at]);
+                return Cut {
+                    length: at,
                     count: count + 1,
                 };
             }
         }
     }
-    keep(&mut fields, count, &text[start..]);
-    Line {
-        bytes: text,
-        fields,
+    keep(fields, count, &text[start..]);
+    Cut {
+        length: text.len(),
         count: count + 1,
     }
 }

@@ -4,7 +4,7 @@ ghost use Rattle.csv.specs.Records.{fields_of};
 ghost use Rattle.dex_rows.specs.Printable.{IsPrintable, is_printable, is_printable_byte, row_is_printable};
 
 use crate::quoted::field;
-use crate::records::{Fields, Row};
+use crate::records::Fields;
 use csv::ByteRecord;
 
 /// Whether each byte of a field is from 32 to 126.
@@ -39,9 +39,9 @@ pub fn row_is_printable(row: &Fields<'_>) -> bool
     ensures value { result ≡ row_is_printable row.now }
     ensures every { IsTrue result ↔ All IsPrintable row.now }
 {
-    match &row.row {
-        Row::Plain(line) => is_printable(line.bytes),
-        Row::Quoted(record) => record_is_printable(record),
+    match &row.quoted {
+        None => is_printable(row.line.bytes),
+        Some(record) => record_is_printable(record),
     }
 }
 

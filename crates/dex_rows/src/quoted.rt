@@ -1,6 +1,6 @@
 //! Rows of a text with quotes, read by `csv`.
 
-ghost use Rattle.std.specs.Prelude.{◌≡◌, ◌<◌, [], ◌∷◌, IfOk, IsTrue, MatchOption, OnErr, false, length, slice_index_or};
+ghost use Rattle.std.specs.Prelude.{◌≡◌, ◌<◌, [], ◌∷◌, IfOk, IsSomeAnd, IsTrue, OnErr, false, length, slice_index_or, true};
 ghost use Rattle.csv.specs.Records.{fields_of};
 ghost use Rattle.dex_rows.specs.Records.{rows_of};
 ghost use Rattle.dex_rows.specs.RowReader.{GivesRows, rows_left};
@@ -45,20 +45,26 @@ impl<'a> QuotedRows<'a> {
         }
     }
 
-    /// Takes the next row, if there is one. After a want of memory there are no more rows.
-    pub(crate) fn next_row(&mut self) -> Result<Option<ByteRecord>, NoMemory>
-        ensures next { IfOk result (λ next. MatchOption next (self.old ≡ [])
-            (λ row. self.old ≡ fields_of row ∷ self.new)) }
+    /// Takes the next row into a record, the one that is there or a new one, and answers whether there was one. After a want
+    /// of memory there are no more rows.
+    pub(crate) fn next_row(&mut self, row: &mut Option<ByteRecord>) -> Result<bool, NoMemory>
+        ensures next { IfOk result (λ found. found ≡ true
+            → IsSomeAnd row.new (λ kept. self.old ≡ fields_of kept ∷ self.new)) }
+        ensures end { IfOk result (λ found. found ≡ false → self.old ≡ []) }
         ensures stopped { OnErr result (self.new ≡ []) }
     {
         if self.is_over {
-            return Ok(None);
+            return Ok(false);
         }
         self.is_over = true;
-        let mut row = ByteRecord::new(self.alloc);
-        let found = read_row(&mut self.reader, &mut row)?;
+        let mut record = match row.take() {
+            Some(record) => record,
+            None => ByteRecord::new(self.alloc),
+        };
+        let found = read_row(&mut self.reader, &mut record)?;
         self.is_over = !found;
-        if found { Ok(Some(row)) } else { Ok(None) }
+        *row = Some(record);
+        Ok(found)
     }
 }
 

@@ -1,9 +1,9 @@
 //! The rows of a text, and the fields of a row.
 
-ghost use Rattle.std.specs.Prelude.{◌≡◌, ◌<◌, [], ◌∷◌, IfOk, MatchOption, OnErr, length, slice_index_or};
-ghost use Rattle.dex_rows.specs.Records.{rows_of};
+ghost use Rattle.std.specs.Prelude.{◌≡◌, ◌<◌, [], ◌∷◌, IfOk, OnErr, false, length, true};
+ghost use Rattle.dex_rows.specs.Records.{field_at, rows_of};
 
-use crate::lines::{Line, next_line, without_mark};
+use crate::lines::{KEPT, Line, next_line, without_mark};
 use crate::quoted::{self, QuotedRows};
 use csv::ByteRecord;
 use dex_types::NoMemory;
@@ -11,28 +11,40 @@ use memchr::memchr;
 use std::alloc::Global;
 use std::marker::Model;
 
-/// The fields of a row. A contract sees them as a list.
+/// The fields of a row. A contract sees them as a list. One buffer serves for all rows of a text.
 #[derive(Drop)]
 pub struct Fields<'a> {
-    pub(crate) row: Row<'a>,
-}
-
-/// Where the fields of a row stand: in the text, or without their quotes in a record.
-#[derive(Drop)]
-pub(crate) enum Row<'a> {
-    Plain(Line<'a>),
-    Quoted(ByteRecord),
+    /// The row where it stands in the text.
+    pub(crate) line: Line<'a>,
+    /// The row without its quotes, where the text has some.
+    pub(crate) quoted: Option<ByteRecord>,
 }
 
 impl<'a> Model for Fields<'a> {
     ghost use Rattle.std.specs.Prelude.{List, ℕ};
-    ghost use Rattle.dex_rows.specs.Rows.{IsRow, fields_in};
+    ghost use Rattle.dex_rows.specs.Lines.{IsCut};
+    ghost use Rattle.dex_rows.specs.Rows.{fields_in};
 
     ghost Value = { List (List ℕ) };
 
-    ghost view = { λ s. fields_in s.row };
+    ghost view = { λ s. fields_in s.line s.quoted };
 
-    ghost invariant = { λ s. IsRow s.row };
+    ghost invariant = { λ s. IsCut s.line };
+}
+
+impl<'a> Fields<'a> {
+    /// The fields of an empty row, to be filled. It takes no memory.
+    pub fn new() -> Fields<'a>
+        ensures { result ≡ [] ∷ [] }
+    {
+        let none: &[u8] = &[];
+        let line = Line {
+            bytes: none,
+            fields: [none; KEPT],
+            count: 1,
+        };
+        Fields { line, quoted: None }
+    }
 }
 
 /// The rows of a text that are still to come, read one after the other. A contract sees it as the list of these rows.
@@ -74,25 +86,18 @@ impl<'a> Rows<'a> {
         Rows { source }
     }
 
-    /// Takes the next row, if there is one. After a want of memory there are no more rows.
-    pub fn next_row(&mut self) -> Result<Option<Fields<'a>>, NoMemory>
-        ensures next { IfOk result (λ next. MatchOption next (self.old ≡ [])
-            (λ row. self.old ≡ row ∷ self.new)) }
+    /// Takes the next row, and answers whether there was one. After a want of memory there are no more rows.
+    pub fn next_row(&mut self, row: &mut Fields<'a>) -> Result<bool, NoMemory>
+        ensures next { IfOk result (λ found. found ≡ true → self.old ≡ row.new ∷ self.new) }
+        ensures end { IfOk result (λ found. found ≡ false → self.old ≡ []) }
         ensures stopped { OnErr result (self.new ≡ []) }
     {
         match &mut self.source {
-            Source::Plain(rest) => match next_line(rest) {
-                None => Ok(None),
-                Some(line) => Ok(Some(Fields {
-                    row: Row::Plain(line),
-                })),
-            },
-            Source::Quoted(rows) => match rows.next_row()? {
-                None => Ok(None),
-                Some(record) => Ok(Some(Fields {
-                    row: Row::Quoted(record),
-                })),
-            },
+            Source::Plain(rest) => {
+                row.quoted = None;
+                Ok(next_line(rest, &mut row.line))
+            }
+            Source::Quoted(rows) => rows.next_row(&mut row.quoted),
         }
     }
 }
@@ -101,20 +106,22 @@ impl<'a> Rows<'a> {
 pub fn field_count(row: &Fields<'_>) -> usize
     ensures { result ≡ length row.now }
 {
-    match &row.row {
-        Row::Plain(line) => line.count,
-        Row::Quoted(record) => record.len(),
+    match &row.quoted {
+        None => row.line.count,
+        Some(record) => record.len(),
     }
 }
 
-/// The bytes of the field at a place of a row, counted from 0, if it is one of the first twelve.
-pub fn field<'r>(row: &'r Fields<'_>, place: usize) -> &'r [u8]
-    requires among { place < length row.now }
-    requires kept { place < 12 }
-    ensures { result.now ≡ slice_index_or row.now place [] }
+/// The bytes of the field at a place of a row, counted from 0, if it is one of the first twelve; no bytes behind the last.
+pub fn field_at<'r>(row: &'r Fields<'_>, place: usize) -> &'r [u8]
+    requires { place < 12 }
+    ensures { result.now ≡ field_at row.now place }
 {
-    match &row.row {
-        Row::Plain(line) => line.fields[place],
-        Row::Quoted(record) => quoted::field(record, place),
+    if field_count(row) <= place {
+        return &[];
+    }
+    match &row.quoted {
+        None => row.line.fields[place],
+        Some(record) => quoted::field(record, place),
     }
 }

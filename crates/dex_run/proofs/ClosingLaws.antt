@@ -10,7 +10,7 @@ use Rattle.dex_act.specs.Wallets.{AreApart}
 use Rattle.dex_bank.specs.Closed as cells
 use Rattle.dex_journals.specs.StampedCalls.{calls_of_lane, entries_of_lane}
 use Rattle.dex_order.proofs.LastCells.{wallets-kept}
-use Rattle.dex_run.specs.Closing.{ClosesAs}
+use Rattle.dex_run.specs.Closing.{AreClosed, ClosesAs}
 use Rattle.dex_turns.specs.Seats.{lane_in}
 use Rattle.dex_run.proofs.ColumnLists.{All-across, AllThree-length, AllZip-last_of}
 
@@ -122,14 +122,7 @@ module _ (bank : BankState) (seats : List SeatState) (facts : IsBank bank) (lane
 
 -- ---- there is a cell for each gate
 
-pub market-cells-length : {Z : Type 0} (gates : List (GateView (Stamped Call) MarketOrigin)) (columns : List (Vec (PassView (Stamped Call) MarketOrigin) Z)) (own : List MarketCellState)
-    → AreMarketsClosed gates columns own → length own ≡ length gates
-market-cells-length gates columns own closed =
-    ap length closed.are ∙ length-map closed.values (λ (value : BankMarketState). value.cell)
-    ∙ AllThree-length (λ gate column value. IsMarketClosed gate column.items value) gates columns closed.values closed.given
-
-pub wallet-cells-length : {Z : Type 0} (gates : List (GateView (Stamped WalletEntry) WalletOrigin)) (columns : List (Vec (PassView (Stamped WalletEntry) WalletOrigin) Z)) (own : List CellState)
-    → AreWalletsClosed gates columns own → length own ≡ length gates
-wallet-cells-length gates columns own closed =
-    ap length closed.are ∙ length-map closed.values (λ (value : BankWalletState). value.cell)
-    ∙ AllThree-length (λ gate column value. IsWalletClosed gate column.items value) gates columns closed.values closed.given
+pub cells-length : {V E O C Z : Type 0} (Given : GateView E O → List (PassView E O) → V → Type 0) (Kept : V → Type 0) (cell : V → C) (gates : List (GateView E O)) (columns : List (Vec (PassView E O) Z))
+    (own : List C) → AreClosed Given Kept cell gates columns own → length own ≡ length gates
+cells-length Given Kept cell gates columns own closed =
+    ap length closed.are ∙ length-map closed.values cell ∙ AllThree-length (λ gate column value. Given gate column.items value) gates columns closed.values closed.given

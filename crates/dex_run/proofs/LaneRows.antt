@@ -1,17 +1,17 @@
 -- The items of a lane, one after the other.
 use Rattle.std.proofs.Common.{◌≡◌, ℕ, zero, suc, ◌+◌, ◌<◌, ◌≤◌, ⊎_elim, nat_eq, drop, length-drop, Bool, cond, List, [], ◌∷◌, ◌++◌, length, get_or, map, take, sym, ap, ◌∙◌, subst, arith}
-use Rattle.dex_fold.proofs.Common.{All-filter, All-map, get_or-map, length-map, PlainRow, Row, eq-eqb, filter-append, row_of, rows_of_lane, take_all, take_at, take_more}
-use Rattle.dex_replay.proofs.Common.{AreLegs, AreRows, PlainScript}
+use Rattle.dex_fold.proofs.Common.{All-cons, All-filter, All-map, All-nil, All-weaker, get_or-map, length-map, PlainRow, Row, eq-eqb, filter-append, row_of, rows_of_lane, take_at}
+use Rattle.dex_replay.proofs.Common.{AreLegs, AreRows, PlainScript, lanes_of}
 use Rattle.std.specs.List.{All}
 use Rattle.dex_fold.proofs.MappedLists.{same-get}
-use Rattle.dex_run.proofs.Common.{AreNext, BankState, CanRun, IsDone, IsNext, SeatState}
+use Rattle.dex_run.proofs.Common.{AreNext, AreRowsOf, BankState, Begins, IsNext, SeatState}
 use Rattle.dex_types.specs.declared.rows.RowPlaces.{RowPlaces}
-use Rattle.dex_script.specs.Places.{IsPlaced}
-use Rattle.dex_script.proofs.PlacedLaws.{placed-at, placed-long}
+use Rattle.dex_script_facts.specs.Places.{IsPlaced}
+use Rattle.dex_script_facts.proofs.PlacedLaws.{placed-at, placed-long}
 use Rattle.std.proofs.lemmas.Bool.{cases_lt}
-use Rattle.std.proofs.lemmas.List.{append_assoc, drop_more, get_or-drop, take-append-drop, get_or-take, length-append, length-take-le, map-append}
+use Rattle.std.proofs.lemmas.List.{drop_more, get_or-drop, take-append-drop, get_or-take, length-take-le, map-append}
 
-rows_of_lane-append : (lane : ℕ) (xs ys : List PlainRow) → rows_of_lane lane (xs ++ ys) ≡ rows_of_lane lane xs ++ rows_of_lane lane ys
+pub rows_of_lane-append : (lane : ℕ) (xs ys : List PlainRow) → rows_of_lane lane (xs ++ ys) ≡ rows_of_lane lane xs ++ rows_of_lane lane ys
 rows_of_lane-append lane xs ys = filter-append (λ (row : PlainRow). nat_eq row.lane lane) xs ys
 
 -- what is there behind the first items
@@ -28,11 +28,13 @@ behind-two (z ∷ xs) zero x y within at next =
     (found.0, ap (λ w. w ∷ xs) (sym at) ∙ ap (λ l. x ∷ l) found.1)
 behind-two (z ∷ xs) (suc i) x y within at next = let found = behind-two xs i x y (omega (arith, within)) at next in (found.0, ap (λ l. z ∷ l) found.1)
 
--- ---- where items begin
+lanes-below : (rows : List PlainRow) → All (λ (row : PlainRow). row.lane < lanes_of rows) rows
+lanes-below [] = All-nil (λ (row : PlainRow). row.lane < lanes_of [])
+lanes-below (row ∷ rows) =
+    All-cons (λ (one : PlainRow). one.lane < lanes_of (row ∷ rows)) row rows (omega arith)
+    (All-weaker (λ (one : PlainRow). one.lane < lanes_of rows) (λ (one : PlainRow). one.lane < lanes_of (row ∷ rows)) (λ one below. omega (arith, below)) rows (lanes-below rows))
 
--- with the row at a place an item begins: the rows before it have lower numbers
-abbrev pub Begins : List Row → ℕ → Type 0
-Begins rows place = (k : ℕ) (d : Row) → k < place → place < length rows → (get_or rows k d).number < (get_or rows place d).number
+-- ---- where items begin
 
 module _ (script : PlainScript) (rows : List Row) (are : map row_of rows ≡ script.rows) (is : AreRows script) where
   long : length script.rows ≡ length rows
@@ -45,6 +47,14 @@ module _ (script : PlainScript) (rows : List Row) (are : map row_of rows ≡ scr
   never-falls : (i j : ℕ) (d : Row) → i < j → j < length rows → (get_or rows i d).number ≤ (get_or rows j d).number
   never-falls i j d less within =
       omega (arith, is.rising i j (row_of d) less (omega (arith, within, long)), number-at i d (omega (arith, less, within)), number-at j d within)
+
+  -- a row's lane is one of the script's
+  pub lane-within : (i : ℕ) (row : Row) → i < length rows → row ≡ get_or rows i row → row.lane < script.lanes
+  lane-within i row within at =
+      let here : (get_or script.rows i (row_of row)).lane ≡ row.lane =
+      ap (λ (l : List PlainRow). (get_or l i (row_of row)).lane) (sym are)
+      ∙ ap (λ (r : PlainRow). r.lane) (get_or-map row_of rows i row (row_of row) within) ∙ ap (λ (r : Row). r.lane) (sym at) in
+      omega (arith, here, lanes-below script.rows i (row_of row) (omega (arith, within, long)), is.lanes)
 
   pub begins-first : Begins rows 0
   begins-first = λ k d less within. absurd (omega (arith, less))
@@ -187,65 +197,14 @@ next-both rows i first second seat within at at_second are so_far lower together
       legs = legs;
     }
 
--- one row more
-pub calls-more : (rows : List Row) (i : ℕ) (row : Row) (lane now calls calls' : ℕ) → i < length rows → row ≡ get_or rows i row → now ≡ lane
-    → calls ≡ length (rows_of_lane lane (map row_of (take i rows))) → calls' ≡ calls + length (rows_of_lane now (row_of row ∷ []))
-    → calls' ≡ length (rows_of_lane lane (map row_of (take (i + 1) rows)))
-calls-more rows i row lane now calls calls' within at same so_far more =
-    let before : List PlainRow = map row_of (take i rows) in
-    let one : map row_of (take (i + 1) rows) ≡ before ++ row_of row ∷ [] =
-    ap (map row_of) (take_more rows i row within)
-    ∙ map-append row_of (take i rows) (get_or rows i row ∷ [])
-    ∙ ap (λ (r : Row). before ++ row_of r ∷ []) (sym at) in
-    let count : length (rows_of_lane lane (map row_of (take (i + 1) rows)))
-    ≡ length (rows_of_lane lane before) + length (rows_of_lane lane (row_of row ∷ [])) =
-    ap (λ (l : List PlainRow). length (rows_of_lane lane l)) one
-    ∙ ap length (rows_of_lane-append lane before (row_of row ∷ []))
-    ∙ length-append (rows_of_lane lane before) (rows_of_lane lane (row_of row ∷ [])) in
-    let moved : length (rows_of_lane now (row_of row ∷ [])) ≡ length (rows_of_lane lane (row_of row ∷ [])) =
-    ap (λ (n : ℕ). length (rows_of_lane n (row_of row ∷ []))) same in
-    omega (arith, so_far, more, count, moved)
-
--- two rows more
-pub calls-two : (rows : List Row) (i : ℕ) (first second : Row) (lane now calls calls' : ℕ) → i + 1 < length rows → first ≡ get_or rows i first → second ≡ get_or rows (i + 1) second
-    → now ≡ lane → calls ≡ length (rows_of_lane lane (map row_of (take i rows)))
-    → calls' ≡ calls + length (rows_of_lane now (row_of first ∷ row_of second ∷ [])) → calls' ≡ length (rows_of_lane lane (map row_of (take (i + 2) rows)))
-calls-two rows i first second lane now calls calls' within at next same so_far more =
-    let before : List PlainRow = map row_of (take i rows) in
-    let both : map row_of (take (i + 2) rows) ≡ before ++ row_of first ∷ row_of second ∷ [] =
-    ap (λ (n : ℕ). map row_of (take n rows)) (omega arith)
-    ∙ ap (map row_of) (take_more rows (i + 1) second within ∙ ap (λ (r : Row). take (i + 1) rows ++ r ∷ []) (sym next)
-    ∙ ap (λ (l : List Row). l ++ second ∷ []) (take_more rows i first (omega (arith, within)) ∙ ap (λ (r : Row). take i rows ++ r ∷ []) (sym at))
-    ∙ append_assoc (take i rows) (first ∷ []) (second ∷ []))
-    ∙ map-append row_of (take i rows) (first ∷ second ∷ []) in
-    let count : length (rows_of_lane lane (map row_of (take (i + 2) rows)))
-    ≡ length (rows_of_lane lane before) + length (rows_of_lane lane (row_of first ∷ row_of second ∷ [])) =
-    ap (λ (l : List PlainRow). length (rows_of_lane lane l)) both
-    ∙ ap length (rows_of_lane-append lane before (row_of first ∷ row_of second ∷ []))
-    ∙ length-append (rows_of_lane lane before) (rows_of_lane lane (row_of first ∷ row_of second ∷ [])) in
-    let moved : length (rows_of_lane now (row_of first ∷ row_of second ∷ [])) ≡ length (rows_of_lane lane (row_of first ∷ row_of second ∷ [])) =
-    ap (λ (n : ℕ). length (rows_of_lane n (row_of first ∷ row_of second ∷ []))) same in
-    omega (arith, so_far, more, count, moved)
-
--- when all rows have been gone through, those of the lane are done
-pub all-done : (rows : List Row) (i : ℕ) (before after : SeatState) → length rows ≤ i → map row_of rows ≡ before.script.rows → after.lane ≡ before.lane
-    → after.script ≡ before.script → length after.calls ≡ length (rows_of_lane before.lane (map row_of (take i rows))) → IsDone after
-all-done rows i before after all are lane script so_far =
-    so_far
-    ∙ ap (λ (l : List Row). length (rows_of_lane before.lane (map row_of l))) (take_all i rows all)
-    ∙ ap (λ (l : List PlainRow). length (rows_of_lane before.lane l)) are
-    ∙ ap (λ (n : ℕ). length (rows_of_lane n before.script.rows)) (sym lane)
-    ∙ ap (λ (s : PlainScript). length (rows_of_lane after.lane s.rows)) (sym script)
-
 -- ---- places
 
-module _ (bank : BankState) (rows : List Row) (places : List RowPlaces) (seat : SeatState) (can : CanRun bank rows places seat) where
+module _ (bank : BankState) (rows : List Row) (places : List RowPlaces) (are : AreRowsOf bank rows places) where
   pub places-long : length places ≡ length rows
-  places-long = placed-long seat.script.start (map row_of rows) places can.placed ∙ length-map rows row_of
+  places-long = placed-long bank.script.start (map row_of rows) places are.placed ∙ length-map rows row_of
 
   -- a row has its places beside it
   pub row-placed : (i : ℕ) (row : Row) (default : RowPlaces) → i < length rows → row ≡ get_or rows i row → IsPlaced bank.script.start (row_of row) (get_or places i default)
   row-placed i row default within at =
-      subst (λ (script : PlainScript). IsPlaced script.start (row_of row) (get_or places i default)) can.of_bank.script
-      (subst (λ (r : PlainRow). IsPlaced seat.script.start r (get_or places i default)) (get_or-map row_of rows i row (row_of row) within ∙ ap row_of (sym at))
-      (placed-at seat.script.start (map row_of rows) places can.placed i (row_of row) default (omega (arith, within, length-map rows row_of))))
+      subst (λ (r : PlainRow). IsPlaced bank.script.start r (get_or places i default)) (get_or-map row_of rows i row (row_of row) within ∙ ap row_of (sym at))
+      (placed-at bank.script.start (map row_of rows) places are.placed i (row_of row) default (omega (arith, within, length-map rows row_of)))

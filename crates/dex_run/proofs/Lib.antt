@@ -5,4 +5,5 @@ pub mod ClosingLaws
 pub mod Openings
 pub mod Seating
 pub mod LaneRows
+pub mod LaneItems
 pub mod Jobs

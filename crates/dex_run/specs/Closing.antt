@@ -8,7 +8,7 @@ use Rattle.dex_gate.specs.GateView.{GateView}
 use Rattle.dex_gate.specs.PassView.{PassView}
 use Rattle.dex_history.specs.Journal.{Call}
 use Rattle.dex_report.specs.Outcomes.{PlainOutcome}
-use Rattle.dex_script.specs.Drafts.{PlainScript}
+use Rattle.dex_script_facts.specs.PlainScript.{PlainScript}
 use Rattle.dex_fold.specs.Lists.{AllThree}
 use Rattle.dex_wallet.specs.CellState.{CellState}
 use Rattle.dex_stamps.specs.Stamped.{Stamped}
@@ -87,18 +87,20 @@ abbrev pub IsWalletClosed : GateView (Stamped WalletEntry) WalletOrigin
     → List (PassView (Stamped WalletEntry) WalletOrigin) → BankWalletState → Type 0
 IsWalletClosed = IsClosed wallet_entries (λ (entry : Stamped WalletEntry). entry.item.lane) wallet_origin
 
--- the cells of the markets that gates give for the passes of their columns
-pub record AreMarketsClosed {Z : Type 0} (gates : List (GateView (Stamped Call) MarketOrigin))
-    (columns : List (Vec (PassView (Stamped Call) MarketOrigin) Z)) (cells : List MarketCellState) : Type 0 where
-  pub values : List BankMarketState
-  pub given : AllThree (λ gate column value. IsMarketClosed gate column.items value) gates columns values
-  pub kept : All IsBankMarket values
-  pub are : cells ≡ map (λ (value : BankMarketState). value.cell) values
+-- the cells of the values that gates give for the passes of their columns
+pub record AreClosed {V E O C Z : Type 0} (Given : GateView E O → List (PassView E O) → V → Type 0) (Kept : V → Type 0)
+    (cell : V → C) (gates : List (GateView E O)) (columns : List (Vec (PassView E O) Z)) (cells : List C) : Type 0 where
+  pub values : List V
+  pub given : AllThree (λ gate column value. Given gate column.items value) gates columns values
+  pub kept : All Kept values
+  pub are : cells ≡ map cell values
 
--- and of the wallets
-pub record AreWalletsClosed {Z : Type 0} (gates : List (GateView (Stamped WalletEntry) WalletOrigin))
-    (columns : List (Vec (PassView (Stamped WalletEntry) WalletOrigin) Z)) (cells : List CellState) : Type 0 where
-  pub values : List BankWalletState
-  pub given : AllThree (λ gate column value. IsWalletClosed gate column.items value) gates columns values
-  pub kept : All IsBankWallet values
-  pub are : cells ≡ map (λ (value : BankWalletState). value.cell) values
+-- of markets
+abbrev pub AreMarketsClosed : {Z : Type 0} → List (GateView (Stamped Call) MarketOrigin)
+    → List (Vec (PassView (Stamped Call) MarketOrigin) Z) → List MarketCellState → Type 0
+AreMarketsClosed = AreClosed IsMarketClosed IsBankMarket (λ (value : BankMarketState). value.cell)
+
+-- and of wallets
+abbrev pub AreWalletsClosed : {Z : Type 0} → List (GateView (Stamped WalletEntry) WalletOrigin)
+    → List (Vec (PassView (Stamped WalletEntry) WalletOrigin) Z) → List CellState → Type 0
+AreWalletsClosed = AreClosed IsWalletClosed IsBankWallet (λ (value : BankWalletState). value.cell)

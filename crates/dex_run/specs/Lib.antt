@@ -1,4 +1,5 @@
 pub mod Columns
 pub mod Closing
 pub mod Opened
+pub mod LaneItems
 pub mod Running

@@ -1,21 +1,31 @@
 -- What a lane's job needs, and what it leaves of its seat.
-use Rattle.std.specs.Prelude.{◌≡◌, List, [], map}
+use Rattle.std.specs.Prelude.{ℕ, ◌≡◌, ◌<◌, List, [], Vec, length, map}
+use Rattle.std.specs.declared.alloc.Global.{Global}
 use Rattle.dex_types.specs.declared.rows.Row.{Row}
 use Rattle.dex_types.specs.declared.rows.RowPlaces.{RowPlaces}
 use Rattle.dex_types.specs.Rows.{row_of}
-use Rattle.dex_script.specs.Facts.{IsScript}
-use Rattle.dex_script.specs.Places.{ArePlaced}
+use Rattle.dex_script_facts.specs.Facts.{IsScript}
+use Rattle.dex_script_facts.specs.Places.{ArePlaced}
+use Rattle.dex_run.specs.LaneItems.{IsIndex}
 use Rattle.dex_run.specs.declared.lane.LaneJob.{LaneJob}
 use Rattle.dex_turns.specs.Bank.{BankState}
 use Rattle.dex_turns.specs.Seats.{IsDone, IsSeatOf, SeatState}
 
--- a seat of this bank of whose rows none has acted, and all rows of its script with their places
-pub record CanRun (bank : BankState) (rows : List Row) (places : List RowPlaces) (seat : SeatState) : Type 0 where
-  pub is : IsScript seat.script
+-- all rows of the bank's script with their places
+pub record AreRowsOf (bank : BankState) (rows : List Row) (places : List RowPlaces) : Type 0 where
+  pub is : IsScript bank.script
+  pub rows_are : map row_of rows ≡ bank.script.rows
+  pub placed : ArePlaced bank.script.start (map row_of rows) places
+
+-- a seat of this bank of whose rows none has acted, all rows of its script with their places, and where the items of each lane
+-- begin
+pub record CanRun (bank : BankState) (rows : List Row) (places : List RowPlaces) (by_lane : List (Vec ℕ Global))
+    (seat : SeatState) : Type 0 where
+  pub are : AreRowsOf bank rows places
   pub of_bank : IsSeatOf bank seat
   pub fresh : seat.calls ≡ []
-  pub rows_are : map row_of rows ≡ seat.script.rows
-  pub placed : ArePlaced seat.script.start (map row_of rows) places
+  pub index : IsIndex rows by_lane
+  pub within : seat.lane < length by_lane
 
 -- the same seat of the bank, when all rows of its lane are done
 pub record HasRun (bank : BankState) (before after : SeatState) : Type 0 where
@@ -25,8 +35,10 @@ pub record HasRun (bank : BankState) (before after : SeatState) : Type 0 where
   pub done : IsDone after
 
 -- the job is to do these rows at this seat of this bank
-pub record IsJobOf {R P : Type 0} (bank : BankState) (rows : List Row) (places : List RowPlaces) (seat : SeatState) (job : LaneJob R P) : Type 0 where
+pub record IsJobOf {R P : Type 0} (bank : BankState) (rows : List Row) (places : List RowPlaces)
+    (by_lane : List (Vec ℕ Global)) (seat : SeatState) (job : LaneJob R P) : Type 0 where
   pub of_bank : job.bank.now ≡ bank
   pub rows_are : job.rows.now ≡ rows
   pub places_are : job.places.now ≡ places
+  pub by_lane_is : job.by_lane.now ≡ by_lane
   pub seat_is : job.seat ≡ seat

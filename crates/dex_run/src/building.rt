@@ -2,27 +2,20 @@
 
 ghost use Rattle.std.specs.Prelude.{◌≡◌, ◌<◌, ◌++◌, ◌∷◌, [], All, IfOk, OnOk, Some, map};
 ghost use Rattle.std.specs.List.{AllZip, range_with_len};
-ghost use Rattle.dex_types.specs.declared.movements.WalletEntry.{WalletEntry};
-ghost use Rattle.dex_history.specs.Journal.{Call};
-ghost use Rattle.dex_cell.specs.CellState.{MarketCellState};
 ghost use Rattle.dex_gate.specs.GateView.{GateView};
 ghost use Rattle.dex_gate.specs.PassView.{PassView, first_pass, next_pass};
-ghost use Rattle.dex_stamps.specs.Stamped.{Stamped};
-ghost use Rattle.dex_wallet.specs.CellState as wallet;
-ghost use Rattle.dex_bank.specs.Opened.{opened, rows_naming, rows_on};
-ghost use Rattle.dex_journals.specs.Journals.{MarketOrigin, WalletOrigin};
-ghost use Rattle.dex_turns.specs.Bank.{IsBank, IsMarketGate, IsWalletGate};
+ghost use Rattle.dex_bank.specs.Opened.{opened};
+ghost use Rattle.dex_turns.specs.Bank.{IsBank, IsGate, IsMarketGate, IsWalletGate};
 ghost use Rattle.dex_run.specs.Opened.{first_passes, seat_in, split_once};
 ghost use Rattle.dex_turns.specs.Seats.{IsSeatOf, SeatState};
 
+use crate::of_cell::OfCell;
 use dex_bank::Cells;
-use dex_cell::MarketCell;
 use dex_gate::{Gate, Journaled, Pass};
 use dex_journals::{BankMarket, BankWallet};
-use dex_script::Script;
+use dex_script_facts::Script;
 use dex_turns::{Bank, LaneSeat, Outline};
 use dex_types::NoMemory;
-use dex_wallet::WalletCell;
 use std::alloc::Global;
 
 /// Adds an item behind the others.
@@ -37,93 +30,39 @@ pub(crate) fn add<T: Drop>(items: &mut Vec<T>, item: T) -> Result<(), NoMemory>
 
 // ---- gates
 
-/// The gate of a market, and its first pass.
-fn market_gate(
+/// The gate of a cell, and its first pass.
+fn gate_over<V: OfCell + Drop>(
     alloc: Global,
-    cell: MarketCell,
+    cell: V::Cell,
     outline: &Outline,
-) -> Result<(Gate<BankMarket>, Pass<BankMarket>), NoMemory>
-    requires fresh { cell.calls ≡ [] }
-    requires room { cell.room ≡ rows_on cell.start.address outline.now.rows }
-    ensures gate { IfOk result (λ made. IsMarketGate outline.now cell.start made.0) }
+) -> Result<(Gate<V>, Pass<V>), NoMemory>
+    requires { V.fresh outline.now cell }
+    ensures gate { IfOk result (λ made. IsGate outline.now.lanes (V.from outline.now cell) made.0) }
     ensures pass { IfOk result (λ made. made.1 ≡ first_pass made.0) }
 {
-    match Gate::open(
-        alloc,
-        BankMarket::open(cell, outline.kept()),
-        outline.lanes(),
-    ) {
+    let value = V::over(alloc, cell, outline.kept())?;
+    match Gate::open(alloc, value, outline.lanes()) {
         Ok(made) => Ok(made),
         Err(_) => Err(NoMemory),
     }
 }
 
-/// The gates of all markets, and their first passes.
-fn market_gates(
+/// The gates of all cells, and their first passes.
+fn gates_over<V: OfCell + Drop>(
     alloc: Global,
-    cells: Vec<MarketCell>,
+    cells: Vec<V::Cell>,
     outline: &Outline,
-) -> Result<(Vec<Gate<BankMarket>>, Vec<Pass<BankMarket>>), NoMemory>
-    requires fresh { All (λ (cell : MarketCellState). cell.calls ≡ []) cells.items }
-    requires room { All (λ (cell : MarketCellState). cell.room ≡ rows_on cell.start.address outline.now.rows)
-        cells.items }
+) -> Result<(Vec<Gate<V>>, Vec<Pass<V>>), NoMemory>
+    requires { All (V.fresh outline.now) cells.items }
     ensures gates { IfOk result (λ made. AllZip
-        (λ (cell : MarketCellState) (gate : GateView (Stamped Call) MarketOrigin).
-        IsMarketGate outline.now cell.start gate)
+        (λ (cell : V.Cell) (gate : GateView V.Entry V.Origin). IsGate outline.now.lanes (V.from outline.now cell) gate)
         cells.items made.0.items) }
     ensures passes { IfOk result (λ made. made.1.items ≡ first_passes 1 made.0.items) }
 {
     let mut gates = Vec::new(alloc);
     let mut passes = Vec::new(alloc);
     for cell in cells {
-        let (gate, pass) = market_gate(alloc, cell, outline)?;
-        add(&mut gates, gate)?;
-        add(&mut passes, pass)?;
-    }
-    Ok((gates, passes))
-}
-
-/// The gate of a wallet, and its first pass.
-fn wallet_gate(
-    alloc: Global,
-    cell: WalletCell,
-    outline: &Outline,
-) -> Result<(Gate<BankWallet>, Pass<BankWallet>), NoMemory>
-    requires fresh { cell.entries ≡ [] }
-    requires room { cell.room ≡ rows_naming cell.address outline.now.rows }
-    ensures gate { IfOk result (λ made. IsWalletGate outline.now
-        (record { address = cell.address; bytes = cell.start }) made.0) }
-    ensures pass { IfOk result (λ made. made.1 ≡ first_pass made.0) }
-{
-    match Gate::open(
-        alloc,
-        BankWallet::open(cell, outline.kept()),
-        outline.lanes(),
-    ) {
-        Ok(made) => Ok(made),
-        Err(_) => Err(NoMemory),
-    }
-}
-
-/// The gates of all wallets, and their first passes.
-fn wallet_gates(
-    alloc: Global,
-    cells: Vec<WalletCell>,
-    outline: &Outline,
-) -> Result<(Vec<Gate<BankWallet>>, Vec<Pass<BankWallet>>), NoMemory>
-    requires fresh { All (λ (cell : wallet.CellState). cell.entries ≡ []) cells.items }
-    requires room { All (λ (cell : wallet.CellState). cell.room ≡ rows_naming cell.address outline.now.rows)
-        cells.items }
-    ensures gates { IfOk result (λ made. AllZip
-        (λ (cell : wallet.CellState) (gate : GateView (Stamped WalletEntry) WalletOrigin).
-        IsWalletGate outline.now (record { address = cell.address; bytes = cell.start }) gate)
-        cells.items made.0.items) }
-    ensures passes { IfOk result (λ made. made.1.items ≡ first_passes 1 made.0.items) }
-{
-    let mut gates = Vec::new(alloc);
-    let mut passes = Vec::new(alloc);
-    for cell in cells {
-        let (gate, pass) = wallet_gate(alloc, cell, outline)?;
+        let (gate, pass) = gate_over(alloc, cell, outline)?;
         add(&mut gates, gate)?;
         add(&mut passes, pass)?;
     }
@@ -200,8 +139,8 @@ pub(crate) fn bank_over(
     ensures fresh { IfOk result (λ made. All (λ (seat : SeatState). seat.calls ≡ []) made.1.items) }
 {
     let (mints, markets, wallets) = cells.into_parts();
-    let (markets, market_passes) = market_gates(alloc, markets, &outline)?;
-    let (wallets, wallet_passes) = wallet_gates(alloc, wallets, &outline)?;
+    let (markets, market_passes) = gates_over(alloc, markets, &outline)?;
+    let (wallets, wallet_passes) = gates_over(alloc, wallets, &outline)?;
     let seats = seats_of(
         alloc,
         &outline,

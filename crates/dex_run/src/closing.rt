@@ -3,16 +3,16 @@
 ghost use Rattle.std.specs.Prelude.{◌≡◌, List, All, IfErr, IfOk, IfSome, length, map, vec_len};
 ghost use Rattle.std.specs.List.{AllZip, range_with_len};
 ghost use Rattle.dex_report.specs.Outcomes.{PlainOutcome, outcome_of};
-ghost use Rattle.dex_script.specs.Drafts.{PlainScript};
+ghost use Rattle.dex_script_facts.specs.PlainScript.{PlainScript};
 ghost use Rattle.dex_replay.specs.Runs.{IsOneOrder, IsRunOf};
-ghost use Rattle.dex_journals.specs.Journals.{BankMarketState, BankWalletState, IsBankMarket, IsBankWallet};
 ghost use Rattle.dex_turns.specs.Bank.{IsBank};
-ghost use Rattle.dex_run.specs.Closing.{AreMarketsClosed, AreWalletsClosed, ClosesAs, HasGateRoom, HasRoom};
+ghost use Rattle.dex_run.specs.Closing.{AreClosed, ClosesAs, HasGateRoom, HasRoom};
 ghost use Rattle.dex_run.specs.Closing.{MarketColumns, WalletColumns};
-ghost use Rattle.dex_run.specs.Columns.{AreEmpty, CanClose, IsRoom};
+ghost use Rattle.dex_run.specs.Columns.{AreEmpty, CanClose, IsClosed, IsRoom};
 ghost use Rattle.dex_turns.specs.Seats.{IsDone, IsSeat, IsSeatOf, SeatState};
 
 use crate::columns::{append, closed_gates, columns_for, hand_out};
+use crate::of_cell::OfCell;
 use dex_bank::{Cells, Room};
 use dex_cell::MarketCell;
 use dex_gate::{Gate, Pass};
@@ -100,66 +100,36 @@ fn hand_out_all(
 
 // ---- the cells that the gates give
 
-/// The cells of markets, written into the room for them.
-fn market_cells_of(markets: Vec<BankMarket>, mut cells: Vec<MarketCell>) -> Vec<MarketCell>
-    requires { IsRoom (vec_len markets) cells }
-    ensures cells { result.items ≡ map (λ (market : BankMarketState). market.cell) markets.items }
-    ensures kept { All IsBankMarket markets.items }
+/// The cells of values, written into the room for them.
+fn cells_of<V: OfCell + Drop>(values: Vec<V>, mut cells: Vec<V::Cell>) -> Vec<V::Cell>
+    requires { IsRoom (vec_len values) cells }
+    ensures cells { result.items ≡ map V.gives values.items }
+    ensures kept { All V.kept values.items }
 {
-    for market in markets {
-        append(&mut cells, market.into_cell());
+    for value in values {
+        append(&mut cells, value.leave());
     }
     cells
 }
 
-/// The cells of the markets that gates give.
-fn market_cells(
-    gates: Vec<Gate<BankMarket>>,
-    room: GateRoom<Pass<BankMarket>, BankMarket, MarketCell>,
-) -> Vec<MarketCell>
+/// The cells of the values that gates give.
+fn cells_given<V: OfCell + Drop>(
+    gates: Vec<Gate<V>>,
+    room: GateRoom<Pass<V>, V, V::Cell>,
+) -> Vec<V::Cell>
     requires passes { AllZip (λ gate column. CanClose gate column.items) gates.items room.columns.items }
     requires values { IsRoom (vec_len gates) room.values }
     requires cells { IsRoom (vec_len gates) room.cells }
-    ensures { AreMarketsClosed gates.items room.columns.items result.items }
+    ensures { AreClosed (IsClosed V.entries V.lane V.origin) V.kept V.gives
+        gates.items room.columns.items result.items }
 {
     let GateRoom {
         columns,
         values,
         cells,
     } = room;
-    let markets = closed_gates(gates, columns, values);
-    market_cells_of(markets, cells)
-}
-
-/// The cells of wallets, written into the room for them.
-fn wallet_cells_of(wallets: Vec<BankWallet>, mut cells: Vec<WalletCell>) -> Vec<WalletCell>
-    requires { IsRoom (vec_len wallets) cells }
-    ensures cells { result.items ≡ map (λ (wallet : BankWalletState). wallet.cell) wallets.items }
-    ensures kept { All IsBankWallet wallets.items }
-{
-    for wallet in wallets {
-        append(&mut cells, wallet.into_cell());
-    }
-    cells
-}
-
-/// The cells of the wallets that gates give.
-fn wallet_cells(
-    gates: Vec<Gate<BankWallet>>,
-    room: GateRoom<Pass<BankWallet>, BankWallet, WalletCell>,
-) -> Vec<WalletCell>
-    requires passes { AllZip (λ gate column. CanClose gate column.items) gates.items room.columns.items }
-    requires values { IsRoom (vec_len gates) room.values }
-    requires cells { IsRoom (vec_len gates) room.cells }
-    ensures { AreWalletsClosed gates.items room.columns.items result.items }
-{
-    let GateRoom {
-        columns,
-        values,
-        cells,
-    } = room;
-    let wallets = closed_gates(gates, columns, values);
-    wallet_cells_of(wallets, cells)
+    let values = closed_gates(gates, columns, values);
+    cells_of(values, cells)
 }
 
 // ---- all of it
@@ -185,8 +155,8 @@ fn closed(bank: Bank, seats: Vec<LaneSeat>, room: ClosingRoom) -> Outcome
         markets: market_gates,
         wallets: wallet_gates,
     } = bank.into_parts();
-    let market_cells = market_cells(market_gates, markets);
-    let wallet_cells = wallet_cells(wallet_gates, wallets);
+    let market_cells = cells_given(market_gates, markets);
+    let wallet_cells = cells_given(wallet_gates, wallets);
     Cells::of(mints, srm, msrm, market_cells, wallet_cells, program).close_into(left)
 }
 

@@ -1,13 +1,12 @@
 //! The items of one lane.
 
-ghost use Rattle.std.specs.Prelude.{◌≡◌, ◌+◌, ◌∷◌, [], length};
-ghost use Rattle.dex_types.specs.Rows.{row_of};
-ghost use Rattle.dex_fold.specs.Items.{rows_of_lane};
-ghost use Rattle.dex_script.specs.Places.{IsPlaced};
-ghost use Rattle.dex_run.specs.Running.{CanRun, HasRun};
+ghost use Rattle.std.specs.Prelude.{ℕ, ◌≡◌, ◌∷◌, List, length};
+ghost use Rattle.dex_run.specs.LaneItems.{IsItemOf, IsRest};
+ghost use Rattle.dex_run.specs.Running.{AreRowsOf, CanRun, HasRun};
 ghost use Rattle.dex_turns.specs.Seats.{IsSeatOf};
-ghost use Rattle.dex_turns.specs.Submitted.{AreNext, IsNext};
 
+use crate::stay::{Items, Stay};
+use dex_gate::Door;
 use dex_io::Pace;
 use dex_lanes::Job;
 use dex_replay::is_swap;
@@ -15,53 +14,37 @@ use dex_turns::{Bank, LaneSeat};
 use dex_types::{Row, RowPlaces};
 use std::sync::Wait;
 
-/// A row alone acts where it is one of the seat's lane.
-fn submit_own<R: Wait, P: Pace>(
+/// The item that begins at a place acts: a row alone, or the two legs of a swap.
+fn submit_item<R: Wait, P: Pace>(
     rt: &R,
     bank: &Bank,
     seat: &mut LaneSeat,
-    row: &Row,
-    places: &RowPlaces,
+    rows: &[Row],
+    places: &[RowPlaces],
+    place: usize,
     pace: &P,
 )
-    requires seat { IsSeatOf bank.now seat.old }
-    requires row { row.now.lane ≡ seat.old.lane → IsNext (row_of row.now) seat.old }
-    requires places { IsPlaced bank.now.script.start (row_of row.now) places.now }
+    requires rows { AreRowsOf bank.now rows.now places.now }
+    requires bank { IsSeatOf bank.now seat.old }
+    requires item { IsItemOf seat.old.lane rows.now (length seat.old.calls) place }
     ensures bank { IsSeatOf bank.now seat.new }
     ensures lane { seat.new.lane ≡ seat.old.lane }
-    ensures script { seat.new.script ≡ seat.old.script }
-    ensures calls { length seat.new.calls
-        ≡ length seat.old.calls + length (rows_of_lane seat.old.lane (row_of row.entry.now ∷ [])) }
+    ensures rest { (later : List ℕ) → IsRest seat.old.lane rows.now (length seat.old.calls) (place ∷ later)
+        → IsRest seat.new.lane rows.now (length seat.new.calls) later }
 {
-    if row.lane == seat.lane() {
-        bank.submit_at(rt, seat, row, places, pace);
-    }
-}
-
-/// The two legs of a swap act where they are of the seat's lane.
-fn submit_both<R: Wait, P: Pace>(
-    rt: &R,
-    bank: &Bank,
-    seat: &mut LaneSeat,
-    first: &Row,
-    second: &Row,
-    first_places: &RowPlaces,
-    second_places: &RowPlaces,
-    pace: &P,
-)
-    requires seat { IsSeatOf bank.now seat.old }
-    requires lane { first.now.lane ≡ second.now.lane }
-    requires first { IsPlaced bank.now.script.start (row_of first.now) first_places.now }
-    requires second { IsPlaced bank.now.script.start (row_of second.now) second_places.now }
-    requires legs { first.now.lane ≡ seat.old.lane → AreNext (row_of first.now) (row_of second.now) seat.old }
-    ensures bank { IsSeatOf bank.now seat.new }
-    ensures lane { seat.new.lane ≡ seat.old.lane }
-    ensures script { seat.new.script ≡ seat.old.script }
-    ensures calls { length seat.new.calls ≡ length seat.old.calls
-        + length (rows_of_lane seat.old.lane (row_of first.entry.now ∷ row_of second.entry.now ∷ [])) }
-{
-    if first.lane == seat.lane() {
-        bank.submit_two_at(rt, seat, first, second, first_places, second_places, pace);
+    if is_swap(rows, place) {
+        let next = place + 1;
+        bank.submit_two_at(
+            rt,
+            seat,
+            &rows[place],
+            &rows[next],
+            &places[place],
+            &places[next],
+            pace,
+        );
+    } else {
+        bank.submit_at(rt, seat, &rows[place], &places[place], pace);
     }
 }
 
@@ -69,33 +52,24 @@ fn submit_both<R: Wait, P: Pace>(
 fn submit_all<R: Wait, P: Pace>(
     rt: &R,
     bank: &Bank,
+    doors: &[Door],
     seat: &mut LaneSeat,
     rows: &[Row],
     places: &[RowPlaces],
+    by_lane: &[Vec<usize>],
     pace: &P,
 )
-    requires { CanRun bank.now rows.now places.now seat.old }
+    requires { CanRun bank.now rows.now places.now by_lane.now seat.old }
     ensures { HasRun bank.now seat.old seat.new }
 {
-    let mut place = 0;
-    'item: while place < rows.len() {
-        if is_swap(rows, place) {
-            let next = place + 1;
-            submit_both(
-                rt,
-                bank,
-                seat,
-                &rows[place],
-                &rows[next],
-                &places[place],
-                &places[next],
-                pace,
-            );
-            place += 2;
-        } else {
-            submit_own(rt, bank, seat, &rows[place], &places[place], pace);
-            place += 1;
-        }
+    let lane = seat.lane() as usize;
+    let own = &by_lane[lane];
+    let items = Items { rows, places, own };
+    let mut stay = Stay::none();
+    for item in 0..own.len() {
+        stay.before(rt, doors, items, item);
+        submit_item(rt, bank, seat, rows, places, own[item], pace);
+        stay.behind(doors, item);
     }
 }
 
@@ -104,14 +78,16 @@ fn submit_all<R: Wait, P: Pace>(
 pub(crate) struct LaneJob<'a, R, P> {
     pub(crate) rt: &'a R,
     pub(crate) bank: &'a Bank,
+    pub(crate) doors: &'a [Door],
     pub(crate) seat: LaneSeat,
     pub(crate) rows: &'a [Row],
     pub(crate) places: &'a [RowPlaces],
+    pub(crate) by_lane: &'a [Vec<usize>],
     pub(crate) pace: &'a P,
 }
 
 impl<'a, R: Wait, P: Pace> Job for LaneJob<'a, R, P> {
-    ghost ready = { λ job. CanRun job.bank.now job.rows.now job.places.now job.seat };
+    ghost ready = { λ job. CanRun job.bank.now job.rows.now job.places.now job.by_lane.now job.seat };
 
     ghost ran = { λ before after. HasRun before.bank.now before.seat after.seat };
 
@@ -119,9 +95,11 @@ impl<'a, R: Wait, P: Pace> Job for LaneJob<'a, R, P> {
         submit_all(
             self.rt,
             self.bank,
+            self.doors,
             &mut self.seat,
             self.rows,
             self.places,
+            self.by_lane,
             self.pace,
         );
     }

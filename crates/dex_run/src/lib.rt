@@ -4,8 +4,11 @@
 mod building;
 mod closing;
 mod columns;
+mod index;
 mod lane;
+mod of_cell;
 mod running;
+mod stay;
 
 pub use building::build;
 pub use closing::close;

@@ -8,12 +8,15 @@ ghost use Rattle.dex_run.specs.Running.{CanRun, HasRun, IsJobOf};
 
 use crate::building::bank_over;
 use crate::closing::close;
+use crate::index::places_by_lane;
 use crate::lane::LaneJob;
+use crate::stay::doors_for;
 use dex_bank::Cells;
+use dex_gate::Door;
 use dex_io::Pace;
 use dex_lanes::run_jobs;
 use dex_report::Outcome;
-use dex_script::Script;
+use dex_script_facts::Script;
 use dex_turns::{Bank, LaneSeat, Outline};
 use dex_types::{NoMemory, Row, RowPlaces};
 use std::alloc::Global;
@@ -26,21 +29,25 @@ fn jobs_of<'a, R: Wait, P: Pace>(
     rt: &'a R,
     alloc: Global,
     bank: &'a Bank,
+    doors: &'a [Door],
     seats: Vec<LaneSeat>,
     rows: &'a [Row],
     places: &'a [RowPlaces],
+    by_lane: &'a [Vec<usize>],
     pace: &'a P,
 ) -> Result<Vec<LaneJob<'a, R, P>>, NoMemory>
-    ensures { IfOk result (λ jobs. AllZip (IsJobOf bank.now rows.now places.now) seats.items jobs.items) }
+    ensures { IfOk result (λ jobs. AllZip (IsJobOf bank.now rows.now places.now by_lane.now) seats.items jobs.items) }
 {
     let mut jobs = Vec::new(alloc);
     for seat in seats {
         let job = LaneJob {
             rt,
             bank,
+            doors,
             seat,
             rows,
             places,
+            by_lane,
             pace,
         };
         match jobs.push(job) {
@@ -63,9 +70,11 @@ fn seats_back<'a, R: Wait, P: Pace>(
         let LaneJob {
             rt: _,
             bank: _,
+            doors: _,
             seat,
             rows: _,
             places: _,
+            by_lane: _,
             pace: _,
         } = job;
         seats.push_reserved(seat);
@@ -81,15 +90,18 @@ fn run_all<R: Threads + Wait + Sync, P: Pace + Sync>(
     seats: Vec<LaneSeat>,
     rows: &[Row],
     places: &[RowPlaces],
+    by_lane: &[Vec<usize>],
     pace: &P,
 ) -> Result<Vec<LaneSeat>, NoMemory>
-    requires { All (CanRun bank.now rows.now places.now) seats.items }
+    requires { All (CanRun bank.now rows.now places.now by_lane.now) seats.items }
     ensures { IfOk result (λ after. AllZip (HasRun bank.now) seats.items after.items) }
 {
     let Ok(room) = Vec::with_capacity(alloc, seats.len()) else {
         return Err(NoMemory);
     };
-    let mut jobs = jobs_of(rt, alloc, bank, seats, rows, places, pace)?;
+    let (markets, _) = bank.counts();
+    let doors = doors_for(alloc, markets)?;
+    let mut jobs = jobs_of(rt, alloc, bank, &doors, seats, rows, places, by_lane, pace)?;
     run_jobs(rt, &mut jobs);
     Ok(seats_back(jobs, room))
 }
@@ -107,8 +119,9 @@ pub fn run<R: Threads + Wait + Sync, P: Pace + Sync>(
 {
     let outline = Outline::of(alloc, &script)?;
     let (cells, rows, places) = Cells::of_script(alloc, script)?;
+    let by_lane = places_by_lane(alloc, outline.lanes(), &rows)?;
     let (bank, seats) = bank_over(alloc, outline, cells)?;
-    let seats = run_all(rt, alloc, &bank, seats, &rows, &places, pace)?;
+    let seats = run_all(rt, alloc, &bank, seats, &rows, &places, &by_lane, pace)?;
     match close(alloc, bank, seats) {
         Ok(outcome) => Ok(outcome),
         Err(_) => Err(NoMemory),

@@ -17,15 +17,16 @@ use Rattle.dex_statement.specs.Faults.{◌>>=◌, found_or, unless}
 use Rattle.dex_statement.specs.Stated.{PlainInstruction, PlainMarketWords, PlainSwap}
 use Rattle.dex_statement.specs.Statements.{statement_of}
 use Rattle.dex_statement.specs.Words.{Fields}
-use Rattle.dex_script.specs.Drafts.{PlainDraft, PlainScript, behind_dump, no_rows}
-use Rattle.dex_script.specs.Known.{has_account, is_any_among, made_addresses, mint_at, orders_at}
-use Rattle.dex_script.specs.Facts.{HasNoSwap}
-use Rattle.dex_script.specs.Rows.{checked_name, exceeds_market, exceeds_row, instruction_row, is_full, is_unknown, set_of, with_instruction, with_item, with_known, with_market, with_mint, with_msrm, with_orders_row, with_program, with_row, with_srm, with_statement, with_wallet}
+use Rattle.dex_script_facts.specs.PlainScript.{PlainScript}
+use Rattle.dex_script_facts.specs.Known.{has_account}
+use Rattle.dex_script_facts.specs.Facts.{HasNoSwap}
+use Rattle.dex_script.specs.Drafts.{PlainDraft, behind_dump, no_rows}
+use Rattle.dex_script.specs.Known.{is_any_among, made_addresses, mint_at, orders_at}
+use Rattle.dex_script.specs.Rows.{checked_name, checked_new, exceeds_market, exceeds_row, instruction_row, is_full, is_unknown, set_of, with_instruction, with_item, with_known, with_market, with_mint, with_msrm, with_orders_row, with_program, with_row, with_srm, with_statement, with_wallet}
 use Rattle.dex_script.specs.Scripts.{AnswersBy, Reads, Refusal, begins_with_dump, behind, draft_after, fault_in, script_from, unless_found}
 use Rattle.dex_script.proofs.FaultLaws.{bind-ok, differ, no-error, ok-same}
-use Rattle.dex_script.proofs.ItemRows.{IsSwapRow, first_leg, instruction-row, second_leg, swap-row}
-use Rattle.dex_script.proofs.KeptLaws.{Kept, kept-clock, kept-market, kept-mint, kept-msrm, kept-orders, kept-program, kept-srm, kept-wallet}
-use Rattle.dex_script.proofs.OrderLaws.{fault-ok, last_script}
+use Rattle.dex_script.proofs.ItemRows.{IsSwapRow, first_leg, second_leg, swap-row}
+use Rattle.dex_script.proofs.OrderLaws.{by-row, first-row, last_script, through}
 
 -- the same draft of a script for another command
 abbrev other_use : Bool → PlainDraft → PlainDraft
@@ -55,10 +56,8 @@ module _ (b : Bool) (draft : PlainDraft) where
   program-other program = unless-other b (not draft.is_first) _ _ _ refl
 
   mint-other : (address : Address) (decimals : ℕ) → with_mint (other_use b draft) address decimals ≡ other_left b (with_mint draft address decimals)
-  unfolding with_mint
-  mint-other address decimals =
-      unless-other b (is_among address draft.taken) _ _ _
-      (unless-other b (nat_le 16 (length draft.script.start.mints)) _ _ _ (unless-other b draft.is_late _ _ _ refl))
+  unfolding with_mint checked_new
+  mint-other address decimals = bind-other b (checked_new draft (is_among address draft.taken) (nat_le 16 (length draft.script.start.mints))) _ _ (λ _. refl)
 
   srm-other : (mint : Address) → with_srm (other_use b draft) mint ≡ other_left b (with_srm draft mint)
   unfolding with_srm checked_name
@@ -70,27 +69,24 @@ module _ (b : Bool) (draft : PlainDraft) where
 
   wallet-other : (address mint owner : Address) (amount : ℕ)
       → with_wallet (other_use b draft) address mint owner amount ≡ other_left b (with_wallet draft address mint owner amount)
-  unfolding with_wallet
+  unfolding with_wallet checked_new
   wallet-other address mint owner amount =
       bind-other b (found_or (mint_at mint draft.script.start.mints) UnknownLabel) _ _ (λ words.
-      unless-other b (is_among address draft.taken) _ _ _
-      (unless-other b (nat_le 256 (length draft.script.start.wallets)) _ _ _
-      (unless-other b draft.is_late _ _ _ (unless-other b (nat_le (2 ^ 64) (words.supply + amount)) _ _ _ refl))))
+      bind-other b (checked_new draft (is_among address draft.taken) (nat_le 256 (length draft.script.start.wallets))) _ _ (λ _.
+      unless-other b (nat_le (2 ^ 64) (words.supply + amount)) _ _ _ refl))
 
   market-other : (words : PlainMarketWords) → with_market (other_use b draft) words ≡ other_left b (with_market draft words)
-  unfolding with_market
+  unfolding with_market checked_new
   market-other words =
+      let full = nat_le 16 (length draft.script.start.markets) || exceeds_market words in
       unless-other b (not (has_account words.coin draft.script.start.mints) || not (has_account words.pc draft.script.start.mints)) _ _ _
-      (unless-other b (is_any_among (made_addresses words.address) draft.taken) _ _ _
-      (unless-other b (nat_le 16 (length draft.script.start.markets) || exceeds_market words) _ _ _
-      (unless-other b draft.is_late _ _ _ (bind-other b (set_of words) _ _ (λ set. refl)))))
+      (bind-other b (checked_new draft (is_any_among (made_addresses words.address) draft.taken) full) _ _ (λ _. bind-other b (set_of words) _ _ (λ set. refl)))
 
   orders-other : (market address : Address) → with_orders_row (other_use b draft) market address ≡ other_left b (with_orders_row draft market address)
-  unfolding with_orders_row
+  unfolding with_orders_row checked_new
   orders-other market address =
       bind-other b (found_or (orders_at market draft.script.start.markets) UnknownLabel) _ _ (λ count.
-      unless-other b (is_among address draft.taken) _ _ _
-      (unless-other b (nat_le 64 count) _ _ _ (unless-other b draft.is_late _ _ _ refl)))
+      bind-other b (checked_new draft (is_among address draft.taken) (nat_le 64 count)) _ _ (λ _. refl))
 
   instruction-other : (number : ℕ) (words : PlainInstruction)
       → with_instruction (other_use b draft) number words ≡ other_left b (with_instruction draft number words)
@@ -121,90 +117,48 @@ record Keeps (before after : PlainDraft) : Type 0 where
   batch : after.batch ≡ before.batch
   rows : HasNoSwap after.script.rows → HasNoSwap before.script.rows
 
-keeps-same : (before after : PlainDraft) → Kept before after → Keeps before after
-keeps-same before after kept = record { batch = kept.batch; rows = λ none. subst HasNoSwap kept.rows none }
-
 keeps-item : (before after : PlainDraft) (more : List PlainRow) (lane : ℕ) → with_item before more lane ≡ after → Keeps before after
 keeps-item before after more lane is =
     subst (Keeps before) is (record { batch = refl; rows = λ none. front before.script.rows more none })
 
 -- ---- rows
 
--- a row leaves the same for the other command
-record Leaves (b : Bool) (before after : PlainDraft) (other : Result PlainDraft FaultKind) : Type 0 where
-  same : other ≡ Ok (other_use b after)
-  keeps : Keeps before after
-
-by-left : (b : Bool) (before after : PlainDraft) (left other : Result PlainDraft FaultKind) → left ≡ Ok after → other ≡ other_left b left
-    → Keeps before after → Leaves b before after other
-by-left b before after left other is same keeps = record { same = same ∙ ap (other_left b) is; keeps = keeps }
-
 -- a swap that would be taken, which is not
 abbrev IsSwapless : ℕ → PlainDraft → PlainDraft → Type 0
 IsSwapless number before after = (words : PlainSwap) → IsSwapRow number before after words → ⊥
 
-module _ (b : Bool) (number : ℕ) (before after : PlainDraft) (swapless : IsSwapless number before after) where
-  kept-left : (left other : Result PlainDraft FaultKind) → left ≡ Ok after → other ≡ other_left b left → Kept before after → Leaves b before after other
-  kept-left left other is same kept = by-left b before after left other is same (keeps-same before after kept)
+module _ (b : Bool) (number : ℕ) (before after : PlainDraft) where
+  statement-other : IsSwapless number before after → (statement : Statement) → with_statement before number statement ≡ Ok after
+      → with_statement (other_use b before) number statement ≡ other_left b (with_statement before number statement)
+  statement-other none (row.Program program) is = program-other b before program
+  statement-other none (row.Clock now) is = refl
+  statement-other none (row.Mint address decimals) is = mint-other b before address decimals
+  statement-other none (row.Srm mint) is = srm-other b before mint
+  statement-other none (row.Msrm mint) is = msrm-other b before mint
+  statement-other none (row.Wallet address mint owner amount) is = wallet-other b before address mint owner amount
+  statement-other none (row.Market words) is = market-other b before words
+  statement-other none (row.Orders market address) is = orders-other b before market address
+  statement-other none (row.Instruction words) is = instruction-other b before number words
+  statement-other none (row.Swap words) is = absurd (none words (swap-row number before after words is))
 
-  by-statement : (statement : Statement) → with_statement before number statement ≡ Ok after
-      → Leaves b before after (with_statement (other_use b before) number statement)
-  by-statement (row.Program program) is = kept-left _ _ is (program-other b before program) (kept-program before after program is)
-  by-statement (row.Clock now) is = kept-left _ _ is refl (kept-clock before after now is)
-  by-statement (row.Mint address decimals) is = kept-left _ _ is (mint-other b before address decimals) (kept-mint before after address decimals is)
-  by-statement (row.Srm mint) is = kept-left _ _ is (srm-other b before mint) (kept-srm before after mint is)
-  by-statement (row.Msrm mint) is = kept-left _ _ is (msrm-other b before mint) (kept-msrm before after mint is)
-  by-statement (row.Wallet address mint owner amount) is =
-      kept-left _ _ is (wallet-other b before address mint owner amount) (kept-wallet before after address mint owner amount is)
-  by-statement (row.Market words) is = kept-left _ _ is (market-other b before words) (kept-market before after words is)
-  by-statement (row.Orders market address) is = kept-left _ _ is (orders-other b before market address) (kept-orders before after market address is)
-  by-statement (row.Instruction words) is =
-      let one = instruction-row number before after words is in
-      by-left b before after _ _ is (instruction-other b before number words)
-      (keeps-item before after (instruction_row number before.clock words ∷ []) words.lane one.is)
-  by-statement (row.Swap words) is = absurd (swapless words (swap-row number before after words is))
-
-  by-row : (fields : Fields) → with_row before number fields ≡ Ok after → Leaves b before after (with_row (other_use b before) number fields)
+  row-other : IsSwapless number before after → (fields : Fields) → with_row before number fields ≡ Ok after
+      → with_row (other_use b before) number fields ≡ Ok (other_use b after)
   unfolding with_row
-  by-row fields is =
+  row-other none fields is =
       let a = bind-ok (statement_of fields) (with_statement before number) after is in
-      let leaves = by-statement a.0 a.2 in
-      record {
-        same = ap (λ (r : Result Statement FaultKind). r >>= with_statement (other_use b before) number) a.1 ∙ leaves.same;
-        keeps = leaves.keeps;
-      }
-
--- what any row keeps
-keeps-swap : (number : ℕ) (before after : PlainDraft) (words : PlainSwap) → IsSwapRow number before after words → Keeps before after
-keeps-swap number before after words one =
-    keeps-item before after (instruction_row number before.clock (first_leg words) ∷ instruction_row number before.clock (second_leg words) ∷ []) words.lane one.is
-
-keeps-statement : (number : ℕ) (before after : PlainDraft) (statement : Statement) → with_statement before number statement ≡ Ok after → Keeps before after
-keeps-statement number before after (row.Program program) is = keeps-same before after (kept-program before after program is)
-keeps-statement number before after (row.Clock now) is = keeps-same before after (kept-clock before after now is)
-keeps-statement number before after (row.Mint address decimals) is = keeps-same before after (kept-mint before after address decimals is)
-keeps-statement number before after (row.Srm mint) is = keeps-same before after (kept-srm before after mint is)
-keeps-statement number before after (row.Msrm mint) is = keeps-same before after (kept-msrm before after mint is)
-keeps-statement number before after (row.Wallet address mint owner amount) is = keeps-same before after (kept-wallet before after address mint owner amount is)
-keeps-statement number before after (row.Market words) is = keeps-same before after (kept-market before after words is)
-keeps-statement number before after (row.Orders market address) is = keeps-same before after (kept-orders before after market address is)
-keeps-statement number before after (row.Instruction words) is =
-    keeps-item before after (instruction_row number before.clock words ∷ []) words.lane (instruction-row number before after words is).is
-keeps-statement number before after (row.Swap words) is = keeps-swap number before after words (swap-row number before after words is)
+      ap (λ (r : Result Statement FaultKind). r >>= with_statement (other_use b before) number) a.1
+      ∙ statement-other none a.0 a.2 ∙ ap (other_left b) a.2
 
 keeps-row : (number : ℕ) (before after : PlainDraft) (fields : Fields) → with_row before number fields ≡ Ok after → Keeps before after
-unfolding with_row
-keeps-row number before after fields is =
-    let a = bind-ok (statement_of fields) (with_statement before number) after is in keeps-statement number before after a.0 a.2
+keeps-row number before after =
+    by-row number before after (λ kept. record { batch = kept.batch; rows = λ none. subst HasNoSwap kept.rows none })
+    (λ words one. keeps-item before after _ words.lane one.is) (λ words two. keeps-item before after _ words.lane two.is)
 
 no-swap-before : (number : ℕ) (before last : PlainDraft) (rows : List Fields) → draft_after before number rows ≡ Ok last
     → HasNoSwap last.script.rows → HasNoSwap before.script.rows
-no-swap-before number before last [] is none = subst (λ (d : PlainDraft). HasNoSwap d.script.rows) (sym (ok-same {E = Refusal} before last is)) none
-no-swap-before number before last (fields ∷ rows) is none =
-    let next : PlainDraft → Result PlainDraft Refusal = λ d. draft_after d (next_number number) rows in
-    let a = bind-ok (fault_in number (with_row before number fields)) next last is in
-    let keeps = keeps-row number before a.0 fields (fault-ok number (with_row before number fields) a.0 a.1) in
-    keeps.rows (no-swap-before (next_number number) a.0 last rows a.2 none)
+no-swap-before number before last rows is =
+    (through (λ _ (d : PlainDraft). HasNoSwap d.script.rows → HasNoSwap before.script.rows)
+    (λ n d after fields behind one none. behind ((keeps-row n d after fields one).rows none)) number before last rows (λ none. none) is).1
 
 -- the script is for batches, or has no swap in the end
 abbrev IsQuiet : PlainDraft → PlainDraft → Type 0
@@ -214,8 +168,7 @@ by-rows : (b : Bool) (number : ℕ) (before last : PlainDraft) (rows : List Fiel
     → draft_after (other_use b before) number rows ≡ Ok (other_use b last)
 by-rows b number before last [] quiet is = ap (λ (d : PlainDraft). Ok (other_use b d)) (ok-same {E = Refusal} before last is)
 by-rows b number before last (fields ∷ rows) quiet is =
-    let next : PlainDraft → Result PlainDraft Refusal = λ d. draft_after d (next_number number) rows in
-    let a = bind-ok (fault_in number (with_row before number fields)) next last is in
+    let a = first-row number before last fields rows is in
     let swapless : IsSwapless number before a.0 =
     λ words one.
     ⊎_elim
@@ -225,10 +178,9 @@ by-rows b number before last (fields ∷ rows) quiet is =
     no-legs before.script.rows (instruction_row number before.clock (first_leg words)) (instruction_row number before.clock (second_leg words)) refl
     (subst (λ (d : PlainDraft). HasNoSwap d.script.rows) (sym one.is) here))
     quiet in
-    let leaves = by-row b number before a.0 swapless fields (fault-ok number (with_row before number fields) a.0 a.1) in
     let later : IsQuiet a.0 last =
-    ⊎_elim (λ (batch : before.batch ≡ true). inl (leaves.keeps.batch ∙ batch)) (λ (none : HasNoSwap last.script.rows). inr none) quiet in
-    ap (λ (r : Result PlainDraft FaultKind). fault_in number r >>= next) leaves.same
+    ⊎_elim (λ (batch : before.batch ≡ true). inl ((keeps-row number before a.0 fields a.1).batch ∙ batch)) (λ (none : HasNoSwap last.script.rows). inr none) quiet in
+    ap (λ (r : Result PlainDraft FaultKind). fault_in number r >>= λ d. draft_after d (next_number number) rows) (row-other b number before a.0 swapless fields a.1)
     ∙ by-rows b (next_number number) a.0 last rows later a.2
 
 from-rows : (b : Bool) (number : ℕ) (draft : PlainDraft) (rows : List Fields) (script : PlainScript) → (draft.batch ≡ true) ⊎ HasNoSwap script.rows

@@ -1,12 +1,10 @@
 -- Instruction rows and swap rows without a fault.
-use Rattle.std.proofs.Common.{◌≡◌, ◌||◌, ◌∷◌, [], ℕ, false, Result, Ok}
-use Rattle.dex_statement.specs.declared.faults.FaultKind.{FaultKind}
+use Rattle.std.proofs.Common.{◌≡◌, ◌||◌, ◌∷◌, [], ℕ, false, Ok, refl}
 use Rattle.dex_statement.specs.declared.faults.FaultKind.TheVariants.{UnknownLabel, OverLimit, BadSwap, NoBatch}
-use Rattle.dex_statement.specs.Faults.{unless}
 use Rattle.dex_statement.specs.Stated.{PlainInstruction, PlainSwap, leg_words}
 use Rattle.dex_script.specs.Drafts.{PlainDraft}
-use Rattle.dex_script.specs.Rows.{exceeds_row, instruction_row, is_bad_swap, is_full, is_unknown, with_instruction, with_item, with_known, with_legs, with_swap}
-use Rattle.dex_script.proofs.FaultLaws.{ok-same, or-none, unless-ok}
+use Rattle.dex_script.specs.Rows.{exceeds_row, instruction_row, is_bad_swap, is_full, is_unknown, with_instruction, with_item, with_known, with_legs, with_swap, with_two}
+use Rattle.dex_script.proofs.FaultLaws.{gives-ok, gives-unless, or-none}
 
 -- what is known of an instruction row, and what it leaves
 pub record IsOneRow (number : ℕ) (before after : PlainDraft) (words : PlainInstruction) : Type 0 where
@@ -18,19 +16,12 @@ pub record IsOneRow (number : ℕ) (before after : PlainDraft) (words : PlainIns
 pub instruction-row : (number : ℕ) (before after : PlainDraft) (words : PlainInstruction) → with_instruction before number words ≡ Ok after
     → IsOneRow number before after words
 unfolding with_instruction with_known
-instruction-row number before after words is =
-    let test = is_full before number || exceeds_row words in
-    let left = with_item before (instruction_row number before.clock words ∷ []) words.lane in
-    let next : Result PlainDraft FaultKind = unless test OverLimit (Ok left) in
-    let a = unless-ok (is_unknown before.script.start words.parties) UnknownLabel next after is in
-    let b = unless-ok test OverLimit (Ok left) after a.1 in
-    let c = or-none (is_full before number) (exceeds_row words) b.0 in
-    record {
-      known = a.0;
-      room = c.0;
-      within = c.1;
-      is = ok-same {E = FaultKind} left after b.1;
-    }
+instruction-row number before after words =
+    let P : PlainDraft → Type 0 = λ left. IsOneRow number before left words in
+    gives-unless P (is_unknown before.script.start words.parties) UnknownLabel _ (λ known.
+    gives-unless P (is_full before number || exceeds_row words) OverLimit _ (λ limits.
+    let c = or-none (is_full before number) (exceeds_row words) limits in
+    gives-ok P _ (record { known = known; room = c.0; within = c.1; is = refl }))) after
 
 -- the legs of a swap row, as instruction rows
 abbrev pub first_leg : PlainSwap → PlainInstruction
@@ -55,31 +46,26 @@ pub record IsSwapRow (number : ℕ) (before after : PlainDraft) (words : PlainSw
 
 pub swap-row : (number : ℕ) (before after : PlainDraft) (words : PlainSwap) → with_swap before number words ≡ Ok after
     → IsSwapRow number before after words
-unfolding with_swap with_legs
-swap-row number before after words is =
+unfolding with_two with_legs
+swap-row number before after words =
+    let P : PlainDraft → Type 0 = λ left. IsSwapRow number before left words in
     let start = before.script.start in
     let first = first_leg words in
     let second = second_leg words in
-    let test = is_full before number || exceeds_row first || exceeds_row second in
-    let left = with_item before (instruction_row number before.clock first ∷ instruction_row number before.clock second ∷ []) words.lane in
-    let last : Result PlainDraft FaultKind = unless before.batch NoBatch (Ok left) in
-    let later : Result PlainDraft FaultKind = unless (is_bad_swap first second) BadSwap last in
-    let next : Result PlainDraft FaultKind = unless test OverLimit later in
-    let known : Result PlainDraft FaultKind = unless (is_unknown start second.parties) UnknownLabel next in
-    let first_told = unless-ok (is_unknown start first.parties) UnknownLabel known after is in
-    let a = unless-ok (is_unknown start second.parties) UnknownLabel next after first_told.1 in
-    let b = unless-ok test OverLimit later after a.1 in
-    let c = unless-ok (is_bad_swap first second) BadSwap last after b.1 in
-    let d = unless-ok before.batch NoBatch (Ok left) after c.1 in
-    let e = or-none (is_full before number || exceeds_row first) (exceeds_row second) b.0 in
+    gives-unless P (is_unknown start first.parties) UnknownLabel _ (λ first_known.
+    gives-unless P (is_unknown start second.parties) UnknownLabel _ (λ second_known.
+    gives-unless P (is_full before number || exceeds_row first || exceeds_row second) OverLimit _ (λ limits.
+    gives-unless P (is_bad_swap first second) BadSwap _ (λ good.
+    gives-unless P before.batch NoBatch _ (λ apart.
+    let e = or-none (is_full before number || exceeds_row first) (exceeds_row second) limits in
     let f = or-none (is_full before number) (exceeds_row first) e.0 in
-    record {
-      first_known = first_told.0;
-      second_known = a.0;
+    gives-ok P _ (record {
+      first_known = first_known;
+      second_known = second_known;
       room = f.0;
       first_within = f.1;
       second_within = e.1;
-      good = c.0;
-      apart = d.0;
-      is = ok-same {E = FaultKind} left after d.1;
-    }
+      good = good;
+      apart = apart;
+      is = refl;
+    })))))) after

@@ -13,11 +13,10 @@ use Rattle.dex_statement.specs.declared.faults.FaultKind.TheVariants.{SetupRefus
 use Rattle.dex_statement.specs.declared.faults.SetupCode.TheVariants as code
 use Rattle.dex_statement.specs.declared.statement.Statement.{Statement}
 use Rattle.dex_statement.specs.declared.statement.Statement.TheVariants as row
-use Rattle.dex_statement.specs.Stated.{PlainMarketWords}
+use Rattle.dex_script_facts.specs.Places.{ArePlaced}
 use Rattle.dex_script.specs.Drafts.{PlainDraft}
 use Rattle.dex_script.specs.Names.{AreFew, IsReading}
-use Rattle.dex_script.specs.Places.{ArePlaced}
-use Rattle.dex_script.specs.Rows.{IsSetup, with_clock, with_market, with_mint, with_msrm, with_orders_row, with_program, with_srm, with_statement, with_wallet}
+use Rattle.dex_script.specs.Rows.{IsSetup, with_clock, with_program, with_statement}
 use Rattle.dex_script.proofs.FaultLaws.{differ, ok-same, unless-ok}
 use Rattle.dex_script.proofs.StartOrders.{length-grown}
 use Rattle.dex_script.proofs.RowParts.{Declares, market-row, mint-row, msrm-row, orders-row, srm-row, wallet-row}
@@ -50,53 +49,37 @@ module _ (draft : PlainDraft) (after : PlainDraft) where
   pub clock-row : (now : ℤ) → ◌≡◌ {A = Result PlainDraft FaultKind} (Ok (with_clock draft now)) (Ok after) → with_clock draft now ≡ after
   clock-row now is = ok-same (with_clock draft now) after is
 
-  pub kept-program : (program : Program) → with_program draft program ≡ Ok after → Kept draft after
-  kept-program program is = subst (Kept draft) (program-row program is) (record { rows = refl; lanes = refl; items = refl; batch = refl; late = refl; start = λ late. refl; few = λ few. few })
-
   pub kept-clock : (now : ℤ) → ◌≡◌ {A = Result PlainDraft FaultKind} (Ok (with_clock draft now)) (Ok after) → Kept draft after
   kept-clock now is = subst (Kept draft) (clock-row now is) (record { rows = refl; lanes = refl; items = refl; batch = refl; late = refl; start = λ late. refl; few = λ few. few })
-
-  pub kept-mint : (address : Address) (decimals : ℕ) → with_mint draft address decimals ≡ Ok after → Kept draft after
-  kept-mint address decimals is = declared draft _ _ after (mint-row draft after address decimals is).declares (λ few. record { markets = few.markets; wallets = few.wallets })
-
-  pub kept-srm : (mint : Address) → with_srm draft mint ≡ Ok after → Kept draft after
-  kept-srm mint is = declared draft _ _ after (srm-row draft after mint is).1 (λ few. record { markets = few.markets; wallets = few.wallets })
-
-  pub kept-msrm : (mint : Address) → with_msrm draft mint ≡ Ok after → Kept draft after
-  kept-msrm mint is = declared draft _ _ after (msrm-row draft after mint is).1 (λ few. record { markets = few.markets; wallets = few.wallets })
-
-  pub kept-wallet : (address mint owner : Address) (amount : ℕ) → with_wallet draft address mint owner amount ≡ Ok after → Kept draft after
-  kept-wallet address mint owner amount is =
-      let row = wallet-row draft after address mint owner amount is in
-      let wallet : PlainAccount = record { address = address; bytes = wallet_bytes mint owner amount } in
-      declared draft _ _ after row.declares
-      (λ few. record { markets = few.markets; wallets = omega (arith, length-append draft.script.start.wallets (wallet ∷ []), row.few) })
-
-  pub kept-market : (words : PlainMarketWords) → with_market draft words ≡ Ok after → Kept draft after
-  kept-market words is =
-      let row = market-row draft after words is in
-      declared draft _ _ after row.declares
-      (λ few. record { markets = omega (arith, length-append draft.script.start.markets (made_accounts row.set ∷ []), row.few); wallets = few.wallets })
-
-  pub kept-orders : (market address : Address) → with_orders_row draft market address ≡ Ok after → Kept draft after
-  kept-orders market address is =
-      declared draft _ _ after (orders-row draft after market address is).declares
-      (λ few. record {
-        markets = omega (arith, few.markets, length-grown market (blank_account address) draft.script.start.markets);
-        wallets = few.wallets;
-      })
 
 -- a row that declares accounts or chooses the program
 pub kept-setup : (number : ℕ) (before after : PlainDraft) (statement : Statement) → IsSetup statement
     → with_statement before number statement ≡ Ok after → Kept before after
-kept-setup number before after (row.Program program) setup is = kept-program before after program is
+kept-setup number before after (row.Program program) setup is =
+    subst (Kept before) (program-row before after program is)
+    (record { rows = refl; lanes = refl; items = refl; batch = refl; late = refl; start = λ late. refl; few = λ few. few })
 kept-setup number before after (row.Clock now) setup is = absurd setup
-kept-setup number before after (row.Mint address decimals) setup is = kept-mint before after address decimals is
-kept-setup number before after (row.Srm mint) setup is = kept-srm before after mint is
-kept-setup number before after (row.Msrm mint) setup is = kept-msrm before after mint is
-kept-setup number before after (row.Wallet address mint owner amount) setup is = kept-wallet before after address mint owner amount is
-kept-setup number before after (row.Market words) setup is = kept-market before after words is
-kept-setup number before after (row.Orders market address) setup is = kept-orders before after market address is
+kept-setup number before after (row.Mint address decimals) setup is =
+    declared before _ _ after (mint-row before after address decimals is).declares (λ few. record { markets = few.markets; wallets = few.wallets })
+kept-setup number before after (row.Srm mint) setup is =
+    declared before _ _ after (srm-row before after mint is).1 (λ few. record { markets = few.markets; wallets = few.wallets })
+kept-setup number before after (row.Msrm mint) setup is =
+    declared before _ _ after (msrm-row before after mint is).1 (λ few. record { markets = few.markets; wallets = few.wallets })
+kept-setup number before after (row.Wallet address mint owner amount) setup is =
+    let made = wallet-row before after address mint owner amount is in
+    let wallet : PlainAccount = record { address = address; bytes = wallet_bytes mint owner amount } in
+    declared before _ _ after made.declares
+    (λ few. record { markets = few.markets; wallets = omega (arith, length-append before.script.start.wallets (wallet ∷ []), made.few) })
+kept-setup number before after (row.Market words) setup is =
+    let made = market-row before after words is in
+    declared before _ _ after made.declares
+    (λ few. record { markets = omega (arith, length-append before.script.start.markets (made_accounts made.set ∷ []), made.few); wallets = few.wallets })
+kept-setup number before after (row.Orders market address) setup is =
+    declared before _ _ after (orders-row before after market address is).declares
+    (λ few. record {
+      markets = omega (arith, few.markets, length-grown market (blank_account address) before.script.start.markets);
+      wallets = few.wallets;
+    })
 kept-setup number before after (row.Instruction words) setup is = absurd setup
 kept-setup number before after (row.Swap words) setup is = absurd setup
 

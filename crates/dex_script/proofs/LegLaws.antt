@@ -11,7 +11,7 @@ use Rattle.dex_fold.specs.Fold.{is_role, names}
 use Rattle.dex_fold.specs.Items.{ShareNothing}
 use Rattle.dex_fold.proofs.NameLaws.{names-roles}
 use Rattle.dex_statement.specs.Stated.{PlainInstruction, PlainLeg, leg_words}
-use Rattle.dex_script.specs.Facts.{AreLegs, IsLeg}
+use Rattle.dex_script_facts.specs.Facts.{AreLegs, IsLeg}
 use Rattle.dex_script.specs.Rows.{instruction_row, is_bad_swap, is_named_among, is_named_twice, is_no_leg, is_one_wallet}
 use Rattle.dex_script.proofs.FaultLaws.{differ}
 

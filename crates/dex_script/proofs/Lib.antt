@@ -1,7 +1,6 @@
 pub mod FirstLaws
 pub mod MintLaws
 pub mod MarketLaws
-pub mod PlacedLaws
 pub mod NameLaws
 pub mod ScriptLaws
 pub mod FaultLaws
@@ -21,6 +20,4 @@ pub mod Started
 pub mod StartSupplies
 pub mod StartOrders
 pub mod StartRows
-pub mod Roles
 pub mod StartLaws
-pub mod Apart

@@ -10,9 +10,9 @@ use Rattle.dex_types.specs.Accounts.{PlainAccount, PlainAccounts, PlainMarketAcc
 use Rattle.dex_types.specs.Addresses.{is_same}
 use Rattle.dex_laws.proofs.TraderLaws.{is_same-sym}
 use Rattle.dex_statement.specs.Stated.{PlainParties}
-use Rattle.dex_script.specs.Known.{has_market, is_known_role}
+use Rattle.dex_script_facts.specs.Known.{has_market, is_known_role}
+use Rattle.dex_script_facts.specs.Places.{IsRolePlaced, market_place, wallet_place}
 use Rattle.dex_script.specs.Names.{StandAt, all_places, places_of, role_place}
-use Rattle.dex_script.specs.Places.{IsRolePlaced, market_place, wallet_place}
 use Rattle.dex_script.specs.Rows.{is_unknown}
 
 -- ---- the first place, from the last item to the first
@@ -152,3 +152,7 @@ module _ (start : PlainAccounts) (parties : PlainParties) where
         discount = role-placed start.wallets parties.discount places.discount are.discount;
         referrer = role-placed start.wallets parties.referrer places.referrer are.referrer;
       }
+
+  -- the same of accounts that are these
+  pub stand-in : (other : PlainAccounts) (places : RowPlaces) → other ≡ start → places_of start parties ≡ Some places → StandAt other parties places
+  stand-in other places same is = subst (λ (s : PlainAccounts). StandAt s parties places) (sym same) (stand places is)

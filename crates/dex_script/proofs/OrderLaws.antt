@@ -19,14 +19,15 @@ use Rattle.dex_statement.specs.declared.statement.Statement.TheVariants as row
 use Rattle.dex_statement.specs.Stated.{PlainInstruction, PlainSwap}
 use Rattle.dex_statement.specs.Statements.{statement_of}
 use Rattle.dex_statement.specs.Words.{Fields}
-use Rattle.dex_script.specs.Drafts.{PlainDraft, PlainScript, behind_dump, no_rows}
-use Rattle.dex_script.specs.Facts.{AreLegs, AreRows, HasNoSwap, IsRowOf, lanes_of}
-use Rattle.dex_script.specs.Known.{has_market, is_known_role}
-use Rattle.dex_script.specs.Rows.{exceeds_row, instruction_row, is_full, is_unknown, with_instruction, with_item, with_row, with_statement, with_swap}
+use Rattle.dex_script_facts.specs.PlainScript.{PlainScript}
+use Rattle.dex_script_facts.specs.Facts.{AreLegs, AreRows, HasNoSwap, IsRowOf, lanes_of}
+use Rattle.dex_script_facts.specs.Known.{has_market, is_known_role}
+use Rattle.dex_script.specs.Drafts.{PlainDraft, behind_dump, no_rows}
+use Rattle.dex_script.specs.Rows.{exceeds_row, instruction_row, is_full, is_unknown, with_item, with_row, with_statement}
 use Rattle.dex_script.specs.Scripts.{AnswersBy, Reads, Refusal, begins_with_dump, behind, draft_after, fault_in, script_from, unless_found}
 use Rattle.dex_script.proofs.FaultLaws.{bind-ok, differ, no-error, ok-same, or-none}
 use Rattle.dex_script.proofs.ItemRows.{IsOneRow, IsSwapRow, first_leg, instruction-row, second_leg, swap-row}
-use Rattle.dex_script.proofs.KeptLaws.{Kept, kept-clock, kept-market, kept-mint, kept-msrm, kept-orders, kept-program, kept-srm, kept-wallet}
+use Rattle.dex_script.proofs.KeptLaws.{Kept, kept-clock, kept-setup}
 use Rattle.dex_script.proofs.LegLaws.{are-legs}
 use Rattle.dex_script.proofs.RowOrder.{AreInOrder, items-more, lanes-more, no-rows-in-order, push-row}
 
@@ -208,91 +209,70 @@ kept-good number before after good kept = by before.is_late refl
 
 -- ---- all rows
 
--- what a row leaves: a good script, and the start where setup rows come too late
-pub record Goes (number : ℕ) (before after : PlainDraft) : Type 0 where
-  pub good : IsGood (next_number number) after
-  pub start : before.is_late ≡ true → after.script.start ≡ before.script.start
-  pub late : before.is_late ≡ true → after.is_late ≡ true
-  pub batch : after.batch ≡ before.batch
+-- a row keeps the instruction rows, is one more, or is a swap
+by-statement : {P : Type 0} (number : ℕ) (before after : PlainDraft) → (Kept before after → P) → ((words : PlainInstruction) → IsOneRow number before after words → P)
+    → ((words : PlainSwap) → IsSwapRow number before after words → P) → (statement : Statement) → with_statement before number statement ≡ Ok after → P
+by-statement number before after kept one two (row.Clock now) is = kept (kept-clock before after now is)
+by-statement number before after kept one two (row.Instruction words) is = one words (instruction-row number before after words is)
+by-statement number before after kept one two (row.Swap words) is = two words (swap-row number before after words is)
+by-statement number before after kept one two setup is = kept (kept-setup number before after setup tt is)
 
-by-kept : (number : ℕ) (before after : PlainDraft) → IsGood number before → Kept before after → Goes number before after
-by-kept number before after good kept = record {
-  good = kept-good number before after good kept;
-  start = kept.start;
-  late = λ is. kept.late ∙ is;
-  batch = kept.batch;
-}
-
--- an instruction row or a swap leaves the start and what is taken, and setup rows come too late behind it
-by-item : (number : ℕ) (before after : PlainDraft) (rows : List PlainRow) (lane : ℕ) → with_item before rows lane ≡ after
-    → IsGood (next_number number) after → Goes number before after
-by-item number before after rows lane is good = record {
-  good = good;
-  start = λ _. sym (ap (λ (d : PlainDraft). d.script.start) is);
-  late = λ _. sym (ap (λ (d : PlainDraft). d.is_late) is);
-  batch = sym (ap (λ (d : PlainDraft). d.batch) is);
-}
-
-by-instruction : (number : ℕ) (before after : PlainDraft) (words : PlainInstruction) → IsGood number before
-    → with_instruction before number words ≡ Ok after → Goes number before after
-by-instruction number before after words good is =
-    let row = instruction-row number before after words is in
-    by-item number before after (instruction_row number before.clock words ∷ []) words.lane row.is (one-good number before after words good row)
-
-by-swap : (number : ℕ) (before after : PlainDraft) (words : PlainSwap) → IsGood number before → with_swap before number words ≡ Ok after
-    → Goes number before after
-by-swap number before after words good is =
-    let row = swap-row number before after words is in
-    by-item number before after
-    (instruction_row number before.clock (first_leg words) ∷ instruction_row number before.clock (second_leg words) ∷ []) words.lane row.is
-    (two-good number before after words good row)
-
-by-statement : (number : ℕ) (before after : PlainDraft) (statement : Statement) → IsGood number before
-    → with_statement before number statement ≡ Ok after → Goes number before after
-by-statement number before after (row.Program program) good is = by-kept number before after good (kept-program before after program is)
-by-statement number before after (row.Clock now) good is = by-kept number before after good (kept-clock before after now is)
-by-statement number before after (row.Mint address decimals) good is = by-kept number before after good (kept-mint before after address decimals is)
-by-statement number before after (row.Srm mint) good is = by-kept number before after good (kept-srm before after mint is)
-by-statement number before after (row.Msrm mint) good is = by-kept number before after good (kept-msrm before after mint is)
-by-statement number before after (row.Wallet address mint owner amount) good is =
-    by-kept number before after good (kept-wallet before after address mint owner amount is)
-by-statement number before after (row.Market words) good is = by-kept number before after good (kept-market before after words is)
-by-statement number before after (row.Orders market address) good is = by-kept number before after good (kept-orders before after market address is)
-by-statement number before after (row.Instruction words) good is = by-instruction number before after words good is
-by-statement number before after (row.Swap words) good is = by-swap number before after words good is
-
-by-row : (number : ℕ) (before after : PlainDraft) (fields : Fields) → IsGood number before → with_row before number fields ≡ Ok after
-    → Goes number before after
+pub by-row : {P : Type 0} (number : ℕ) (before after : PlainDraft) → (Kept before after → P) → ((words : PlainInstruction) → IsOneRow number before after words → P)
+    → ((words : PlainSwap) → IsSwapRow number before after words → P) → (fields : Fields) → with_row before number fields ≡ Ok after → P
 unfolding with_row
-by-row number before after fields good is =
-    let a = bind-ok (statement_of fields) (with_statement before number) after is in
-    by-statement number before after a.0 good a.2
+by-row number before after kept one two fields is =
+    let a = bind-ok (statement_of fields) (with_statement before number) after is in by-statement number before after kept one two a.0 a.2
 
-pub fault-ok : {A : Type 0} (number : ℕ) (r : Result A FaultKind) (x : A) → fault_in number r ≡ Ok x → r ≡ Ok x
+fault-ok : {A : Type 0} (number : ℕ) (r : Result A FaultKind) (x : A) → fault_in number r ≡ Ok x → r ≡ Ok x
 fault-ok {A} number (Ok y) x is = ap (λ (z : A). Ok z) (ok-same y x is)
 fault-ok number (Err kind) x is = absurd (no-error _ x is)
 
--- behind all rows
-pub record Ends (before last : PlainDraft) : Type 0 where
-  pub rows : AreRows last.script
-  pub start : before.is_late ≡ true → last.script.start ≡ before.script.start
-  pub single : before.batch ≡ true → HasNoSwap last.script.rows
+-- the first row and the others, without a fault
+pub first-row : (number : ℕ) (before last : PlainDraft) (fields : Fields) (rows : List Fields) → draft_after before number (fields ∷ rows) ≡ Ok last
+    → (next : PlainDraft) × (with_row before number fields ≡ Ok next) × (draft_after next (next_number number) rows ≡ Ok last)
+first-row number before last fields rows is =
+    let a = bind-ok (fault_in number (with_row before number fields)) (λ d. draft_after d (next_number number) rows) last is in
+    (a.0, fault-ok number (with_row before number fields) a.0 a.1, a.2)
 
-by-rows : (number : ℕ) (before last : PlainDraft) (rows : List Fields) → IsGood number before → draft_after before number rows ≡ Ok last
-    → Ends before last
-by-rows number before last [] good is =
-    let e = ok-same {E = Refusal} before last is in
-    subst (Ends before) e (record { rows = good.rows; start = λ _. refl; single = good.single })
-by-rows number before last (fields ∷ rows) good is =
-    let next : PlainDraft → Result PlainDraft Refusal = λ d. draft_after d (next_number number) rows in
-    let a = bind-ok (fault_in number (with_row before number fields)) next last is in
-    let goes = by-row number before a.0 fields good (fault-ok number (with_row before number fields) a.0 a.1) in
-    let ends = by-rows (next_number number) a.0 last rows goes.good a.2 in
-    record {
-      rows = ends.rows;
-      start = λ late. ends.start (goes.late late) ∙ goes.start late;
-      single = λ batch. ends.single (goes.batch ∙ batch);
-    }
+-- what each row keeps, all rows keep
+pub through : (P : ℕ → PlainDraft → Type 0)
+    → ((number : ℕ) (before after : PlainDraft) (fields : Fields) → P number before → with_row before number fields ≡ Ok after → P (next_number number) after)
+    → (number : ℕ) (before last : PlainDraft) (rows : List Fields) → P number before → draft_after before number rows ≡ Ok last → (end : ℕ) × P end last
+through P step number before last [] holds is = (number, subst (P number) (ok-same {E = Refusal} before last is) holds)
+through P step number before last (fields ∷ rows) holds is =
+    let a = first-row number before last fields rows is in
+    through P step (next_number number) a.0 last rows (step number before a.0 fields holds a.1) a.2
+
+-- a good script behind the first rows: the start is theirs where setup rows come too late
+record Goes (first : PlainDraft) (number : ℕ) (draft : PlainDraft) : Type 0 where
+  pub good : IsGood number draft
+  pub start : first.is_late ≡ true → draft.script.start ≡ first.script.start
+  pub late : first.is_late ≡ true → draft.is_late ≡ true
+  pub batch : draft.batch ≡ first.batch
+
+module _ (first : PlainDraft) (number : ℕ) (before after : PlainDraft) (goes : Goes first number before) where
+  by-kept : Kept before after → Goes first (next_number number) after
+  by-kept kept = record {
+    good = kept-good number before after goes.good kept;
+    start = λ is. kept.start (goes.late is) ∙ goes.start is;
+    late = λ is. kept.late ∙ goes.late is;
+    batch = kept.batch ∙ goes.batch;
+  }
+
+  -- an instruction row or a swap leaves the start, and setup rows come too late behind it
+  by-item : (rows : List PlainRow) (lane : ℕ) → with_item before rows lane ≡ after → IsGood (next_number number) after → Goes first (next_number number) after
+  by-item rows lane is good = record {
+    good = good;
+    start = λ late. sym (ap (λ (d : PlainDraft). d.script.start) is) ∙ goes.start late;
+    late = λ _. sym (ap (λ (d : PlainDraft). d.is_late) is);
+    batch = sym (ap (λ (d : PlainDraft). d.batch) is) ∙ goes.batch;
+  }
+
+  goes-row : (fields : Fields) → with_row before number fields ≡ Ok after → Goes first (next_number number) after
+  goes-row =
+      by-row number before after by-kept
+      (λ words one. by-item _ words.lane one.is (one-good number before after words goes.good one))
+      (λ words two. by-item _ words.lane two.is (two-good number before after words goes.good two))
 
 -- ---- a script
 
@@ -320,9 +300,10 @@ from-rows : (number : ℕ) (draft : PlainDraft) (rows : List Fields) (script : P
     → Ok script ≡ script_from draft number rows → Gives draft script
 from-rows number draft rows script good is =
     let a = bind-ok (draft_after draft number rows) last_script script (sym is) in
-    let ends = by-rows number draft a.0 rows good a.1 in
-    let e = ok-same {E = Refusal} a.0.script script a.2 in
-    subst (Gives draft) e (record { rows = ends.rows; start = ends.start; single = ends.single })
+    let before : Goes draft number draft = record { good = good; start = λ _. refl; late = λ late. late; batch = refl } in
+    let ends = (through (Goes draft) (λ n b d fields goes. goes-row draft n b d goes fields) number draft a.0 rows before a.1).1 in
+    subst (Gives draft) (ok-same {E = Refusal} a.0.script script a.2)
+    (record { rows = ends.good.rows; start = ends.start; single = λ batch. ends.good.single (ends.batch ∙ batch) })
 
 -- what a dump and the rows behind it give
 pub record StartsWith (batch : Bool) (script : PlainScript) : Type 0 where

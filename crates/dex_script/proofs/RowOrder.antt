@@ -9,7 +9,7 @@ use Rattle.dex_types.specs.Accounts.{PlainAccounts}
 use Rattle.dex_types.specs.Rows.{PlainRow}
 use Rattle.dex_fold.specs.Items.{Item, items_of}
 use Rattle.dex_fold.proofs.GroupLaws.{grouped-behind, grouped-one}
-use Rattle.dex_script.specs.Facts.{AreLegs, HasNoThree, IsRowOf, lanes_of}
+use Rattle.dex_script_facts.specs.Facts.{AreLegs, HasNoThree, IsRowOf, lanes_of}
 
 -- rows of a start, whose numbers never fall, of which two of one number are legs, and no three are of one
 pub record AreInOrder (start : PlainAccounts) (rows : List PlainRow) : Type 0 where

@@ -1,5 +1,5 @@
 -- What is known of a setup row that has no fault, and what it leaves.
-use Rattle.std.proofs.Common.{◌≡◌, ℕ, ◌+◌, ◌^◌, ◌<◌, ◌∷◌, [], ◌++◌, ◌||◌, ◌==◌, true, false, not, nat_le, List, Option, Some, Result, Ok, length}
+use Rattle.std.proofs.Common.{◌≡◌, ℕ, ◌+◌, ◌^◌, ◌<◌, ◌∷◌, [], ◌++◌, ◌||◌, ◌==◌, Bool, true, false, not, nat_le, List, Option, Some, Ok, length, refl}
 use Rattle.std.specs.Option.{is_some}
 use Rattle.std.proofs.lemmas.Bool.{eqb-true, leb-false, not-false}
 use Rattle.dex_types.specs.declared.addresses.Address.{Address}
@@ -10,15 +10,15 @@ use Rattle.dex_make.specs.MarketBytes.{made_accounts}
 use Rattle.dex_make.specs.TokenBytes.{mint_bytes, wallet_bytes}
 use Rattle.dex_token.specs.MintAccount.{MintWords}
 use Rattle.dex_dump.specs.Reading.{is_among, with_orders}
-use Rattle.dex_statement.specs.declared.faults.FaultKind.{FaultKind}
 use Rattle.dex_statement.specs.declared.faults.FaultKind.TheVariants.{UnknownLabel, Duplicate, OverLimit, SetupRefused}
 use Rattle.dex_statement.specs.declared.faults.SetupCode.TheVariants as code
-use Rattle.dex_statement.specs.Faults.{◌>>=◌, found_or, unless}
+use Rattle.dex_statement.specs.Faults.{◌>>=◌}
 use Rattle.dex_statement.specs.Stated.{PlainMarketWords}
+use Rattle.dex_script_facts.specs.Known.{has_account}
 use Rattle.dex_script.specs.Drafts.{PlainDraft}
-use Rattle.dex_script.specs.Known.{has_account, is_any_among, made_addresses, mint_at, orders_at, with_supply}
-use Rattle.dex_script.specs.Rows.{checked_name, exceeds_market, set_of, with_market, with_mint, with_msrm, with_orders_row, with_srm, with_start, with_wallet}
-use Rattle.dex_script.proofs.FaultLaws.{bind-ok, found-ok, ok-same, or-none, unless-ok}
+use Rattle.dex_script.specs.Known.{is_any_among, made_addresses, mint_at, orders_at, with_supply}
+use Rattle.dex_script.specs.Rows.{checked_name, checked_new, exceeds_market, set_of, with_market, with_mint, with_msrm, with_orders_row, with_srm, with_start, with_wallet}
+use Rattle.dex_script.proofs.FaultLaws.{gives-bind, gives-found, gives-ok, gives-unless, or-none}
 
 -- a setup row declares these addresses, none of which is taken yet, and leaves these accounts
 pub record Declares (draft : PlainDraft) (new : List Address) (start : PlainAccounts) (after : PlainDraft) : Type 0 where
@@ -43,6 +43,12 @@ abbrev pub more_orders : PlainAccounts → Address → Address → PlainAccounts
 more_orders start market address = record start { markets = with_orders market (blank_account address) start.markets }
 
 -- ---- what holds of each kind of row
+
+-- a row that declares addresses, none of which is taken, where there is room, and not too late
+pub record IsNew (draft : PlainDraft) (is_taken is_full : Bool) : Type 0 where
+  pub free : is_taken ≡ false
+  pub few : is_full ≡ false
+  pub early : draft.is_late ≡ false
 
 -- a new mint
 pub record IsMintRow (draft : PlainDraft) (address : Address) (decimals : ℕ) (after : PlainDraft) : Type 0 where
@@ -87,135 +93,112 @@ pub record IsOrdersRow (draft : PlainDraft) (market address : Address) (after : 
 
 -- ---- a row without a fault
 
+pub checked : (draft : PlainDraft) (is_taken is_full : Bool) (u : Unit {0}) → checked_new draft is_taken is_full ≡ Ok u → IsNew draft is_taken is_full
+unfolding checked_new
+checked draft is_taken is_full =
+    let P : Unit {0} → Type 0 = λ _. IsNew draft is_taken is_full in
+    gives-unless P is_taken Duplicate _ (λ free.
+    gives-unless P is_full OverLimit _ (λ few.
+    gives-unless P draft.is_late (SetupRefused code.Late) _ (λ early. gives-ok P tt (record { free = free; few = few; early = early }))))
+
 module _ (draft : PlainDraft) (after : PlainDraft) where
   abbrev start : PlainAccounts
   start = draft.script.start
 
-  abbrev then : List Address → PlainAccounts → Result PlainDraft FaultKind
-  then new next = Ok (with_start draft new next)
-
-  abbrev unless_late : List Address → PlainAccounts → Result PlainDraft FaultKind
-  unless_late new next = unless draft.is_late (SetupRefused code.Late) (then new next)
-
-  declared : (new : List Address) (next : PlainAccounts) → unless_late new next ≡ Ok after → Declares draft new next after
-  declared new next is =
-      let a = unless-ok draft.is_late (SetupRefused code.Late) (then new next) after is in
-      record { early = a.0; leaves = ok-same {E = FaultKind} (with_start draft new next) after a.1 }
-
   pub mint-row : (address : Address) (decimals : ℕ) → with_mint draft address decimals ≡ Ok after → IsMintRow draft address decimals after
   unfolding with_mint
-  mint-row address decimals is =
-      let next = more_mints start address decimals in
-      let full = nat_le 16 (length start.mints) in
-      let a = unless-ok (is_among address draft.taken) Duplicate (unless full OverLimit (unless_late (address ∷ []) next)) after is in
-      let b = unless-ok full OverLimit (unless_late (address ∷ []) next) after a.1 in
-      record { free = a.0; few = leb-false 16 (length start.mints) b.0; declares = declared (address ∷ []) next b.1 }
+  mint-row address decimals =
+      let P : PlainDraft → Type 0 = IsMintRow draft address decimals in
+      gives-bind P (checked_new draft (is_among address draft.taken) (nat_le 16 (length start.mints))) _ (λ u is.
+      let row = checked draft _ _ u is in
+      gives-ok P _ (record { free = row.free; few = leb-false 16 (length start.mints) row.few; declares = record { early = row.early; leaves = refl } })) after
 
   named : (mint : Address) (name : Option Address) (decimals : ℕ) (u : Unit {0}) → checked_name draft mint name decimals ≡ Ok u
       → IsName draft mint decimals
   unfolding checked_name
-  named mint name decimals u is =
-      let last : MintWords → Result (Unit {0}) FaultKind = λ words. unless (not (words.decimals == decimals)) (SetupRefused code.Decimals) (Ok tt) in
-      let third : MintWords → Result (Unit {0}) FaultKind = λ words. unless draft.is_late (SetupRefused code.Late) (last words) in
-      let second : MintWords → Result (Unit {0}) FaultKind = λ words. unless (is_some name) Duplicate (third words) in
-      let a = bind-ok (found_or (mint_at mint start.mints) UnknownLabel) second u is in
-      let b = unless-ok (is_some name) Duplicate (third a.0) u a.2 in
-      let c = unless-ok draft.is_late (SetupRefused code.Late) (last a.0) u b.1 in
-      let d = unless-ok (not (a.0.decimals == decimals)) (SetupRefused code.Decimals) (Ok tt) u c.1 in
-      record {
-        words = a.0;
-        found = found-ok (mint_at mint start.mints) UnknownLabel a.0 a.1;
-        early = c.0;
-        decimals_are = eqb-true a.0.decimals decimals (not-false (a.0.decimals == decimals) d.0);
-      }
+  named mint name decimals =
+      let P : Unit {0} → Type 0 = λ _. IsName draft mint decimals in
+      gives-found P (mint_at mint start.mints) UnknownLabel _ (λ words found.
+      gives-unless P (is_some name) Duplicate _ (λ _.
+      gives-unless P draft.is_late (SetupRefused code.Late) _ (λ early.
+      gives-unless P (not (words.decimals == decimals)) (SetupRefused code.Decimals) _ (λ same.
+      gives-ok P tt (record {
+        words = words;
+        found = found;
+        early = early;
+        decimals_are = eqb-true words.decimals decimals (not-false (words.decimals == decimals) same);
+      })))))
+
+  name-row : (mint : Address) (name : Option Address) (decimals : ℕ) (next : PlainAccounts)
+      → (checked_name draft mint name decimals >>= λ _. Ok (with_start draft [] next)) ≡ Ok after → IsName draft mint decimals × Declares draft [] next after
+  name-row mint name decimals next =
+      let P : PlainDraft → Type 0 = λ left. IsName draft mint decimals × Declares draft [] next left in
+      gives-bind P (checked_name draft mint name decimals) _ (λ u is.
+      let row = named mint name decimals u is in gives-ok P _ (row, record { early = row.early; leaves = refl })) after
 
   pub srm-row : (mint : Address) → with_srm draft mint ≡ Ok after
       → IsName draft mint 6 × Declares draft [] (record start { srm = Some mint }) after
   unfolding with_srm
-  srm-row mint is =
-      let next = record start { srm = Some mint } in
-      let a = bind-ok (checked_name draft mint start.srm 6) (λ _. then [] next) after is in
-      let name = named mint start.srm 6 a.0 a.1 in
-      (name, record { early = name.early; leaves = ok-same {E = FaultKind} (with_start draft [] next) after a.2 })
+  srm-row mint = name-row mint start.srm 6 (record start { srm = Some mint })
 
   pub msrm-row : (mint : Address) → with_msrm draft mint ≡ Ok after
       → IsName draft mint 0 × Declares draft [] (record start { msrm = Some mint }) after
   unfolding with_msrm
-  msrm-row mint is =
-      let next = record start { msrm = Some mint } in
-      let a = bind-ok (checked_name draft mint start.msrm 0) (λ _. then [] next) after is in
-      let name = named mint start.msrm 0 a.0 a.1 in
-      (name, record { early = name.early; leaves = ok-same {E = FaultKind} (with_start draft [] next) after a.2 })
+  msrm-row mint = name-row mint start.msrm 0 (record start { msrm = Some mint })
 
   pub wallet-row : (address mint owner : Address) (amount : ℕ) → with_wallet draft address mint owner amount ≡ Ok after
       → IsWalletRow draft address mint owner amount after
   unfolding with_wallet
-  wallet-row address mint owner amount is =
-      let next = more_wallets start address mint owner amount in
-      let full = nat_le 256 (length start.wallets) in
-      let last : Result PlainDraft FaultKind = then (address ∷ []) next in
-      let fourth : MintWords → Result PlainDraft FaultKind = λ words. unless (nat_le (2 ^ 64) (words.supply + amount)) (SetupRefused code.Supply) last in
-      let third : MintWords → Result PlainDraft FaultKind = λ words. unless draft.is_late (SetupRefused code.Late) (fourth words) in
-      let second : MintWords → Result PlainDraft FaultKind = λ words. unless full OverLimit (third words) in
-      let first : MintWords → Result PlainDraft FaultKind = λ words. unless (is_among address draft.taken) Duplicate (second words) in
-      let a = bind-ok (found_or (mint_at mint start.mints) UnknownLabel) first after is in
-      let b = unless-ok (is_among address draft.taken) Duplicate (second a.0) after a.2 in
-      let c = unless-ok full OverLimit (third a.0) after b.1 in
-      let d = unless-ok draft.is_late (SetupRefused code.Late) (fourth a.0) after c.1 in
-      let e = unless-ok (nat_le (2 ^ 64) (a.0.supply + amount)) (SetupRefused code.Supply) last after d.1 in
-      record {
-        words = a.0;
-        found = found-ok (mint_at mint start.mints) UnknownLabel a.0 a.1;
-        free = b.0;
-        few = leb-false 256 (length start.wallets) c.0;
-        fits = leb-false (2 ^ 64) (a.0.supply + amount) e.0;
-        declares = record { early = d.0; leaves = ok-same {E = FaultKind} (with_start draft (address ∷ []) next) after e.1 };
-      }
+  wallet-row address mint owner amount =
+      let P : PlainDraft → Type 0 = IsWalletRow draft address mint owner amount in
+      gives-found P (mint_at mint start.mints) UnknownLabel _ (λ words found.
+      gives-bind P (checked_new draft (is_among address draft.taken) (nat_le 256 (length start.wallets))) _ (λ u is.
+      let row = checked draft _ _ u is in
+      gives-unless P (nat_le (2 ^ 64) (words.supply + amount)) (SetupRefused code.Supply) _ (λ fits.
+      gives-ok P _ (record {
+        words = words;
+        found = found;
+        free = row.free;
+        few = leb-false 256 (length start.wallets) row.few;
+        fits = leb-false (2 ^ 64) (words.supply + amount) fits;
+        declares = record { early = row.early; leaves = refl };
+      })))) after
 
   pub market-row : (words : PlainMarketWords) → with_market draft words ≡ Ok after → IsMarketRow draft words after
   unfolding with_market
-  market-row words is =
-      let no_coin = not (has_account words.coin start.mints) in
-      let no_pc = not (has_account words.pc start.mints) in
+  market-row words =
+      let P : PlainDraft → Type 0 = IsMarketRow draft words in
+      let coin = has_account words.coin start.mints in
+      let pc = has_account words.pc start.mints in
       let full = nat_le 16 (length start.markets) in
-      let new = made_addresses words.address in
-      let next : MarketSet → Result PlainDraft FaultKind = λ set. then new (more_markets start set) in
-      let fourth : Result PlainDraft FaultKind = set_of words >>= next in
-      let third : Result PlainDraft FaultKind = unless draft.is_late (SetupRefused code.Late) fourth in
-      let second : Result PlainDraft FaultKind = unless (full || exceeds_market words) OverLimit third in
-      let first : Result PlainDraft FaultKind = unless (is_any_among new draft.taken) Duplicate second in
-      let a = unless-ok (no_coin || no_pc) UnknownLabel first after is in
-      let known = or-none no_coin no_pc a.0 in
-      let b = unless-ok (is_any_among new draft.taken) Duplicate second after a.1 in
-      let c = unless-ok (full || exceeds_market words) OverLimit third after b.1 in
-      let limits = or-none full (exceeds_market words) c.0 in
-      let d = unless-ok draft.is_late (SetupRefused code.Late) fourth after c.1 in
-      let e = bind-ok (set_of words) next after d.1 in
-      record {
-        coin = not-false (has_account words.coin start.mints) known.0;
-        pc = not-false (has_account words.pc start.mints) known.1;
-        free = b.0;
+      gives-unless P (not coin || not pc) UnknownLabel _ (λ known.
+      gives-bind P (checked_new draft (is_any_among (made_addresses words.address) draft.taken) (full || exceeds_market words)) _ (λ u new.
+      gives-bind P (set_of words) _ (λ set is.
+      let row = checked draft _ _ u new in
+      let both = or-none (not coin) (not pc) known in
+      let limits = or-none full (exceeds_market words) row.few in
+      gives-ok P _ (record {
+        coin = not-false coin both.0;
+        pc = not-false pc both.1;
+        free = row.free;
         few = leb-false 16 (length start.markets) limits.0;
         within = limits.1;
-        set = e.0;
-        is = e.1;
-        declares = record { early = d.0; leaves = ok-same {E = FaultKind} (with_start draft new (more_markets start e.0)) after e.2 };
-      }
+        set = set;
+        is = is;
+        declares = record { early = row.early; leaves = refl };
+      })))) after
 
   pub orders-row : (market address : Address) → with_orders_row draft market address ≡ Ok after → IsOrdersRow draft market address after
   unfolding with_orders_row
-  orders-row market address is =
-      let next = more_orders start market address in
-      let third : ℕ → Result PlainDraft FaultKind = λ count. unless_late (address ∷ []) next in
-      let second : ℕ → Result PlainDraft FaultKind = λ count. unless (nat_le 64 count) OverLimit (third count) in
-      let first : ℕ → Result PlainDraft FaultKind = λ count. unless (is_among address draft.taken) Duplicate (second count) in
-      let a = bind-ok (found_or (orders_at market start.markets) UnknownLabel) first after is in
-      let b = unless-ok (is_among address draft.taken) Duplicate (second a.0) after a.2 in
-      let c = unless-ok (nat_le 64 a.0) OverLimit (third a.0) after b.1 in
-      record {
-        count = a.0;
-        found = found-ok (orders_at market start.markets) UnknownLabel a.0 a.1;
-        free = b.0;
-        few = leb-false 64 a.0 c.0;
-        declares = declared (address ∷ []) next c.1;
-      }
+  orders-row market address =
+      let P : PlainDraft → Type 0 = IsOrdersRow draft market address in
+      gives-found P (orders_at market start.markets) UnknownLabel _ (λ count found.
+      gives-bind P (checked_new draft (is_among address draft.taken) (nat_le 64 count)) _ (λ u is.
+      let row = checked draft _ _ u is in
+      gives-ok P _ (record {
+        count = count;
+        found = found;
+        free = row.free;
+        few = leb-false 64 count row.few;
+        declares = record { early = row.early; leaves = refl };
+      }))) after

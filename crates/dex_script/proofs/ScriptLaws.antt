@@ -6,9 +6,10 @@ use Rattle.dex_dump.specs.declared.faults.DumpFault.{DumpFault}
 use Rattle.dex_dump.specs.Answers.{AnswersDump, PlainDump, next_number}
 use Rattle.dex_audit.specs.Findings.{findings}
 use Rattle.dex_audit_rules.specs.declared.finding.Finding.{Finding}
+use Rattle.dex_script_facts.specs.PlainScript.{PlainScript}
 use Rattle.dex_script.specs.declared.fault.ScriptError.{ScriptError}
 use Rattle.dex_script.specs.declared.fault.ScriptError.TheVariants as script
-use Rattle.dex_script.specs.Drafts.{PlainDraft, PlainScript, behind_dump, no_rows}
+use Rattle.dex_script.specs.Drafts.{PlainDraft, behind_dump, no_rows}
 use Rattle.dex_script.specs.Scripts.{Answers, AnswersBy, IsRefused, Refusal, begins_with_dump, draft_after, unless_found}
 use Rattle.dex_script.specs.Scripts.Refusal.{InAudit, InDump}
 use Rattle.dex_script.specs.Telling.{TellsDraft, TellsError, TellsRefusal, TellsText}

@@ -21,7 +21,8 @@ use Rattle.dex_accounts.specs.StandsFor.{StandsFor}
 use Rattle.dex_dump.specs.Accepted.{address_of, addresses_of, all_of_market, times}
 use Rattle.dex_dump.specs.Reading.{is_among, market_addresses, parts_of, with_orders}
 use Rattle.dex_dump.proofs.TakenLaws.{AreApart, AreFree, one, times-append, times-cons, times-new, times-none, times-same}
-use Rattle.dex_script.specs.Known.{has_account, is_any_among, made_addresses}
+use Rattle.dex_script_facts.specs.Known.{has_account}
+use Rattle.dex_script.specs.Known.{is_any_among, made_addresses}
 
 pub record AreTaken (start : PlainAccounts) (taken : List Address) : Type 0 where
   pub all : (address : Address) → times address (addresses_of start) ≤ times address taken

@@ -1,5 +1,5 @@
 -- What a script starts with: accounts that are accepted, those of sound markets, and whose mints are conserved.
-use Rattle.std.proofs.Common.{◌≡◌, ◌∷◌, [], ℕ, List, Bool, true, false, Result, Ok, ap, arith, subst, sym}
+use Rattle.std.proofs.Common.{◌≡◌, [], ℕ, List, Bool, true, false, Ok, ap, arith, subst, sym}
 use Rattle.std.specs.List.{All}
 use Rattle.std.proofs.lemmas.List.Elements.{All-nil}
 use Rattle.dex_types.specs.Accounts.{PlainAccount, PlainAccounts}
@@ -9,19 +9,19 @@ use Rattle.dex_accounts.specs.Decoded.{AreSound}
 use Rattle.dex_audit.specs.Audited.{IsConserved}
 use Rattle.dex_audit.specs.Findings.{findings}
 use Rattle.dex_dump.specs.Accepted.{AreAccepted, HasMints, HoldBytes}
-use Rattle.dex_dump.specs.Answers.{next_number}
 use Rattle.dex_statement.specs.declared.statement.Statement.{Statement}
 use Rattle.dex_statement.specs.declared.statement.Statement.TheVariants as row
 use Rattle.dex_statement.specs.Statements.{statement_of}
 use Rattle.dex_statement.specs.Words.{Fields}
-use Rattle.dex_script.specs.Drafts.{PlainDraft, PlainScript, no_accounts, no_rows}
-use Rattle.dex_script.specs.Facts.{IsStart}
+use Rattle.dex_script_facts.specs.PlainScript.{PlainScript, no_accounts}
+use Rattle.dex_script_facts.specs.Facts.{IsStart}
+use Rattle.dex_script.specs.Drafts.{PlainDraft, no_rows}
 use Rattle.dex_script.specs.Rows.{with_row, with_statement}
-use Rattle.dex_script.specs.Scripts.{AnswersBy, Reads, Refusal, begins_with_dump, draft_after, fault_in, script_from}
+use Rattle.dex_script.specs.Scripts.{AnswersBy, Reads, Refusal, begins_with_dump, draft_after, script_from}
 use Rattle.dex_script.proofs.FaultLaws.{bind-ok, ok-same}
 use Rattle.dex_script.proofs.KeptLaws.{clock-row, program-row}
 use Rattle.dex_script.proofs.ItemRows.{instruction-row, swap-row}
-use Rattle.dex_script.proofs.OrderLaws.{fault-ok, from-dump, last_script}
+use Rattle.dex_script.proofs.OrderLaws.{from-dump, last_script, through}
 use Rattle.dex_script.proofs.RowParts.{market-row, mint-row, msrm-row, orders-row, srm-row, wallet-row}
 use Rattle.dex_script.proofs.StartRows.{IsDeclared, market-declared, mint-declared, msrm-declared, orders-declared, srm-declared, wallet-declared}
 use Rattle.dex_script.proofs.StartSupplies.{IsBacked, conserved}
@@ -81,18 +81,11 @@ by-row number before after fields so is =
     let a = bind-ok (statement_of fields) (with_statement before number) after is in
     by-statement number before after a.0 so (row-stated fields a.0 a.1) a.2
 
-by-rows : (number : ℕ) (before last : PlainDraft) (rows : List Fields) → IsDeclared before → draft_after before number rows ≡ Ok last → IsDeclared last
-by-rows number before last [] so is = subst IsDeclared (ok-same {E = Refusal} before last is) so
-by-rows number before last (fields ∷ rows) so is =
-    let next : PlainDraft → Result PlainDraft Refusal = λ d. draft_after d (next_number number) rows in
-    let a = bind-ok (fault_in number (with_row before number fields)) next last is in
-    by-rows (next_number number) a.0 last rows (by-row number before a.0 fields so (fault-ok number (with_row before number fields) a.0 a.1)) a.2
-
 -- what rows without a dump give
 from-rows : (batch : Bool) (rows : List Fields) (script : PlainScript) → Ok script ≡ script_from (no_rows batch) 1 rows → IsStart script.start
 from-rows batch rows script is =
     let a = bind-ok (draft_after (no_rows batch) 1 rows) last_script script (sym is) in
-    let last = by-rows 1 (no_rows batch) a.0 rows (nothing-declared batch) a.1 in
+    let last = (through (λ _. IsDeclared) by-row 1 (no_rows batch) a.0 rows (nothing-declared batch) a.1).1 in
     let start = a.0.script.start in
     let here = declared-start start a.0.taken last.declared last.taken (conserved start last.declared.markets last.backed) in
     subst (λ (s : PlainScript). IsStart s.start) (ok-same {E = Refusal} a.0.script script a.2) here

@@ -17,8 +17,9 @@ use Rattle.dex_dump.specs.Accepted.{HasMints}
 use Rattle.dex_dump.specs.Reading.{is_among}
 use Rattle.dex_dump.proofs.TakenLaws.{AreApart, AreFree}
 use Rattle.dex_statement.specs.Stated.{PlainMarketWords}
+use Rattle.dex_script_facts.specs.Known.{has_account}
 use Rattle.dex_script.specs.Drafts.{PlainDraft}
-use Rattle.dex_script.specs.Known.{has_account, made_addresses}
+use Rattle.dex_script.specs.Known.{made_addresses}
 use Rattle.dex_script.proofs.MadeMarkets.{IsSet, set-is, stands-made}
 use Rattle.dex_script.proofs.MintLaws.{length-with_supply, mints-raised}
 use Rattle.dex_script.proofs.RowParts.{Declares, IsMarketRow, IsMintRow, IsName, IsOrdersRow, IsWalletRow, more_markets, more_mints, more_orders, more_wallets}

@@ -19,7 +19,8 @@ use Rattle.dex_dump.specs.Accepted.{address_of, times}
 use Rattle.dex_dump.proofs.TakenLaws.{one, times-cons}
 use Rattle.dex_audit.specs.Audited.{IsConserved}
 use Rattle.dex_audit.specs.Supplies.{amount_of, in_vaults, in_wallets}
-use Rattle.dex_script.specs.Known.{has_account, mint_at, raised, with_supply}
+use Rattle.dex_script_facts.specs.Known.{has_account}
+use Rattle.dex_script.specs.Known.{mint_at, raised, with_supply}
 use Rattle.dex_script.specs.Mints.{AreMints}
 use Rattle.dex_script.proofs.Started.{IsMade, IsWalletOf}
 

@@ -1,5 +1,5 @@
 -- What a row states: its addresses are of 32 bytes, its numbers fit, and its data are bytes.
-use Rattle.std.proofs.Common.{◌≡◌, ◌<◌, ◌^◌, ◌∷◌, [], ◌==◌, ◌&&◌, ℕ, zero, suc, Bool, true, not, List, Option, Some, None, Result, Ok, arith, refl, subst, length, nat_lt, codes, slice_index}
+use Rattle.std.proofs.Common.{◌≡◌, ◌<◌, ◌^◌, ◌∷◌, [], ◌==◌, ◌&&◌, ℕ, zero, suc, true, not, List, Option, Some, None, Ok, arith, refl, subst, length, nat_lt, codes, slice_index}
 use Rattle.std.specs.List.{list_all}
 use Rattle.std.specs.Str.Parse.{digits_value}
 use Rattle.std.proofs.lemmas.Bool.{and_parts, eqb-true, ltb-true, not-false}
@@ -15,39 +15,18 @@ use Rattle.dex_dump_rows.specs.Lines.{form_of as line_form, line_of, srm_of as l
 use Rattle.dex_dump_rows.specs.Lines.PlainLine.{Srm as SrmLine}
 use Rattle.dex_dump.proofs.ByteLaws.{base64_of-bytes, bytes-cons}
 use Rattle.dex_dump.proofs.LineLaws.{line-read}
-use Rattle.dex_statement.specs.declared.faults.FaultKind.{FaultKind}
 use Rattle.dex_statement.specs.declared.faults.FaultKind.TheVariants.{BadCsv, UnknownRow, FieldCount, BadNumber, BadLabel}
 use Rattle.dex_statement.specs.declared.forms.Form.{Form}
 use Rattle.dex_statement.specs.declared.forms.Form.TheVariants as form
 use Rattle.dex_statement.specs.declared.statement.Statement.{Statement}
 use Rattle.dex_statement.specs.declared.statement.Statement.TheVariants as row
-use Rattle.dex_statement.specs.Faults.{◌>>=◌, found_or, unless}
 use Rattle.dex_statement.specs.Forms.{form_of}
 use Rattle.dex_statement.specs.Setup.{clock_of, discount_of, market_of, market_word, mint_of, orders_of, program_of, wallet_of, with_last_zero}
 use Rattle.dex_statement.specs.Stated.{PlainMarketWords}
 use Rattle.dex_statement.specs.Statements.{bytes_row, stated, statement_of, words_row}
 use Rattle.dex_statement.specs.Swaps.{swap_row}
 use Rattle.dex_statement.specs.Words.{Fields, field_at}
-use Rattle.dex_script.proofs.FaultLaws.{bind-ok, found-ok, ok-same, unless-ok}
-
--- ---- what is read holds
-
-abbrev Gives : {A : Type 0} → (A → Type 0) → Result A FaultKind → Type 0
-Gives {A} P r = (x : A) → r ≡ Ok x → P x
-
-gives-ok : {A : Type 0} (P : A → Type 0) (x : A) → P x → Gives P (Ok x)
-gives-ok P x holds y is = subst P (ok-same x y is) holds
-
-gives-unless : {A : Type 0} (P : A → Type 0) (test : Bool) (kind : FaultKind) (next : Result A FaultKind) → Gives P next → Gives P (unless test kind next)
-gives-unless P test kind next holds x is = holds x (unless-ok test kind next x is).1
-
-gives-bind : {A B : Type 0} (P : B → Type 0) (r : Result A FaultKind) (next : A → Result B FaultKind) → ((x : A) → r ≡ Ok x → Gives P (next x))
-    → Gives P (r >>= next)
-gives-bind P r next each y is = let a = bind-ok r next y is in each a.0 a.1 y a.2
-
-gives-found : {A B : Type 0} (P : B → Type 0) (found : Option A) (kind : FaultKind) (next : A → Result B FaultKind)
-    → ((x : A) → found ≡ Some x → Gives P (next x)) → Gives P (found_or found kind >>= next)
-gives-found P found kind next each = gives-bind P (found_or found kind) next (λ x is. each x (found-ok found kind x is))
+use Rattle.dex_script.proofs.FaultLaws.{Gives, gives-bind, gives-found, gives-ok, gives-past, gives-unless}
 
 -- ---- words
 
@@ -128,7 +107,7 @@ module _ (fields : Fields) (are : ArePrintable fields) where
   mint-stated : Gives IsStated (mint_of fields)
   unfolding mint_of
   mint-stated =
-      gives-unless IsStated _ FieldCount _ (
+      gives-past IsStated _ FieldCount _ (
       gives-found IsStated (number_of (2 ^ 8) (field_at fields 2)) BadNumber _ (λ decimals h.
       gives-found IsStated (address_of (field_at fields 1)) BadLabel _ (λ address h1.
       gives-ok IsStated (row.Mint address decimals) (number-fits (2 ^ 8) (field_at fields 2) decimals h))))
@@ -136,7 +115,7 @@ module _ (fields : Fields) (are : ArePrintable fields) where
   wallet-stated : Gives IsStated (wallet_of fields)
   unfolding wallet_of
   wallet-stated =
-      gives-unless IsStated _ FieldCount _ (
+      gives-past IsStated _ FieldCount _ (
       gives-found IsStated (number_of (2 ^ 64) (field_at fields 4)) BadNumber _ (λ amount h.
       gives-found IsStated (address_of (field_at fields 1)) BadLabel _ (λ address h1.
       gives-found IsStated (address_of (field_at fields 2)) BadLabel _ (λ mint h2.
@@ -150,7 +129,7 @@ module _ (fields : Fields) (are : ArePrintable fields) where
   market-stated : Gives IsMarketStated (market_of fields)
   unfolding market_of
   market-stated =
-      gives-unless IsMarketStated _ FieldCount _ (
+      gives-past IsMarketStated _ FieldCount _ (
       gives-found IsMarketStated (number_of (2 ^ 32) (field_at fields 5)) BadNumber _ (λ bid_nodes h5.
       gives-found IsMarketStated (number_of (2 ^ 32) (field_at fields 6)) BadNumber _ (λ ask_nodes h6.
       gives-found IsMarketStated (number_of (2 ^ 32) (field_at fields 7)) BadNumber _ (λ events h7.
@@ -171,16 +150,16 @@ module _ (fields : Fields) (are : ArePrintable fields) where
   program-stated : Gives IsStated (program_of fields)
   unfolding program_of
   program-stated =
-      gives-unless IsStated _ FieldCount _ (gives-found IsStated _ UnknownRow _ (λ program h. gives-ok IsStated (row.Program program) tt))
+      gives-past IsStated _ FieldCount _ (gives-found IsStated _ UnknownRow _ (λ program h. gives-ok IsStated (row.Program program) tt))
 
   clock-stated : Gives IsStated (clock_of fields)
   unfolding clock_of
-  clock-stated = gives-unless IsStated _ FieldCount _ (gives-found IsStated _ BadNumber _ (λ now h. gives-ok IsStated (row.Clock now) tt))
+  clock-stated = gives-past IsStated _ FieldCount _ (gives-found IsStated _ BadNumber _ (λ now h. gives-ok IsStated (row.Clock now) tt))
 
   orders-stated : Gives IsStated (orders_of fields)
   unfolding orders_of
   orders-stated =
-      gives-unless IsStated _ FieldCount _ (
+      gives-past IsStated _ FieldCount _ (
       gives-found IsStated (address_of (field_at fields 1)) BadLabel _ (λ market h1.
       gives-found IsStated (address_of (field_at fields 2)) BadLabel _ (λ address h2.
       gives-ok IsStated (row.Orders market address) tt)))
@@ -202,6 +181,7 @@ module _ (fields : Fields) (are : ArePrintable fields) where
 pub row-stated : (fields : Fields) (statement : Statement) → statement_of fields ≡ Ok statement → IsStated statement
 unfolding statement_of
 row-stated fields statement is =
-    let a = unless-ok (not (row_is_printable fields)) BadCsv (found_or (form_of (field_at fields 0)) UnknownRow >>= λ kind. stated kind fields) statement is in
-    let are = fields-printable fields (not-false (row_is_printable fields) a.0) in
-    gives-found IsStated (form_of (field_at fields 0)) UnknownRow (λ kind. stated kind fields) (λ kind h. form-stated fields are kind) statement a.1
+    gives-unless IsStated (not (row_is_printable fields)) BadCsv _ (λ printable.
+    let are = fields-printable fields (not-false (row_is_printable fields) printable) in
+    gives-found IsStated (form_of (field_at fields 0)) UnknownRow (λ kind. stated kind fields) (λ kind h. form-stated fields are kind))
+    statement is

@@ -1,18 +1,9 @@
--- A script, and a script as far as its rows are read.
-use Rattle.std.specs.Prelude.{ℕ, ℤ, pos, Bool, true, false, List, [], None}
+-- A script as far as its rows are read.
+use Rattle.std.specs.Prelude.{ℕ, ℤ, pos, Bool, true, false, List, []}
 use Rattle.dex_types.specs.declared.addresses.Address.{Address}
-use Rattle.dex_types.specs.declared.terms.Program.{Program}
-use Rattle.dex_types.specs.declared.terms.Program.TheVariants.{Serum}
 use Rattle.dex_types.specs.Accounts.{PlainAccounts}
-use Rattle.dex_types.specs.Rows.{PlainRow}
 use Rattle.dex_dump.specs.Accepted.{addresses_of}
-
--- what a script says: the accounts with which it starts, its instruction rows, how many lanes it has, and its program
-pub record PlainScript : Type 0 where
-  pub start : PlainAccounts
-  pub rows : List PlainRow
-  pub lanes : ℕ
-  pub program : Program
+use Rattle.dex_script_facts.specs.PlainScript.{PlainScript, no_accounts, without_rows}
 
 -- the script so far, with every address that is taken, the clock of the next instruction row, whether no row stands there but
 -- those of a dump, whether setup rows come too late: behind a dump or an instruction row; how many instruction rows there are,
@@ -25,14 +16,6 @@ pub record PlainDraft : Type 0 where
   pub is_late : Bool
   pub items : ℕ
   pub batch : Bool
-
--- a script of these accounts without rows
-abbrev pub without_rows : PlainAccounts → PlainScript
-without_rows start = record { start = start; rows = []; lanes = 1; program = Serum }
-
--- no accounts, with which a script without a dump begins
-abbrev pub no_accounts : PlainAccounts
-no_accounts = record { mints = []; srm = None; msrm = None; wallets = []; markets = [] }
 
 -- before the first row of a script without a dump
 abbrev pub no_rows : Bool → PlainDraft

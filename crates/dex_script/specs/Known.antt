@@ -1,5 +1,5 @@
 -- What earlier rows declared, and what one more row changes of it.
-use Rattle.std.specs.Prelude.{ℕ, Bool, true, ◌+◌, List, [], ◌∷◌, length, Option, Some, None}
+use Rattle.std.specs.Prelude.{ℕ, Bool, ◌+◌, List, [], ◌∷◌, length, Option}
 use Rattle.std.specs.List.{list_any}
 use Rattle.dex_fields.specs.Bytes.{number_in, with_number}
 use Rattle.dex_fields.specs.declared.mint.TheConstants.{SUPPLY}
@@ -10,20 +10,7 @@ use Rattle.dex_make.specs.declared.parts.MarketPart.TheVariants.{CoinVault, PcVa
 use Rattle.dex_make.specs.Derived.{derived}
 use Rattle.dex_token.specs.MintAccount.{MintWords, mint_words}
 use Rattle.dex_dump.specs.Reading.{is_among}
-use Rattle.dex_script.specs.Firsts.{first_of, with_first}
-
--- an account has this address
-abbrev pub has_account : Address → List PlainAccount → Bool
-has_account address accounts = list_any (λ (account : PlainAccount). is_same address account.address) accounts
-
--- a market has this address
-abbrev pub has_market : Address → List PlainMarketAccounts → Bool
-has_market address markets = list_any (λ (market : PlainMarketAccounts). is_same address market.address) markets
-
--- a role names no wallet, or one that is declared
-abbrev pub is_known_role : List PlainAccount → Option Address → Bool
-is_known_role wallets None = true
-is_known_role wallets (Some address) = has_account address wallets
+use Rattle.dex_script_facts.specs.Firsts.{first_of, with_first}
 
 -- what the first mint of an address says
 abbrev pub mint_at : Address → List PlainAccount → Option MintWords

@@ -1,14 +1,8 @@
 pub mod Drafts
-pub mod Facts
-pub mod Firsts
 pub mod Known
 pub mod Markets
 pub mod Mints
 pub mod Names
-pub mod Places
 pub mod Rows
-pub mod ScriptInside
 pub mod Scripts
-pub mod Sight
-pub mod Starts
 pub mod Telling

@@ -6,9 +6,9 @@ use Rattle.dex_types.specs.declared.rows.RowPlaces.{RowPlaces}
 use Rattle.dex_types.specs.Accounts.{PlainAccounts}
 use Rattle.dex_types.specs.Addresses.{is_same}
 use Rattle.dex_statement.specs.Stated.{PlainParties}
+use Rattle.dex_script_facts.specs.Places.{ArePlaced, IsRolePlaced, market_place, wallet_place}
 use Rattle.dex_script.specs.declared.names.Names.{Names}
 use Rattle.dex_script.specs.Drafts.{PlainDraft}
-use Rattle.dex_script.specs.Places.{ArePlaced, IsRolePlaced, market_place, wallet_place}
 
 -- they are those of these accounts
 pub record AreNames (names : Names) (start : PlainAccounts) : Type 0 where

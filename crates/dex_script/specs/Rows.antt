@@ -26,8 +26,9 @@ use Rattle.dex_statement.specs.Faults.{◌>>=◌, found_or, unless}
 use Rattle.dex_statement.specs.Stated.{PlainInstruction, PlainMarketWords, PlainParties, PlainSwap, leg_words}
 use Rattle.dex_statement.specs.Statements.{statement_of}
 use Rattle.dex_statement.specs.Words.{Fields}
+use Rattle.dex_script_facts.specs.Known.{has_account, has_market, is_known_role}
 use Rattle.dex_script.specs.Drafts.{PlainDraft}
-use Rattle.dex_script.specs.Known.{has_account, has_market, is_any_among, is_known_role, made_addresses, mint_at, orders_at, with_supply}
+use Rattle.dex_script.specs.Known.{is_any_among, made_addresses, mint_at, orders_at, with_supply}
 
 -- the same script with other accounts, behind a setup row that declares these addresses
 abbrev pub with_start : PlainDraft → List Address → PlainAccounts → PlainDraft
@@ -43,14 +44,16 @@ with_program draft program =
 abbrev pub with_clock : PlainDraft → ℤ → PlainDraft
 with_clock draft now = record draft { clock = now; is_first = false }
 
+-- what refuses a row that declares addresses: one of them is taken, there is no room for what they are of, or it comes too late
+unfoldable pub checked_new : PlainDraft → Bool → Bool → Result (Unit {0}) FaultKind
+checked_new draft is_taken is_full = unless is_taken Duplicate (unless is_full OverLimit (unless draft.is_late (SetupRefused code.Late) (Ok tt)))
+
 -- `mint`: of no supply yet
 unfoldable pub with_mint : PlainDraft → Address → ℕ → Result PlainDraft FaultKind
 with_mint draft address decimals =
     let start = draft.script.start in
-    unless (is_among address draft.taken) Duplicate
-    (unless (nat_le 16 (length start.mints)) OverLimit
-    (unless draft.is_late (SetupRefused code.Late)
-    (Ok (with_start draft (address ∷ []) (record start { mints = start.mints ++ record { address = address; bytes = mint_bytes 0 decimals } ∷ [] })))))
+    checked_new draft (is_among address draft.taken) (nat_le 16 (length start.mints)) >>= λ _.
+    Ok (with_start draft (address ∷ []) (record start { mints = start.mints ++ record { address = address; bytes = mint_bytes 0 decimals } ∷ [] }))
 
 -- what refuses a row that gives a name to a mint, which must have so many decimals: the name is given already, or not, to `named`
 unfoldable pub checked_name : PlainDraft → Address → Option Address → ℕ → Result (Unit {0}) FaultKind
@@ -77,14 +80,12 @@ unfoldable pub with_wallet : PlainDraft → Address → Address → Address → 
 with_wallet draft address mint owner amount =
     let start = draft.script.start in
     found_or (mint_at mint start.mints) UnknownLabel >>= λ words.
-    unless (is_among address draft.taken) Duplicate
-    (unless (nat_le 256 (length start.wallets)) OverLimit
-    (unless draft.is_late (SetupRefused code.Late)
-    (unless (nat_le (2 ^ 64) (words.supply + amount)) (SetupRefused code.Supply)
+    checked_new draft (is_among address draft.taken) (nat_le 256 (length start.wallets)) >>= λ _.
+    unless (nat_le (2 ^ 64) (words.supply + amount)) (SetupRefused code.Supply)
     (Ok (with_start draft (address ∷ []) (record start {
       mints = with_supply mint amount start.mints;
       wallets = start.wallets ++ record { address = address; bytes = wallet_bytes mint owner amount } ∷ [];
-    }))))))
+    })))
 
 -- a market row passes a limit: 65,536 nodes a side, 65,535 events, 256 bytes of data
 abbrev pub exceeds_market : PlainMarketWords → Bool
@@ -126,21 +127,17 @@ unfoldable pub with_market : PlainDraft → PlainMarketWords → Result PlainDra
 with_market draft words =
     let start = draft.script.start in
     unless (not (has_account words.coin start.mints) || not (has_account words.pc start.mints)) UnknownLabel
-    (unless (is_any_among (made_addresses words.address) draft.taken) Duplicate
-    (unless (nat_le 16 (length start.markets) || exceeds_market words) OverLimit
-    (unless draft.is_late (SetupRefused code.Late)
-    (set_of words >>= λ set.
-    Ok (with_start draft (made_addresses words.address) (record start { markets = start.markets ++ made_accounts set ∷ [] }))))))
+    (checked_new draft (is_any_among (made_addresses words.address) draft.taken) (nat_le 16 (length start.markets) || exceeds_market words) >>= λ _.
+    set_of words >>= λ set.
+    Ok (with_start draft (made_addresses words.address) (record start { markets = start.markets ++ made_accounts set ∷ [] })))
 
 -- `orders`: a blank account of a market
 unfoldable pub with_orders_row : PlainDraft → Address → Address → Result PlainDraft FaultKind
 with_orders_row draft market address =
     let start = draft.script.start in
     found_or (orders_at market start.markets) UnknownLabel >>= λ count.
-    unless (is_among address draft.taken) Duplicate
-    (unless (nat_le 64 count) OverLimit
-    (unless draft.is_late (SetupRefused code.Late)
-    (Ok (with_start draft (address ∷ []) (record start { markets = with_orders market (blank_account address) start.markets })))))
+    checked_new draft (is_among address draft.taken) (nat_le 64 count) >>= λ _.
+    Ok (with_start draft (address ∷ []) (record start { markets = with_orders market (blank_account address) start.markets }))
 
 -- an instruction row names a market or a wallet that is not declared
 abbrev pub is_unknown : PlainAccounts → PlainParties → Bool
@@ -229,14 +226,17 @@ with_legs draft number first second =
     (unless draft.batch NoBatch
     (Ok (with_item draft (instruction_row number draft.clock first ∷ instruction_row number draft.clock second ∷ []) first.lane))))
 
--- a swap, which counts as one instruction row; where the script is to act in batches there is none
-unfoldable pub with_swap : PlainDraft → ℕ → PlainSwap → Result PlainDraft FaultKind
-with_swap draft number words =
-    let first = leg_words words.lane words.signer words.first in
-    let second = leg_words words.lane words.signer words.second in
+-- the legs of a swap, which counts as one instruction row; where the script is to act in batches there is none
+unfoldable pub with_two : PlainDraft → ℕ → PlainInstruction → PlainInstruction → Result PlainDraft FaultKind
+with_two draft number first second =
     let start = draft.script.start in
     unless (is_unknown start first.parties) UnknownLabel
     (unless (is_unknown start second.parties) UnknownLabel (with_legs draft number first second))
+
+-- a swap
+abbrev pub with_swap : PlainDraft → ℕ → PlainSwap → Result PlainDraft FaultKind
+with_swap draft number words =
+    with_two draft number (leg_words words.lane words.signer words.first) (leg_words words.lane words.signer words.second)
 
 -- a row declares accounts, or chooses the program
 abbrev pub IsSetup : Statement → Type 0

@@ -8,14 +8,12 @@ use Rattle.dex_statement.specs.Words.{Fields}
 use Rattle.dex_types.specs.Accounts.{PlainAccounts, accounts_of, market_accounts_of, named_of}
 use Rattle.dex_types.specs.Rows.{row_of}
 use Rattle.dex_statement.specs.declared.faults.FaultKind.{FaultKind}
-use Rattle.dex_statement.specs.declared.faults.RowError.{RowError}
-use Rattle.dex_statement.specs.declared.faults.RowError.TheVariants.{Fault, NoMemory}
 use Rattle.dex_statement.specs.Faults.{code_of, kind_number}
+use Rattle.dex_script_facts.specs.PlainScript.{PlainScript}
 use Rattle.dex_script.specs.declared.draft.Draft.{Draft}
 use Rattle.dex_script.specs.declared.draft.Start.{Start}
 use Rattle.dex_script.specs.declared.fault.ScriptError.{ScriptError}
 use Rattle.dex_script.specs.declared.fault.ScriptError.TheVariants as script
-use Rattle.dex_script.specs.declared.script.Script.{Script}
 use Rattle.dex_script.specs.Drafts.{PlainDraft}
 use Rattle.dex_script.specs.Scripts.{IsRefused, Reads, Refusal}
 use Rattle.dex_script.specs.Scripts.Refusal.{AtRow, InAudit, InDump}
@@ -42,13 +40,6 @@ draft_of draft = record {
   batch = draft.batch;
 }
 
--- the draft that is left behind a row is what is meant, or the fault of the row is, and then what is left does not matter. Want of
--- memory tells nothing
-abbrev pub TellsIn : Result (Unit {0}) RowError → PlainDraft → Result PlainDraft FaultKind → Type 0
-TellsIn (Ok done) left meant = meant ≡ Ok left
-TellsIn (Err (Fault kind)) left meant = meant ≡ Err kind
-TellsIn (Err NoMemory) left meant = Unit {0}
-
 -- an error is this refusal. Want of memory tells nothing
 abbrev pub TellsRefusal : ScriptError → Result PlainDraft Refusal → Type 0
 TellsRefusal (script.Row row kind code) meant =
@@ -61,6 +52,11 @@ TellsRefusal script.NoMemory meant = Unit {0}
 abbrev pub TellsDraft : Result PlainDraft ScriptError → Result PlainDraft Refusal → Type 0
 TellsDraft (Ok draft) meant = meant ≡ Ok draft
 TellsDraft (Err error) meant = TellsRefusal error meant
+
+-- the draft that is left behind a row, or its fault
+abbrev pub TellsLeft : Result (Unit {0}) ScriptError → PlainDraft → Result PlainDraft Refusal → Type 0
+TellsLeft (Ok done) left meant = meant ≡ Ok left
+TellsLeft (Err error) left meant = TellsRefusal error meant
 
 -- the dump that rows begin with, with the rows behind it, where its accounts have no findings; or what is wrong with it
 abbrev pub TellsStart : Result DumpRead ScriptError → List Fields → List Fields → Type 0
@@ -86,6 +82,6 @@ TellsText (Ok draft) batch text = Reads batch text draft.script
 TellsText (Err error) batch text = TellsError error batch text
 
 -- the text is this script, or it is none for this reason
-abbrev pub TellsScript : Result Script ScriptError → Bool → List ℕ → Type 0
+abbrev pub TellsScript : Result PlainScript ScriptError → Bool → List ℕ → Type 0
 TellsScript (Ok script) batch text = Reads batch text script
 TellsScript (Err error) batch text = TellsError error batch text

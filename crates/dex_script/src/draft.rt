@@ -4,14 +4,14 @@ ghost use Rattle.std.specs.Prelude.{◌≡◌, IfOk, map};
 ghost use Rattle.dex_types.specs.Accounts.{accounts_of};
 ghost use Rattle.dex_types.specs.Rows.{row_of};
 ghost use Rattle.dex_dump.specs.Accepted.{AreAccepted};
+ghost use Rattle.dex_script_facts.specs.Facts.{IsScript};
+ghost use Rattle.dex_script_facts.specs.Places.{ArePlaced};
 ghost use Rattle.dex_script.specs.Drafts as spec;
-ghost use Rattle.dex_script.specs.Facts.{IsScript};
-ghost use Rattle.dex_script.specs.Places.{ArePlaced};
 ghost use Rattle.dex_script.specs.Telling.{draft_of, start_of};
 
 use crate::mints::Mints;
-use crate::script::Script;
 use crate::taken::taken_addresses;
+use dex_script_facts::Script;
 use dex_types::{Accounts, Address, MarketAccounts, Named, NoMemory, Program, Row, RowPlaces};
 use std::alloc::Global;
 

@@ -3,10 +3,11 @@
 ghost use Rattle.std.specs.Prelude.{◌≡◌, [], ◌∷◌, ◌++◌, true, IfErr, OnOk, map};
 ghost use Rattle.dex_types.specs.Accounts.{PlainAccounts};
 ghost use Rattle.dex_types.specs.Rows.{row_of};
+ghost use Rattle.dex_statement.specs.Telling.{TellsIn};
+ghost use Rattle.dex_script_facts.specs.Places.{ArePlaced, IsPlaced};
 ghost use Rattle.dex_script.specs.Names.{IsReading, StandAt};
-ghost use Rattle.dex_script.specs.Places.{ArePlaced, IsPlaced};
 ghost use Rattle.dex_script.specs.Rows as spec;
-ghost use Rattle.dex_script.specs.Telling.{TellsIn, draft_of, start_of};
+ghost use Rattle.dex_script.specs.Telling.{draft_of, start_of};
 
 use crate::draft::Draft;
 use crate::swap::is_bad_swap;
@@ -27,16 +28,16 @@ impl Draft {
         &mut self,
         places: &mut Vec<RowPlaces>,
         number: u32,
-        words: InstructionWords,
+        words: &mut InstructionWords,
         at: RowPlaces,
     ) -> Result<(), RowError>
         requires reading { IsReading (draft_of self.old) places.old.items }
-        requires at { StandAt (start_of self.old.start) words.parties at }
-        ensures row { TellsIn result (draft_of self.new) (spec.with_known (draft_of self.old) number words) }
+        requires at { StandAt (start_of self.old.start) words.old.parties at }
+        ensures row { TellsIn result (draft_of self.new) (spec.with_known (draft_of self.old) number words.old) }
         ensures reading { IsReading (draft_of self.new) places.new.items }
         ensures start { start_of self.new.start ≡ start_of self.old.start }
     {
-        if self.is_full(number) || exceeds_row(&words) {
+        if self.is_full(number) || exceeds_row(words) {
             return Err(RowError::Fault(FaultKind::OverLimit));
         }
         self.lanes = self.lanes.max(words.lane + 1);
@@ -52,22 +53,23 @@ impl Draft {
         &mut self,
         places: &mut Vec<RowPlaces>,
         number: u32,
-        first: InstructionWords,
-        second: InstructionWords,
+        first: &mut InstructionWords,
+        second: &mut InstructionWords,
         first_at: RowPlaces,
         second_at: RowPlaces,
     ) -> Result<(), RowError>
         requires reading { IsReading (draft_of self.old) places.old.items }
-        requires first { StandAt (start_of self.old.start) first.parties first_at }
-        requires second { StandAt (start_of self.old.start) second.parties second_at }
-        ensures row { TellsIn result (draft_of self.new) (spec.with_legs (draft_of self.old) number first second) }
+        requires first { StandAt (start_of self.old.start) first.old.parties first_at }
+        requires second { StandAt (start_of self.old.start) second.old.parties second_at }
+        ensures row { TellsIn result (draft_of self.new)
+            (spec.with_legs (draft_of self.old) number first.old second.old) }
         ensures reading { IsReading (draft_of self.new) places.new.items }
         ensures start { start_of self.new.start ≡ start_of self.old.start }
     {
-        if self.is_full(number) || exceeds_row(&first) || exceeds_row(&second) {
+        if self.is_full(number) || exceeds_row(first) || exceeds_row(second) {
             return Err(RowError::Fault(FaultKind::OverLimit));
         }
-        if is_bad_swap(&first, &second) {
+        if is_bad_swap(first, second) {
             return Err(RowError::Fault(FaultKind::BadSwap));
         }
         if self.batch {
@@ -86,24 +88,19 @@ impl Draft {
         &mut self,
         places: &mut Vec<RowPlaces>,
         number: u32,
-        words: InstructionWords,
+        words: &mut InstructionWords,
         at: RowPlaces,
     ) -> Result<(), RowError>
         requires reading { IsReading (draft_of self.old) places.old.items }
         requires late { self.old.is_late ≡ true }
-        requires at { StandAt (start_of self.old.start) words.parties at }
+        requires at { StandAt (start_of self.old.start) words.old.parties at }
         ensures memory { IfErr result (λ error. error ≡ RowError.NoMemory) }
         ensures row { OnOk result (draft_of self.new
-            ≡ spec.with_one (draft_of self.old) (spec.instruction_row number self.old.clock words)) }
+            ≡ spec.with_one (draft_of self.old) (spec.instruction_row number self.old.clock words.old)) }
         ensures reading { IsReading (draft_of self.new) places.new.items }
         ensures start { start_of self.new.start ≡ start_of self.old.start }
     {
-        push(
-            &mut self.rows,
-            places,
-            instruction_row(number, self.clock, words),
-            at,
-        )
+        push(&mut self.rows, places, number, self.clock, words, at)
     }
 }
 
@@ -111,36 +108,40 @@ impl Draft {
 fn push(
     rows: &mut Vec<Row>,
     places: &mut Vec<RowPlaces>,
-    row: Row,
+    number: u32,
+    now: i64,
+    words: &mut InstructionWords,
     at: RowPlaces,
 ) -> Result<(), RowError>
     ensures memory { IfErr result (λ error. error ≡ RowError.NoMemory) }
-    ensures row { OnOk result (map row_of rows.new.items ≡ map row_of rows.old.items ++ (row_of row ∷ [])) }
-    ensures placed { (start : PlainAccounts) → IsPlaced start (row_of row) at
+    ensures row { OnOk result (map row_of rows.new.items
+        ≡ map row_of rows.old.items ++ (spec.instruction_row number now words.old ∷ [])) }
+    ensures placed { (start : PlainAccounts) → IsPlaced start (spec.instruction_row number now words.old) at
         → ArePlaced start (map row_of rows.old.items) places.old.items
         → ArePlaced start (map row_of rows.new.items) places.new.items }
 {
     rows.reserve(1)?;
     places.push(at)?;
-    rows.push(row).unwrap();
+    rows.push(take_row(number, now, words)).unwrap();
     Ok(())
 }
 
-/// The row of this number, at this time.
-fn instruction_row(number: u32, now: i64, words: InstructionWords) -> Row
-    ensures { row_of result ≡ spec.instruction_row number now words }
+/// The row of this number, at this time: what the words say, whose buffers go into it. It is not inlined: a row is large.
+#[inline(never)]
+fn take_row(number: u32, now: i64, words: &mut InstructionWords) -> Row
+    ensures { row_of result ≡ spec.instruction_row number now words.old }
 {
     Row {
         lane: words.lane,
         number,
         market: words.parties.market,
         signer: words.parties.signer,
-        named: words.parties.named,
+        named: words.parties.take_named(),
         coin: words.parties.coin,
         pc: words.parties.pc,
         discount: words.parties.discount,
         referrer: words.parties.referrer,
-        bytes: words.bytes,
+        bytes: words.take_bytes(),
         now,
     }
 }

@@ -5,6 +5,7 @@ ghost use Rattle.std.specs.List.{list_any};
 ghost use Rattle.dex_types.specs.Accounts.{named_of};
 ghost use Rattle.dex_types.specs.Addresses as addresses;
 ghost use Rattle.dex_dump.specs.Reading as dumps;
+ghost use Rattle.dex_script_facts.specs.Known as facts;
 ghost use Rattle.dex_script.specs.Known as spec;
 
 use dex_make::{MarketPart, derived};
@@ -44,7 +45,7 @@ pub(crate) fn is_any_among(new: &[Address], taken: &[Address]) -> bool
 /// Whether an account has this address.
 #[tactic(auto, using(dex_dump::proofs::ReadingLaws::list_any_map))]
 pub(crate) fn has_account(address: Address, accounts: &[Named]) -> bool
-    ensures { result ≡ spec.has_account address (map named_of accounts.now) }
+    ensures { result ≡ facts.has_account address (map named_of accounts.now) }
 {
     is_named(address, accounts)
 }

@@ -11,11 +11,11 @@ mod mints;
 mod names;
 mod reader;
 mod reading;
-mod script;
 mod setup;
 mod swap;
 mod taken;
 
+pub use dex_script_facts::Script;
 pub use fault::ScriptError;
 pub use laws::{
     a_dump_at_the_start_is_accepted, a_script_for_batches_has_no_swap,
@@ -23,4 +23,3 @@ pub use laws::{
     a_script_without_swaps_is_one_for_batches, rows_of_a_script_are_in_order,
 };
 pub use reading::read_script;
-pub use script::Script;

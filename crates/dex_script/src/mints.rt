@@ -1,11 +1,12 @@
 //! Mints that rows declare.
 
-ghost use Rattle.std.specs.Prelude.{◌≡◌, ◌<◌, ◌+◌, ◌^◌, [], ◌∷◌, ◌++◌, All, IfSome, OnOk, length, map, option_map};
+ghost use Rattle.std.specs.Prelude.{◌≡◌, ◌<◌, ◌+◌, ◌^◌, [], ◌∷◌, ◌++◌, IfSome, OnOk, length, map, option_map};
 ghost use Rattle.std.specs.List.{position};
 ghost use Rattle.dex_types.specs.Accounts.{named_of};
 ghost use Rattle.dex_types.specs.Addresses.{is_same};
 ghost use Rattle.dex_make.specs.TokenBytes.{mint_bytes};
 ghost use Rattle.dex_token.specs.MintAccount.{IsMint, mint_words};
+ghost use Rattle.dex_script_facts.specs.Known as facts;
 ghost use Rattle.dex_script.specs.Known as spec;
 ghost use Rattle.dex_script.specs.Mints.{AreMints, words_of};
 
@@ -69,7 +70,7 @@ impl Mints {
 
     /// Whether one of them has this address.
     pub(crate) fn has(&self, address: Address) -> bool
-        ensures { result ≡ spec.has_account address self.now }
+        ensures { result ≡ facts.has_account address self.now }
     {
         has_account(address, &self.accounts)
     }

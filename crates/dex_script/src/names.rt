@@ -5,8 +5,8 @@ ghost use Rattle.std.specs.HashMap as hash;
 ghost use Rattle.dex_types.specs.declared.addresses.Address.{Address};
 ghost use Rattle.dex_types.specs.Accounts.{market_accounts_of, named_of};
 ghost use Rattle.dex_types.specs.Addresses.{is_same};
+ghost use Rattle.dex_script_facts.specs.Places.{market_place, wallet_place};
 ghost use Rattle.dex_script.specs.Names as spec;
-ghost use Rattle.dex_script.specs.Places.{market_place, wallet_place};
 ghost use Rattle.dex_script.specs.Telling.{start_of};
 
 use crate::draft::Start;

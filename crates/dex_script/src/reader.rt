@@ -1,19 +1,21 @@
 //! A script as far as it is read, one row after the other.
 
 ghost use Rattle.std.specs.Prelude.{◌≡◌, ℕ, [], IfOk};
+ghost use Rattle.dex_statement.specs.Telling.{TellsIn};
+ghost use Rattle.dex_script_facts.specs.Facts.{IsScript};
 ghost use Rattle.dex_script.specs.Drafts.{no_rows};
-ghost use Rattle.dex_script.specs.Facts.{IsScript};
 ghost use Rattle.dex_script.specs.Names.{IsReading, places_of};
 ghost use Rattle.dex_script.specs.Rows as spec;
 ghost use Rattle.dex_script.specs.Rows.{IsSetup};
-ghost use Rattle.dex_script.specs.Telling.{TellsIn, draft_of};
+ghost use Rattle.dex_script.specs.Telling.{draft_of};
 
 use crate::draft::Draft;
 use crate::names::Names;
-use crate::script::Script;
 use dex_rows::records::Fields;
+use dex_script_facts::Script;
 use dex_statement::{
-    FaultKind, InstructionWords, Parties, RowError, Statement, SwapWords, statement_of,
+    FaultKind, InstructionWords, Parties, RowError, Statement, SwapWords, read_instruction,
+    statement_of,
 };
 use dex_types::{NoMemory, RowPlaces};
 use std::alloc::Global;
@@ -70,46 +72,39 @@ impl Reader {
         self.draft.into_script(self.places)
     }
 
-    /// Adds what the row of this number states. Behind a fault, what is left does not matter.
+    /// Adds what the row of this number states. Behind a fault, what is left does not matter. The words are a buffer for
+    /// those of `do` rows.
     #[tactic(auto, unfolding(crate::specs::Rows::with_row))]
     pub(crate) fn add_row(
         &mut self,
         alloc: Global,
         number: u32,
         row: &Fields<'_>,
+        words: &mut InstructionWords,
     ) -> Result<(), RowError>
         ensures added { TellsIn result self.new (spec.with_row self.old number row.now) }
     {
-        match statement_of(alloc, row)? {
-            Statement::Instruction(words) => self.add_instruction(alloc, number, words),
-            statement => self.add_stated(alloc, number, statement),
+        if read_instruction(alloc, row, words)? {
+            self.add_instruction(alloc, number, words)
+        } else {
+            self.add_stated(alloc, number, row)
         }
     }
 
-    /// Adds what a row of any kind states. It is not inlined: a script is nearly all instruction rows.
+    /// Adds what a row of any kind states. It is not inlined: a script is nearly all `do` rows.
     #[inline(never)]
-    fn add_stated(
-        &mut self,
-        alloc: Global,
-        number: u32,
-        statement: Statement,
-    ) -> Result<(), RowError>
-        ensures { TellsIn result self.new (spec.with_statement self.old number statement) }
+    #[tactic(auto, unfolding(crate::specs::Rows::with_row))]
+    fn add_stated(&mut self, alloc: Global, number: u32, row: &Fields<'_>) -> Result<(), RowError>
+        ensures { TellsIn result self.new (spec.with_row self.old number row.now) }
     {
-        match statement {
-            Statement::Instruction(words) => self.add_instruction(alloc, number, words),
+        match statement_of(alloc, row)? {
+            Statement::Instruction(mut words) => self.add_instruction(alloc, number, &mut words),
             Statement::Swap(words) => self.add_swap(alloc, number, words),
             Statement::Clock(now) => {
                 self.set_clock(now);
                 Ok(())
             }
-            Statement::Program(_)
-            | Statement::Mint { .. }
-            | Statement::Srm(_)
-            | Statement::Msrm(_)
-            | Statement::Wallet { .. }
-            | Statement::Market(_)
-            | Statement::Orders { .. } => self.add_setup(alloc, statement),
+            setup => self.add_setup(alloc, setup),
         }
     }
 
@@ -119,7 +114,8 @@ impl Reader {
         ensures { (number : ℕ) → TellsIn result self.new (spec.with_statement self.old number statement) }
     {
         let before = std::mem::replace(self, Reader::new(alloc, false));
-        let draft = before.draft.with_setup(alloc, statement)?;
+        let mut draft = before.draft;
+        draft.add_setup(alloc, statement)?;
         *self = Reader {
             draft,
             places: before.places,
@@ -134,9 +130,9 @@ impl Reader {
         &mut self,
         alloc: Global,
         number: u32,
-        words: InstructionWords,
+        words: &mut InstructionWords,
     ) -> Result<(), RowError>
-        ensures { TellsIn result self.new (spec.with_instruction self.old number words) }
+        ensures { TellsIn result self.new (spec.with_instruction self.old number words.old) }
     {
         match self.places_of(alloc, &words.parties)? {
             Some(at) => self.draft.add_known(&mut self.places, number, words, at),
@@ -145,16 +141,29 @@ impl Reader {
     }
 
     /// Adds a swap row of this number.
-    #[tactic(auto, unfolding(crate::specs::Rows::with_swap))]
     fn add_swap(&mut self, alloc: Global, number: u32, words: SwapWords) -> Result<(), RowError>
         ensures { TellsIn result self.new (spec.with_swap self.old number words) }
     {
-        let first = words
+        let mut first = words
             .first
             .into_instruction(alloc, words.lane, words.signer);
-        let second = words
+        let mut second = words
             .second
             .into_instruction(alloc, words.lane, words.signer);
+        self.add_two(alloc, number, &mut first, &mut second)
+    }
+
+    /// Adds the legs of a swap row of this number.
+    #[tactic(auto, unfolding(crate::specs::Rows::with_two))]
+    fn add_two(
+        &mut self,
+        alloc: Global,
+        number: u32,
+        first: &mut InstructionWords,
+        second: &mut InstructionWords,
+    ) -> Result<(), RowError>
+        ensures { TellsIn result self.new (spec.with_two self.old number first.old second.old) }
+    {
         let Some(first_at) = self.places_of(alloc, &first.parties)? else {
             return Err(RowError::Fault(FaultKind::UnknownLabel));
         };
@@ -170,9 +179,22 @@ impl Reader {
         ensures places { IfOk result (λ found. found ≡ places_of self.old.script.start parties.now) }
         ensures same { self.new ≡ self.old }
     {
-        if let Some(names) = &self.names {
-            return Ok(names.places_of(parties));
+        match &self.names {
+            Some(names) => Ok(names.places_of(parties)),
+            None => self.first_places_of(alloc, parties),
         }
+    }
+
+    /// The same, where the names are not there yet. It is not inlined: it has room for them.
+    #[inline(never)]
+    fn first_places_of(
+        &mut self,
+        alloc: Global,
+        parties: &Parties,
+    ) -> Result<Option<RowPlaces>, NoMemory>
+        ensures places { IfOk result (λ found. found ≡ places_of self.old.script.start parties.now) }
+        ensures same { self.new ≡ self.old }
+    {
         let names = Names::of(alloc, &self.draft.start)?;
         let found = names.places_of(parties);
         self.names = Some(names);

@@ -6,9 +6,10 @@ ghost use Rattle.dex_dump.specs.Accepted.{AreAccepted};
 ghost use Rattle.dex_dump.specs.Answers.{next_number};
 ghost use Rattle.dex_statement.specs.Faults.{code_of, kind_number};
 ghost use Rattle.dex_rows.specs.Records.{rows_of};
-ghost use Rattle.dex_script.specs.Facts.{HasNoSwap};
-ghost use Rattle.dex_script.specs.Scripts.{begins_with_dump, draft_after};
-ghost use Rattle.dex_script.specs.Telling.{TellsDraft, TellsScript, TellsStart, TellsText};
+ghost use Rattle.dex_script_facts.specs.Facts.{HasNoSwap};
+ghost use Rattle.dex_script.specs.Rows.{with_row};
+ghost use Rattle.dex_script.specs.Scripts.{begins_with_dump, draft_after, fault_in};
+ghost use Rattle.dex_script.specs.Telling.{TellsDraft, TellsLeft, TellsScript, TellsStart, TellsText};
 
 use crate::draft::Draft;
 use crate::fault::ScriptError;
@@ -16,11 +17,11 @@ use crate::laws::{
     a_script_for_batches_has_no_swap, a_script_starts_sound, rows_of_a_script_are_in_order,
 };
 use crate::reader::Reader;
-use crate::script::Script;
 use dex_audit::audit;
 use dex_dump::{DumpError, DumpRead, is_first_row};
-use dex_rows::records::Rows;
-use dex_statement::{FaultKind, RowError};
+use dex_rows::records::{Fields, Rows};
+use dex_script_facts::Script;
+use dex_statement::{FaultKind, InstructionWords, RowError};
 use dex_types::NoMemory;
 use std::alloc::Global;
 
@@ -95,32 +96,44 @@ fn read_dump(alloc: Global, rows: &mut Rows<'_>) -> Result<DumpRead, ScriptError
 fn begins_with_dump(alloc: Global, bytes: &[u8]) -> Result<bool, NoMemory>
     ensures { IfOk result (λ begins. begins ≡ begins_with_dump (rows_of bytes.now)) }
 {
-    match Rows::new(alloc, bytes).next_row()? {
-        Some(row) => Ok(is_first_row(&row)),
-        None => Ok(false),
-    }
+    let mut row = Fields::new();
+    let found = Rows::new(alloc, bytes).next_row(&mut row)?;
+    Ok(found && is_first_row(&row))
 }
 
-/// The draft behind the rows that are left, the first of which has this number, or the first faulty one.
+/// What is read behind the rows that are left, the first of which has this number, or the first faulty one.
 fn read_rows(
     alloc: Global,
-    before: Reader,
-    first: u32,
+    mut reader: Reader,
+    mut number: u32,
     rows: &mut Rows<'_>,
 ) -> Result<Reader, ScriptError>
-    ensures { TellsDraft result (draft_after before first rows.old) }
+    ensures { TellsDraft result (draft_after reader number rows.old) }
 {
-    let mut reader = before;
-    let mut number = first;
-    'rows: while let Some(row) = rows.next_row()? {
-        match reader.add_row(alloc, number, &row) {
-            Ok(()) => {}
-            Err(RowError::Fault(kind)) => return Err(row_error(number, kind)),
-            Err(RowError::NoMemory) => return Err(ScriptError::NoMemory),
-        }
+    let mut row = Fields::new();
+    let mut words = InstructionWords::none(alloc);
+    'rows: while rows.next_row(&mut row)? {
+        add_row(alloc, &mut reader, number, &row, &mut words)?;
         number = next_number(number);
     }
     Ok(reader)
+}
+
+/// Adds what the row of this number states. Behind a fault, what is left does not matter.
+fn add_row(
+    alloc: Global,
+    reader: &mut Reader,
+    number: u32,
+    row: &Fields<'_>,
+    words: &mut InstructionWords,
+) -> Result<(), ScriptError>
+    ensures { TellsLeft result reader.new (fault_in number (with_row reader.old number row.now)) }
+{
+    match reader.add_row(alloc, number, row, words) {
+        Ok(()) => Ok(()),
+        Err(RowError::Fault(kind)) => Err(row_error(number, kind)),
+        Err(RowError::NoMemory) => Err(ScriptError::NoMemory),
+    }
 }
 
 fn row_error(row: u32, kind: FaultKind) -> ScriptError

@@ -1,7 +1,8 @@
-//! Setup rows, and the row that chooses the program, behind the rows before them.
+//! Setup rows, and the row that chooses the program, behind the rows before them. Behind a fault, what is left of the
+//! draft does not matter.
 
-ghost use Rattle.std.specs.Prelude.{◌≡◌, ℕ};
-ghost use Rattle.dex_statement.specs.Telling.{TellsAs};
+ghost use Rattle.std.specs.Prelude.{◌≡◌, ℕ, Ok};
+ghost use Rattle.dex_statement.specs.Telling.{TellsIn};
 ghost use Rattle.dex_script.specs.Rows as spec;
 ghost use Rattle.dex_script.specs.Rows.{IsSetup};
 ghost use Rattle.dex_script.specs.Telling.{draft_of};
@@ -15,86 +16,99 @@ use dex_types::{Address, Named, OrdersAccount, Program};
 use std::alloc::Global;
 
 impl Draft {
-    /// Behind a setup row, or one that chooses the program.
-    pub(crate) fn with_setup(self, alloc: Global, statement: Statement) -> Result<Draft, RowError>
+    /// Adds what a setup row states, or one that chooses the program.
+    pub(crate) fn add_setup(&mut self, alloc: Global, statement: Statement) -> Result<(), RowError>
         requires { IsSetup statement }
-        ensures { (number : ℕ) → TellsAs draft_of result (spec.with_statement (draft_of self) number statement) }
+        ensures { (number : ℕ)
+            → TellsIn result (draft_of self.new) (spec.with_statement (draft_of self.old) number statement) }
     {
         match statement {
-            Statement::Program(program) => self.with_program(program),
-            Statement::Mint { address, decimals } => self.with_mint(alloc, address, decimals),
-            Statement::Srm(mint) => self.with_srm(mint),
-            Statement::Msrm(mint) => self.with_msrm(mint),
+            Statement::Program(program) => self.set_program(program),
+            Statement::Mint { address, decimals } => self.add_mint(alloc, address, decimals),
+            Statement::Srm(mint) => self.name_srm(mint),
+            Statement::Msrm(mint) => self.name_msrm(mint),
             Statement::Wallet {
                 address,
                 mint,
                 owner,
                 amount,
-            } => self.with_wallet(alloc, address, mint, owner, amount),
-            Statement::Market(words) => self.with_market(alloc, words),
-            Statement::Orders { market, address } => self.with_orders(alloc, market, address),
+            } => self.add_wallet(alloc, address, mint, owner, amount),
+            Statement::Market(words) => self.add_market(alloc, &words),
+            Statement::Orders { market, address } => self.add_orders(alloc, market, address),
             Statement::Clock(_) | Statement::Instruction(_) | Statement::Swap(_) => unreachable!(),
         }
     }
 
-    /// Behind a `program` row.
+    /// A `program` row.
     #[tactic(auto, unfolding(crate::specs::Rows::with_program))]
-    pub(crate) fn with_program(mut self, program: Program) -> Result<Draft, RowError>
-        ensures { TellsAs draft_of result (spec.with_program (draft_of self) program) }
+    fn set_program(&mut self, program: Program) -> Result<(), RowError>
+        ensures { TellsIn result (draft_of self.new) (spec.with_program (draft_of self.old) program) }
     {
         if !self.is_first {
             return Err(RowError::Fault(FaultKind::SetupRefused(SetupCode::Program)));
         }
         self.program = program;
         self.is_first = false;
-        Ok(self)
+        Ok(())
     }
 
-    /// Behind a `mint` row.
-    #[tactic(auto, unfolding(crate::specs::Rows::with_mint))]
-    pub(crate) fn with_mint(
-        mut self,
-        alloc: Global,
-        address: Address,
-        decimals: u8,
-    ) -> Result<Draft, RowError>
-        ensures { TellsAs draft_of result (spec.with_mint (draft_of self) address decimals) }
+    /// What refuses a row that declares addresses: one of them is taken, or there is no room for what they are of.
+    #[tactic(auto, unfolding(crate::specs::Rows::checked_new))]
+    fn check_new(&self, is_taken: bool, is_full: bool) -> Result<(), FaultKind>
+        ensures { result ≡ spec.checked_new (draft_of self.now) is_taken is_full }
     {
-        if is_among(address, &self.taken) {
-            return Err(RowError::Fault(FaultKind::Duplicate));
+        if is_taken {
+            return Err(FaultKind::Duplicate);
         }
-        if 16 <= self.start.mints.len() {
-            return Err(RowError::Fault(FaultKind::OverLimit));
+        if is_full {
+            return Err(FaultKind::OverLimit);
         }
         if self.is_late {
-            return Err(RowError::Fault(FaultKind::SetupRefused(SetupCode::Late)));
+            return Err(FaultKind::SetupRefused(SetupCode::Late));
         }
-        self.start.mints.add(alloc, address, decimals)?;
-        self.taken.push(address)?;
-        self.is_first = false;
-        Ok(self)
+        Ok(())
     }
 
-    /// Behind an `srm` row.
+    /// Takes the addresses that a row declares.
+    fn take(&mut self, new: &[Address]) -> Result<(), RowError>
+        ensures { TellsIn result (draft_of self.new)
+            (Ok (spec.with_start (draft_of self.old) new.now (draft_of self.old).script.start)) }
+    {
+        self.taken.extend_from_slice(new)?;
+        self.is_first = false;
+        Ok(())
+    }
+
+    /// A `mint` row.
+    #[tactic(auto, unfolding(crate::specs::Rows::with_mint))]
+    fn add_mint(&mut self, alloc: Global, address: Address, decimals: u8) -> Result<(), RowError>
+        ensures { TellsIn result (draft_of self.new) (spec.with_mint (draft_of self.old) address decimals) }
+    {
+        self.check_new(is_among(address, &self.taken), 16 <= self.start.mints.len())?;
+        self.start.mints.add(alloc, address, decimals)?;
+        self.take(&[address])
+    }
+
+    /// An `srm` row.
     #[tactic(auto, unfolding(crate::specs::Rows::with_srm))]
-    pub(crate) fn with_srm(mut self, mint: Address) -> Result<Draft, RowError>
-        ensures { TellsAs draft_of result (spec.with_srm (draft_of self) mint) }
+    fn name_srm(&mut self, mint: Address) -> Result<(), RowError>
+        ensures { TellsIn result (draft_of self.new) (spec.with_srm (draft_of self.old) mint) }
     {
         self.check_name(mint, self.start.srm, 6)?;
         self.start.srm = Some(mint);
         self.is_first = false;
-        Ok(self)
+        Ok(())
     }
 
-    /// Behind an `msrm` row.
+    /// An `msrm` row.
     #[tactic(auto, unfolding(crate::specs::Rows::with_msrm))]
-    pub(crate) fn with_msrm(mut self, mint: Address) -> Result<Draft, RowError>
-        ensures { TellsAs draft_of result (spec.with_msrm (draft_of self) mint) }
+    fn name_msrm(&mut self, mint: Address) -> Result<(), RowError>
+        ensures { TellsIn result (draft_of self.new) (spec.with_msrm (draft_of self.old) mint) }
     {
         self.check_name(mint, self.start.msrm, 0)?;
         self.start.msrm = Some(mint);
         self.is_first = false;
-        Ok(self)
+        Ok(())
     }
 
     /// Whether a row may give a name to a mint, which must have so many decimals: `named` is who has it already.
@@ -122,100 +136,70 @@ impl Draft {
         Ok(())
     }
 
-    /// Behind a `wallet` row.
+    /// A `wallet` row.
     #[tactic(auto, unfolding(crate::specs::Rows::with_wallet))]
-    pub(crate) fn with_wallet(
-        mut self,
+    fn add_wallet(
+        &mut self,
         alloc: Global,
         address: Address,
         mint: Address,
         owner: Address,
         amount: u64,
-    ) -> Result<Draft, RowError>
-        ensures { TellsAs draft_of result (spec.with_wallet (draft_of self) address mint owner amount) }
+    ) -> Result<(), RowError>
+        ensures { TellsIn result (draft_of self.new) (spec.with_wallet (draft_of self.old) address mint owner amount) }
     {
         let Some(words) = self.start.mints.find(mint) else {
             return Err(RowError::Fault(FaultKind::UnknownLabel));
         };
-        if is_among(address, &self.taken) {
-            return Err(RowError::Fault(FaultKind::Duplicate));
-        }
-        if 256 <= self.start.wallets.len() {
-            return Err(RowError::Fault(FaultKind::OverLimit));
-        }
-        if self.is_late {
-            return Err(RowError::Fault(FaultKind::SetupRefused(SetupCode::Late)));
-        }
+        self.check_new(
+            is_among(address, &self.taken),
+            256 <= self.start.wallets.len(),
+        )?;
         if words.supply.checked_add(amount).is_none() {
             return Err(RowError::Fault(FaultKind::SetupRefused(SetupCode::Supply)));
         }
         self.start.mints.raise(mint, amount);
         let bytes = make_wallet(alloc, mint, owner, amount)?;
         self.start.wallets.push(Named { address, bytes })?;
-        self.taken.push(address)?;
-        self.is_first = false;
-        Ok(self)
+        self.take(&[address])
     }
 
-    /// Behind a `market` row.
+    /// A `market` row.
     #[tactic(auto, unfolding(crate::specs::Rows::with_market))]
-    pub(crate) fn with_market(
-        mut self,
-        alloc: Global,
-        words: MarketWords,
-    ) -> Result<Draft, RowError>
-        ensures { TellsAs draft_of result (spec.with_market (draft_of self) words) }
+    fn add_market(&mut self, alloc: Global, words: &MarketWords) -> Result<(), RowError>
+        ensures { TellsIn result (draft_of self.new) (spec.with_market (draft_of self.old) words.now) }
     {
         if !self.start.mints.has(words.coin) || !self.start.mints.has(words.pc) {
             return Err(RowError::Fault(FaultKind::UnknownLabel));
         }
         let new = made_addresses(words.address);
-        if is_any_among(&new, &self.taken) {
-            return Err(RowError::Fault(FaultKind::Duplicate));
-        }
-        if 16 <= self.start.markets.len() || exceeds_market(&words) {
-            return Err(RowError::Fault(FaultKind::OverLimit));
-        }
-        if self.is_late {
-            return Err(RowError::Fault(FaultKind::SetupRefused(SetupCode::Late)));
-        }
-        let set = set_of(&words)?;
+        let is_full = (16 <= self.start.markets.len()) | exceeds_market(words);
+        self.check_new(is_any_among(&new, &self.taken), is_full)?;
+        let set = set_of(words)?;
         self.start.markets.push(make_market(alloc, &set)?)?;
-        self.taken.extend_from_slice(&new)?;
-        self.is_first = false;
-        Ok(self)
+        self.take(&new)
     }
 
-    /// Behind an `orders` row.
+    /// An `orders` row.
     #[tactic(auto, unfolding(crate::specs::Rows::with_orders_row))]
-    pub(crate) fn with_orders(
-        mut self,
+    fn add_orders(
+        &mut self,
         alloc: Global,
         market: Address,
         address: Address,
-    ) -> Result<Draft, RowError>
-        ensures { TellsAs draft_of result (spec.with_orders_row (draft_of self) market address) }
+    ) -> Result<(), RowError>
+        ensures { TellsIn result (draft_of self.new) (spec.with_orders_row (draft_of self.old) market address) }
     {
         let Some(count) = orders_at(market, &self.start.markets) else {
             return Err(RowError::Fault(FaultKind::UnknownLabel));
         };
-        if is_among(address, &self.taken) {
-            return Err(RowError::Fault(FaultKind::Duplicate));
-        }
-        if 64 <= count {
-            return Err(RowError::Fault(FaultKind::OverLimit));
-        }
-        if self.is_late {
-            return Err(RowError::Fault(FaultKind::SetupRefused(SetupCode::Late)));
-        }
+        self.check_new(is_among(address, &self.taken), 64 <= count)?;
         let bytes = make_orders(alloc)?;
         add_orders(
             &mut self.start.markets,
             market,
             OrdersAccount { address, bytes },
         )?;
-        self.taken.push(address)?;
-        self.is_first = false;
-        Ok(self)
+        self.take(&[address])
     }
 }

@@ -1,10 +1,10 @@
 //! What is wrong with a swap whose markets and wallets are declared.
 
 ghost use Rattle.std.specs.Prelude.{◌≡◌};
-ghost use Rattle.dex_fold.specs.Fold as fold;
 ghost use Rattle.dex_script.specs.Rows as spec;
 
 use dex_instruction::decode;
+use dex_script_facts::is_role;
 use dex_statement::{InstructionWords, Parties};
 use dex_types::{Address, Ix, is_same};
 
@@ -42,16 +42,6 @@ fn is_one_wallet(role: Option<Address>, other: Option<Address>) -> bool
     match role {
         None => false,
         Some(wallet) => is_role(other, wallet),
-    }
-}
-
-/// Whether a role is that of a wallet.
-fn is_role(role: Option<Address>, wallet: Address) -> bool
-    ensures { result ≡ fold.is_role role wallet }
-{
-    match role {
-        None => false,
-        Some(address) => is_same(wallet, address),
     }
 }
 

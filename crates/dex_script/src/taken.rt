@@ -1,15 +1,16 @@
 //! The addresses that the accounts of a dump take.
 
-ghost use Rattle.std.specs.Prelude.{◌≡◌, [], ◌∷◌, ◌++◌, All, IfOk, OnOk, map};
+ghost use Rattle.std.specs.Prelude.{◌≡◌, ◌++◌, IfOk, OnOk, map};
 ghost use Rattle.std.specs.List.{flat_map};
-ghost use Rattle.dex_types.specs.Accounts.{PlainMarketAccounts, accounts_of, market_accounts_of, named_of, orders_account_of};
+ghost use Rattle.dex_types.specs.Accounts.{accounts_of, market_accounts_of, orders_account_of};
 ghost use Rattle.dex_market.specs.MarketAccount.{IsMarket, market_words};
 ghost use Rattle.dex_dump.specs.Accepted.{address_of, addresses_of, all_of_market};
 ghost use Rattle.dex_dump.specs.Reading.{parts_of};
 ghost use Rattle.dex_script.specs.Markets.{AreMarkets};
 
 use dex_market::MarketRef;
-use dex_types::{Accounts, Address, MarketAccounts, Named, NoMemory, OrdersAccount};
+use dex_script_facts::{push_address, push_named};
+use dex_types::{Accounts, Address, MarketAccounts, NoMemory, OrdersAccount};
 use std::alloc::Global;
 
 /// Every address that accounts have: those of mints and wallets, and of each market its own, those of its vaults,
@@ -19,29 +20,10 @@ pub(crate) fn taken_addresses(alloc: Global, accounts: &Accounts) -> Result<Vec<
     ensures { IfOk result (λ taken. taken.items ≡ addresses_of (accounts_of accounts.now)) }
 {
     let mut taken = Vec::new(alloc);
-    take_named(&mut taken, &accounts.mints)?;
-    take_named(&mut taken, &accounts.wallets)?;
+    push_named(&mut taken, &accounts.mints)?;
+    push_named(&mut taken, &accounts.wallets)?;
     take_markets(&mut taken, &accounts.markets)?;
     Ok(taken)
-}
-
-fn take_address(taken: &mut Vec<Address>, address: Address) -> Result<(), NoMemory>
-    ensures { OnOk result (taken.new.items ≡ taken.old.items ++ address ∷ []) }
-{
-    match taken.push(address) {
-        Ok(()) => Ok(()),
-        Err(_) => Err(NoMemory),
-    }
-}
-
-/// The addresses of mints or wallets.
-fn take_named(taken: &mut Vec<Address>, accounts: &[Named]) -> Result<(), NoMemory>
-    ensures { OnOk result (taken.new.items ≡ taken.old.items ++ map address_of (map named_of accounts.now)) }
-{
-    for account in accounts {
-        take_address(taken, account.address)?;
-    }
-    Ok(())
 }
 
 /// The addresses of open-orders accounts.
@@ -49,7 +31,7 @@ fn take_orders(taken: &mut Vec<Address>, orders: &[OrdersAccount]) -> Result<(),
     ensures { OnOk result (taken.new.items ≡ taken.old.items ++ map address_of (map orders_account_of orders.now)) }
 {
     for account in orders {
-        take_address(taken, account.address)?;
+        push_address(taken, account.address)?;
     }
     Ok(())
 }
@@ -60,12 +42,12 @@ fn take_parts(taken: &mut Vec<Address>, bytes: &[u8]) -> Result<(), NoMemory>
     ensures { OnOk result (taken.new.items ≡ taken.old.items ++ parts_of (market_words bytes.now).terms) }
 {
     let market = MarketRef { bytes };
-    take_address(taken, market.coin_vault())?;
-    take_address(taken, market.pc_vault())?;
-    take_address(taken, market.req_q())?;
-    take_address(taken, market.event_q())?;
-    take_address(taken, market.bids())?;
-    take_address(taken, market.asks())
+    push_address(taken, market.coin_vault())?;
+    push_address(taken, market.pc_vault())?;
+    push_address(taken, market.req_q())?;
+    push_address(taken, market.event_q())?;
+    push_address(taken, market.bids())?;
+    push_address(taken, market.asks())
 }
 
 /// The addresses of a market.
@@ -73,7 +55,7 @@ fn take_market(taken: &mut Vec<Address>, market: &MarketAccounts) -> Result<(), 
     requires { IsMarket market.now.market.items }
     ensures { OnOk result (taken.new.items ≡ taken.old.items ++ all_of_market (market_accounts_of market.now)) }
 {
-    take_address(taken, market.address)?;
+    push_address(taken, market.address)?;
     take_parts(taken, &market.market)?;
     take_orders(taken, &market.orders)
 }

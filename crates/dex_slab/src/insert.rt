@@ -2,7 +2,7 @@
 
 ghost use Rattle.std.specs.Prelude.{◌≡◌, ◌+◌, ◌-◌, ◌<◌, ◌≤◌};
 ghost use Rattle.dex_types.specs.declared.terms.Side.{Side};
-ghost use Rattle.dex_types.specs.BookSide.{CanRest, IsNewId};
+ghost use Rattle.dex_types.specs.BookSide.{CanRest};
 ghost use Rattle.dex_types.specs.Posting.{posted};
 ghost use Rattle.dex_slab.specs.Changes.{ChangesThreeNodes, KeepsFrame};
 ghost use Rattle.dex_slab.specs.Nodes.{bump_of, count_of, free_len_of, root_of};

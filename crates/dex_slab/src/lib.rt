@@ -10,7 +10,6 @@ mod node_writes;
 pub mod nodes;
 mod pieces;
 mod pool;
-mod reading;
 mod refused;
 mod remove;
 mod rewriting;
@@ -18,7 +17,6 @@ mod search;
 mod set_lots;
 mod slab_ref;
 mod slab_view;
-mod view_reads;
 mod view_writes;
 mod walks;
 

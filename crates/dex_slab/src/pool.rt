@@ -1,9 +1,8 @@
 //! The nodes that are not in use: taking one, and giving one back.
 
 ghost use Rattle.std.specs.Prelude.{◌≡◌, ◌≢◌, ◌+◌, ◌-◌, ◌<◌, ◌≤◌, ◌∷◌, List, ℕ, length, slice_index};
-ghost use Rattle.dex_fields.specs.Bytes.{end_of};
 ghost use Rattle.dex_slab.specs.Changes.{ChangesHeader, IsBeside, header};
-ghost use Rattle.dex_slab.specs.Nodes.{bump_of, count_of, free_head_of, free_len_of, next_of, node_bytes, node_field, nodes_within, root_of};
+ghost use Rattle.dex_slab.specs.Nodes.{bump_of, count_of, free_len_of, next_of, node_bytes, node_field, nodes_within, root_of};
 ghost use Rattle.dex_slab.specs.Pool.{HasSpare, IsUsed};
 ghost use Rattle.dex_slab.specs.Slab.{IsShared, free_of};
 

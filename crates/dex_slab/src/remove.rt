@@ -1,6 +1,6 @@
 //! Taking an order off a side.
 
-ghost use Rattle.std.specs.Prelude.{◌≡◌, ◌+◌, ◌<◌, ◌≤◌, ℕ, [], Some, length};
+ghost use Rattle.std.specs.Prelude.{◌≡◌, ◌+◌, ◌≤◌, ℕ, [], Some, length};
 ghost use Rattle.dex_fields.specs.Bytes.{end_of};
 ghost use Rattle.dex_types.specs.declared.terms.Side.{Side};
 ghost use Rattle.dex_types.specs.Cancel.{order_with, without_order};

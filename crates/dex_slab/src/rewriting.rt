@@ -9,9 +9,8 @@ ghost use Rattle.dex_slab.specs.Nodes.{bump_of, count_of, free_len_of};
 ghost use Rattle.dex_slab.specs.Slab.{IsSlab, resting, room_in, tree_of};
 ghost use Rattle.dex_slab.specs.Walks.{RestsOn, nodes_taken};
 
-use crate::reading::best;
-use crate::{insert, remove};
-use dex_types::{Order, Side};
+use crate::{SlabRef, insert, remove};
+use dex_types::{Order, Side, SideRead};
 
 /// Takes all orders off into a list, which is the stack of these calls, and writes a whole new tree of them: more than
 /// three nodes change.
@@ -23,7 +22,7 @@ pub(crate) fn write_whole_tree(bytes: &mut [u8], side: Side)
     ensures freed { free_len_of bytes.new ≡ free_len_of bytes.old }
     ensures frame { KeepsFrame bytes.old bytes.new }
 {
-    if let Some(order) = best(bytes, side) {
+    if let Some(order) = (SlabRef { bytes, side }).best() {
         remove::remove_order(bytes, order.id);
         write_whole_tree(bytes, side);
         insert::insert_order(bytes, order);

@@ -22,7 +22,8 @@ impl SideBook for SlabView<'_> {
     ghost use Rattle.dex_slab.specs.Changes.{KeepsFrame};
     ghost use Rattle.dex_slab.specs.SamePlace.{frame_chains, frame_stays};
 
-    ghost same_place = { λ old new. (new.bytes.ghost_name ≡ old.bytes.ghost_name) × KeepsFrame old.bytes.now new.bytes.now };
+    ghost same_place = { λ old new. (new.bytes.ghost_name ≡ old.bytes.ghost_name)
+        × KeepsFrame old.bytes.now new.bytes.now };
 
     ghost stays = { λ s. (refl, frame_stays s.bytes.now) };
 

@@ -13,7 +13,7 @@ use dex_fields::get_u32;
 use dex_fields::slab::ROOT_NODE;
 
 /// Where a new key enters the tree.
-#[derive(Clone, Copy, Debug)]
+#[derive(Clone, Copy)]
 pub struct Place {
     /// The node that is to stand beside the new leaf.
     pub node: u32,
@@ -22,7 +22,7 @@ pub struct Place {
 }
 
 /// The leaf of an order, and the inner node above it, unless it is the root.
-#[derive(Clone, Copy, Debug)]
+#[derive(Clone, Copy)]
 pub struct Found {
     pub parent: Option<u32>,
     pub leaf: u32,

@@ -30,10 +30,10 @@ use Rattle.dex_act.specs.Opened.{market_state_of}
 use Rattle.dex_act.specs.Wallets.{AreApart, is_among, made_of, wallet_state_of}
 use Rattle.dex_act.proofs.CellLists.{is_among-any}
 use Rattle.dex_fold.proofs.MappedLists.{map-map}
-use Rattle.dex_script.specs.Drafts.{PlainScript}
-use Rattle.dex_script.specs.Facts.{IsScript}
-use Rattle.dex_script.specs.Starts.{start_world}
-use Rattle.dex_script.proofs.Apart.{markets-distinct, wallets-distinct}
+use Rattle.dex_script_facts.specs.PlainScript.{PlainScript}
+use Rattle.dex_script_facts.specs.Facts.{IsScript}
+use Rattle.dex_script_facts.specs.Starts.{start_world}
+use Rattle.dex_script_facts.proofs.Apart.{markets-distinct, wallets-distinct}
 use Rattle.dex_fold.proofs.OnceLaws.{AreOnce, once-head, once-tail}
 use Rattle.dex_stage.specs.Parts.{CanStep, HasStepped}
 use Rattle.dex_stage.specs.Stages.{AreDone, AreReady, AreWalletsOf, IsMarketAt, IsRowAt, IsWalletAt, world_at, world_with}

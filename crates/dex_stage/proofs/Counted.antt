@@ -2,8 +2,8 @@
 use Rattle.std.proofs.Common.{◌≡◌, ℕ, zero, suc, ◌+◌, ◌<◌, ◌≤◌, Bool, cond, true, List, [], ◌∷◌, length, map, take, get_or, Option, Some, None, sym, ap, ◌∙◌, subst, arith}
 use Rattle.dex_fold.proofs.Common.{Address, Market, MarketState, PlainAccount, PlainMarketAccounts, PlainRow, Seen, Step, Transfers, WalletState, World, act, acted, cond_both, entry_by, fold, get_or-map, is_same, length-map, market_acted, markets_acted, movement_of, names, row_step, seen_by, sum_by-cons, wallet_acted, wallet_entry_by, wallet_moved}
 use Rattle.dex_fold.specs.RowsOf.{rows_naming, rows_on}
-use Rattle.dex_script.specs.Drafts.{PlainScript}
-use Rattle.dex_script.specs.Starts.{market_state, start_world, wallet_state}
+use Rattle.dex_script_facts.specs.PlainScript.{PlainScript}
+use Rattle.dex_script_facts.specs.Starts.{market_state, start_world, wallet_state}
 use Rattle.std.proofs.lemmas.List.{length-append}
 use Rattle.dex_types.specs.declared.movements.Movement.{Movement}
 use Rattle.dex_fold.specs.World.{market_at}

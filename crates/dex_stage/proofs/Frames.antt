@@ -16,8 +16,8 @@ use Rattle.dex_history.specs.Journal.{request_of, row_step}
 use Rattle.dex_fold.specs.Fold.{act, acted, fold, market_acted, markets_acted, names, wallet_acted, wallet_moved}
 use Rattle.dex_fold.specs.World.{MarketState, WalletState, World, market_at, seen_by}
 use Rattle.dex_fold.proofs.FoldLaws.{fold-append}
-use Rattle.dex_script.specs.Drafts.{PlainScript}
-use Rattle.dex_script.specs.Starts.{market_state, start_world, wallet_state}
+use Rattle.dex_script_facts.specs.PlainScript.{PlainScript}
+use Rattle.dex_script_facts.specs.Starts.{market_state, start_world, wallet_state}
 use Rattle.dex_fold.proofs.MappedLists.{map-map}
 use Rattle.dex_stage.specs.Stages.{IsRowAt, world_at}
 

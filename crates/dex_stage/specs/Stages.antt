@@ -10,8 +10,8 @@ use Rattle.dex_fold.specs.Fold.{fold}
 use Rattle.dex_fold.specs.World.{MarketState, WalletState, World}
 use Rattle.dex_act.specs.Opened.{market_opened, market_state_of, wallet_opened}
 use Rattle.dex_act.specs.Wallets.{made_of, wallet_state_of}
-use Rattle.dex_script.specs.Drafts.{PlainScript}
-use Rattle.dex_script.specs.Starts.{start_world}
+use Rattle.dex_script_facts.specs.PlainScript.{PlainScript}
+use Rattle.dex_script_facts.specs.Starts.{start_world}
 
 -- the world when the first so many rows of a script have acted
 abbrev pub world_at : PlainScript → ℕ → World

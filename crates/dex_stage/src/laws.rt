@@ -9,8 +9,8 @@ ghost use Rattle.dex_cell.specs.CellState.{MarketCellState};
 ghost use Rattle.dex_wallet.specs.CellState.{CellState};
 ghost use Rattle.dex_fold.specs.Fold.{names};
 ghost use Rattle.dex_fold.specs.World.{MarketState, WalletState, seen_by};
-ghost use Rattle.dex_script.specs.Drafts.{PlainScript};
-ghost use Rattle.dex_script.specs.Facts.{IsScript};
+ghost use Rattle.dex_script_facts.specs.PlainScript.{PlainScript};
+ghost use Rattle.dex_script_facts.specs.Facts.{IsScript};
 ghost use Rattle.dex_stage.specs.Parts.{CanStep, HasStepped};
 ghost use Rattle.dex_stage.specs.Stages.{AreDone, AreReady, AreWalletsOf, IsRowAt, world_at, world_with};
 

@@ -2,6 +2,7 @@
 use Rattle.std.specs.Prelude.{◌≡◌, ℕ, ℤ, ◌^◌, Bool, not, ◌&&◌, ◌||◌, ◌==◌, nat_lt, if◌then◌else◌, List, [], ◌∷◌, ◌++◌, length, drop, map, bytes_eq, codes, Option, Some, None, Result, Ok, Err, is_none}
 use Rattle.dex_types.specs.declared.instructions.Ix.{Ix}
 use Rattle.dex_types.specs.declared.instructions.Ix.TheVariants as ix
+use Rattle.dex_types.specs.declared.terms.Side.{Side}
 use Rattle.dex_instruction.specs.Numbers.{spelled}
 use Rattle.dex_instruction.specs.Spelling.{spelling}
 use Rattle.dex_rows.specs.Numbers.{number_of}
@@ -39,9 +40,17 @@ verb_of word =
 abbrev pub bare_ix : Ix → Fields → Result Ix FaultKind
 bare_ix ix words = unless (not (length words == 1)) FieldCount (Ok ix)
 
+-- the number of 16 bits at a place
+abbrev pub limit_at : Fields → ℕ → Result ℕ FaultKind
+limit_at words place = found_or (number_of (2 ^ 16) (field_at words place)) BadNumber
+
+-- the side at a place
+abbrev pub side_at : Fields → ℕ → Result Side FaultKind
+side_at words place = found_or (side_of (field_at words place)) UnknownRow
+
 -- one number of 16 bits behind the verb
 unfoldable pub limit_of : Fields → Result ℕ FaultKind
-limit_of words = unless (not (length words == 2)) FieldCount (found_or (number_of (2 ^ 16) (field_at words 1)) BadNumber)
+limit_of words = unless (not (length words == 2)) FieldCount (limit_at words 1)
 
 -- a word stands there that is to be one of a list, and is none
 abbrev pub is_strange_side : Fields → ℕ → Bool
@@ -69,39 +78,43 @@ latest_of words = if not (length words == 10) then Ok None else (do
   latest ← found_or (time_word (field_at words 9)) BadNumber
   Ok (Some latest))
 
+-- the fields of `new`, by place
+unfoldable pub order_in : Fields → Result Ix FaultKind
+order_in words = do
+  side ← side_at words 1
+  price ← amount_at words 2
+  lots ← amount_at words 3
+  pc ← amount_at words 4
+  self_trade ← found_or (self_trade_of (field_at words 5)) UnknownRow
+  order_type ← found_or (order_type_of (field_at words 6)) UnknownRow
+  client ← amount_at words 7
+  limit ← limit_at words 8
+  latest ← latest_of words
+  Ok (ix.NewOrderV3 side price lots pc self_trade order_type client limit latest)
+
 -- `new SIDE PRICE LOTS PC SELF TYPE CLIENT LIMIT`, or with a latest time behind
 unfoldable pub order_of : Fields → Result Ix FaultKind
 order_of words = unless (is_strange_order words) UnknownRow (
-    unless (not (length words == 9) && not (length words == 10)) FieldCount (do
-      side ← found_or (side_of (field_at words 1)) UnknownRow
-      price ← amount_at words 2
-      lots ← amount_at words 3
-      pc ← amount_at words 4
-      self_trade ← found_or (self_trade_of (field_at words 5)) UnknownRow
-      order_type ← found_or (order_type_of (field_at words 6)) UnknownRow
-      client ← amount_at words 7
-      limit ← found_or (number_of (2 ^ 16) (field_at words 8)) BadNumber
-      latest ← latest_of words
-      Ok (ix.NewOrderV3 side price lots pc self_trade order_type client limit latest)))
+    unless (not (length words == 9) && not (length words == 10)) FieldCount (order_in words))
 
 -- `take SIDE PRICE LOTS PC MINLOTS MINPC LIMIT`
 unfoldable pub take_of : Fields → Result Ix FaultKind
 take_of words = unless (is_strange_side words 1) UnknownRow (
     unless (not (length words == 8)) FieldCount (do
-      side ← found_or (side_of (field_at words 1)) UnknownRow
+      side ← side_at words 1
       price ← amount_at words 2
       lots ← amount_at words 3
       pc ← amount_at words 4
       least_lots ← amount_at words 5
       least_pc ← amount_at words 6
-      limit ← found_or (number_of (2 ^ 16) (field_at words 7)) BadNumber
+      limit ← limit_at words 7
       Ok (ix.SendTake side price lots pc least_lots least_pc limit)))
 
 -- `cancel SIDE ID`
 unfoldable pub cancel_of : Fields → Result Ix FaultKind
 cancel_of words = unless (is_strange_side words 1) UnknownRow (
     unless (not (length words == 3)) FieldCount (do
-      side ← found_or (side_of (field_at words 1)) UnknownRow
+      side ← side_at words 1
       id ← found_or (number_of (2 ^ 128) (field_at words 2)) BadNumber
       Ok (ix.CancelOrderV2 side id)))
 

@@ -15,3 +15,14 @@ abbrev pub Tells : {A : Type 0} → Result A RowError → Result A FaultKind →
 Tells (Ok x) meant = meant ≡ Ok x
 Tells (Err (Fault kind)) meant = meant ≡ Err kind
 Tells (Err NoMemory) meant = Unit {0}
+
+-- what is left is what is meant, or the fault of the row is, and then what is left does not matter; want of memory tells nothing
+abbrev pub TellsIn : {A : Type 0} → Result (Unit {0}) RowError → A → Result A FaultKind → Type 0
+TellsIn (Ok done) left meant = meant ≡ Ok left
+TellsIn (Err (Fault kind)) left meant = meant ≡ Err kind
+TellsIn (Err NoMemory) left meant = Unit {0}
+
+-- an error is the fault that is meant; want of memory tells nothing
+abbrev pub TellsFault : {A : Type 0} → RowError → Result A FaultKind → Type 0
+TellsFault (Fault kind) meant = meant ≡ Err kind
+TellsFault NoMemory meant = Unit {0}

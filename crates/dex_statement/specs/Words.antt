@@ -1,5 +1,5 @@
 -- The fields of a row, and the words of a field.
-use Rattle.std.specs.Prelude.{ℕ, ℤ, ◌^◌, ◌==◌, nat_lt, if◌then◌else◌, List, [], map, bytes_eq, codes, slice_index_or, Option, Some, None}
+use Rattle.std.specs.Prelude.{ℕ, ℤ, ◌^◌, ◌==◌, nat_lt, if◌then◌else◌, List, map, bytes_eq, codes, Option, Some, None}
 use Rattle.std.specs.Borrow.{Bor}
 use Rattle.std.specs.Int.{w64, cast_signed}
 use Rattle.std.specs.List.{slice_split}
@@ -10,14 +10,7 @@ use Rattle.dex_types.specs.declared.terms.SelfTrade.TheVariants.{Decrement, Canc
 use Rattle.dex_types.specs.declared.terms.Side.{Side}
 use Rattle.dex_types.specs.declared.terms.Side.TheVariants.{Bid, Ask}
 use Rattle.dex_rows.specs.Numbers.{number_of}
-
--- the fields of a row, or the words of a field
-abbrev pub Fields : Type 0
-Fields = List (List ℕ)
-
--- the field at a place, from 0; nothing behind the last
-abbrev pub field_at : Fields → ℕ → List ℕ
-field_at row place = slice_index_or row place []
+pub use Rattle.dex_rows.specs.Records.{Fields, field_at}
 
 -- the words of a field: what stands before, between and behind its spaces
 abbrev pub words_of : List ℕ → Fields

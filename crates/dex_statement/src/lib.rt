@@ -5,6 +5,7 @@
 #![tactic(auto)]
 
 mod faults;
+mod fields;
 mod forms;
 mod instruction;
 mod order_words;
@@ -16,7 +17,7 @@ mod words;
 
 pub use faults::{FaultKind, RowError, SetupCode};
 pub use forms::Form;
-pub use instruction::InstructionWords;
+pub use instruction::{InstructionWords, read_instruction};
 pub use parties::Parties;
 pub use setup::MarketWords;
 pub use statement::{Statement, statement_of};

@@ -12,7 +12,7 @@ use crate::words::{
 };
 use dex_instruction::encode;
 use dex_rows::numbers::{u16_word, u64_word, u128_word};
-use dex_types::{ClientIds, Ix};
+use dex_types::{ClientIds, Ix, Side};
 use std::alloc::Global;
 
 /// The first word of a `do` row, which names the instruction.
@@ -168,7 +168,28 @@ fn limit_of(words: &[&[u8]]) -> Result<u16, FaultKind>
     if words.len() != 2 {
         return Err(FaultKind::FieldCount);
     }
-    u16_word(word_at(words, 1)).ok_or(FaultKind::BadNumber)
+    limit_at(words, 1)
+}
+
+/// The number of 16 bits that the word at a place writes.
+fn limit_at(words: &[&[u8]], place: usize) -> Result<u16, FaultKind>
+    ensures { result ≡ order.limit_at (texts words.now) place }
+{
+    u16_word(word_at(words, place)).ok_or(FaultKind::BadNumber)
+}
+
+/// The number of 64 bits that the word at a place writes.
+fn amount_at(words: &[&[u8]], place: usize) -> Result<u64, FaultKind>
+    ensures { result ≡ order.amount_at (texts words.now) place }
+{
+    u64_word(word_at(words, place)).ok_or(FaultKind::BadNumber)
+}
+
+/// The side that the word at a place names.
+fn side_at(words: &[&[u8]], place: usize) -> Result<Side, FaultKind>
+    ensures { result ≡ order.side_at (texts words.now) place }
+{
+    side_of(word_at(words, place)).ok_or(FaultKind::UnknownRow)
 }
 
 /// Whether a word that stands at a place is to be a side and is none.
@@ -178,25 +199,13 @@ fn is_strange_side(words: &[&[u8]], place: usize) -> bool
     place < words.len() && side_of(word_at(words, place)).is_none()
 }
 
-/// Whether a word that stands at a place is to be a self-trade rule and is none.
-fn is_strange_self_trade(words: &[&[u8]], place: usize) -> bool
-    ensures { result ≡ order.is_strange_self_trade (texts words.now) place }
-{
-    place < words.len() && self_trade_of(word_at(words, place)).is_none()
-}
-
-/// Whether a word that stands at a place is to be an order type and is none.
-fn is_strange_order_type(words: &[&[u8]], place: usize) -> bool
-    ensures { result ≡ order.is_strange_order_type (texts words.now) place }
-{
-    place < words.len() && order_type_of(word_at(words, place)).is_none()
-}
-
 /// Whether one of an order's words that are of a list is not.
 fn is_strange_order(words: &[&[u8]]) -> bool
     ensures { result ≡ order.is_strange_order (texts words.now) }
 {
-    is_strange_side(words, 1) || is_strange_self_trade(words, 5) || is_strange_order_type(words, 6)
+    is_strange_side(words, 1)
+        || (5 < words.len() && self_trade_of(word_at(words, 5)).is_none())
+        || (6 < words.len() && order_type_of(word_at(words, 6)).is_none())
 }
 
 /// The latest time that the word behind an order's others says, where there is one.
@@ -222,15 +231,23 @@ fn order_of(words: &[&[u8]]) -> Result<Ix, FaultKind>
     if words.len() != 9 && words.len() != 10 {
         return Err(FaultKind::FieldCount);
     }
+    order_in(words)
+}
+
+/// The new order whose fields stand in words, by place.
+#[tactic(auto, unfolding(crate::specs::OrderWords::order_in))]
+fn order_in(words: &[&[u8]]) -> Result<Ix, FaultKind>
+    ensures { result ≡ order.order_in (texts words.now) }
+{
     Ok(Ix::NewOrderV3 {
-        side: side_of(word_at(words, 1)).ok_or(FaultKind::UnknownRow)?,
-        limit_price: u64_word(word_at(words, 2)).ok_or(FaultKind::BadNumber)?,
-        max_coin_qty: u64_word(word_at(words, 3)).ok_or(FaultKind::BadNumber)?,
-        max_native_pc_qty_including_fees: u64_word(word_at(words, 4)).ok_or(FaultKind::BadNumber)?,
+        side: side_at(words, 1)?,
+        limit_price: amount_at(words, 2)?,
+        max_coin_qty: amount_at(words, 3)?,
+        max_native_pc_qty_including_fees: amount_at(words, 4)?,
         self_trade_behavior: self_trade_of(word_at(words, 5)).ok_or(FaultKind::UnknownRow)?,
         order_type: order_type_of(word_at(words, 6)).ok_or(FaultKind::UnknownRow)?,
-        client_order_id: u64_word(word_at(words, 7)).ok_or(FaultKind::BadNumber)?,
-        limit: u16_word(word_at(words, 8)).ok_or(FaultKind::BadNumber)?,
+        client_order_id: amount_at(words, 7)?,
+        limit: limit_at(words, 8)?,
         max_ts: latest_of(words)?,
     })
 }
@@ -247,13 +264,13 @@ fn take_of(words: &[&[u8]]) -> Result<Ix, FaultKind>
         return Err(FaultKind::FieldCount);
     }
     Ok(Ix::SendTake {
-        side: side_of(word_at(words, 1)).ok_or(FaultKind::UnknownRow)?,
-        limit_price: u64_word(word_at(words, 2)).ok_or(FaultKind::BadNumber)?,
-        max_coin_qty: u64_word(word_at(words, 3)).ok_or(FaultKind::BadNumber)?,
-        max_native_pc_qty_including_fees: u64_word(word_at(words, 4)).ok_or(FaultKind::BadNumber)?,
-        min_coin_qty: u64_word(word_at(words, 5)).ok_or(FaultKind::BadNumber)?,
-        min_native_pc_qty: u64_word(word_at(words, 6)).ok_or(FaultKind::BadNumber)?,
-        limit: u16_word(word_at(words, 7)).ok_or(FaultKind::BadNumber)?,
+        side: side_at(words, 1)?,
+        limit_price: amount_at(words, 2)?,
+        max_coin_qty: amount_at(words, 3)?,
+        max_native_pc_qty_including_fees: amount_at(words, 4)?,
+        min_coin_qty: amount_at(words, 5)?,
+        min_native_pc_qty: amount_at(words, 6)?,
+        limit: limit_at(words, 7)?,
     })
 }
 
@@ -269,7 +286,7 @@ fn cancel_of(words: &[&[u8]]) -> Result<Ix, FaultKind>
         return Err(FaultKind::FieldCount);
     }
     Ok(Ix::CancelOrderV2 {
-        side: side_of(word_at(words, 1)).ok_or(FaultKind::UnknownRow)?,
+        side: side_at(words, 1)?,
         order_id: u128_word(word_at(words, 2)).ok_or(FaultKind::BadNumber)?,
     })
 }
@@ -283,7 +300,7 @@ fn cancel_by_client_of(words: &[&[u8]]) -> Result<Ix, FaultKind>
         return Err(FaultKind::FieldCount);
     }
     Ok(Ix::CancelOrderByClientIdV2 {
-        client_order_id: u64_word(word_at(words, 1)).ok_or(FaultKind::BadNumber)?,
+        client_order_id: amount_at(words, 1)?,
     })
 }
 

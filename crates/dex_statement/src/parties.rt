@@ -1,13 +1,13 @@
 //! Whom an instruction row names.
 
-ghost use Rattle.std.specs.Prelude.{◌≡◌, ◌≤◌, length};
-ghost use Rattle.dex_statement.specs.Parties as parties;
-ghost use Rattle.dex_statement.specs.Telling.{Tells, TellsAs};
+ghost use Rattle.std.specs.Prelude.{◌≡◌, ◌≤◌, ◌∷◌, [], length};
+ghost use Rattle.dex_statement.specs.Parties as parties_meant;
+ghost use Rattle.dex_statement.specs.Telling.{TellsIn};
 
 use crate::faults::{FaultKind, RowError};
-use crate::words::{field_at, first_word};
-use dex_rows::addresses::{address_word, role_word};
-use dex_rows::records::Fields;
+use crate::words::first_word;
+use dex_rows::addresses::{read_address, read_role};
+use dex_rows::records::{Fields, field_at};
 use dex_types::Address;
 use std::alloc::Global;
 use std::marker::Model;
@@ -40,27 +40,47 @@ impl Model for Parties {
     } };
 }
 
-/// Whom an instruction row names, in its fields from MARKET to REFERRER.
+impl Parties {
+    /// Nobody, to be filled. It takes no memory.
+    pub fn none(alloc: Global) -> Parties {
+        Parties {
+            market: Address([0; 32]),
+            signer: Address([0; 32]),
+            named: Vec::new(alloc),
+            coin: None,
+            pc: None,
+            discount: None,
+            referrer: None,
+        }
+    }
+
+    /// The open-orders accounts, which are taken out.
+    pub fn take_named(&mut self) -> Vec<Address>
+        ensures named { result.items ≡ self.old.named }
+        ensures left { self.new ≡ record self.old { named = [] } }
+    {
+        let alloc = *self.named.allocator();
+        std::mem::replace(&mut self.named, Vec::new(alloc))
+    }
+}
+
+/// Reads whom an instruction row names, in its fields from MARKET to REFERRER. All faults of these fields are of one kind, so
+/// that their order is of no account.
 #[tactic(auto, unfolding(crate::specs::Parties::parties_of))]
-pub(crate) fn parties_of(alloc: Global, row: &Fields<'_>) -> Result<Parties, RowError>
-    ensures { Tells result (parties.parties_of row.now) }
+pub(crate) fn read_parties(row: &Fields<'_>, parties: &mut Parties) -> Result<(), RowError>
+    ensures { TellsIn result parties.new (parties_meant.parties_of row.now) }
 {
-    let market = address_word(field_at(row, 2)).ok_or(FaultKind::BadLabel)?;
-    let signer = address_word(field_at(row, 3)).ok_or(FaultKind::BadLabel)?;
-    let coin = role_word(field_at(row, 5)).ok_or(FaultKind::BadLabel)?;
-    let pc = role_word(field_at(row, 6)).ok_or(FaultKind::BadLabel)?;
-    let discount = role_word(field_at(row, 7)).ok_or(FaultKind::BadLabel)?;
-    let referrer = role_word(field_at(row, 8)).ok_or(FaultKind::BadLabel)?;
-    let named = named_of(alloc, field_at(row, 4))?;
-    Ok(Parties {
-        market,
-        signer,
-        named,
-        coin,
-        pc,
-        discount,
-        referrer,
-    })
+    if read_address(field_at(row, 2), &mut parties.market)
+        && read_address(field_at(row, 3), &mut parties.signer)
+        && read_role(field_at(row, 5), &mut parties.coin)
+        && read_role(field_at(row, 6), &mut parties.pc)
+        && read_role(field_at(row, 7), &mut parties.discount)
+        && read_role(field_at(row, 8), &mut parties.referrer)
+    {
+        read_named(field_at(row, 4), &mut parties.named)
+    } else {
+        Err(RowError::Fault(FaultKind::BadLabel))
+    }
 }
 
 // How many spaces a field has.
@@ -76,22 +96,32 @@ fn spaces_in(field: &[u8]) -> usize
     count
 }
 
-/// The open-orders accounts that a field names: none for `-`, or address words with one space between two.
+/// Reads the open-orders accounts that a field names: none for `-`, or address words with one space between two.
 #[tactic(auto, unfolding(crate::specs::Parties::named_of))]
-fn named_of(alloc: Global, field: &[u8]) -> Result<Vec<Address>, RowError>
-    ensures { TellsAs (λ named. named.items) result (parties.named_of field.now) }
+fn read_named(field: &[u8], named: &mut Vec<Address>) -> Result<(), RowError>
+    ensures { TellsIn result named.new.items (parties_meant.named_of field.now) }
 {
+    named.clear();
     if field == b"-".as_slice() {
-        return Ok(Vec::new(alloc));
+        return Ok(());
     }
-    let mut named = Vec::with_capacity(alloc, spaces_in(field) + 1)?;
+    named.reserve_exact(spaces_in(field) + 1)?;
     let mut rest = field;
     'words: while let Some((word, behind)) = first_word(rest) {
-        let address = address_word(word).ok_or(FaultKind::BadLabel)?;
-        named.push(address)?;
+        push_address(word, named)?;
         rest = behind;
     }
-    let last = address_word(rest).ok_or(FaultKind::BadLabel)?;
-    named.push(last)?;
-    Ok(named)
+    push_address(rest, named)
+}
+
+/// Adds the address that a word names.
+fn push_address(word: &[u8], named: &mut Vec<Address>) -> Result<(), RowError>
+    ensures { TellsIn result named.new.items (parties_meant.named_behind named.old.items (word.now ∷ [])) }
+{
+    let mut address = Address([0; 32]);
+    if !read_address(word, &mut address) {
+        return Err(RowError::Fault(FaultKind::BadLabel));
+    }
+    named.push(address)?;
+    Ok(())
 }

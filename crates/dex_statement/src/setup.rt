@@ -5,12 +5,12 @@ ghost use Rattle.dex_statement.specs.Setup as setup;
 ghost use Rattle.dex_statement.specs.Telling.{Tells};
 
 use crate::faults::{FaultKind, RowError};
+use crate::fields::{address_at, bytes_at, u32_at};
 use crate::statement::Statement;
-use crate::words::{field_at, time_word};
+use crate::words::time_word;
 use dex_rows::addresses::address_word;
-use dex_rows::base64_words::base64_word;
-use dex_rows::numbers::{u8_word, u32_word, u64_word};
-use dex_rows::records::{Fields, field_count};
+use dex_rows::numbers::{u8_word, u64_word};
+use dex_rows::records::{Fields, field_at, field_count};
 use dex_types::{Address, Program};
 use std::alloc::Global;
 use std::marker::Model;
@@ -96,7 +96,7 @@ pub(crate) fn mint_of(row: &Fields<'_>) -> Result<Statement, FaultKind>
         return Err(FaultKind::FieldCount);
     }
     let decimals = u8_word(field_at(row, 2)).ok_or(FaultKind::BadNumber)?;
-    let address = address_word(field_at(row, 1)).ok_or(FaultKind::BadLabel)?;
+    let address = address_at(row, 1)?;
     Ok(Statement::Mint { address, decimals })
 }
 
@@ -108,7 +108,7 @@ pub(crate) fn discount_of(row: &Fields<'_>) -> Result<Address, FaultKind>
     if field_count(row) != 2 {
         return Err(FaultKind::FieldCount);
     }
-    address_word(field_at(row, 1)).ok_or(FaultKind::BadLabel)
+    address_at(row, 1)
 }
 
 /// What a `wallet` row states.
@@ -120,9 +120,9 @@ pub(crate) fn wallet_of(row: &Fields<'_>) -> Result<Statement, FaultKind>
         return Err(FaultKind::FieldCount);
     }
     let amount = u64_word(field_at(row, 4)).ok_or(FaultKind::BadNumber)?;
-    let address = address_word(field_at(row, 1)).ok_or(FaultKind::BadLabel)?;
-    let mint = address_word(field_at(row, 2)).ok_or(FaultKind::BadLabel)?;
-    let owner = address_word(field_at(row, 3)).ok_or(FaultKind::BadLabel)?;
+    let address = address_at(row, 1)?;
+    let mint = address_at(row, 2)?;
+    let owner = address_at(row, 3)?;
     Ok(Statement::Wallet {
         address,
         mint,
@@ -139,8 +139,8 @@ pub(crate) fn orders_of(row: &Fields<'_>) -> Result<Statement, FaultKind>
     if field_count(row) != 3 {
         return Err(FaultKind::FieldCount);
     }
-    let market = address_word(field_at(row, 1)).ok_or(FaultKind::BadLabel)?;
-    let address = address_word(field_at(row, 2)).ok_or(FaultKind::BadLabel)?;
+    let market = address_at(row, 1)?;
+    let address = address_at(row, 2)?;
     Ok(Statement::Orders { market, address })
 }
 
@@ -166,14 +166,14 @@ pub(crate) fn market_of(alloc: Global, row: &Fields<'_>) -> Result<MarketWords, 
     if field_count(row) != 9 {
         return Err(RowError::Fault(FaultKind::FieldCount));
     }
-    let bid_nodes = u32_word(field_at(row, 5)).ok_or(FaultKind::BadNumber)?;
-    let ask_nodes = u32_word(field_at(row, 6)).ok_or(FaultKind::BadNumber)?;
-    let events = u32_word(field_at(row, 7)).ok_or(FaultKind::BadNumber)?;
-    let bytes = base64_word(alloc, field_at(row, 8))?.ok_or(FaultKind::BadNumber)?;
+    let bid_nodes = u32_at(row, 5)?;
+    let ask_nodes = u32_at(row, 6)?;
+    let events = u32_at(row, 7)?;
+    let bytes = bytes_at(alloc, row, 8)?;
     let address = market_word(field_at(row, 1)).ok_or(FaultKind::BadLabel)?;
-    let coin = address_word(field_at(row, 2)).ok_or(FaultKind::BadLabel)?;
-    let pc = address_word(field_at(row, 3)).ok_or(FaultKind::BadLabel)?;
-    let authority = address_word(field_at(row, 4)).ok_or(FaultKind::BadLabel)?;
+    let coin = address_at(row, 2)?;
+    let pc = address_at(row, 3)?;
+    let authority = address_at(row, 4)?;
     Ok(MarketWords {
         address,
         coin,

@@ -10,9 +10,8 @@ use crate::setup::{
     MarketWords, clock_of, discount_of, market_of, mint_of, orders_of, program_of, wallet_of,
 };
 use crate::swap::{SwapWords, swap_row};
-use crate::words::field_at;
 use dex_rows::printable::row_is_printable;
-use dex_rows::records::Fields;
+use dex_rows::records::{Fields, field_at};
 use dex_types::{Address, Program};
 use std::alloc::Global;
 
@@ -67,20 +66,8 @@ pub fn statement_of(alloc: Global, row: &Fields<'_>) -> Result<Statement, RowErr
     }
 }
 
-/// What a row of a form states. A script is nearly all `do` rows, so these go their own way.
+/// What a row of a form states.
 fn stated(alloc: Global, form: Form, row: &Fields<'_>) -> Result<Statement, RowError>
-    ensures { Tells result (statements.stated form row.now) }
-{
-    if form == Form::Words {
-        words_row(alloc, row)
-    } else {
-        stated_by_form(alloc, form, row)
-    }
-}
-
-/// What a row of any form states. It is not inlined: it has room for every kind of row.
-#[inline(never)]
-fn stated_by_form(alloc: Global, form: Form, row: &Fields<'_>) -> Result<Statement, RowError>
     ensures { Tells result (statements.stated form row.now) }
 {
     match form {

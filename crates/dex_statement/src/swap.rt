@@ -1,6 +1,7 @@
 //! Swap rows.
 
-ghost use Rattle.std.specs.Prelude.{◌≡◌};
+ghost use Rattle.std.specs.Prelude.{◌≡◌, ◌<◌, ◌+◌};
+ghost use Rattle.dex_rows.specs.Records as rows;
 ghost use Rattle.dex_statement.specs.declared.forms.Form.TheVariants as form;
 ghost use Rattle.dex_statement.specs.Stated as stated;
 ghost use Rattle.dex_statement.specs.Statements as statements;
@@ -8,14 +9,12 @@ ghost use Rattle.dex_statement.specs.Swaps as swaps;
 ghost use Rattle.dex_statement.specs.Telling.{Tells};
 
 use crate::faults::{FaultKind, RowError};
+use crate::fields::{address_at, bytes_at, u32_at};
 use crate::instruction::InstructionWords;
 use crate::parties::Parties;
 use crate::statement::Statement;
-use crate::words::field_at;
-use dex_rows::addresses::{address_word, role_word};
-use dex_rows::base64_words::base64_word;
-use dex_rows::numbers::u32_word;
-use dex_rows::records::{Fields, field_count};
+use dex_rows::addresses::role_word;
+use dex_rows::records::{Fields, field_at, field_count};
 use dex_types::Address;
 use std::alloc::Global;
 use std::marker::Model;
@@ -76,14 +75,16 @@ impl LegWords {
     }
 }
 
-/// The leg of these words, and of these bytes.
+/// The leg whose market and wallets stand in three fields from a place on, and of these bytes.
 #[tactic(auto, unfolding(crate::specs::Swaps::leg_of))]
-fn leg_of(market: &[u8], coin: &[u8], pc: &[u8], bytes: Vec<u8>) -> Result<LegWords, FaultKind>
-    ensures { result ≡ swaps.leg_of market.now coin.now pc.now bytes.items }
+fn leg_at(row: &Fields<'_>, place: usize, bytes: Vec<u8>) -> Result<LegWords, FaultKind>
+    requires { place < 10 }
+    ensures { result ≡ swaps.leg_of (rows.field_at row.now place) (rows.field_at row.now (place + 1))
+        (rows.field_at row.now (place + 2)) bytes.items }
 {
-    let market = address_word(market).ok_or(FaultKind::BadLabel)?;
-    let coin = role_word(coin).ok_or(FaultKind::BadLabel)?;
-    let pc = role_word(pc).ok_or(FaultKind::BadLabel)?;
+    let market = address_at(row, place)?;
+    let coin = role_word(field_at(row, place + 1)).ok_or(FaultKind::BadLabel)?;
+    let pc = role_word(field_at(row, place + 2)).ok_or(FaultKind::BadLabel)?;
     Ok(LegWords {
         market,
         coin,
@@ -101,22 +102,12 @@ pub(crate) fn swap_row(alloc: Global, row: &Fields<'_>) -> Result<Statement, Row
     if field_count(row) != 11 {
         return Err(RowError::Fault(FaultKind::FieldCount));
     }
-    let lane = u32_word(field_at(row, 1)).ok_or(FaultKind::BadNumber)?;
-    let first_bytes = base64_word(alloc, field_at(row, 6))?.ok_or(FaultKind::BadNumber)?;
-    let second_bytes = base64_word(alloc, field_at(row, 10))?.ok_or(FaultKind::BadNumber)?;
-    let signer = address_word(field_at(row, 2)).ok_or(FaultKind::BadLabel)?;
-    let first = leg_of(
-        field_at(row, 3),
-        field_at(row, 4),
-        field_at(row, 5),
-        first_bytes,
-    )?;
-    let second = leg_of(
-        field_at(row, 7),
-        field_at(row, 8),
-        field_at(row, 9),
-        second_bytes,
-    )?;
+    let lane = u32_at(row, 1)?;
+    let first_bytes = bytes_at(alloc, row, 6)?;
+    let second_bytes = bytes_at(alloc, row, 10)?;
+    let signer = address_at(row, 2)?;
+    let first = leg_at(row, 3, first_bytes)?;
+    let second = leg_at(row, 7, second_bytes)?;
     Ok(Statement::Swap(SwapWords {
         lane,
         signer,

@@ -1,25 +1,12 @@
-//! The fields of a row, and the words of a field.
+//! The words of a field.
 
 ghost use Rattle.std.specs.Prelude.{◌≡◌, ◌<◌, ◌≤◌, ◌==◌, ◌∷◌, [], IfOk, IfSome, MatchOption, length, take};
 ghost use Rattle.std.specs.List.{position};
 ghost use Rattle.dex_statement.specs.Words as script;
 
 use dex_rows::numbers::u64_word;
-use dex_rows::records::{Fields, field, field_count};
 use dex_types::{OrderType, SelfTrade, Side};
 use std::alloc::{AllocError, Global};
-
-/// The field at a place of a row, counted from 0; no bytes behind the last.
-pub(crate) fn field_at<'r>(row: &'r Fields<'_>, place: usize) -> &'r [u8]
-    requires { place < 12 }
-    ensures { result.now ≡ script.field_at row.now place }
-{
-    if place < field_count(row) {
-        field(row, place)
-    } else {
-        &[]
-    }
-}
 
 /// How many words the longest form of a `do` row has.
 pub(crate) const MOST_WORDS: usize = 10;

@@ -14,7 +14,6 @@ ghost use Rattle.dex_step.specs.OrderActs.{
 };
 ghost use Rattle.dex_step.specs.OrderRows.{IsOrderDecided, order_step};
 ghost use Rattle.dex_types.specs.Accounts.{market_accounts_of, orders_account_of};
-ghost use Rattle.dex_types.specs.declared.terms.Side.TheVariants as sides;
 
 use crate::vaults::bring;
 use dex_accounts::place_of;
@@ -57,109 +56,57 @@ fn order_on_bytes(
     )
 }
 
-/// The same with the account's bytes in their buffer.
-fn order_in_buffer(
+/// The same with the bytes in their buffers.
+fn order_in_buffers(
     plan: &OrderPlan,
     taker: Taker,
-    market: &mut [u8],
-    requests: &mut [u8],
-    events: &mut [u8],
+    market: &mut Vec<u8>,
+    requests: &mut Vec<u8>,
+    events: &mut Vec<u8>,
     account: &mut Vec<u8>,
-    own: &mut [u8],
-    opposite: &mut [u8],
+    own: &mut Vec<u8>,
+    opposite: &mut Vec<u8>,
 ) -> Reply
-    requires { CanOrder plan.now taker
-        (order_bytes market.old requests.old events.old account.old.items own.old opposite.old) }
+    requires { CanOrder plan.now taker (order_bytes market.old.items requests.old.items events.old.items
+        account.old.items own.old.items opposite.old.items) }
     ensures { HasOrdered taker result
-        (order_bytes market.old requests.old events.old account.old.items own.old opposite.old)
-        (order_bytes market.new requests.new events.new account.new.items own.new opposite.new) }
+        (order_bytes market.old.items requests.old.items events.old.items account.old.items own.old.items
+        opposite.old.items)
+        (order_bytes market.new.items requests.new.items events.new.items account.new.items own.new.items
+        opposite.new.items) }
 {
     order_on_bytes(
         plan, taker, market, requests, events, account, own, opposite,
     )
 }
 
-/// A new order of the account at this place.
+/// The same of the account at this place.
 fn order_in_place(
     plan: &OrderPlan,
     taker: Taker,
-    market: &mut [u8],
-    requests: &mut [u8],
-    events: &mut [u8],
-    accounts: &mut [OrdersAccount],
     place: usize,
-    own: &mut [u8],
-    opposite: &mut [u8],
+    market: &mut Vec<u8>,
+    requests: &mut Vec<u8>,
+    events: &mut Vec<u8>,
+    accounts: &mut [OrdersAccount],
+    own: &mut Vec<u8>,
+    opposite: &mut Vec<u8>,
 ) -> Reply
-    requires { CanOrderAt place plan.now taker
-        (among market.old requests.old events.old own.old opposite.old (map orders_account_of accounts.old)) }
+    requires { CanOrderAt place plan.now taker (among market.old.items requests.old.items events.old.items
+        own.old.items opposite.old.items (map orders_account_of accounts.old)) }
     ensures { HasOrderedIn taker result
-        (among market.old requests.old events.old own.old opposite.old (map orders_account_of accounts.old))
-        (among market.new requests.new events.new own.new opposite.new (map orders_account_of accounts.new)) }
+        (among market.old.items requests.old.items events.old.items own.old.items opposite.old.items
+        (map orders_account_of accounts.old))
+        (among market.new.items requests.new.items events.new.items own.new.items opposite.new.items
+        (map orders_account_of accounts.new)) }
 {
-    order_in_buffer(
-        plan,
-        taker,
-        market,
-        requests,
-        events,
-        &mut accounts[place].bytes,
-        own,
-        opposite,
+    let account = &mut accounts[place].bytes;
+    order_in_buffers(
+        plan, taker, market, requests, events, account, own, opposite,
     )
 }
 
-/// A new bid, with its deposit in the vault.
-fn order_bid(accounts: &mut MarketAccounts, plan: &OrderPlan, taker: Taker, place: usize) -> Reply
-    requires side { taker.id_side ≡ sides.Bid }
-    requires can { CanOrderAt place plan.now taker (among_of sides.Bid (market_accounts_of accounts.old)) }
-    requires vault { CanTakeIn sides.Bid plan.now.deposit (market_accounts_of accounts.old) }
-    ensures does { HasOrderedIn taker result (among_of sides.Bid (market_accounts_of accounts.old))
-        (among_of sides.Bid (market_accounts_of accounts.new)) }
-    ensures vaults { HaveTakenIn sides.Bid plan.now.deposit (market_accounts_of accounts.old)
-        (market_accounts_of accounts.new) }
-{
-    let reply = order_in_place(
-        plan,
-        taker,
-        &mut accounts.market,
-        &mut accounts.requests,
-        &mut accounts.events,
-        &mut accounts.orders,
-        place,
-        &mut accounts.bids,
-        &mut accounts.asks,
-    );
-    bring(&mut accounts.pc_vault, plan.deposit);
-    reply
-}
-
-/// A new ask, with its deposit in the vault.
-fn order_ask(accounts: &mut MarketAccounts, plan: &OrderPlan, taker: Taker, place: usize) -> Reply
-    requires side { taker.id_side ≡ sides.Ask }
-    requires can { CanOrderAt place plan.now taker (among_of sides.Ask (market_accounts_of accounts.old)) }
-    requires vault { CanTakeIn sides.Ask plan.now.deposit (market_accounts_of accounts.old) }
-    ensures does { HasOrderedIn taker result (among_of sides.Ask (market_accounts_of accounts.old))
-        (among_of sides.Ask (market_accounts_of accounts.new)) }
-    ensures vaults { HaveTakenIn sides.Ask plan.now.deposit (market_accounts_of accounts.old)
-        (market_accounts_of accounts.new) }
-{
-    let reply = order_in_place(
-        plan,
-        taker,
-        &mut accounts.market,
-        &mut accounts.requests,
-        &mut accounts.events,
-        &mut accounts.orders,
-        place,
-        &mut accounts.asks,
-        &mut accounts.bids,
-    );
-    bring(&mut accounts.coin_vault, plan.deposit);
-    reply
-}
-
-/// A new order of either side.
+/// A new order of either side, with its deposit in the vault.
 fn order_at(accounts: &mut MarketAccounts, plan: &OrderPlan, taker: Taker, place: usize) -> Reply
     requires can { CanOrderAt place plan.now taker (among_of taker.id_side (market_accounts_of accounts.old)) }
     requires vault { CanTakeIn taker.id_side plan.now.deposit (market_accounts_of accounts.old) }
@@ -168,9 +115,30 @@ fn order_at(accounts: &mut MarketAccounts, plan: &OrderPlan, taker: Taker, place
     ensures vaults { HaveTakenIn taker.id_side plan.now.deposit (market_accounts_of accounts.old)
         (market_accounts_of accounts.new) }
 {
+    let MarketAccounts {
+        market,
+        requests,
+        events,
+        orders,
+        bids,
+        asks,
+        coin_vault,
+        pc_vault,
+        ..
+    } = accounts;
     match taker.id_side {
-        Side::Bid => order_bid(accounts, plan, taker, place),
-        Side::Ask => order_ask(accounts, plan, taker, place),
+        Side::Bid => {
+            bring(pc_vault, plan.deposit);
+            order_in_place(
+                plan, taker, place, market, requests, events, orders, bids, asks,
+            )
+        }
+        Side::Ask => {
+            bring(coin_vault, plan.deposit);
+            order_in_place(
+                plan, taker, place, market, requests, events, orders, asks, bids,
+            )
+        }
     }
 }
 

@@ -6,7 +6,6 @@ ghost use Rattle.dex_step.specs.Acting.{CanExchange, HasStepped, HaveExchanged};
 ghost use Rattle.dex_step.specs.TakeActs.{CanTake, HasTaken, KeepsRest, take_bytes, take_bytes_of};
 ghost use Rattle.dex_step.specs.TakeRows.{IsTakeDecided, take_step};
 ghost use Rattle.dex_types.specs.Accounts.{market_accounts_of};
-ghost use Rattle.dex_types.specs.declared.terms.Side.TheVariants as sides;
 
 use crate::vaults::{bring, take_out};
 use dex_market::MarketView;
@@ -40,53 +39,7 @@ fn take_on_bytes(
     )
 }
 
-/// A take of a taker that buys: what it pays enters one vault, and what it gets leaves the other.
-fn take_bid(accounts: &mut MarketAccounts, plan: &TakePlan, taker: Taker) -> Reply
-    requires side { taker.id_side ≡ sides.Bid }
-    requires can { CanTake plan.now taker (take_bytes_of sides.Bid (market_accounts_of accounts.old)) }
-    requires vaults { CanExchange sides.Bid plan.now.deposit plan.now.payout (market_accounts_of accounts.old) }
-    ensures does { HasTaken taker result (take_bytes_of sides.Bid (market_accounts_of accounts.old))
-        (take_bytes_of sides.Bid (market_accounts_of accounts.new)) }
-    ensures vaults { HaveExchanged sides.Bid plan.now.deposit plan.now.payout (market_accounts_of accounts.old)
-        (market_accounts_of accounts.new) }
-    ensures rest { KeepsRest sides.Bid (market_accounts_of accounts.old) (market_accounts_of accounts.new) }
-{
-    let reply = take_on_bytes(
-        plan,
-        taker,
-        &mut accounts.market,
-        &mut accounts.events,
-        &mut accounts.asks,
-    );
-    bring(&mut accounts.pc_vault, plan.deposit);
-    take_out(&mut accounts.coin_vault, plan.payout);
-    reply
-}
-
-/// A take of a taker that sells: what it pays enters one vault, and what it gets leaves the other.
-fn take_ask(accounts: &mut MarketAccounts, plan: &TakePlan, taker: Taker) -> Reply
-    requires side { taker.id_side ≡ sides.Ask }
-    requires can { CanTake plan.now taker (take_bytes_of sides.Ask (market_accounts_of accounts.old)) }
-    requires vaults { CanExchange sides.Ask plan.now.deposit plan.now.payout (market_accounts_of accounts.old) }
-    ensures does { HasTaken taker result (take_bytes_of sides.Ask (market_accounts_of accounts.old))
-        (take_bytes_of sides.Ask (market_accounts_of accounts.new)) }
-    ensures vaults { HaveExchanged sides.Ask plan.now.deposit plan.now.payout (market_accounts_of accounts.old)
-        (market_accounts_of accounts.new) }
-    ensures rest { KeepsRest sides.Ask (market_accounts_of accounts.old) (market_accounts_of accounts.new) }
-{
-    let reply = take_on_bytes(
-        plan,
-        taker,
-        &mut accounts.market,
-        &mut accounts.events,
-        &mut accounts.bids,
-    );
-    bring(&mut accounts.coin_vault, plan.deposit);
-    take_out(&mut accounts.pc_vault, plan.payout);
-    reply
-}
-
-/// A take of either side.
+/// A take of either side: what it pays enters one vault, and what it gets leaves the other.
 fn take_by_side(accounts: &mut MarketAccounts, plan: &TakePlan, taker: Taker) -> Reply
     requires can { CanTake plan.now taker (take_bytes_of taker.id_side (market_accounts_of accounts.old)) }
     requires vaults { CanExchange taker.id_side plan.now.deposit plan.now.payout (market_accounts_of accounts.old) }
@@ -96,9 +49,28 @@ fn take_by_side(accounts: &mut MarketAccounts, plan: &TakePlan, taker: Taker) ->
         (market_accounts_of accounts.new) }
     ensures rest { KeepsRest taker.id_side (market_accounts_of accounts.old) (market_accounts_of accounts.new) }
 {
+    let MarketAccounts {
+        market,
+        events,
+        bids,
+        asks,
+        coin_vault,
+        pc_vault,
+        ..
+    } = accounts;
     match taker.id_side {
-        Side::Bid => take_bid(accounts, plan, taker),
-        Side::Ask => take_ask(accounts, plan, taker),
+        Side::Bid => {
+            let reply = take_on_bytes(plan, taker, market, events, asks);
+            bring(pc_vault, plan.deposit);
+            take_out(coin_vault, plan.payout);
+            reply
+        }
+        Side::Ask => {
+            let reply = take_on_bytes(plan, taker, market, events, bids);
+            bring(coin_vault, plan.deposit);
+            take_out(pc_vault, plan.payout);
+            reply
+        }
     }
 }
 

@@ -97,37 +97,6 @@ fn plan_of(decided: Result<DecidedTake, Refusal>) -> Result<TakePlan, Refusal>
     }
 }
 
-/// The plan or the refusal, where what the side that is met locks is in its vault.
-pub(crate) fn decide<B: SideRead>(
-    market: &MarketRef<'_>,
-    opposite: &B,
-    ring: &RingRef<'_>,
-    taker: Taker,
-    least: LeastFill,
-    seen: &Seen,
-) -> Result<TakePlan, Refusal>
-    requires holds { B.holds opposite.now }
-    requires market { IsMarket market.now.bytes.now }
-    requires events { IsEventQueue ring.now.bytes.now }
-    requires backed { IsBacked taker.id_side (read_of (shown B.orders market.now opposite.now ring.now)) }
-    ensures { result ≡ take_answer taker.id_side (take_of taker least.lots least.pc) (read_of
-        (shown B.orders market.now opposite.now ring.now)) seen.now }
-{
-    match foreseen(market, opposite, ring, taker, least, seen) {
-        Err(why) => Err(why),
-        Ok(outlook) => plan_of(bounded(
-            market,
-            opposite,
-            ring,
-            taker,
-            least,
-            seen,
-            &outlook,
-            pending_fills(ring),
-        )),
-    }
-}
-
 /// What a take does, or why it is refused. It reads only. `opposite` is the side that it meets, `min_lots` and `min_pc` are
 /// what it has to fill at least, in base lots and in native quote with its fee, and `seen` are the row's wallets.
 ///
@@ -156,7 +125,15 @@ pub fn decide_take<B: SideRead>(
         lots: min_lots,
         pc: min_pc,
     };
-    decide(market, opposite, ring, *taker, least, seen)
+    match foreseen(market, opposite, ring, *taker, least, seen) {
+        Err(why) => Err(why),
+        Ok(outlook) => {
+            let pending = pending_fills(ring);
+            plan_of(bounded(
+                market, opposite, ring, *taker, least, seen, &outlook, pending,
+            ))
+        }
+    }
 }
 
 /// What a take does, or why it is refused, where the sums of pending makers' fills are handed in, in native base and

@@ -16,16 +16,17 @@ use Rattle.dex_wallet.specs.CellState.{CellState}
 use Rattle.dex_fold.specs.Fold.{names}
 use Rattle.dex_fold.specs.World.{MarketState, WalletState}
 use Rattle.dex_locks.specs.Places.{AreFree, StandInFront, front}
-use Rattle.dex_script.specs.Drafts.{PlainScript}
-use Rattle.dex_script.specs.Facts.{IsScript}
-use Rattle.dex_script.specs.Places.{IsPlaced}
-use Rattle.dex_script.proofs.Apart.{markets-distinct, wallets-distinct}
-use Rattle.dex_script.proofs.PlacedLaws.{placed-at}
+use Rattle.dex_script_facts.specs.PlainScript.{PlainScript}
+use Rattle.dex_script_facts.specs.Facts.{IsScript}
+use Rattle.dex_script_facts.specs.Places.{IsPlaced}
+use Rattle.dex_script_facts.proofs.Apart.{markets-distinct, wallets-distinct}
+use Rattle.dex_script_facts.proofs.PlacedLaws.{placed-at}
 use Rattle.dex_stage.proofs.Frames.{market-stays, wallet-stays}
 use Rattle.dex_stage.specs.Stages.{AreReady, IsMarketAt, IsRowAt, IsWalletAt, world_at}
 use Rattle.dex_team.specs.Lists.{AreLists, IsNext}
 use Rattle.dex_team.specs.Packets.{AreRowsOf, IsPacket}
-use Rattle.dex_team.specs.Slots.{AreHomes, AreInHand, AreLent, AreWalletsAt, HomesState, IsHeld, IsLent, IsOut, IsPlace, IsWalletGone, IsWalletLent, KeepsOut, MarketFits, WalletFits, listed, market_addresses, wallet_addresses}
+use Rattle.dex_script_facts.specs.Places.{IsPlace, market_addresses, wallet_addresses}
+use Rattle.dex_team.specs.Slots.{AreHomes, AreInHand, AreLent, AreWalletsAt, HomesState, IsHeld, IsLent, IsOut, IsWalletGone, KeepsOut, MarketFits, WalletFits, listed}
 use Rattle.dex_team.specs.declared.desk.Lists.{Lists}
 use Rattle.dex_team.specs.declared.desk.Next.{Next}
 use Rattle.dex_team.specs.declared.slots.Slot.{Slot}
@@ -63,7 +64,7 @@ lent-more script one two three xs ys cells more left first second = record {
 }
 
 pub one-lent : (script : PlainScript) (one two : HomesState) (address : Address) (place : ℕ) (cell : CellState) (cells left : List CellState)
-    → IsPlace address (wallet_addresses script) place → IsWalletLent script one two place cell → left ≡ cells ++ cell ∷ [] → AreLent script one two (address ∷ []) cells left
+    → IsPlace address (wallet_addresses script) place → IsLent CellState (IsWalletAt script) (λ h. h.wallets) one two place cell → left ≡ cells ++ cell ∷ [] → AreLent script one two (address ∷ []) cells left
 one-lent script one two address place cell cells left here lent is = record {
   keeps = lent.keeps;
   each = λ at.
@@ -136,7 +137,7 @@ next-row script lists are count index same within row places next row_is places_
 
 -- a row's market that was lent is taken up
 pub held : (script : PlainScript) (before after : HomesState) (address : Address) (place : ℕ) (market : MarketCellState) → IsPlace address (market_addresses script) place
-    → IsLent script before after place market → IsHeld script after address market
+    → IsLent MarketCellState (IsMarketAt script) (λ h. h.markets) before after place market → IsHeld script after address market
 held script before after address place market here lent = record {
   place = place;
   here = here;

@@ -6,10 +6,11 @@ use Rattle.std.proofs.lemmas.List.{get_or_append_left, get_or_default, get_or_pu
 use Rattle.dex_types.specs.declared.addresses.Address.{Address}
 use Rattle.dex_cell.specs.CellState.{MarketCellState}
 use Rattle.dex_wallet.specs.CellState.{CellState}
-use Rattle.dex_script.specs.Drafts.{PlainScript}
-use Rattle.dex_script.proofs.Apart.{markets-distinct, wallets-distinct}
+use Rattle.dex_script_facts.specs.PlainScript.{PlainScript}
+use Rattle.dex_script_facts.proofs.Apart.{markets-distinct, wallets-distinct}
 use Rattle.dex_stage.specs.Stages.{IsMarketAt, IsWalletAt}
-use Rattle.dex_team.specs.Slots.{AreHomes, HomesState, IsLent, IsOut, IsPlace, IsPut, IsWalletLent, KeepsOut, MarketFits, StaysOut, WalletFits, market_addresses, wallet_addresses}
+use Rattle.dex_script_facts.specs.Places.{IsPlace, market_addresses, wallet_addresses}
+use Rattle.dex_team.specs.Slots.{AreHomes, HomesState, IsLent, IsOut, IsPut, KeepsOut, MarketFits, SlotsFit, StaysOut, WalletFits}
 use Rattle.dex_team.specs.declared.slots.Slot.{Slot}
 use Rattle.dex_team.proofs.PlacesOf.{market-here, markets-long, one-place, wallet-here, wallets-long}
 use Rattle.dex_team.proofs.Shelves.{is-out, put-fits, set-fits, stays-lent, stays-put, stays-same, stays-trans}
@@ -79,26 +80,6 @@ module _ (script : PlainScript) (h : HomesState) (are : AreHomes script h) where
       wallets = stays-same h.next h.wallets;
     }
 
-  -- goes out
-  pub market-out : (place : ℕ) → place < length h.markets → AreHomes script (record h { markets = set h.markets place (record { cell = None; since = h.next + 1 }) })
-  market-out place within = record {
-    facts = are.facts;
-    markets = set-fits (MarketFits script h.next) (length script.start.markets) h.markets are.markets place (record { cell = None; since = h.next + 1 })
-        (λ before d. absurd (omega (arith, before)));
-    wallets = are.wallets;
-  }
-
-  pub market-lent : (place : ℕ) (cell : MarketCellState) → place < length h.markets → ((d : Slot MarketCellState) → (get_or h.markets place d).cell ≡ Some cell)
-      → IsLent script h (record h { markets = set h.markets place (record { cell = None; since = h.next + 1 }) }) place cell
-  market-lent place cell within here =
-      let d : Slot MarketCellState = get_or h.markets place (record { cell = Some cell; since = 0 }) in
-      record {
-        at = subst (λ (c : Option MarketCellState). MarketFits script h.next place c (get_or h.markets place d).since) (here d)
-            (are.markets.each place (get_or h.markets place d) within (get_or_default h.markets place (get_or h.markets place d) d within));
-        out = is-out h.next h.markets place within;
-        keeps = record { next = refl; markets = stays-lent h.next h.markets place within; wallets = stays-same h.next h.wallets };
-      }
-
   -- ---- a wallet
 
   -- comes back
@@ -139,82 +120,49 @@ module _ (script : PlainScript) (h : HomesState) (are : AreHomes script h) where
       wallets = stays-put h.next number h.wallets slots place cell early put;
     }
 
-  -- goes out
-  pub wallet-out : (place : ℕ) → place < length h.wallets → AreHomes script (record h { wallets = set h.wallets place (record { cell = None; since = h.next + 1 }) })
-  wallet-out place within = record {
-    facts = are.facts;
-    markets = are.markets;
-    wallets = set-fits (WalletFits script h.next) (length script.start.wallets) h.wallets are.wallets place (record { cell = None; since = h.next + 1 })
-        (λ before d. absurd (omega (arith, before)));
+-- ---- a cell goes out
+
+module _ {A : Type 0} (At : ℕ → ℕ → A → Type 0) (slots : HomesState → List (Slot A)) where
+  -- after a while
+  pub lent_later : (one two three : HomesState) (place : ℕ) (cell : A) → KeepsOut one two → IsLent A At slots two three place cell → IsLent A At slots one three place cell
+  lent_later one two three place cell first lent = record {
+    at = subst (λ (n : ℕ). At n place cell) first.next lent.at;
+    out = subst (λ (n : ℕ). IsOut n (slots three) place) first.next lent.out;
+    keeps = keeps_trans one two three first lent.keeps;
   }
 
-  pub wallet-lent : (place : ℕ) (cell : CellState) → place < length h.wallets → ((d : Slot CellState) → (get_or h.wallets place d).cell ≡ Some cell)
-      → IsWalletLent script h (record h { wallets = set h.wallets place (record { cell = None; since = h.next + 1 }) }) place cell
-  wallet-lent place cell within here =
-      let d : Slot CellState = get_or h.wallets place (record { cell = Some cell; since = 0 }) in
-      record {
-        at = subst (λ (c : Option CellState). WalletFits script h.next place c (get_or h.wallets place d).since) (here d)
-            (are.wallets.each place (get_or h.wallets place d) within (get_or_default h.wallets place (get_or h.wallets place d) d within));
-        out = is-out h.next h.wallets place within;
-        keeps = record { next = refl; markets = stays-same h.next h.markets; wallets = stays-lent h.next h.wallets place within };
-      }
+  -- if it is there
+  pub record HasLent (script : PlainScript) (h : HomesState) (with : List (Slot A) → HomesState) (place : ℕ) (result : Option A) (left : List (Slot A)) : Type 0 where
+    pub are : AreHomes script (with left)
+    pub some : IfSome result (λ cell. IsLent A At slots h (with left) place cell)
+    pub none : IfNone result (with left ≡ h)
 
--- ---- after a while
+  module _ (script : PlainScript) (h : HomesState) (Fits : ℕ → Option A → ℕ → Type 0) (count : ℕ) (fit : SlotsFit A Fits count (slots h)) (with : List (Slot A) → HomesState)
+      (same : with (slots h) ≡ h) (got : (left : List (Slot A)) → slots (with left) ≡ left) (are : (left : List (Slot A)) → SlotsFit A Fits count left → AreHomes script (with left))
+      (keeps : (left : List (Slot A)) → StaysOut A h.next (slots h) left → KeepsOut h (with left)) (away : (k : ℕ) → Fits k None (h.next + 1))
+      (there : (k since : ℕ) (cell : A) → Fits k (Some cell) since → At h.next k cell) (place : ℕ) (within : place < length (slots h)) where
+    abbrev pub out : Slot A
+    out = record { cell = None; since = h.next + 1 }
 
-pub lent_later : (script : PlainScript) (one two three : HomesState) (place : ℕ) (cell : MarketCellState) → KeepsOut one two → IsLent script two three place cell
-    → IsLent script one three place cell
-lent_later script one two three place cell first lent = record {
-  at = subst (λ (n : ℕ). IsMarketAt script n place cell) first.next lent.at;
-  out = subst (λ (n : ℕ). IsOut n three.markets place) first.next lent.out;
-  keeps = keeps_trans one two three first lent.keeps;
-}
+    lent : (cell : A) → ((d : Slot A) → (get_or (slots h) place d).cell ≡ Some cell) → IsLent A At slots h (with (set (slots h) place out)) place cell
+    lent cell here =
+        let s : Slot A = get_or (slots h) place (record { cell = Some cell; since = 0 }) in
+        record {
+          at = there place s.since cell (subst (λ (c : Option A). Fits place c s.since) (here (record { cell = Some cell; since = 0 }))
+              (fit.each place s within (get_or_default (slots h) place s (record { cell = Some cell; since = 0 }) within)));
+          out = subst (λ (list : List (Slot A)). IsOut h.next list place) (sym (got (set (slots h) place out))) (is-out h.next (slots h) place within);
+          keeps = keeps (set (slots h) place out) (stays-lent h.next (slots h) place within);
+        }
 
-pub wallet_lent_later : (script : PlainScript) (one two three : HomesState) (place : ℕ) (cell : CellState) → KeepsOut one two → IsWalletLent script two three place cell
-    → IsWalletLent script one three place cell
-wallet_lent_later script one two three place cell first lent = record {
-  at = subst (λ (n : ℕ). IsWalletAt script n place cell) first.next lent.at;
-  out = subst (λ (n : ℕ). IsOut n three.wallets place) first.next lent.out;
-  keeps = keeps_trans one two three first lent.keeps;
-}
-
--- ---- a cell that is lent, if it is there
-
-pub record HasLent (script : PlainScript) (h : HomesState) (place : ℕ) (result : Option MarketCellState) (slots : List (Slot MarketCellState)) : Type 0 where
-  pub are : AreHomes script (record h { markets = slots })
-  pub some : IfSome result (λ cell. IsLent script h (record h { markets = slots }) place cell)
-  pub none : IfNone result (record h { markets = slots } ≡ h)
-
-pub has-lent : (script : PlainScript) (h : HomesState) → AreHomes script h → (place : ℕ) → place < length h.markets → (result : Option MarketCellState) (slots : List (Slot MarketCellState))
-    → IfSome result (λ cell. (d : Slot MarketCellState) → (get_or h.markets place d).cell ≡ Some cell)
-    → IfSome result (λ _. slots ≡ set h.markets place (record { cell = None; since = h.next + 1 })) → IfNone result (slots ≡ h.markets)
-    → HasLent script h place result slots
-has-lent script h are place within None slots some left none = record {
-  are = subst (λ (list : List (Slot MarketCellState)). AreHomes script (record h { markets = list })) (sym none) are;
-  some = tt;
-  none = ap (λ (list : List (Slot MarketCellState)). record h { markets = list }) none;
-}
-has-lent script h are place within (Some cell) slots some left none = record {
-  are = subst (λ (list : List (Slot MarketCellState)). AreHomes script (record h { markets = list })) (sym left) (market-out script h are place within);
-  some = subst (λ (list : List (Slot MarketCellState)). IsLent script h (record h { markets = list }) place cell) (sym left) (market-lent script h are place cell within some);
-  none = tt;
-}
-
-pub record HasLentWallet (script : PlainScript) (h : HomesState) (place : ℕ) (result : Option CellState) (slots : List (Slot CellState)) : Type 0 where
-  pub are : AreHomes script (record h { wallets = slots })
-  pub some : IfSome result (λ cell. IsWalletLent script h (record h { wallets = slots }) place cell)
-  pub none : IfNone result (record h { wallets = slots } ≡ h)
-
-pub has-lent-wallet : (script : PlainScript) (h : HomesState) → AreHomes script h → (place : ℕ) → place < length h.wallets → (result : Option CellState) (slots : List (Slot CellState))
-    → IfSome result (λ cell. (d : Slot CellState) → (get_or h.wallets place d).cell ≡ Some cell)
-    → IfSome result (λ _. slots ≡ set h.wallets place (record { cell = None; since = h.next + 1 })) → IfNone result (slots ≡ h.wallets)
-    → HasLentWallet script h place result slots
-has-lent-wallet script h are place within None slots some left none = record {
-  are = subst (λ (list : List (Slot CellState)). AreHomes script (record h { wallets = list })) (sym none) are;
-  some = tt;
-  none = ap (λ (list : List (Slot CellState)). record h { wallets = list }) none;
-}
-has-lent-wallet script h are place within (Some cell) slots some left none = record {
-  are = subst (λ (list : List (Slot CellState)). AreHomes script (record h { wallets = list })) (sym left) (wallet-out script h are place within);
-  some = subst (λ (list : List (Slot CellState)). IsWalletLent script h (record h { wallets = list }) place cell) (sym left) (wallet-lent script h are place cell within some);
-  none = tt;
-}
+    pub has-lent : (result : Option A) (left : List (Slot A)) → IfSome result (λ cell. (d : Slot A) → (get_or (slots h) place d).cell ≡ Some cell)
+        → IfSome result (λ _. left ≡ set (slots h) place out) → IfNone result (left ≡ slots h) → HasLent script h with place result left
+    has-lent None left some is none = record {
+      are = subst (λ (list : List (Slot A)). AreHomes script (with list)) (sym none) (are (slots h) fit);
+      some = tt;
+      none = ap with none ∙ same;
+    }
+    has-lent (Some cell) left some is none = record {
+      are = subst (λ (list : List (Slot A)). AreHomes script (with list)) (sym is) (are (set (slots h) place out) (set-fits Fits count (slots h) fit place out (away place)));
+      some = subst (λ (list : List (Slot A)). IsLent A At slots h (with list) place cell) (sym is) (lent cell some);
+      none = tt;
+    }

@@ -8,8 +8,8 @@ use Rattle.dex_cell.specs.CellState.{IsMarketCell, MarketCellState}
 use Rattle.dex_wallet.specs.CellState.{CellState, IsWalletCell}
 use Rattle.dex_act.specs.Opened.{market_opened, market_state_of, wallet_opened}
 use Rattle.dex_act.specs.Wallets.{made_of, wallet_state_of}
-use Rattle.dex_script.specs.Drafts.{PlainScript}
-use Rattle.dex_script.specs.Starts.{market_state, wallet_state}
+use Rattle.dex_script_facts.specs.PlainScript.{PlainScript}
+use Rattle.dex_script_facts.specs.Starts.{market_state, wallet_state}
 use Rattle.dex_stage.specs.Stages.{IsMarketAt, IsWalletAt}
 use Rattle.dex_team.specs.Closing.{AreOpened}
 use Rattle.dex_team.specs.Slots.{AreHomes, MarketFits, MarketsFit, WalletFits, WalletsFit, home_slot}

@@ -8,7 +8,7 @@ use Rattle.dex_cell.specs.CellState.{MarketCellState}
 use Rattle.dex_wallet.specs.CellState.{CellState}
 use Rattle.dex_fold.specs.Fold.{names}
 use Rattle.dex_fold.specs.Items.{EachApart, ShareNothing}
-use Rattle.dex_script.specs.Drafts.{PlainScript}
+use Rattle.dex_script_facts.specs.PlainScript.{PlainScript}
 use Rattle.dex_stage.proofs.Frames.{market-stays, wallet-stays}
 use Rattle.dex_stage.specs.Stages.{IsMarketAt, IsRowAt, IsWalletAt}
 use Rattle.dex_team.proofs.PlacesOf.{market-here, wallet-here}

@@ -9,8 +9,8 @@ use Rattle.dex_types.specs.Rows.{PlainRow, row_of}
 use Rattle.dex_cell.specs.CellState.{MarketCellState}
 use Rattle.dex_wallet.specs.CellState.{CellState}
 use Rattle.dex_fold.specs.World.{World, seen_by}
-use Rattle.dex_script.specs.Drafts.{PlainScript}
-use Rattle.dex_script.specs.Facts.{IsScript}
+use Rattle.dex_script_facts.specs.PlainScript.{PlainScript}
+use Rattle.dex_script_facts.specs.Facts.{IsScript}
 use Rattle.dex_stage.specs.Parts.{CanStep, HasStepped, world_in_hand}
 use Rattle.dex_stage.specs.Stages.{AreReady, IsRowAt, world_at, world_with}
 use Rattle.dex_stage.specs.declared.parts.Terms.{Terms}

@@ -4,8 +4,8 @@ use Rattle.std.specs.List.{All}
 use Rattle.dex_cell.specs.CellState.{IsMarketCell, MarketCellState}
 use Rattle.dex_wallet.specs.CellState.{CellState, IsWalletCell}
 use Rattle.dex_act.specs.Opened.{market_opened, wallet_opened}
-use Rattle.dex_script.specs.Drafts.{PlainScript}
-use Rattle.dex_script.specs.Facts.{IsScript}
+use Rattle.dex_script_facts.specs.PlainScript.{PlainScript}
+use Rattle.dex_script_facts.specs.Facts.{IsScript}
 use Rattle.dex_stage.specs.Stages.{IsMarketAt, IsWalletAt}
 
 -- the cells are those of the first markets, when the first so many rows have acted

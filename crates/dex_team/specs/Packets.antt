@@ -4,8 +4,8 @@ use Rattle.dex_types.specs.Rows.{PlainRow, row_of}
 use Rattle.dex_types.specs.declared.rows.Row.{Row}
 use Rattle.dex_cell.specs.CellState.{MarketCellState}
 use Rattle.dex_wallet.specs.CellState.{CellState}
-use Rattle.dex_script.specs.Drafts.{PlainScript}
-use Rattle.dex_script.specs.Facts.{IsScript}
+use Rattle.dex_script_facts.specs.PlainScript.{PlainScript}
+use Rattle.dex_script_facts.specs.Facts.{IsScript}
 use Rattle.dex_stage.specs.Stages.{AreDone, AreReady}
 use Rattle.dex_stage.specs.declared.parts.Terms.{Terms}
 

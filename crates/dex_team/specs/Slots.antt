@@ -2,14 +2,14 @@
 use Rattle.std.specs.Prelude.{◌≡◌, ◌⊎◌, ℕ, ◌+◌, ◌≤◌, ◌<◌, List, [], ◌∷◌, ◌++◌, Option, Some, None, length, map, slice_index_or, slice_set}
 use Rattle.std.specs.List.{All}
 use Rattle.dex_types.specs.declared.addresses.Address.{Address}
-use Rattle.dex_types.specs.Accounts.{PlainAccount, PlainMarketAccounts}
 use Rattle.dex_types.specs.Rows.{PlainRow}
 use Rattle.dex_types.specs.Wallets.{row_wallets}
 use Rattle.dex_cell.specs.CellState.{MarketCellState}
 use Rattle.dex_wallet.specs.CellState.{CellState}
 use Rattle.dex_fold.specs.World.{MarketState, WalletState}
-use Rattle.dex_script.specs.Drafts.{PlainScript}
-use Rattle.dex_script.specs.Facts.{IsScript}
+use Rattle.dex_script_facts.specs.PlainScript.{PlainScript}
+use Rattle.dex_script_facts.specs.Facts.{IsScript}
+use Rattle.dex_script_facts.specs.Places.{IsPlace, market_addresses, wallet_addresses}
 use Rattle.dex_stage.specs.Stages.{AreReady, IsMarketAt, IsWalletAt, world_at}
 use Rattle.dex_team.specs.declared.slots.Slot.{Slot}
 
@@ -82,32 +82,13 @@ pub record KeepsOut (before after : HomesState) : Type 0 where
   pub markets : StaysOut MarketCellState before.next before.markets after.markets
   pub wallets : StaysOut CellState before.next before.wallets after.wallets
 
--- the market at a place is lent for the next row
-pub record IsLent (script : PlainScript) (before after : HomesState) (place : ℕ) (cell : MarketCellState) : Type 0 where
-  pub at : IsMarketAt script before.next place cell
-  pub out : IsOut before.next after.markets place
-  pub keeps : KeepsOut before after
-
--- the wallet at a place is lent for the next row
-pub record IsWalletLent (script : PlainScript) (before after : HomesState) (place : ℕ) (cell : CellState) : Type 0 where
-  pub at : IsWalletAt script before.next place cell
-  pub out : IsOut before.next after.wallets place
+-- the cell at a place is lent for the next row
+pub record IsLent (A : Type 0) (At : ℕ → ℕ → A → Type 0) (slots : HomesState → List (Slot A)) (before after : HomesState) (place : ℕ) (cell : A) : Type 0 where
+  pub at : At before.next place cell
+  pub out : IsOut before.next (slots after) place
   pub keeps : KeepsOut before after
 
 -- ---- the cells of a row
-
--- the address stands at this place
-pub record IsPlace (address : Address) (addresses : List Address) (place : ℕ) : Type 0 where
-  pub within : place < length addresses
-  pub here : (d : Address) → slice_index_or addresses place d ≡ address
-
--- the places by address are those of the script's markets
-abbrev pub market_addresses : PlainScript → List Address
-market_addresses script = map (λ (a : PlainMarketAccounts). a.address) script.start.markets
-
--- and of its wallets
-abbrev pub wallet_addresses : PlainScript → List Address
-wallet_addresses script = map (λ (a : PlainAccount). a.address) script.start.wallets
 
 -- the market of an address is out for the next row
 abbrev pub IsMarketGone : PlainScript → HomesState → Address → Type 0

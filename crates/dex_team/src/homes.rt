@@ -1,15 +1,18 @@
 //! The leader's cells, of which some are out.
 
-ghost use Rattle.std.specs.Prelude.{◌≡◌, ◌+◌, ◌<◌, ◌^◌, ◌∷◌, [], ℕ, true, All, length};
+ghost use Rattle.std.specs.Prelude.{◌≡◌, ◌+◌, ◌<◌, ◌^◌, ◌∷◌, [], ℕ, true, All, List, Some, length};
 ghost use Rattle.std.specs.Prelude.{IfNone, IfOk, IfSome, IsTrue};
 ghost use Rattle.dex_types.specs.declared.addresses.Address.{Address as AddressOf};
 ghost use Rattle.dex_types.specs.Rows.{row_of};
-ghost use Rattle.dex_fold.specs.Fold.{is_role, names};
+ghost use Rattle.dex_fold.specs.Fold.{names};
+ghost use Rattle.dex_script_facts.specs.PlainScript.{PlainScript};
+ghost use Rattle.dex_script_facts.specs.Places.{IsPlace, market_addresses, wallet_addresses, wallet_place};
 ghost use Rattle.dex_stage.specs.Stages.{IsMarketAt, IsWalletAt};
 ghost use Rattle.dex_team.specs.Closing.{AreFirstMarkets, AreFirstWallets, AreOpened};
 ghost use Rattle.dex_team.specs.Lists.{AreLists, IsNext};
-ghost use Rattle.dex_team.specs.Slots.{AreInHand, AreLent, AreWalletsAt, IsHeld, IsLent, IsWalletLent, KeepsOut};
-ghost use Rattle.dex_team.specs.Slots.{IsPlace, listed, market_addresses, wallet_addresses};
+ghost use Rattle.dex_team.specs.Slots.{AreInHand, AreLent, AreWalletsAt, HomesState, IsHeld, IsLent};
+ghost use Rattle.dex_team.specs.Slots.{KeepsOut, listed};
+ghost use Rattle.dex_team.specs.declared.slots.Slot.{Slot as SlotOf};
 
 use crate::ahead::Ahead;
 use crate::desk::{Desk, Next};
@@ -19,6 +22,7 @@ use crate::slots::{Slot, add, at_home, lend, put};
 use dex_cell::MarketCell;
 use dex_io::Pace;
 use dex_locks::plan_locks;
+use dex_script_facts::place_in;
 use dex_stage::Parts;
 use dex_types::{Address, NoMemory, is_same};
 use dex_wallet::WalletCell;
@@ -33,31 +37,15 @@ fn stands_at(addresses: &[Address], place: usize, address: Address) -> bool
     place < addresses.len() && is_same(addresses[place], address)
 }
 
-/// Whether a role is that of a wallet.
-fn is_of(role: Option<Address>, wallet: Address) -> bool
-    ensures { result ≡ is_role role wallet }
-{
-    match role {
-        Some(address) => is_same(wallet, address),
-        None => false,
-    }
-}
-
 /// The place of a wallet that a row names.
 fn place_of<J: Naming>(next: Next<'_>, wallet: Address) -> usize
     requires named { names (row_of next.row.now) wallet ≡ true }
     requires next { (count : ℕ) × IsNext J.script count next }
-    ensures { IsPlace wallet (wallet_addresses J.script) result }
+    ensures { wallet_place wallet J.script.start.wallets ≡ Some result }
 {
-    let (row, places) = (next.row, next.places);
-    if is_of(row.coin, wallet) {
-        places.coin as usize
-    } else if is_of(row.pc, wallet) {
-        places.pc as usize
-    } else if is_of(row.discount, wallet) {
-        places.discount as usize
-    } else {
-        places.referrer as usize
+    match place_in(next.row, next.places, wallet) {
+        Some(place) => place,
+        None => unreachable!(),
     }
 }
 
@@ -90,6 +78,46 @@ impl<J: Naming> Model for Homes<J> {
       markets = h.markets.items;
       wallets = h.wallets.items;
     }) };
+}
+
+/// A cell that is lent to rows, as the leader has it.
+trait Lent: Drop {
+    ghost at: { PlainScript → ℕ → ℕ → Self → Type 0 };
+
+    ghost count: { PlainScript → ℕ };
+
+    ghost slots: { HomesState → List (SlotOf Self) };
+
+    /// The cell at a place goes out for the next row, if it is there.
+    fn try_lend<J: Naming>(homes: &mut Homes<J>, place: usize) -> Option<Self>
+        requires place { place < count J.script }
+        requires next { homes.old.next + 1 < 2 ^ 64 }
+        ensures some { IfSome result (λ cell. IsLent Self (at J.script) slots homes.old homes.new place cell) }
+        ensures none { IfNone result (homes.new ≡ homes.old) };
+}
+
+impl Lent for Hand {
+    ghost at = { IsMarketAt };
+
+    ghost count = { λ script. length script.start.markets };
+
+    ghost slots = { λ homes. homes.markets };
+
+    fn try_lend<J: Naming>(homes: &mut Homes<J>, place: usize) -> Option<Hand> {
+        lend(&mut homes.markets, place, homes.next + 1)
+    }
+}
+
+impl Lent for WalletCell {
+    ghost at = { IsWalletAt };
+
+    ghost count = { λ script. length script.start.wallets };
+
+    ghost slots = { λ homes. homes.wallets };
+
+    fn try_lend<J: Naming>(homes: &mut Homes<J>, place: usize) -> Option<WalletCell> {
+        lend(&mut homes.wallets, place, homes.next + 1)
+    }
 }
 
 impl<J: Naming> Homes<J> {
@@ -237,65 +265,21 @@ impl<J: Naming> Homes<J> {
 
     // ---- cells go out
 
-    /// The market at a place goes out for the next row, if it is there.
-    fn try_market(&mut self, place: usize) -> Option<Hand>
-        requires place { place < length J.script.start.markets }
-        requires next { self.old.next + 1 < 2 ^ 64 }
-        ensures some { IfSome result (λ cell. IsLent J.script self.old self.new place cell) }
-        ensures none { IfNone result (self.new ≡ self.old) }
-    {
-        let since = self.next + 1;
-        lend(&mut self.markets, place, since)
-    }
-
-    /// The wallet at a place goes out for the next row, if it is there.
-    fn try_wallet(&mut self, place: usize) -> Option<WalletCell>
-        requires place { place < length J.script.start.wallets }
-        requires next { self.old.next + 1 < 2 ^ 64 }
-        ensures some { IfSome result (λ cell. IsWalletLent J.script self.old self.new place cell) }
-        ensures none { IfNone result (self.new ≡ self.old) }
-    {
-        let since = self.next + 1;
-        lend(&mut self.wallets, place, since)
-    }
-
-    /// The market at a place goes out for the next row, as soon as it is there.
+    /// The cell at a place goes out for the next row, as soon as it is there.
     #[tactic(auto, using(crate::proofs::Returning::lent_later, crate::proofs::Returning::keeps_trans))]
-    fn lend_market<R: Wait, P: Pace>(
+    fn lend<T: Lent, R: Wait, P: Pace>(
         &mut self,
         desk: &Desk<'_, J, R, P>,
         place: usize,
         ahead: &mut Ahead<J>,
-    ) -> Hand
-        requires place { place < length J.script.start.markets }
+    ) -> T
+        requires place { place < T.count J.script }
         requires next { self.old.next + 1 < 2 ^ 64 }
         requires lists { AreLists J.script desk.now.lists }
-        ensures { IsLent J.script self.old self.new place result }
+        ensures { IsLent T (T.at J.script) T.slots self.old self.new place result }
     {
         for _ in desk.rt.forever() {
-            if let Some(cell) = self.try_market(place) {
-                return cell;
-            }
-            self.collect(desk, ahead);
-        }
-        unreachable!()
-    }
-
-    /// The wallet at a place goes out for the next row, as soon as it is there.
-    #[tactic(auto, using(crate::proofs::Returning::wallet_lent_later, crate::proofs::Returning::keeps_trans))]
-    fn lend_wallet<R: Wait, P: Pace>(
-        &mut self,
-        desk: &Desk<'_, J, R, P>,
-        place: usize,
-        ahead: &mut Ahead<J>,
-    ) -> WalletCell
-        requires place { place < length J.script.start.wallets }
-        requires next { self.old.next + 1 < 2 ^ 64 }
-        requires lists { AreLists J.script desk.now.lists }
-        ensures { IsWalletLent J.script self.old self.new place result }
-    {
-        for _ in desk.rt.forever() {
-            if let Some(cell) = self.try_wallet(place) {
+            if let Some(cell) = T::try_lend(self, place) {
                 return cell;
             }
             self.collect(desk, ahead);
@@ -320,7 +304,7 @@ impl<J: Naming> Homes<J> {
             (λ _. AreLent J.script self.old self.new (address ∷ []) cells.old.items cells.new.items) }
     {
         let place = place_of::<J>(next, address);
-        let cell = self.lend_wallet(desk, place, ahead);
+        let cell: WalletCell = self.lend(desk, place, ahead);
         add(cells, cell)?;
         Ok(place)
     }
@@ -426,7 +410,7 @@ impl<J: Naming> Homes<J> {
         requires lists { AreLists J.script desk.now.lists }
         ensures { IfOk result (λ _. self.new.next ≡ self.old.next + 1) }
     {
-        let hand = self.lend_market(desk, next.places.market as usize, ahead);
+        let hand: Hand = self.lend(desk, next.places.market as usize, ahead);
         self.fill(desk, next, hand.into_parts(), ahead)
     }
 
@@ -466,7 +450,7 @@ impl<J: Naming> Homes<J> {
     {
         let mut cells = Vec::new(alloc);
         for place in 0..self.markets.len() {
-            let hand = self.lend_market(desk, place, ahead);
+            let hand: Hand = self.lend(desk, place, ahead);
             add(&mut cells, hand.into_market())?;
         }
         Ok(cells)
@@ -487,7 +471,7 @@ impl<J: Naming> Homes<J> {
     {
         let mut cells = Vec::new(alloc);
         for place in 0..self.wallets.len() {
-            let cell = self.lend_wallet(desk, place, ahead);
+            let cell: WalletCell = self.lend(desk, place, ahead);
             add(&mut cells, cell)?;
         }
         Ok(cells)

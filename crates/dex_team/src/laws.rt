@@ -5,7 +5,7 @@ ghost use Rattle.dex_types.specs.Rows.{PlainRow};
 ghost use Rattle.dex_cell.specs.CellState.{MarketCellState};
 ghost use Rattle.dex_wallet.specs.CellState.{CellState};
 ghost use Rattle.dex_fold.specs.Fold.{names};
-ghost use Rattle.dex_script.specs.Drafts.{PlainScript};
+ghost use Rattle.dex_script_facts.specs.PlainScript.{PlainScript};
 ghost use Rattle.dex_stage.specs.Stages.{IsMarketAt, IsRowAt, IsWalletAt};
 ghost use Rattle.dex_team.specs.Waves.{IsWave};
 

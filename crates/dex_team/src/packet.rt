@@ -12,13 +12,13 @@ use std::marker::{Brand, Model, PhantomData};
 
 /// Which script it is. Each call of a program picks it.
 pub trait Naming {
-    ghost use Rattle.dex_script.specs.Drafts.{PlainScript};
+    ghost use Rattle.dex_script_facts.specs.PlainScript.{PlainScript};
 
     ghost script: { PlainScript };
 }
 
 impl Naming for Brand {
-    ghost use Rattle.dex_script.specs.Drafts.{no_accounts, without_rows};
+    ghost use Rattle.dex_script_facts.specs.PlainScript.{no_accounts, without_rows};
 
     ghost script = { without_rows no_accounts };
 }

@@ -2,6 +2,8 @@
 #![tactic(auto)]
 
 #[cfg(test)]
+mod door;
+#[cfg(test)]
 mod gate;
 #[cfg(test)]
 mod jobs;

@@ -1,6 +1,6 @@
 //! Rules on the bytes of token accounts and mints.
 
-ghost use Rattle.std.specs.Prelude.{◌≡◌, ◌+◌, ◌<◌, ◌≤◌, ◌^◌, length};
+ghost use Rattle.std.specs.Prelude.{◌≡◌, ◌+◌, ◌<◌, ◌^◌, length};
 ghost use Rattle.dex_fields.specs.Bytes.{IsWithin, end_of};
 ghost use Rattle.dex_token.specs.Faults.{byte_rule, first_set, token_fault, zero_rule};
 

@@ -47,12 +47,19 @@ impl WalletRef<'_> {
 }
 
 impl WalletView<'_> {
+    /// The account, for reading.
+    fn as_ref(&self) -> WalletRef<'_>
+        ensures { result.bytes.now ≡ self.now.bytes.now }
+    {
+        WalletRef { bytes: self.bytes }
+    }
+
     /// The mint of its tokens.
     pub fn mint(&self) -> Address
         requires { IsWallet self.now.bytes.now }
         ensures { result ≡ (wallet_words self.now.bytes.now).mint }
     {
-        Address(get_addr(self.bytes, MINT))
+        self.as_ref().mint()
     }
 
     /// Whose account it is.
@@ -60,7 +67,7 @@ impl WalletView<'_> {
         requires { IsWallet self.now.bytes.now }
         ensures { result ≡ (wallet_words self.now.bytes.now).owner }
     {
-        Address(get_addr(self.bytes, OWNER))
+        self.as_ref().owner()
     }
 
     /// What it holds, in native units.
@@ -68,7 +75,7 @@ impl WalletView<'_> {
         requires { IsWallet self.now.bytes.now }
         ensures { result ≡ (wallet_words self.now.bytes.now).amount }
     {
-        get_u64(self.bytes, AMOUNT)
+        self.as_ref().amount()
     }
 
     /// Writes what it holds, in native units. All other bytes stay.

@@ -14,7 +14,7 @@ use Rattle.dex_accounts.specs.Decoded.{market_in}
 use Rattle.dex_act.specs.Acted.{HaveActed}
 use Rattle.dex_fold.specs.Items.{doing}
 use Rattle.dex_fold.proofs.ItemLaws.{not-refused}
-use Rattle.dex_script.specs.Facts.{IsLeg}
+use Rattle.dex_script_facts.specs.Facts.{IsLeg}
 use Rattle.dex_turns.specs.Submitted.{written_by}
 use Rattle.dex_turns.specs.Turns.{IsTold, made_by}
 use Rattle.dex_turns.proofs.InHand.{HasHands, cells-named, have-entries, moves-each, sees-asked, sees-hand, sight}

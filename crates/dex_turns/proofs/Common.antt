@@ -16,16 +16,17 @@ pub use Rattle.dex_journals.proofs.StampedLists.{items_of-stamped}
 pub use Rattle.dex_journals.specs.Journals.{BankMarketState, BankWalletState, IsBankWallet, MarketOrigin, TrailState, WalletOrigin, entries_by, left_by, market_calls, wallet_entries}
 pub use Rattle.dex_journals.specs.Lanes.{AreAllOrNone, IsAsOthers, IsLane, MovesEach, number_in}
 pub use Rattle.dex_journals.specs.StampedCalls.{calls_on, entries_in, entries_on, entry_made}
-pub use Rattle.dex_script.proofs.Apart.{market-once, wallet-once}
-pub use Rattle.dex_script.proofs.Roles.{roles-all}
-pub use Rattle.dex_script.specs.Drafts.{PlainScript}
-pub use Rattle.dex_script.specs.Facts.{IsRowOf, IsScript}
-pub use Rattle.dex_script.specs.Known.{has_account}
-pub use Rattle.dex_script.specs.Sight.{IsSight, IsWalletSeen}
+pub use Rattle.dex_script_facts.proofs.Apart.{market-once, wallet-once}
+pub use Rattle.dex_script_facts.proofs.Roles.{roles-all}
+pub use Rattle.dex_script_facts.specs.PlainScript.{PlainScript}
+pub use Rattle.dex_script_facts.specs.Facts.{IsRowOf, IsScript}
+pub use Rattle.dex_script_facts.specs.Known.{has_account}
+pub use Rattle.dex_script_facts.specs.Places.{IsPlace, market_addresses, wallet_addresses}
+pub use Rattle.dex_script_facts.specs.Sight.{IsSight, IsWalletSeen}
 pub use Rattle.dex_stamps.specs.Stamped.{Stamped, stamped}
 pub use Rattle.dex_token.proofs.AmountWrites.{wallet_words-with_amount}
 pub use Rattle.dex_token.specs.TokenAccount.{WalletWords, wallet_words}
-pub use Rattle.dex_turns.specs.Bank.{BankState, IsBank, IsMarketGate, IsPlace, IsWalletGate}
+pub use Rattle.dex_turns.specs.Bank.{BankState, IsBank, IsMarketGate, IsWalletGate}
 pub use Rattle.dex_turns.specs.Inside.{call_made}
 pub use Rattle.dex_turns.specs.Seats.{IsMarketPass, IsPass, IsSeat, IsSeatOf, IsWalletPass, SeatState}
 pub use Rattle.dex_turns.specs.Submitted.{AreNext, HasCalled, HasSubmitted, HaveSubmitted, IsNext, Where}

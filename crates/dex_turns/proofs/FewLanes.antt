@@ -2,7 +2,7 @@
 use Rattle.std.proofs.Common.{◌≤◌, List, [], ◌∷◌, arith}
 use Rattle.dex_fold.proofs.Common.{All-head, All-tail, PlainAccounts, PlainRow}
 use Rattle.std.specs.List.{All}
-use Rattle.dex_script.specs.Facts.{IsRowOf, lanes_of}
+use Rattle.dex_script_facts.specs.Facts.{IsRowOf, lanes_of}
 
 pub lanes_of-some : (rows : List PlainRow) → 1 ≤ lanes_of rows
 lanes_of-some [] = omega arith

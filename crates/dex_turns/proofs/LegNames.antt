@@ -9,7 +9,7 @@ use Rattle.dex_fold.specs.Fold.{is_role}
 use Rattle.dex_fold.proofs.NameLaws.{any-with_role, names-roles}
 use Rattle.dex_fold.proofs.OnceLaws as once
 use Rattle.dex_history.specs.Journal.{asked_of}
-use Rattle.dex_script.specs.Facts.{AreLegs}
+use Rattle.dex_script_facts.specs.Facts.{AreLegs}
 use Rattle.dex_turns.specs.Turns.{AreInHand, AreOnce, MayName, leg_wallets}
 use Rattle.dex_turns.proofs.InHand.{each-any}
 

@@ -8,7 +8,7 @@ use Rattle.dex_types.specs.Requests.{Request}
 use Rattle.dex_types.specs.Steps.{act_decoded, unless_refused}
 use Rattle.dex_history.specs.Journal.{is_took}
 use Rattle.dex_history.proofs.HeldLaws.{take-tells}
-use Rattle.dex_script.specs.Facts.{IsLeg}
+use Rattle.dex_script_facts.specs.Facts.{IsLeg}
 use Rattle.dex_turns.specs.Submitted.{AreLegReplies}
 use Rattle.dex_turns.specs.Turns.{made_by}
 use Rattle.dex_turns.proofs.Acted.{MayWait, take-of}

@@ -1,11 +1,11 @@
 -- A seat before and after the two legs of a swap.
 use Rattle.std.proofs.Common.{◌≡◌, ℕ, ◌<◌, ◌≤◌, ◌||◌, Bool, true, false, cond, List, [], ◌∷◌, ◌++◌, length, set, get_or, Some, refl, sym, ap, ◌∙◌, subst, arith, ⊎_elim}
-use Rattle.dex_fold.proofs.Common.{Address, All-append, All-cons, All-nil, All-weaker, AllZip, Asked, Call, IsLegal, IsWalletLegal, PlainAccount, PlainMarketAccounts, PlainRow, ShareNothing, WalletEntry, asked_of, cases_Bool, false≢true, filter-append, is_same, is_same-refl, is_same-sym, is_same-true, list_any, names}
+use Rattle.dex_fold.proofs.Common.{Address, All-append, All-cons, All-nil, All-weaker, AllZip, Asked, Call, IsLegal, IsWalletLegal, PlainAccount, PlainMarketAccounts, PlainRow, Reply, ShareNothing, WalletEntry, asked_of, cases_Bool, false≢true, filter-append, is_same, is_same-refl, is_same-sym, is_same-true, list_any, names}
 use Rattle.dex_turns.proofs.Common.{AllThree, AreNext, BankState, GateView, HasCalled, HaveGrown, HaveSubmitted, IsMarketPass, IsPass, IsSeat, IsSeatOf, IsSight, IsWalletPass, MovesEach, PassView, PlainScript, SeatState, Stamped, Where, balance_of, calls_on, entries_in, entries_on, market_in}
 use Rattle.std.specs.List.{All}
 use Rattle.std.proofs.lemmas.List.{append-nil, append_assoc, set-get_or}
 use Rattle.dex_stamps.specs.Stamped.{items_of}
-use Rattle.dex_script.specs.Facts.{AreLegs}
+use Rattle.dex_script_facts.specs.Facts.{AreLegs}
 use Rattle.dex_journals.proofs.LaneGrowth.{lane-more}
 use Rattle.dex_turns.specs.Submitted.{HasMade, LegMarketGrows, LegWalletGrows, MarketGrows, WhereEither, written_by_two}
 use Rattle.dex_turns.specs.Turns.{HaveLegsTold, leg_wallets}
@@ -13,7 +13,7 @@ use Rattle.dex_turns.proofs.Entering.{MarketPass}
 use Rattle.dex_turns.proofs.Growing.{Differ, WalletPass, set-three}
 use Rattle.dex_turns.proofs.LegNames.{named-is}
 use Rattle.dex_turns.proofs.RowMore.{legs-more}
-use Rattle.dex_turns.proofs.SeatAfter.{entries-more, markets-grow, none-in}
+use Rattle.dex_turns.proofs.SeatAfter.{IsAfter, as-seen, entries-more, markets-grow, none-in}
 
 -- ---- lists of three
 
@@ -242,7 +242,7 @@ module _ (bank : BankState) (first second : PlainRow) (before : SeatState) (next
   wallets-grown : AllThree (LegWalletGrows first second one two) bank.script.start.wallets before.wallets wallets
   wallets-grown = wallets-grow first second next.legs one two asked bank before.wallets wallets told.told.0.moves told.told.1.moves grown
 
-  pub seat-submitted : HaveSubmitted first second (one.item.entry.reply, two.item.entry.reply) before seat_after
+  seat-submitted : HaveSubmitted first second (one.item.entry.reply, two.item.entry.reply) before seat_after
   seat-submitted = record {
     one = one;
     two = two;
@@ -263,7 +263,7 @@ module _ (bank : BankState) (first second : PlainRow) (before : SeatState) (next
     wallets = subst (λ (s : PlainScript). AllThree (LegWalletGrows first second one two) s.start.wallets before.wallets wallets) (sym of.script) wallets-grown;
   }
 
-  pub seat-of : IsSeatOf bank seat_after
+  seat-of : IsSeatOf bank seat_after
   seat-of = record {
     script = of.script;
     markets =
@@ -286,7 +286,7 @@ module _ (bank : BankState) (first second : PlainRow) (before : SeatState) (next
       (All-weaker (λ (c : Stamped Call). c.stamp ≤ before.last) Below (λ c less. omega (arith, less, told.later)) before.calls kept.below)
       (All-cons Below one (two ∷ []) (omega arith) (All-cons Below two [] (omega (arith, told.together)) (All-nil Below)))
 
-  pub seat-kept : IsSeat seat_after
+  seat-kept : IsSeat seat_after
   unfolding seat-submitted
   seat-kept =
       let told_here : HaveLegsTold before.script before.last one two = subst (λ (s : PlainScript). HaveLegsTold s before.last one two) (sym of.script) told in
@@ -303,3 +303,12 @@ module _ (bank : BankState) (first second : PlainRow) (before : SeatState) (next
             (wallet-pass first second next.legs one two asked told.told.0.moves told.told.1.moves before.lane before.calls) before.script.start.wallets before.wallets wallets kept.wallets
             seat-submitted.wallets;
       }
+
+  pub is-after : (view : SeatState) (calls : List (Stamped Call)) (reply next_reply : Reply) → before ≡ view → calls ≡ before.calls ++ one ∷ two ∷ []
+      → reply ≡ one.item.entry.reply → next_reply ≡ two.item.entry.reply → IsAfter bank (HaveSubmitted first second (reply, next_reply)) view (record seat_after { calls = calls })
+  is-after view calls reply next_reply same are tells next_tells =
+      let After : Reply → Reply → Type 0 = λ r s. IsAfter bank (HaveSubmitted first second (r, s)) view (record seat_after { calls = calls }) in
+      subst (λ (r : Reply). After r next_reply) (sym tells)
+      (subst (λ (r : Reply). After one.item.entry.reply r) (sym next_tells)
+      (as-seen bank (HaveSubmitted first second (one.item.entry.reply, two.item.entry.reply)) before view seat_after calls same are
+      (record { kept = seat-kept; of = seat-of; submitted = seat-submitted })))

@@ -4,7 +4,7 @@ use Rattle.dex_fold.proofs.Common.{Call, PlainMarketAccounts, PlainRow, asked_of
 use Rattle.dex_turns.proofs.Common.{AddsOne, AllThree, AwayView, BankMarketState, BankState, Extends, GateView, HasCall, HasCalled, IsBank, MarketOrigin, MayEnter, PlainScript, Stamped, market_calls}
 use Rattle.std.proofs.lemmas.List.{length-set}
 use Rattle.dex_gate.specs.declared.stage.Stage.TheVariants.{Out}
-use Rattle.dex_script.specs.Facts.{AreLegs}
+use Rattle.dex_script_facts.specs.Facts.{AreLegs}
 use Rattle.dex_turns.specs.Submitted.{LegMarketGrows}
 use Rattle.dex_turns.specs.Turns.{AreOutAt, HasSeenAt, IsAwayFor, IsHomeAt, IsMarketOut, MayCallBoth, MayEnterAt, MayLeaveAt, left_with}
 use Rattle.dex_turns.proofs.Distinct.{markets-differ}

@@ -1,11 +1,10 @@
 -- A seat before and after a row.
 use Rattle.std.proofs.Common.{◌≡◌, ℕ, zero, suc, ◌<◌, ◌≤◌, ◌==◌, Bool, true, false, cond, List, [], ◌∷◌, ◌++◌, length, set, get_or, take, Some, refl, sym, ap, ◌∙◌, subst, arith}
-use Rattle.dex_fold.proofs.Common.{Address, All-filter, All-push, All-tail, All-weaker, AllZip, AllZip-long, Asked, Call, IsLegal, IsWalletLegal, PlainAccount, PlainMarketAccounts, PlainRow, WalletEntry, asked_of, asked_wallets, eqb-true, filter-append, filter_passes, get_or-map, is_same, is_same-refl, is_same-sym, length-map, is_held, list_any, names, row_wallets, rows_of_lane}
-use Rattle.dex_turns.proofs.Common.{AllThree, AreNext, AreReady, BankState, GateView, HasCalled, HasSubmitted, HaveGrown, IsBank, IsMarketGate, IsMarketPass, IsNext, IsPlace, IsRowOf, IsScript, IsSeat, IsSeatOf, IsSight, IsWalletPass, MarketOrigin, MayDraw, MayEnter, MayName, MovesEach, PlainScript, SeatState, Stamped, Where, balance_of, calls_on, entries_in, entries_on, list_any-map, market_in, rows_of_market, rows_of_wallet}
+use Rattle.dex_fold.proofs.Common.{Address, All-filter, All-push, All-tail, All-weaker, AllZip, AllZip-long, Asked, Call, IsLegal, IsWalletLegal, PlainAccount, PlainMarketAccounts, PlainRow, Reply, WalletEntry, asked_of, asked_wallets, eqb-true, filter-append, filter_passes, get_or-map, is_same, is_same-refl, is_same-sym, length-map, is_held, list_any, names, row_wallets, rows_of_lane}
+use Rattle.dex_turns.proofs.Common.{AllThree, AreNext, AreReady, BankState, GateView, HasCalled, HasSubmitted, HaveGrown, IsBank, IsMarketGate, IsMarketPass, IsNext, IsPlace, IsRowOf, IsScript, IsSeat, IsSeatOf, IsSight, IsWalletPass, MarketOrigin, MayDraw, MayEnter, MayName, MovesEach, PlainScript, SeatState, Stamped, Where, balance_of, calls_on, entries_in, entries_on, list_any-map, market_addresses, market_in, rows_of_market, rows_of_wallet}
 use Rattle.std.specs.List.{All}
 use Rattle.std.proofs.lemmas.List.{append-nil, append_assoc}
 use Rattle.dex_stamps.specs.Stamped.{items_of}
-use Rattle.dex_turns.specs.Bank.{market_addresses}
 use Rattle.dex_turns.specs.Submitted.{MarketGrows, WalletGrows}
 use Rattle.dex_turns.specs.Turns.{IsTold, MayEnterAt}
 use Rattle.dex_turns.proofs.Counts.{IsAhead, calls-left, entries-left, entries-one}
@@ -257,6 +256,19 @@ module _ (row : PlainRow) (call : Stamped Call) (asked : call.item.asked ≡ ask
 
 -- ---- the seat behind it
 
+-- what is known of it
+pub record IsAfter (bank : BankState) (Submitted : SeatState → SeatState → Type 0) (before after : SeatState) : Type 0 where
+  pub kept : IsSeat after
+  pub of : IsSeatOf bank after
+  pub submitted : Submitted before after
+
+-- it is known of the seat as it is seen, with calls that are these
+pub as-seen : (bank : BankState) (Submitted : SeatState → SeatState → Type 0) (before view after : SeatState) (calls : List (Stamped Call)) → before ≡ view → calls ≡ after.calls
+    → IsAfter bank Submitted before after → IsAfter bank Submitted view (record after { calls = calls })
+as-seen bank Submitted before view after calls same are known =
+    subst (λ (v : SeatState). IsAfter bank Submitted v (record after { calls = calls })) same
+    (subst (λ (l : List (Stamped Call)). IsAfter bank Submitted before (record after { calls = l })) (sym are) known)
+
 module _ (bank : BankState) (row : PlainRow) (before : SeatState) (next : IsNext row before) (bank_kept : IsBank bank) (of : IsSeatOf bank before) (kept : IsSeat before)
     (place : ℕ) (at : IsPlace row.market (market_addresses bank.script) place) (call : Stamped Call) (asked : call.item.asked ≡ asked_of row)
     (own : is_held call.item ≡ false) (told : IsTold bank.script call) (above : before.last < call.stamp) (gate : GateView (Stamped Call) MarketOrigin) (pass left : MarketPass) (gate_is : gate ≡ get_or bank.markets place gate)
@@ -283,7 +295,7 @@ module _ (bank : BankState) (row : PlainRow) (before : SeatState) (next : IsNext
       subst (λ (p : MarketPass). HasCalled call (get_or bank.script.start.markets place d) p left) (pass_is ∙ same-get before.markets place pass e inside_passes)
       (subst (λ (s : PlainMarketAccounts). HasCalled call s pass left) (gate-start bank row before (next-ahead row before next) bank_kept of kept place at d gate gate_is) called))
 
-  pub seat-submitted : HasSubmitted row call.item.entry.reply before seat_after
+  seat-submitted : HasSubmitted row call.item.entry.reply before seat_after
   seat-submitted = record {
     call = call;
     asked = asked;
@@ -298,7 +310,7 @@ module _ (bank : BankState) (row : PlainRow) (before : SeatState) (next : IsNext
     wallets = subst (λ (s : PlainScript). AllThree (WalletGrows row call) s.start.wallets before.wallets wallets) (sym of.script) grown;
   }
 
-  pub seat-of : IsSeatOf bank seat_after
+  seat-of : IsSeatOf bank seat_after
   seat-of = record {
     script = of.script;
     markets =
@@ -311,7 +323,7 @@ module _ (bank : BankState) (row : PlainRow) (before : SeatState) (next : IsNext
         before.wallets wallets grown of.wallets;
   }
 
-  pub seat-kept : IsSeat seat_after
+  seat-kept : IsSeat seat_after
   unfolding seat-submitted
   seat-kept =
       let told_here : IsTold before.script call = subst (λ (s : PlainScript). IsTold s call) (sym of.script) told in
@@ -327,3 +339,9 @@ module _ (bank : BankState) (row : PlainRow) (before : SeatState) (next : IsNext
         wallets =
             wallet-passes row call asked before.lane before.calls before.script.start.wallets before.wallets wallets told.moves kept.wallets seat-submitted.wallets;
       }
+
+  pub is-after : (view : SeatState) (calls : List (Stamped Call)) (reply : Reply) → before ≡ view → calls ≡ before.calls ++ call ∷ [] → reply ≡ call.item.entry.reply
+      → IsAfter bank (HasSubmitted row reply) view (record seat_after { calls = calls })
+  is-after view calls reply same are tells =
+      subst (λ (r : Reply). IsAfter bank (HasSubmitted row r) view (record seat_after { calls = calls })) (sym tells)
+      (as-seen bank (HasSubmitted row call.item.entry.reply) before view seat_after calls same are (record { kept = seat-kept; of = seat-of; submitted = seat-submitted }))

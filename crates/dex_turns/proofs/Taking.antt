@@ -3,14 +3,15 @@ use Rattle.std.proofs.Common.{◌≡◌, ℕ, zero, suc, ◌+◌, ◌-◌, ◌<�
 use Rattle.dex_fold.proofs.Common.{Address, All-head, All-push, All-tail, AllZip, AllZip-long, PlainAccount, WalletEntry, get_or-map, is_same, is_same-refl, length-map, list_any, or_left}
 use Rattle.dex_fold.proofs.MappedLists.{same-get}
 use Rattle.dex_turns.proofs.InHand.{each-any}
-use Rattle.dex_turns.proofs.Common.{AllThree, AreInHand, AreReady, BankState, CellState, GateView, HasEntry, HasLeft, HaveGrown, Idle, IsBank, IsPlace, IsReady, IsWalletGate, MayDraw, MayLeave, OneGrows, PlainScript, Stamped, TrailState, WalletOrigin, added, entries_by, left_by, of_lane, rows_of_wallet, wallet_entries}
+use Rattle.dex_turns.proofs.Common.{AllThree, AreInHand, AreReady, BankState, CellState, GateView, HasEntry, HasLeft, HaveGrown, Idle, IsBank, IsPlace, IsReady, IsWalletGate, MayDraw, MayLeave, OneGrows, PlainScript, Stamped, TrailState, WalletOrigin, added, entries_by, left_by, of_lane, rows_of_wallet, wallet_addresses, wallet_entries}
 use Rattle.std.specs.List.{All}
 use Rattle.std.proofs.Math.Seq.{take-length}
 use Rattle.dex_gate.specs.declared.stage.Stage.TheVariants.{Out}
 use Rattle.dex_locks.specs.Places.{front}
 use Rattle.dex_journals.specs.Journals.{wallet_origin}
 use Rattle.dex_journals.proofs.WalletLaws.{spare-wallet}
-use Rattle.dex_turns.specs.Bank.{wallet_addresses}
+use Rattle.dex_script_facts.proofs.PlacedLaws.{wallet-placed}
+use Rattle.dex_script_facts.specs.Places.{wallet_place}
 use Rattle.dex_turns.specs.Turns.{AreOnce, IsOut, MayName, first_in}
 use Rattle.dex_turns.proofs.Counts.{length-stamped}
 use Rattle.dex_turns.proofs.Distinct.{wallets-differ}
@@ -243,8 +244,8 @@ pub record Facts (bank : BankState) (named : List Address) (lane : ℕ) (address
   pub before_is : before ≡ get_or passes place before
   pub is_out : IsOut gate before out trail
 
-module _ (bank : BankState) (named : List Address) (lane : ℕ) (address : Address) (others : List Address) (hands : List CellState)
-    (passes : List WalletPass) (place : ℕ) (gate : GateView (Stamped WalletEntry) WalletOrigin) (before out : WalletPass) (trail : TrailState)
+module _ {bank : BankState} {named : List Address} {lane : ℕ} {address : Address} {others : List Address} {hands : List CellState}
+    {passes : List WalletPass} {place : ℕ} {gate : GateView (Stamped WalletEntry) WalletOrigin} {before out : WalletPass} {trail : TrailState}
     (f : Facts bank named lane address others hands passes place gate before out trail) where
   abbrev any_start : PlainAccount
   any_start = record { address = address; bytes = [] }
@@ -312,3 +313,21 @@ grown-none written [] [] long = tt
 grown-none written [] (p ∷ passes) long = absurd (omega (arith, long))
 grown-none written (start ∷ starts) [] long = absurd (omega (arith, long))
 grown-none written (start ∷ starts) (p ∷ passes) long = (refl, grown-none written starts passes (omega (arith, long)))
+
+-- ---- all that is known, as it is known before the turn
+
+pub facts-of : (bank : BankState) (named : List Address) (lane : ℕ) (address : Address) (others : List (Option Address)) (hands : List CellState) (passes : List WalletPass) (place : ℕ)
+    (gate : GateView (Stamped WalletEntry) WalletOrigin) (before out : WalletPass) (trail : TrailState) → first_in others ≡ Some address → MayName bank.script named
+    → AreInHand bank.script named (front others) hands → AreReady bank lane (front others) passes → IsBank bank → wallet_place address bank.script.start.wallets ≡ Some place
+    → gate ≡ get_or bank.wallets place gate → before ≡ get_or passes place before → IsOut gate before out trail
+    → Facts bank named lane address (front (rest_of others)) hands passes place gate before out trail
+facts-of bank named lane address others hands passes place gate before out trail first may hand ready kept at gate_is before_is is_out = record {
+  may = may;
+  hand = subst (λ (l : List Address). AreInHand bank.script named l hands) (front-some others address first) hand;
+  ready = subst (λ (l : List Address). AreReady bank lane l passes) (front-some others address first) ready;
+  kept = kept;
+  at = wallet-placed bank.script address place at;
+  gate_is = gate_is;
+  before_is = before_is;
+  is_out = is_out;
+}

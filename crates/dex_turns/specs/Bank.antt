@@ -1,13 +1,12 @@
 -- The gates of an exchange's markets and wallets.
-use Rattle.std.specs.Prelude.{ℕ, ◌≡◌, ◌<◌, List, [], length, map, slice_index_or}
+use Rattle.std.specs.Prelude.{ℕ, ◌≡◌, List, []}
 use Rattle.std.specs.List.{AllZip}
-use Rattle.dex_types.specs.declared.addresses.Address.{Address}
 use Rattle.dex_types.specs.declared.movements.WalletEntry.{WalletEntry}
 use Rattle.dex_types.specs.Accounts.{PlainAccount, PlainMarketAccounts}
 use Rattle.dex_gate.specs.GateView.{GateView}
 use Rattle.dex_history.specs.Journal.{Call}
-use Rattle.dex_script.specs.Drafts.{PlainScript}
-use Rattle.dex_script.specs.Facts.{IsScript}
+use Rattle.dex_script_facts.specs.PlainScript.{PlainScript}
+use Rattle.dex_script_facts.specs.Facts.{IsScript}
 use Rattle.dex_stamps.specs.Stamped.{Stamped}
 use Rattle.dex_journals.specs.Journals.{MarketOrigin, WalletOrigin}
 
@@ -36,16 +35,3 @@ pub record IsBank (bank : BankState) : Type 0 where
   pub script : IsScript bank.script
   pub markets : AllZip (IsMarketGate bank.script) bank.script.start.markets bank.markets
   pub wallets : AllZip (IsWalletGate bank.script) bank.script.start.wallets bank.wallets
-
--- the addresses of a script's markets, in declared order
-abbrev pub market_addresses : PlainScript → List Address
-market_addresses script = map (λ (accounts : PlainMarketAccounts). accounts.address) script.start.markets
-
--- the addresses of a script's wallets, in declared order
-abbrev pub wallet_addresses : PlainScript → List Address
-wallet_addresses script = map (λ (account : PlainAccount). account.address) script.start.wallets
-
--- the address stands at this place
-pub record IsPlace (address : Address) (addresses : List Address) (place : ℕ) : Type 0 where
-  pub within : place < length addresses
-  pub here : (default : Address) → slice_index_or addresses place default ≡ address

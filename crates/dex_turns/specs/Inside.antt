@@ -38,7 +38,7 @@ pub record ArePartsOf (bank : BankState) (parts : BankParts) : Type 0 where
 -- the call of a row, with what it saw, the entry that it made, and its stamp
 abbrev pub call_made : Row × StampedRecord → Stamped Call
 call_made made = record {
-  item = record { asked = asked_of (row_of made.0); seen = made.1.seen; entry = made.1.entry };
+  item = record { asked = asked_of (row_of made.0); seen = made.1.seen.value; entry = made.1.entry.value };
   stamp = made.1.stamp.number;
 }
 

@@ -1,9 +1,9 @@
 -- What a bank keeps of its script beside the cells.
 use Rattle.std.specs.Prelude.{◌≡◌}
 use Rattle.dex_turns.specs.declared.outline.Outline.TheInside as outline
-use Rattle.dex_turns.specs.Bank.{market_addresses, wallet_addresses}
-use Rattle.dex_script.specs.Drafts.{PlainScript}
-use Rattle.dex_script.specs.Facts.{IsScript}
+use Rattle.dex_script_facts.specs.PlainScript.{PlainScript}
+use Rattle.dex_script_facts.specs.Facts.{IsScript}
+use Rattle.dex_script_facts.specs.Places.{market_addresses, wallet_addresses}
 
 -- the script that the fields are of
 abbrev pub outlined : outline.Inside → PlainScript

@@ -22,14 +22,14 @@ use Rattle.dex_cell.specs.CellState.{call_made}
 use Rattle.dex_wallet.specs.CellState.{CellState, HasSpare, IsWalletCell, balance_of}
 use Rattle.dex_fold.specs.World.{World}
 use Rattle.dex_act.specs.Wallets.{made_of, wallet_state_of}
-use Rattle.dex_script.specs.Drafts.{PlainScript}
-use Rattle.dex_script.specs.Facts.{AreLegs}
-use Rattle.dex_script.specs.Known.{has_account}
-use Rattle.dex_script.specs.Places.{IsPlaced}
+use Rattle.dex_script_facts.specs.PlainScript.{PlainScript}
+use Rattle.dex_script_facts.specs.Facts.{AreLegs}
+use Rattle.dex_script_facts.specs.Known.{has_account}
+use Rattle.dex_script_facts.specs.Places.{IsPlaced, wallet_place}
 use Rattle.dex_fold.specs.Items.{doing}
 use Rattle.dex_fold.specs.Lists.{AllThree}
 use Rattle.dex_fold.specs.RowsOf.{rows_of_market, rows_of_wallet}
-use Rattle.dex_script.specs.Sight.{IsSight}
+use Rattle.dex_script_facts.specs.Sight.{IsSight}
 use Rattle.dex_stamps.specs.Stamped.{Stamped, items_of}
 use Rattle.dex_journals.specs.Journals.{BankMarketState, IsBankMarket, IsBankWallet, MarketOrigin, TrailState, WalletOrigin}
 use Rattle.dex_journals.specs.Journals.{calls_by, entries_by, left_by, market_calls, market_origin, wallet_entries, wallet_origin}
@@ -160,6 +160,10 @@ pub record AreLegsPlaced (script : PlainScript) (first second : PlainRow) (first
   pub legs : AreLegs first second
   pub first_is : IsPlaced script.start first first_places
   pub second_is : IsPlaced script.start second second_places
+
+-- of each script of which this is known the wallet of an address stands at this place
+abbrev pub StandsWhere : (PlainScript → Type 0) → Address → ℕ → Type 0
+StandsWhere Known address place = (script : PlainScript) → Known script → wallet_place address script.start.wallets ≡ Some place
 
 -- the first of those that are still to come
 abbrev pub first_in : List (Option Address) → Option Address

@@ -1,13 +1,12 @@
 //! What is done under the turns of its markets and wallets: a row alone, or the two legs of a swap.
 
-ghost use Rattle.std.specs.Prelude.{◌≡◌, ◌≤◌, ℕ, List, [], Some, true, vec_capacity};
+ghost use Rattle.std.specs.Prelude.{◌≡◌, ◌≤◌, ℕ, List, [], true, vec_capacity};
 ghost use Rattle.std.specs.List.{AllZip, list_any};
 ghost use Rattle.dex_types.specs.declared.addresses.Address.{Address as AddressOf};
 ghost use Rattle.dex_types.specs.Addresses.{is_same};
-ghost use Rattle.dex_script.specs.Drafts.{PlainScript};
-ghost use Rattle.dex_script.specs.Places.{wallet_place};
+ghost use Rattle.dex_script_facts.specs.PlainScript.{PlainScript};
 ghost use Rattle.dex_turns.specs.Submitted.{Written};
-ghost use Rattle.dex_turns.specs.Turns.{AreInHand, HasEntry, IsWritten};
+ghost use Rattle.dex_turns.specs.Turns.{AreInHand, HasEntry, IsWritten, StandsWhere};
 
 use crate::bank::Bank;
 use dex_stamps::Stamp;
@@ -46,7 +45,7 @@ pub(crate) trait Acts {
     fn place(&self, address: Address) -> usize
         requires known { (script : PlainScript) × placed self.now script }
         requires named { list_any (is_same address) (named self.now) ≡ true }
-        ensures { (script : PlainScript) → placed self.now script → wallet_place address script.start.wallets ≡ Some result };
+        ensures { StandsWhere (placed self.now) address result };
 
     /// Acts, with the cells of all wallets in hand. Its stamp is above this one, which no stamp of a market or wallet is above.
     fn act(

@@ -2,17 +2,17 @@
 
 ghost use Rattle.dex_types.specs.Rows.{row_of};
 ghost use Rattle.dex_types.specs.Wallets.{row_wallets};
-ghost use Rattle.dex_script.specs.Places.{IsPlaced};
+ghost use Rattle.dex_script_facts.specs.Places.{IsPlaced};
 ghost use Rattle.dex_turns.specs.Inside.{call_made, written_of};
 ghost use Rattle.dex_turns.specs.Turns.{HasRowActed, MayCall};
 
 use crate::acts::Acts;
 use crate::bank::Bank;
-use crate::placing::place_in;
 use crate::stamped_record::StampedRecord;
 use crate::waiting::act_or_wait;
 use dex_io::Pace;
 use dex_journals::BankMarket;
+use dex_script_facts::place_in;
 use dex_stamps::Stamp;
 use dex_types::{Address, Row, RowPlaces};
 use dex_wallet::WalletCell;
@@ -61,7 +61,7 @@ impl<'a, P: Pace> Acts for RowAlone<'a, P> {
     ) -> StampedRecord {
         self.pace.inside(self.row.lane, self.row.number);
         let seen = bank.seen_by(hands, self.row);
-        act_or_wait(market, hands, self.row, seen, false, stamp.next())
+        act_or_wait(market, hands, self.row, &seen, false, stamp.next())
     }
 
     fn stamp<'m>(&self, made: &'m StampedRecord) -> &'m Stamp {

@@ -7,11 +7,11 @@ ghost use Rattle.dex_turns.specs.Turns.{AreLegsPlaced, HaveLegsActed, MayCallBot
 
 use crate::acts::Acts;
 use crate::bank::Bank;
-use crate::placing::place_in;
 use crate::stamped_record::StampedRecord;
 use crate::waiting::{act_or_wait, is_refused, waits};
 use dex_io::Pace;
 use dex_journals::BankMarket;
+use dex_script_facts::place_in;
 use dex_stamps::Stamp;
 use dex_types::{Address, Row, RowPlaces};
 use dex_wallet::WalletCell;
@@ -89,7 +89,7 @@ impl<'a, P: Pace> Acts for SwapLegs<'a, P> {
             &mut markets.first,
             hands,
             self.first,
-            first_seen,
+            &first_seen,
             waits(second_refused, first_refused),
             one_stamp,
         );
@@ -97,7 +97,7 @@ impl<'a, P: Pace> Acts for SwapLegs<'a, P> {
             &mut markets.second,
             hands,
             self.second,
-            second_seen,
+            &second_seen,
             waits(first_refused, second_refused),
             two_stamp,
         );

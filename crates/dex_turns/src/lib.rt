@@ -6,7 +6,6 @@ mod alone;
 mod bank;
 mod legs;
 mod outline;
-mod placing;
 mod seat;
 mod seeing;
 mod stamped_record;

@@ -1,17 +1,16 @@
 //! What a bank keeps of its script.
 
-ghost use Rattle.std.specs.Prelude.{◌≡◌, ◌<◌, ◌≤◌, IfOk, IfSome, Some, length, map, true};
+ghost use Rattle.std.specs.Prelude.{◌≡◌, ◌<◌, ◌≤◌, IfOk, IfSome, Some, length, true};
 ghost use Rattle.std.specs.List.{list_any, position};
-ghost use Rattle.dex_types.specs.Accounts.{PlainAccount, PlainMarketAccounts, market_accounts_of, named_of};
 ghost use Rattle.dex_types.specs.Addresses.{is_same};
 ghost use Rattle.dex_types.specs.Rows.{row_of};
-ghost use Rattle.dex_script.specs.Facts.{IsRowOf};
-ghost use Rattle.dex_script.specs.Known.{has_market, is_known_role};
-ghost use Rattle.dex_script.specs.Places.{IsPlaced, IsRolePlaced, market_place};
+ghost use Rattle.dex_script_facts.specs.Facts.{IsRowOf};
+ghost use Rattle.dex_script_facts.specs.Known.{has_market, is_known_role};
+ghost use Rattle.dex_script_facts.specs.Places.{IsPlaced, IsRolePlaced, market_place};
 
-use dex_script::Script;
+use dex_script_facts::{Script, addresses_of_markets, addresses_of_wallets};
 use dex_stamps::Kept;
-use dex_types::{Address, MarketAccounts, Named, NoMemory, Program, Row, RowPlaces, is_same};
+use dex_types::{Address, NoMemory, Program, Row, RowPlaces, is_same};
 use std::alloc::Global;
 use std::marker::Model;
 
@@ -29,7 +28,7 @@ pub struct Outline {
 }
 
 impl Model for Outline {
-    ghost use Rattle.dex_script.specs.Drafts.{PlainScript};
+    ghost use Rattle.dex_script_facts.specs.PlainScript.{PlainScript};
     ghost use Rattle.dex_turns.specs.Outline.{IsOutline, outlined};
 
     ghost Value = { PlainScript };
@@ -105,36 +104,6 @@ impl Outline {
             None => 0,
         }
     }
-}
-
-/// The addresses of markets.
-fn addresses_of_markets(alloc: Global, markets: &[MarketAccounts]) -> Result<Vec<Address>, NoMemory>
-    ensures { IfOk result (λ addresses. addresses.items
-        ≡ map (λ (accounts : PlainMarketAccounts). accounts.address) (map market_accounts_of markets.now)) }
-{
-    let mut addresses = Vec::new(alloc);
-    for accounts in markets {
-        match addresses.push(accounts.address) {
-            Ok(()) => {}
-            Err(_) => return Err(NoMemory),
-        }
-    }
-    Ok(addresses)
-}
-
-/// The addresses of wallets.
-fn addresses_of_wallets(alloc: Global, wallets: &[Named]) -> Result<Vec<Address>, NoMemory>
-    ensures { IfOk result (λ addresses. addresses.items
-        ≡ map (λ (account : PlainAccount). account.address) (map named_of wallets.now)) }
-{
-    let mut addresses = Vec::new(alloc);
-    for account in wallets {
-        match addresses.push(account.address) {
-            Ok(()) => {}
-            Err(_) => return Err(NoMemory),
-        }
-    }
-    Ok(addresses)
 }
 
 /// The place of an address that is among these.

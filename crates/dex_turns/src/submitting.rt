@@ -4,8 +4,8 @@ ghost use Rattle.std.specs.Prelude.{◌≡◌, ◌≤◌, ◌<◌, ◌+◌, [], 
 ghost use Rattle.std.specs.List.{All, AllZip};
 ghost use Rattle.dex_types.specs.Rows.{row_of};
 ghost use Rattle.dex_types.specs.Wallets.{row_wallets};
-ghost use Rattle.dex_script.specs.Facts.{AreLegs};
-ghost use Rattle.dex_script.specs.Places.{IsPlaced};
+ghost use Rattle.dex_script_facts.specs.Facts.{AreLegs};
+ghost use Rattle.dex_script_facts.specs.Places.{IsPlaced};
 ghost use Rattle.dex_locks.specs.Places.{front};
 ghost use Rattle.dex_fold.specs.World as world;
 ghost use Rattle.dex_act.specs.Wallets.{Fits, roles_of};
@@ -93,11 +93,12 @@ impl Bank {
         seat.calls = seat.calls.and(row, &made);
         let StampedRecord {
             seen: _,
-            entry,
+            entry: _,
+            reply,
             stamp,
         } = made;
         seat.last = stamp;
-        entry.reply
+        reply
     }
 
     /// The two legs of a swap of the seat's lane act, both or neither: they draw and wait for the turns of their markets, by rising
@@ -168,11 +169,12 @@ impl Bank {
         seat.calls = seat.calls.and(first, &one).and(second, &two);
         let StampedRecord {
             seen: _,
-            entry,
+            entry: _,
+            reply,
             stamp: last,
         } = one;
         seat.last = last;
-        (entry.reply, two.entry.reply)
+        (reply, two.reply)
     }
 
     // A row acts when it has the turn of its market.

@@ -68,26 +68,25 @@ pub(crate) fn act_or_wait(
     market: &mut BankMarket,
     hands: &mut Vec<WalletCell>,
     row: &Row,
-    seen: Seen,
+    seen: &Seen,
     waits: bool,
     stamp: Stamp,
 ) -> StampedRecord
-    requires row { IsFor row.now seen market.old.cell }
-    requires held { waits ≡ true → CanHold row.now seen market.old.cell }
-    requires wallets { SeesCells seen hands.old.items }
+    requires row { IsFor row.now seen.now market.old.cell }
+    requires held { waits ≡ true → CanHold row.now seen.now market.old.cell }
+    requires wallets { SeesCells seen.now hands.old.items }
     requires lane { calls_by row.now.lane market.old.cell.calls
         < length (rows_of_market row.now.lane market.old.cell.start.address market.old.script.rows) }
     requires stamp { market.old.last < stamp.number }
     ensures call { call_made (row.entry.now, result) ≡ record {
-      item = made_by waits (row_of row.entry.now) seen (market_at market.old.cell);
+      item = made_by waits (row_of row.entry.now) seen.now (market_at market.old.cell);
       stamp = stamp.number;
     } }
     ensures market { HasCall (call_made (row.entry.now, result)) market.old market.new }
-    ensures hands { let done = doing waits (row_of row.entry.now) in HaveActed done seen
-        (row_step done seen (market_at market.old.cell)).transfers hands.old.items hands.new.items }
+    ensures hands { let done = doing waits (row_of row.entry.now) in HaveActed done seen.now
+        (row_step done seen.now (market_at market.old.cell)).transfers hands.old.items hands.new.items }
     ensures room { vec_capacity hands.old ≤ vec_capacity hands.new }
 {
-    act_or_hold(market, hands, row, &seen, waits, &stamp);
-    let entry = *market.cell().last();
-    StampedRecord { seen, entry, stamp }
+    act_or_hold(market, hands, row, seen, waits, &stamp);
+    StampedRecord::of(seen, market.cell().last(), stamp)
 }

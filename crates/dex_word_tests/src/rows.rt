@@ -1,6 +1,6 @@
 //! Rows of a script by themselves: each with the number of the fault that is told.
 
-use dex_rows::records::Rows;
+use dex_rows::records::{Fields, Rows};
 use dex_statement::{RowError, statement_of};
 use dex_types::NoMemory;
 use std::alloc::Global;
@@ -9,9 +9,10 @@ use std::test::Fail;
 // The number of the fault that the one row of a text has by itself; 0 where it has none.
 fn fault_of(alloc: Global, text: &[u8]) -> Result<u8, NoMemory> {
     let mut rows = Rows::new(alloc, text);
-    let Some(row) = rows.next_row()? else {
+    let mut row = Fields::new();
+    if !rows.next_row(&mut row)? {
         return Ok(100);
-    };
+    }
     match statement_of(alloc, &row) {
         Ok(_) => Ok(0),
         Err(RowError::Fault(kind)) => Ok(kind.number()),

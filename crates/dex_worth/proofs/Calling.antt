@@ -1,5 +1,5 @@
 -- The calls that entries tell, one by one.
-use Rattle.std.proofs.Common.{ℕ, zero, suc, ◌+◌, ◌≡◌, ◌<◌, Bool, true, false, List, [], ◌∷◌, length, get_or, take, Option, Some, None, is_some, refl, sym, ap, ◌∙◌, subst, arith}
+use Rattle.std.proofs.Common.{ℕ, zero, suc, ◌+◌, ◌≡◌, ◌<◌, List, [], ◌∷◌, length, get_or, take, Option, Some, None, is_some, refl, sym, ap, ◌∙◌, arith}
 use Rattle.std.specs.Option.{unwrap_or}
 use Rattle.std.proofs.lemmas.Bool.{false≢true}
 use Rattle.dex_types.specs.declared.addresses.Address.{Address}
@@ -7,15 +7,15 @@ use Rattle.dex_types.specs.declared.movements.Entry.{Entry}
 use Rattle.dex_types.specs.Side.{Coin, Pc}
 use Rattle.dex_types.specs.Totals.{total}
 use Rattle.dex_history.specs.Journal.{Call}
-use Rattle.dex_script.specs.Drafts.{PlainScript}
+use Rattle.dex_script_facts.specs.PlainScript.{PlainScript}
 use Rattle.dex_replay.specs.EntryCalls.{call_told, calls_told, with_call}
 use Rattle.dex_tallies.proofs.SumLaws.{total-more}
 use Rattle.dex_worth.specs.declared.amounts.Amounts.{Amounts}
 use Rattle.dex_worth.specs.declared.entries.Moved.{Moved}
 use Rattle.dex_worth.specs.Amounts.{AreSums, both}
-use Rattle.dex_worth.specs.Entries.{AreMoved, all_in, all_out, deposited_in, one_in, one_out, settled_in}
-use Rattle.dex_worth.specs.Told.{told_in, told_out}
-use Rattle.dex_worth.proofs.Sums.{pair, same-pair, sums-agree}
+use Rattle.dex_worth.specs.Entries.{AreMoved, all_in, all_out, deposited_in, settled_in}
+use Rattle.dex_replay.specs.Told.{told_in, told_out}
+use Rattle.dex_worth.proofs.Sums.{same-pair, sums-agree}
 
 -- the first call and the others
 record Parts (one : Option Call) (rest : Option (List Call)) (calls : List Call) : Type 0 where

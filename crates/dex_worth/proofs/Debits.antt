@@ -1,7 +1,6 @@
 -- The debits of an entry.
-use Rattle.std.proofs.Common.{ℕ, ◌+◌, ◌<◌, ◌≤◌, ◌≡◌, ◌⊎◌, inl, inr, Bool, true, false, ltb, cond, List, [], ◌∷◌, length, map, get_or, Option, Some, None, refl, sym, ap, ◌∙◌, subst, arith, ⊎_elim}
-use Rattle.std.specs.List.{All}
-use Rattle.std.proofs.lemmas.Bool.{cases_Bool, cases_lt, cond_both, cond-true, cond-false, lt-ltb, le-ltb, false≢true}
+use Rattle.std.proofs.Common.{ℕ, ◌+◌, ◌<◌, ◌≤◌, ◌≡◌, ◌⊎◌, inl, inr, Bool, true, false, cond, List, [], ◌∷◌, length, get_or, Option, Some, None, refl, sym, ap, ◌∙◌, arith, ⊎_elim}
+use Rattle.std.proofs.lemmas.Bool.{cases_Bool, cases_lt, cond-true, cond-false, lt-ltb, le-ltb}
 use Rattle.dex_types.specs.declared.addresses.Address.{Address}
 use Rattle.dex_types.specs.declared.movements.Movement.{Movement}
 use Rattle.dex_types.specs.declared.rows.Seen.{Seen}
@@ -15,12 +14,12 @@ use Rattle.dex_types.specs.Transfers.{Transfers}
 use Rattle.dex_types.specs.Wallets.{amount_at, balance_seen, brought_to, movement_by, movement_of, movements, seen_wallets, taken_from}
 use Rattle.dex_laws.proofs.TotalLaws.{total-agree, total-each, total-map, total-plus}
 use Rattle.dex_laws.proofs.TraderLaws.{is_same-refl, is_same-sym, is_same-true}
-use Rattle.dex_history.specs.Journal.{Call, Stands, acted_of, front, step_of}
+use Rattle.dex_history.specs.Journal.{Call, Stands, acted_of, step_of}
 use Rattle.dex_history.specs.Mints.{MeetVaults, all_debited, debited, is_mint_in, is_of_mint}
 use Rattle.dex_history.proofs.HeldLaws.{acted-sees}
 use Rattle.dex_history.proofs.StepMints.{row-meets}
 use Rattle.dex_history.proofs.WalletLaws.{places-movements, wallet-movement_by}
-use Rattle.dex_worth.specs.Debits.{debits_in}
+use Rattle.dex_replay.specs.Debits.{debits_in}
 
 -- ---- the mint of a wallet that is seen
 

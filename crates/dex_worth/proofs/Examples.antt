@@ -4,8 +4,8 @@ use Rattle.std.specs.Fmt.{decimal}
 use Rattle.std.proofs.lemmas.Fmt.{decimal_digit, decimal_step}
 use Rattle.dex_types.specs.Text.{address_text}
 use Rattle.dex_sound.proofs.ExampleMarket.{label, amy, ben}
-use Rattle.dex_worth.specs.Rows.{PlainWorthRow}
-use Rattle.dex_worth.specs.WorthText.{worth_text}
+use Rattle.dex_replay.specs.WorthTold.{PlainWorthRow}
+use Rattle.dex_replay.specs.WorthText.{worth_text}
 
 -- a number's text, one digit longer
 longer : (n : ℕ) (text : List ℕ) → 10 ≤ n → n < 2 ^ 64 → decimal (n / 10) ≡ text → decimal n ≡ text ++ (48 + n % 10) ∷ []

@@ -1,5 +1,5 @@
 -- Nothing is made or lost: what accounts are worth, what a market has taken and what takes moved, over a history.
-use Rattle.std.proofs.Common.{ℕ, ℤ, pos, ◌+◌, ◌+ℤ◌, ◌-ℤ◌, ◌≡◌, true, false, cond, List, [], ◌∷◌, map, Option, Some, None, Result, Ok, Err, is_some, take, refl, sym, ap, ◌∙◌, subst, arith, ⊎_elim}
+use Rattle.std.proofs.Common.{ℕ, pos, ◌+◌, ◌+ℤ◌, ◌-ℤ◌, ◌≡◌, true, false, cond, List, [], ◌∷◌, map, Option, Some, None, Result, Ok, Err, is_some, take, refl, sym, ap, ◌∙◌, subst, arith, ⊎_elim}
 use Rattle.std.specs.List.{All}
 use Rattle.std.proofs.lemmas.Bool.{cases_Bool, cond-true, cond-false}
 use Rattle.std.proofs.lemmas.Int.{ints}
@@ -44,12 +44,12 @@ use Rattle.dex_history.proofs.HeldLaws.{acted-priced}
 use Rattle.dex_history.proofs.PriceLaws.{asked-sound, calls-sound}
 use Rattle.dex_history.proofs.StepConserves.{row-paid}
 use Rattle.dex_eager.specs.Eager.{Eager}
-use Rattle.dex_eager.specs.Histories.{eager_end, moves_after, moves_of}
-use Rattle.dex_eager.specs.Worth.{Ledger, Worth, deposit_in, for_account, free_in, held_for, no_moves, own_owed, referred_in, settled_in, swept_in, takings_of, with_step, worth_in, worth_of}
+use Rattle.dex_eager.specs.Histories.{moves_after, moves_of}
+use Rattle.dex_eager.specs.Worth.{Ledger, deposit_in, for_account, free_in, held_for, no_moves, own_owed, referred_in, settled_in, swept_in, takings_of, with_step, worth_in, worth_of}
 use Rattle.dex_eager.proofs.DelayLaws.{addresses-after, history-market}
 use Rattle.dex_eager.proofs.FundSteps.{IsParty, party-is}
 use Rattle.dex_eager.proofs.StepMoves.{for_account-none}
-use Rattle.dex_worth.specs.Flows.{AddUp, all_brought, all_taken, brought_in, in_token, market_part, sum_of, taken_out}
+use Rattle.dex_worth.specs.Flows.{AddUp, all_brought, all_taken, brought_in, in_token, sum_of, taken_out}
 
 -- ---- each item to its owner
 

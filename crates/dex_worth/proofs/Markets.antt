@@ -1,5 +1,5 @@
 -- The rows of one market.
-use Rattle.std.proofs.Common.{ℕ, ◌+◌, ◌*◌, ◌^◌, ◌≡◌, ◌<◌, ◌≤◌, List, [], ◌∷◌, length, map, refl, sym, ap, ◌∙◌, subst, arith}
+use Rattle.std.proofs.Common.{ℕ, ◌*◌, ◌^◌, ◌≡◌, ◌≤◌, List, [], ◌∷◌, map, refl, sym, ap, ◌∙◌, subst, arith}
 use Rattle.std.specs.List.{All}
 use Rattle.std.proofs.lemmas.List.{get_or-map, length-map}
 use Rattle.std.proofs.lemmas.List.Elements.{All-weaker}
@@ -7,7 +7,6 @@ use Rattle.dex_types.specs.declared.account_bytes.MarketAccounts.{MarketAccounts
 use Rattle.dex_types.specs.declared.account_bytes.OrdersAccount.{OrdersAccount}
 use Rattle.dex_types.specs.declared.addresses.Address.{Address}
 use Rattle.dex_types.specs.Accounts.{PlainMarketAccounts, market_accounts_of, orders_account_of}
-use Rattle.dex_types.specs.Market.{Market}
 use Rattle.dex_types.specs.Side.{Coin, Pc}
 use Rattle.dex_types.specs.Soundness.{IsSound}
 use Rattle.dex_types.specs.Trader.{Trader, Traders}
@@ -18,13 +17,14 @@ use Rattle.dex_history.specs.Journal.{Call, market_after}
 use Rattle.dex_history.proofs.PriceLaws.{calls-sound}
 use Rattle.dex_orders.specs.StandsFor.{traders_of}
 use Rattle.dex_report.specs.Outcomes.{PlainMarketJournal}
-use Rattle.dex_script.specs.Drafts.{PlainScript}
+use Rattle.dex_script_facts.specs.PlainScript.{PlainScript}
 use Rattle.dex_worth.specs.declared.amounts.Amounts.{Amounts}
 use Rattle.dex_worth.specs.Amounts.{AreWithin, IsWithin}
 use Rattle.dex_worth.specs.Entries.{all_in, all_out}
 use Rattle.dex_worth.specs.Holdings.{held_amounts}
-use Rattle.dex_worth.specs.Rows.{PlainWorthRow, row_by}
-use Rattle.dex_worth.specs.Tables.{IsTold, row_told, rows_told}
+use Rattle.dex_replay.specs.WorthTold.{PlainWorthRow, rows_told}
+use Rattle.dex_worth.specs.Rows.{row_by}
+use Rattle.dex_worth.specs.Tables.{IsTold}
 use Rattle.dex_worth.proofs.Holding.{held-small}
 use Rattle.dex_worth.proofs.Outcomes.{calls-are}
 

@@ -1,25 +1,24 @@
 -- What an entry moved for accounts, by its row.
-use Rattle.std.proofs.Common.{ℕ, ◌+◌, ◌≡◌, Bool, true, false, List, [], ◌∷◌, map, Option, Some, None, is_some, if◌then◌else◌, refl, sym, ap, ◌∙◌, subst, arith, ⊎_elim}
+use Rattle.std.proofs.Common.{ℕ, ◌≡◌, Bool, true, false, List, [], ◌∷◌, Option, Some, None, is_some, if◌then◌else◌, refl, sym, ap, ◌∙◌, subst, ⊎_elim}
 use Rattle.std.specs.Option.{option_map, unwrap_or}
 use Rattle.std.proofs.lemmas.Bool.{cases_Bool, cond-true, cond-false, false≢true}
 use Rattle.dex_types.specs.declared.addresses.Address.{Address}
 use Rattle.dex_types.specs.declared.movements.Entry.{Entry}
-use Rattle.dex_types.specs.declared.rows.Row.{Row}
 use Rattle.dex_types.specs.declared.terms.Side.{Side}
 use Rattle.dex_types.specs.declared.terms.Side.TheVariants.{Bid, Ask}
-use Rattle.dex_types.specs.Rows.{PlainRow, row_of}
-use Rattle.dex_history.specs.Journal.{Call, asked_of}
+use Rattle.dex_types.specs.Rows.{PlainRow}
+use Rattle.dex_history.specs.Journal.{Call}
 use Rattle.dex_instruction.specs.Reading.{decoded}
 use Rattle.dex_eager.specs.Worth.{is_first}
-use Rattle.dex_script.specs.Drafts.{PlainScript}
-use Rattle.dex_script.specs.Firsts.{first_of}
+use Rattle.dex_script_facts.specs.PlainScript.{PlainScript}
+use Rattle.dex_script_facts.specs.Firsts.{first_of}
 use Rattle.dex_replay.specs.EntryCalls.{call_by, call_told, is_row_on}
 use Rattle.dex_worth.specs.declared.amounts.Amounts.{Amounts}
 use Rattle.dex_worth.specs.declared.entries.Moved.{Moved}
 use Rattle.dex_worth.specs.Amounts.{none}
-use Rattle.dex_worth.specs.Debits.{debits_in}
-use Rattle.dex_worth.specs.Entries.{AreMoved, deposited_in, entered, for_first, one_in, one_out, settled_by, settled_in}
-use Rattle.dex_worth.specs.Told.{entering, side_of}
+use Rattle.dex_replay.specs.Debits.{debits_in}
+use Rattle.dex_worth.specs.Entries.{AreMoved, deposited_in, entered, for_first, settled_by, settled_in}
+use Rattle.dex_replay.specs.Told.{entering, side_of}
 use Rattle.dex_worth.proofs.Sums.{pair}
 
 -- ---- the row of a call

@@ -1,5 +1,5 @@
 -- Outcomes: each market's journal tells what a market leaves that pays each fill at once.
-use Rattle.std.proofs.Common.{ℕ, zero, suc, ◌+◌, ◌≡◌, ◌<◌, ◌≤◌, Bool, List, [], ◌∷◌, ◌++◌, length, map, get_or, take, drop, min, Option, Some, refl, sym, ap, ◌∙◌, subst, arith}
+use Rattle.std.proofs.Common.{ℕ, zero, suc, ◌≡◌, ◌<◌, List, [], ◌∷◌, ◌++◌, length, map, get_or, take, drop, min, Option, Some, refl, sym, ap, ◌∙◌, subst, arith}
 use Rattle.std.specs.List.{All}
 use Rattle.std.specs.Option.{unwrap_or}
 use Rattle.std.proofs.lemmas.List.{append-nil, append_assoc}
@@ -7,10 +7,8 @@ use Rattle.std.proofs.lemmas.List.Elements.{All-head, All-tail}
 use Rattle.dex_types.specs.declared.addresses.Address.{Address}
 use Rattle.dex_types.specs.Accounts.{PlainMarketAccounts}
 use Rattle.dex_types.specs.Market.{Market}
-use Rattle.dex_types.specs.Soundness.{IsSound}
 use Rattle.dex_types.specs.Trader.{Trader, Traders}
 use Rattle.dex_accounts.specs.Decoded.{AreSound, market_in}
-use Rattle.dex_accounts.specs.StandsFor.{StandsFor}
 use Rattle.dex_history.specs.Journal.{Call, market_after}
 use Rattle.dex_eager.specs.Eager.{Eager, eager_at}
 use Rattle.dex_eager.specs.Histories.{Deal, counted, deals, eager_end, eager_start, moves_of}
@@ -18,11 +16,11 @@ use Rattle.dex_eager.specs.Worth.{Worth, no_moves}
 use Rattle.dex_eager.proofs.DelayLaws.{deals-after, history-fills, history-market}
 use Rattle.dex_replay.specs.Lawful.{AllThree, IsLawful}
 use Rattle.dex_report.specs.Outcomes.{PlainMarketJournal, PlainOutcome}
-use Rattle.dex_script.specs.Drafts.{PlainScript}
-use Rattle.dex_script.specs.Facts.{IsScript}
+use Rattle.dex_script_facts.specs.PlainScript.{PlainScript}
+use Rattle.dex_script_facts.specs.Facts.{IsScript}
 use Rattle.dex_replay.specs.EntryCalls.{TellsHistory, calls_told}
-use Rattle.dex_worth.specs.Rows.{PlainWorthRow}
-use Rattle.dex_worth.specs.Tables.{AreToldHere, IsTold, IsToldHere, PaysAtOnce, calls_of, deals_told, row_told, rows_told, table_told, tables_told, worth_in_row, worth_told, worths_told}
+use Rattle.dex_replay.specs.WorthTold.{PlainWorthRow, calls_of, row_told, rows_told, table_told, tables_told, worth_told, worths_told}
+use Rattle.dex_worth.specs.Tables.{AreToldHere, IsTold, PaysAtOnce, deals_told, worth_in_row}
 use Rattle.dex_worth.proofs.Flows.{add-up}
 use Rattle.dex_worth.proofs.Tables.{worths-told}
 

@@ -1,13 +1,13 @@
 -- The rows of a table, one by one.
-use Rattle.std.proofs.Common.{ℕ, ℤ, pos, ◌+◌, ◌^◌, ◌+ℤ◌, ◌-ℤ◌, ◌≡◌, ◌<◌, ◌≤◌, List, [], ◌∷◌, length, map, get_or, min, refl, sym, ap, ◌∙◌, arith}
+use Rattle.std.proofs.Common.{ℕ, ◌^◌, ◌≡◌, ◌<◌, List, length, get_or, refl, ap, ◌∙◌, arith}
 use Rattle.std.proofs.lemmas.List.{get_or-map}
 use Rattle.dex_types.specs.declared.addresses.Address.{Address}
 use Rattle.dex_eager.specs.Worth.{Worth}
-use Rattle.dex_tallies.specs.Sums.{capped}
 use Rattle.dex_worth.specs.declared.amounts.Amounts.{Amounts}
 use Rattle.dex_worth.specs.declared.table.Columns.{Columns}
-use Rattle.dex_worth.specs.Amounts.{AreSums, AreWithin, IsWithin, capped_amounts, none}
-use Rattle.dex_worth.specs.Rows.{AreExact, AreLong, AreSmall, PlainWorthRow, row_by, worth_by}
+use Rattle.dex_worth.specs.Amounts.{AreSums, IsWithin, capped_amounts, none}
+use Rattle.dex_replay.specs.WorthTold.{PlainWorthRow}
+use Rattle.dex_worth.specs.Rows.{AreExact, AreLong, AreSmall, row_by, worth_by}
 
 sum-at : (amounts : Address → Amounts) (owners : List Address) (sums : List Amounts) (k : ℕ) (a : Address) → AreSums amounts owners sums → k < length owners
     → get_or sums k none ≡ capped_amounts (amounts (get_or owners k a))

@@ -1,8 +1,6 @@
 -- Sums of owners: what more of one does.
-use Rattle.std.proofs.Common.{ℕ, ◌+◌, ◌≡◌, ◌≤◌, ◌<◌, Bool, true, false, List, [], ◌∷◌, length, map, refl, sym, ap, ◌∙◌, arith, ⊎_elim}
-use Rattle.std.specs.List.{All}
+use Rattle.std.proofs.Common.{ℕ, ◌+◌, ◌≡◌, true, false, List, [], ◌∷◌, map, refl, sym, ap, ◌∙◌, arith, ⊎_elim}
 use Rattle.std.proofs.lemmas.Bool.{cases_Bool, cond-true, cond-false, cond_both}
-use Rattle.std.proofs.lemmas.List.{length-map}
 use Rattle.std.proofs.lemmas.List.Elements.{All-nil, All-cons, All-head, All-tail, All-weaker}
 use Rattle.dex_types.specs.declared.addresses.Address.{Address}
 use Rattle.dex_types.specs.Addresses.{is_same}
@@ -60,9 +58,6 @@ sums-agree exact other owners sums agree are = are ∙ each owners
     each : (some : List Address) → map (λ (of : Address). capped_amounts (exact of)) some ≡ map (λ (of : Address). capped_amounts (other of)) some
     each [] = refl
     each (of ∷ others) = rw (agree of) rw (each others) refl
-
-pub sums-long : (exact : Address → Amounts) (owners : List Address) (sums : List Amounts) → AreSums exact owners sums → length sums ≡ length owners
-sums-long exact owners sums are = ap length are ∙ length-map owners (λ (of : Address). capped_amounts (exact of))
 
 -- ---- bounds
 

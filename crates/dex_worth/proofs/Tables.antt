@@ -1,5 +1,5 @@
 -- What a journal tells of worth is what a market pays that pays at once.
-use Rattle.std.proofs.Common.{ℕ, ℤ, pos, ◌+ℤ◌, ◌-ℤ◌, ◌≡◌, ◌+◌, List, [], ◌∷◌, map, sym, ap, ◌∙◌, refl, arith}
+use Rattle.std.proofs.Common.{◌≡◌, List, [], ◌∷◌, map, sym, ap, ◌∙◌, refl, arith}
 use Rattle.dex_types.specs.declared.addresses.Address.{Address}
 use Rattle.dex_types.specs.Accounts.{PlainMarketAccounts}
 use Rattle.dex_types.specs.Market.{Market}
@@ -13,10 +13,10 @@ use Rattle.dex_accounts.proofs.Decoded.{told}
 use Rattle.dex_history.specs.Journal.{Call, IsLegal, market_after}
 use Rattle.dex_eager.specs.Eager.{Eager}
 use Rattle.dex_eager.specs.Histories.{eager_end, moves_of}
-use Rattle.dex_eager.specs.Worth.{Worth, held_for, no_moves, worth_in, worth_of}
+use Rattle.dex_eager.specs.Worth.{Worth, no_moves, worth_in, worth_of}
 use Rattle.dex_eager.proofs.DelayLaws.{history-market}
-use Rattle.dex_worth.specs.Tables.{told_of, worth_told, worths_told}
-use Rattle.dex_worth.specs.Told.{told_in, told_out}
+use Rattle.dex_replay.specs.WorthTold.{told_of, worth_told, worths_told}
+use Rattle.dex_replay.specs.Told.{told_in, told_out}
 use Rattle.dex_worth.proofs.Told.{all-told}
 
 module _ (m : Market) (calls : List Call) (last : PlainMarketAccounts) (sound : IsSound m) (legal : IsLegal m calls) (stands : StandsFor last (market_after m calls)) where

@@ -1,5 +1,5 @@
 -- What entries tell of what moved is what moved.
-use Rattle.std.proofs.Common.{ℕ, ◌+◌, ◌≡◌, ◌≤◌, Bool, true, List, [], ◌∷◌, Option, Some, None, Result, Ok, Err, refl, sym, ap, ◌∙◌, subst, arith}
+use Rattle.std.proofs.Common.{ℕ, ◌+◌, ◌≡◌, true, List, [], ◌∷◌, Option, Some, None, Result, Ok, Err, refl, sym, ap, ◌∙◌, arith}
 use Rattle.std.proofs.lemmas.Bool.{and_parts, cond_both, false≢true}
 use Rattle.dex_types.specs.declared.addresses.Address.{Address}
 use Rattle.dex_types.specs.declared.instructions.BadData.{BadData}
@@ -15,18 +15,16 @@ use Rattle.dex_types.specs.NewOrder.{NewOrder, Ordering, order_on}
 use Rattle.dex_types.specs.Requests.{Request, Party, party_of}
 use Rattle.dex_types.specs.Side.{Token, Coin, Pc, by_token, locked_token}
 use Rattle.dex_types.specs.Soundness.{IsSound}
-use Rattle.dex_types.specs.Steps.{Step, ordered, act_order, act, act_decoded, act_init, by_party, done, unless_refused, refused}
+use Rattle.dex_types.specs.Steps.{Step, ordered, act_order, act, act_decoded, act_init, by_party, unless_refused}
 use Rattle.dex_types.specs.Terms.{terms_order}
 use Rattle.dex_types.specs.Totals.{total}
-use Rattle.dex_types.specs.Transfers.{Transfers}
 use Rattle.dex_types.specs.Why.{why}
 use Rattle.dex_history.specs.Journal.{Asked, Call, IsLegal, Stands, acted_of, idle, is_done, is_held, is_take, step_of}
 use Rattle.dex_history.proofs.HeldLaws.{acted-priced}
 use Rattle.dex_history.proofs.PriceLaws.{asked-sound}
 use Rattle.dex_eager.specs.Histories.{moves_after}
 use Rattle.dex_eager.specs.Worth.{Ledger, deposit_in, for_account, settled_in, with_step}
-use Rattle.dex_worth.specs.Debits.{debits_in}
-use Rattle.dex_worth.specs.Told.{entering, side_of, told_deposit, told_in, told_out}
+use Rattle.dex_replay.specs.Told.{entering, side_of, told_deposit, told_in, told_out}
 use Rattle.dex_worth.proofs.Debits.{debits-are}
 
 -- what a step takes from a wallet for its account is told by how much it takes in all

@@ -11,7 +11,7 @@ use Rattle.dex_eager.specs.Worth as worth
 use Rattle.dex_worth.specs.declared.amounts.Amounts.{Amounts}
 use Rattle.dex_worth.specs.declared.entries.Moved.{Moved}
 use Rattle.dex_worth.specs.Amounts.{IsWithin, none, own}
-use Rattle.dex_worth.specs.Told.{entering, told_in, told_out}
+use Rattle.dex_replay.specs.Told.{entering, told_in, told_out}
 
 -- what enters the vaults where a new order of this side took so much from its wallet
 abbrev pub entered : Option Side → ℕ → Amounts

@@ -1,6 +1,5 @@
 -- What enters and leaves a market, and that nothing is made or lost in it.
 use Rattle.std.specs.Prelude.{ℕ, ℤ, pos, ◌+◌, ◌+ℤ◌, ◌≡◌, List, [], ◌∷◌}
-use Rattle.dex_types.specs.declared.addresses.Address.{Address}
 use Rattle.dex_types.specs.declared.replies.Reply.{Reply}
 use Rattle.dex_types.specs.declared.replies.Reply.TheVariants.{Took}
 use Rattle.dex_types.specs.Market.{Market}

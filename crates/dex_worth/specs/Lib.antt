@@ -1,9 +1,7 @@
-pub mod Debits
-pub mod Told
 pub mod Tables
 pub mod Amounts
 pub mod Entries
 pub mod Holdings
 pub mod Rows
-pub mod WorthText
+pub mod HeldText
 pub mod Flows

@@ -1,18 +1,13 @@
 -- Rows of a table of worth.
-use Rattle.std.specs.Prelude.{ℕ, ℤ, pos, ◌≡◌, length, ◌+◌, ◌^◌, ◌<◌, ◌+ℤ◌, ◌-ℤ◌}
+use Rattle.std.specs.Prelude.{pos, ◌≡◌, length, ◌+◌, ◌^◌, ◌<◌, ◌+ℤ◌, ◌-ℤ◌}
 use Rattle.dex_types.specs.declared.addresses.Address.{Address}
 use Rattle.dex_eager.specs.Worth.{Worth}
+use Rattle.dex_replay.specs.WorthTold.{PlainWorthRow}
 use Rattle.dex_worth.specs.declared.amounts.Amounts.{Amounts}
 use Rattle.dex_worth.specs.Amounts.{AreSums, AreWithin, IsWithin}
 use Rattle.dex_worth.specs.declared.table.Columns.{Columns}
 use Rattle.dex_worth.specs.declared.table.Worth as declared
 use Rattle.dex_worth.specs.declared.table.WorthRow.{WorthRow}
-
--- the worth of an account of a market
-pub record PlainWorthRow : Type 0 where
-  pub market : Address
-  pub account : Address
-  pub worth : Worth
 
 -- a worth, as it is told
 abbrev pub plain_worth : declared.Worth → Worth

@@ -10,11 +10,11 @@ ghost use Rattle.dex_history.specs.Journal.{Call, asked_of, front};
 ghost use Rattle.dex_history.specs.Mints.{debited};
 ghost use Rattle.dex_instruction.specs.Reading.{decoded};
 ghost use Rattle.dex_replay.specs.EntryCalls.{call_told, calls_told};
-ghost use Rattle.dex_script.specs.Drafts.{PlainScript};
+ghost use Rattle.dex_script_facts.specs.PlainScript.{PlainScript};
 ghost use Rattle.dex_worth.specs.Amounts as tally;
-ghost use Rattle.dex_worth.specs.Debits.{debits_in};
+ghost use Rattle.dex_replay.specs.Debits.{debits_in};
 ghost use Rattle.dex_worth.specs.Entries as told;
-ghost use Rattle.dex_worth.specs.Told as book;
+ghost use Rattle.dex_replay.specs.Told as book;
 
 use crate::amounts::{Amounts, NONE, add, on_side, zeros};
 use crate::rows::place_of;

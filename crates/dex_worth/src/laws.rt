@@ -9,17 +9,18 @@ ghost use Rattle.dex_replay.specs.EntryCalls.{TellsHistory};
 ghost use Rattle.dex_eager.specs.Histories.{deals, eager_end};
 ghost use Rattle.dex_replay.specs.Lawful.{AllThree, IsLawful};
 ghost use Rattle.dex_report.specs.Outcomes.{PlainMarketJournal, PlainOutcome};
-ghost use Rattle.dex_script.specs.Facts.{IsScript};
-ghost use Rattle.dex_script.specs.Drafts.{PlainScript};
-ghost use Rattle.dex_worth.specs.Tables.{PaysAtOnce, deals_told, rows_told, table_told, worth_in_row, worths_told};
+ghost use Rattle.dex_script_facts.specs.Facts.{IsScript};
+ghost use Rattle.dex_script_facts.specs.PlainScript.{PlainScript};
+ghost use Rattle.dex_replay.specs.WorthTold.{rows_told, table_told, worths_told};
+ghost use Rattle.dex_worth.specs.Tables.{PaysAtOnce, deals_told, worth_in_row};
 ghost use Rattle.dex_types.specs.Side.{Token};
 ghost use Rattle.dex_types.specs.Soundness.{IsSound};
 ghost use Rattle.dex_types.specs.Totals.{total};
 ghost use Rattle.dex_history.specs.Journal.{Call, IsLegal, Stands, step_of};
 ghost use Rattle.dex_eager.specs.Histories.{moves_of};
-ghost use Rattle.dex_worth.specs.Debits.{debits_in};
+ghost use Rattle.dex_replay.specs.Debits.{debits_in};
 ghost use Rattle.dex_worth.specs.Flows.{AddUp};
-ghost use Rattle.dex_worth.specs.Told.{told_in, told_out};
+ghost use Rattle.dex_replay.specs.Told.{told_in, told_out};
 
 use dex_replay::calls::an_entry_tells_its_call;
 

@@ -1,6 +1,7 @@
 //! The worth of every account of every market.
 
-ghost use Rattle.std.specs.Prelude.{◌≡◌, ℕ, ℤ, pos, ◌+◌, ◌+ℤ◌, ◌-ℤ◌, ◌≤ℤ◌, ◌<◌, ◌≤◌, ◌^◌, ◌++◌, [], ◌∷◌, length, map, OnOk, IfOk};
+ghost use Rattle.std.specs.Prelude.{◌≡◌, ℕ, ℤ, pos, ◌+◌, ◌+ℤ◌, ◌-ℤ◌, ◌≤ℤ◌, ◌<◌, ◌≤◌, ◌^◌, ◌++◌, [], ◌∷◌, length};
+ghost use Rattle.std.specs.Prelude.{map, OnOk, IfOk};
 ghost use Rattle.dex_types.specs.declared.addresses.Address.{Address as AddressOf};
 ghost use Rattle.std.specs.List.{All, AllPairs};
 ghost use Rattle.dex_types.specs.declared.account_bytes.MarketAccounts.{MarketAccounts as MarketAccountsOf};
@@ -9,9 +10,10 @@ ghost use Rattle.dex_types.specs.Accounts.{market_accounts_of};
 ghost use Rattle.dex_types.specs.Rows.{PlainRow, row_of};
 ghost use Rattle.dex_accounts.specs.Accepted.{IsAccepted};
 ghost use Rattle.dex_replay.specs.Lawful.{AllThree, IsLawful};
+ghost use Rattle.dex_replay.specs.WorthTold.{rows_told, table_told, tables_told};
 ghost use Rattle.dex_report.specs.Outcomes.{market_journal_of, outcome_of};
-ghost use Rattle.dex_script.specs.Drafts.{PlainScript};
-ghost use Rattle.dex_script.specs.Facts.{IsScript};
+ghost use Rattle.dex_script_facts.specs.PlainScript.{PlainScript};
+ghost use Rattle.dex_script_facts.specs.Facts.{IsScript};
 ghost use Rattle.dex_worth.specs.declared.amounts.Amounts.{Amounts as AmountsOf};
 ghost use Rattle.dex_worth.specs.Amounts as tally;
 ghost use Rattle.dex_worth.specs.Rows as shown;
@@ -158,7 +160,7 @@ fn market_rows(
     ensures { OnOk result ((script : PlainScript) → map row_of rows.now ≡ script.rows
         → book.IsToldHere script (market_accounts_of market.now) (market_journal_of journal.now)
         → map shown.plain_row table.new.items ≡ map shown.plain_row table.old.items
-        ++ book.rows_told script (market_accounts_of market.now) (market_journal_of journal.now)) }
+        ++ rows_told script (market_accounts_of market.now) (market_journal_of journal.now)) }
 {
     if journal.entries.len() > MOST_ENTRIES {
         return Err(NoMemory);
@@ -187,7 +189,7 @@ fn all_rows(
     ensures { IfOk result (λ table. (script : PlainScript) → map row_of rows.now ≡ script.rows
         → book.AreToldHere script (map market_accounts_of markets.now) (map market_journal_of journals.now)
         → map shown.plain_row table.items
-        ≡ book.tables_told script (map market_accounts_of markets.now) (map market_journal_of journals.now)) }
+        ≡ tables_told script (map market_accounts_of markets.now) (map market_journal_of journals.now)) }
 {
     let mut table = Vec::new(alloc);
     let count = markets.len().min(journals.len());
@@ -208,7 +210,7 @@ pub fn worth_table(
     requires rising { AllPairs (λ (one other : PlainRow). one.number ≤ other.number) (map row_of rows.now) }
     ensures told { IfOk result (λ table. (script : PlainScript) → IsScript script
         → map row_of rows.now ≡ script.rows → IsLawful script (outcome_of outcome.now)
-        → map shown.plain_row table.items ≡ book.table_told script (outcome_of outcome.now)) }
+        → map shown.plain_row table.items ≡ table_told script (outcome_of outcome.now)) }
     ensures paid_at_once { (script : PlainScript) → IsScript script → IsLawful script (outcome_of outcome.now)
         → AllThree (book.PaysAtOnce script) script.start.markets (outcome_of outcome.now).accounts.markets
         (outcome_of outcome.now).markets }

@@ -58,7 +58,8 @@ impl Sink for MemSink {
     fn write(&mut self, piece: &[u8]) -> Result<usize, Failed>
         ensures listed { Contains self.old.fails self.old.calls → IsErr result }
         ensures others { ¬ Contains self.old.fails self.old.calls → Writes self.old.sink piece.now result self.new.sink }
-        ensures err { OnErr result (self.new.sink ≡ record self.old.sink { faults = next_count self.old.sink.faults }) }
+        ensures err { OnErr result (self.new.sink
+            ≡ record self.old.sink { faults = next_count self.old.sink.faults }) }
 
         ensures failed { OnErr result (Rose self.old.sink.faults self.new.sink.faults) }
         ensures later { self.old.sink.faults ≤ self.new.sink.faults }

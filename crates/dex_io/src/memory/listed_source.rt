@@ -54,7 +54,8 @@ impl Source for MemSource {
         ensures listed { IsErr result ↔ Contains self.old.fails self.old.calls }
 
         ensures count { IfOk result (λ n. n ≡ min (length buf.old) (length self.old.left)) }
-        ensures buffer { OnOk result (buf.new ≡ take (length buf.old) self.old.left ++ drop (length self.old.left) buf.old) }
+        ensures buffer { OnOk result (buf.new
+            ≡ take (length buf.old) self.old.left ++ drop (length self.old.left) buf.old) }
         ensures ok { OnOk result (self.new ≡ record self.old {
           left = drop (length buf.old) self.old.left;
           calls = next_count self.old.calls;

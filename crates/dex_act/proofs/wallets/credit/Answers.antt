@@ -1,4 +1,4 @@
-use Rattle.std.proofs.Common.{sym, ap}
+use Rattle.std.proofs.Common.{set, sym, ap}
 use Rattle.dex_types.specs.declared.movements.MoveKind.TheVariants.{Credit}
 use Rattle.dex_types.specs.Rows.{row_of}
 use Rattle.dex_act.specs.Wallets.{amount_in}
@@ -8,8 +8,8 @@ use Rattle.dex_act.proofs.wallets.credit.Goals as goal
 
 pub returns-in-Some : goal.returns-in-Some
 returns-in-Some c =
-    credited-here (row_of c.args.row.now) c.args.role.now c.args.parcel c.in-Some.parcel c.args.cells.now c.credit_at.new.cells c.args.place
-    c.in-Some.is c.requires.apart c.requires.can c.requires.here c.credit_at.ensures
+    credited-here (row_of c.args.row.now) c.args.role.now c.args.parcel c.in-Some.parcel c.args.cells.now _ c.args.place c.in-Some.is c.requires.apart c.requires.can c.requires.here
+    c.index-cells-place.result (ap (set c.args.cells.now c.args.place) c.credit.ensures.moved)
 
 pub returns-in-None : goal.returns-in-None
 returns-in-None c =

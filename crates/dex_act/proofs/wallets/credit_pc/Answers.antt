@@ -11,38 +11,38 @@ use Rattle.dex_act.proofs.wallets.credit_pc.Goals as goal
 
 pub join-both-requires : goal.join-both-requires
 join-both-requires c =
-    let one : is_one c.args.seen.now.pc c.args.seen.now.referrer ≡ true = sym c.is_one.ensures ∙ c.if-is_one.true in
+    let one : is_one c.args.asked.now.seen.now.pc c.args.asked.now.seen.now.referrer ≡ true = sym c.is_one.ensures ∙ c.if-is_one.true in
     record {
       mint = c.requires.mint;
       first_is = c.requires.pc_is;
       second_is = c.requires.referrer_is;
-      fits = fits-together c.args.seen.now.pc c.args.seen.now.referrer (amount_in c.args.pc) (amount_in c.args.referrer) c.requires.mint c.args.cells.now
-          c.args.places.now.pc one c.requires.at.pc c.requires.each;
+      fits = fits-together c.args.asked.now.seen.now.pc c.args.asked.now.seen.now.referrer (amount_in c.args.pc) (amount_in c.args.referrer) c.requires.mint c.args.cells.now
+          c.args.asked.now.places.now.pc one c.requires.at.pc c.requires.each;
     }
 
 pub credit-requires-else-is_one-2-clause-apart : goal.credit-requires-else-is_one-2-clause-apart
 credit-requires-else-is_one-2-clause-apart c =
-    let change = role_moved (row_of c.args.row.now) Credit c.args.seen.now.pc (amount_in c.args.pc) in
+    let change = role_moved (row_of c.args.asked.now.row.now) Credit c.args.asked.now.seen.now.pc (amount_in c.args.pc) in
     subst AreApart (sym c.credit-else-is_one.ensures)
-    (AreApart-map change c.args.cells.now (role_moved-address (row_of c.args.row.now) Credit c.args.seen.now.pc (amount_in c.args.pc)) c.requires.apart)
+    (AreApart-map change c.args.cells.now (role_moved-address (row_of c.args.asked.now.row.now) Credit c.args.asked.now.seen.now.pc (amount_in c.args.pc)) c.requires.apart)
 
 pub credit-requires-else-is_one-2-clause-here : goal.credit-requires-else-is_one-2-clause-here
 credit-requires-else-is_one-2-clause-here c =
-    let change = role_moved (row_of c.args.row.now) Credit c.args.seen.now.pc (amount_in c.args.pc) in
-    subst (λ (cells : List CellState). IsRoleAt cells (address_seen c.args.seen.now.referrer) c.args.places.now.referrer) (sym c.credit-else-is_one.ensures)
-    (IsRoleAt-map change c.args.cells.now (address_seen c.args.seen.now.referrer) c.args.places.now.referrer
-    (role_moved-address (row_of c.args.row.now) Credit c.args.seen.now.pc (amount_in c.args.pc)) c.requires.at.referrer)
+    let change = role_moved (row_of c.args.asked.now.row.now) Credit c.args.asked.now.seen.now.pc (amount_in c.args.pc) in
+    subst (λ (cells : List CellState). IsRoleAt cells (address_seen c.args.asked.now.seen.now.referrer) c.args.asked.now.places.now.referrer) (sym c.credit-else-is_one.ensures)
+    (IsRoleAt-map change c.args.cells.now (address_seen c.args.asked.now.seen.now.referrer) c.args.asked.now.places.now.referrer
+    (role_moved-address (row_of c.args.asked.now.row.now) Credit c.args.asked.now.seen.now.pc (amount_in c.args.pc)) c.requires.at.referrer)
 
 pub credit-requires-else-is_one-2-clause-can : goal.credit-requires-else-is_one-2-clause-can
 credit-requires-else-is_one-2-clause-can c =
-    let apart : is_one c.args.seen.now.pc c.args.seen.now.referrer ≡ false = sym c.is_one.ensures ∙ c.if-is_one.false in
-    can-credit c.args.seen.now.referrer c.args.referrer c.requires.mint c.credit-else-is_one.new.cells c.requires.referrer_is c.requires.referrer_named
-    (subst (All (λ (cell : CellState). CanPut c.requires.mint (amount_at cell.address c.args.seen.now.referrer (amount_in c.args.referrer)) cell)) (sym c.credit-else-is_one.ensures)
-    (second-put (row_of c.args.row.now) c.args.seen.now (amount_in c.args.pc) (amount_in c.args.referrer) c.requires.mint c.args.cells.now apart c.requires.each))
+    let apart : is_one c.args.asked.now.seen.now.pc c.args.asked.now.seen.now.referrer ≡ false = sym c.is_one.ensures ∙ c.if-is_one.false in
+    can-credit c.args.asked.now.seen.now.referrer c.args.referrer c.requires.mint c.credit-else-is_one.new.cells c.requires.referrer_is c.requires.referrer_named
+    (subst (All (λ (cell : CellState). CanPut c.requires.mint (amount_at cell.address c.args.asked.now.seen.now.referrer (amount_in c.args.referrer)) cell)) (sym c.credit-else-is_one.ensures)
+    (second-put (row_of c.args.asked.now.row.now) c.args.asked.now.seen.now (amount_in c.args.pc) (amount_in c.args.referrer) c.requires.mint c.args.cells.now apart c.requires.each))
 
 pub returns-else-is_one : goal.returns-else-is_one
 returns-else-is_one c =
-    let apart : is_one c.args.seen.now.pc c.args.seen.now.referrer ≡ false = sym c.is_one.ensures ∙ c.if-is_one.false in
+    let apart : is_one c.args.asked.now.seen.now.pc c.args.asked.now.seen.now.referrer ≡ false = sym c.is_one.ensures ∙ c.if-is_one.false in
     c.credit-else-is_one-2.ensures
-    ∙ ap (λ (cells : List CellState). map (role_moved (row_of c.args.row.now) Credit c.args.seen.now.referrer (amount_in c.args.referrer)) cells) c.credit-else-is_one.ensures
-    ∙ credited-apart (row_of c.args.row.now) c.args.seen.now (amount_in c.args.pc) (amount_in c.args.referrer) c.args.cells.now apart
+    ∙ ap (λ (cells : List CellState). map (role_moved (row_of c.args.asked.now.row.now) Credit c.args.asked.now.seen.now.referrer (amount_in c.args.referrer)) cells) c.credit-else-is_one.ensures
+    ∙ credited-apart (row_of c.args.asked.now.row.now) c.args.asked.now.seen.now (amount_in c.args.pc) (amount_in c.args.referrer) c.args.cells.now apart

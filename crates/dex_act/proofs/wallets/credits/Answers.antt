@@ -10,8 +10,8 @@ use Rattle.dex_act.proofs.wallets.credits.Goals as goal
 
 pub credit_pc-requires : goal.credit_pc-requires
 credit_pc-requires c =
-    let row = row_of c.args.row.now in
-    let seen = c.args.seen.now in
+    let row = row_of c.args.asked.now.row.now in
+    let seen = c.args.asked.now.seen.now in
     let amount = amount_in c.args.payouts.coin in
     let change = role_moved row Credit seen.coin amount in
     let keeps : KeepsAddress change = role_moved-address row Credit seen.coin amount in
@@ -20,8 +20,8 @@ credit_pc-requires c =
       pc_is = c.requires.pc_is;
       referrer_is = c.requires.referrer_is;
       apart = subst AreApart (sym c.credit.ensures) (AreApart-map change c.args.cells.now keeps c.requires.apart);
-      at = subst (λ (cells : List CellState). AreSeenAt cells seen c.args.places.now) (sym c.credit.ensures)
-          (AreSeenAt-map change c.args.cells.now seen c.args.places.now keeps c.requires.at);
+      at = subst (λ (cells : List CellState). AreSeenAt cells seen c.args.asked.now.places.now) (sym c.credit.ensures)
+          (AreSeenAt-map change c.args.cells.now seen c.args.asked.now.places.now keeps c.requires.at);
       pc_named = c.requires.pc_named;
       referrer_named = c.requires.referrer_named;
       each = subst
@@ -31,8 +31,8 @@ credit_pc-requires c =
 
 pub returns : goal.returns
 returns c =
-    let row = row_of c.args.row.now in
-    let seen = c.args.seen.now in
+    let row = row_of c.args.asked.now.row.now in
+    let seen = c.args.asked.now.seen.now in
     let pc = amount_in c.args.payouts.pc in
     let referrer = amount_in c.args.payouts.referrer in
     c.credit_pc.ensures

@@ -11,32 +11,32 @@ use Rattle.dex_act.proofs.wallets.debits.Goals as goal
 
 pub debit-pc-requires-clause-apart : goal.debit-pc-requires-clause-apart
 debit-pc-requires-clause-apart c =
-    let change = role_moved (row_of c.args.row.now) Debit c.args.seen.now.coin c.args.amounts.now.coin_in in
+    let change = role_moved (row_of c.args.asked.now.row.now) Debit c.args.asked.now.seen.now.coin c.args.amounts.now.coin_in in
     subst AreApart (sym c.debit-coin.ensures.moved)
-    (AreApart-map change c.args.cells.now (role_moved-address (row_of c.args.row.now) Debit c.args.seen.now.coin c.args.amounts.now.coin_in) c.requires.apart)
+    (AreApart-map change c.args.cells.now (role_moved-address (row_of c.args.asked.now.row.now) Debit c.args.asked.now.seen.now.coin c.args.amounts.now.coin_in) c.requires.apart)
 
 pub debit-pc-requires-clause-here : goal.debit-pc-requires-clause-here
 debit-pc-requires-clause-here c =
-    let change = role_moved (row_of c.args.row.now) Debit c.args.seen.now.coin c.args.amounts.now.coin_in in
-    subst (λ (cells : List CellState). IsRoleAt cells (address_seen c.args.seen.now.pc) c.args.places.now.pc) (sym c.debit-coin.ensures.moved)
-    (IsRoleAt-map change c.args.cells.now (address_seen c.args.seen.now.pc) c.args.places.now.pc
-    (role_moved-address (row_of c.args.row.now) Debit c.args.seen.now.coin c.args.amounts.now.coin_in) c.requires.at.pc)
+    let change = role_moved (row_of c.args.asked.now.row.now) Debit c.args.asked.now.seen.now.coin c.args.amounts.now.coin_in in
+    subst (λ (cells : List CellState). IsRoleAt cells (address_seen c.args.asked.now.seen.now.pc) c.args.asked.now.places.now.pc) (sym c.debit-coin.ensures.moved)
+    (IsRoleAt-map change c.args.cells.now (address_seen c.args.asked.now.seen.now.pc) c.args.asked.now.places.now.pc
+    (role_moved-address (row_of c.args.asked.now.row.now) Debit c.args.asked.now.seen.now.coin c.args.amounts.now.coin_in) c.requires.at.pc)
 
 pub debit-pc-requires-clause-can : goal.debit-pc-requires-clause-can
 debit-pc-requires-clause-can c =
-    subst (All (λ (cell : CellState). CanTake (amount_at cell.address c.args.seen.now.pc c.args.amounts.now.pc_in) cell)) (sym c.debit-coin.ensures.moved)
-    (second-can (row_of c.args.row.now) c.args.seen.now c.args.amounts.now.coin_in c.args.amounts.now.pc_in c.args.cells.now c.args.places.now c.requires)
+    subst (All (λ (cell : CellState). CanTake (amount_at cell.address c.args.asked.now.seen.now.pc c.args.amounts.now.pc_in) cell)) (sym c.debit-coin.ensures.moved)
+    (second-can (row_of c.args.asked.now.row.now) c.args.asked.now.seen.now c.args.amounts.now.coin_in c.args.amounts.now.pc_in c.args.cells.now c.args.asked.now.places.now c.requires)
 
 pub returns-clause-pc : goal.returns-clause-pc
 returns-clause-pc c = λ mint of.
     c.debit-pc.ensures.parcel mint
-    (subst (All (λ (cell : CellState). IsOf mint (amount_at cell.address c.args.seen.now.pc c.args.amounts.now.pc_in) cell)) (sym c.debit-coin.ensures.moved)
-    (second-All (row_of c.args.row.now) c.args.seen.now c.args.amounts.now.coin_in c.args.amounts.now.pc_in c.args.cells.now
-    (λ (cell : CellState). IsOf mint (amount_at cell.address c.args.seen.now.pc c.args.amounts.now.pc_in) cell) c.requires.one of
-    (λ none cell. inl (none-at cell.address c.args.seen.now.pc c.args.amounts.now.pc_in none))))
+    (subst (All (λ (cell : CellState). IsOf mint (amount_at cell.address c.args.asked.now.seen.now.pc c.args.amounts.now.pc_in) cell)) (sym c.debit-coin.ensures.moved)
+    (second-All (row_of c.args.asked.now.row.now) c.args.asked.now.seen.now c.args.amounts.now.coin_in c.args.amounts.now.pc_in c.args.cells.now
+    (λ (cell : CellState). IsOf mint (amount_at cell.address c.args.asked.now.seen.now.pc c.args.amounts.now.pc_in) cell) c.requires.one of
+    (λ none cell. inl (none-at cell.address c.args.asked.now.seen.now.pc c.args.amounts.now.pc_in none))))
 
 pub returns-clause-moved : goal.returns-clause-moved
 returns-clause-moved c =
     c.debit-pc.ensures.moved
-    ∙ ap (λ (cells : List CellState). map (role_moved (row_of c.args.row.now) Debit c.args.seen.now.pc c.args.amounts.now.pc_in) cells) c.debit-coin.ensures.moved
-    ∙ debited-together (row_of c.args.row.now) c.args.seen.now c.args.amounts.now.coin_in c.args.amounts.now.pc_in c.args.cells.now c.requires.one
+    ∙ ap (λ (cells : List CellState). map (role_moved (row_of c.args.asked.now.row.now) Debit c.args.asked.now.seen.now.pc c.args.amounts.now.pc_in) cells) c.debit-coin.ensures.moved
+    ∙ debited-together (row_of c.args.asked.now.row.now) c.args.asked.now.seen.now c.args.amounts.now.coin_in c.args.amounts.now.pc_in c.args.cells.now c.requires.one

@@ -2,17 +2,17 @@ use Rattle.std.proofs.Common.{◌≡◌, ℕ, List, length, map, ap, ◌∙◌}
 use Rattle.dex_fold.proofs.Common.{PlainAccount, PlainMarketAccounts, accounts_of, length-map, market_accounts_of, named_of, row_of}
 use Rattle.dex_bank.proofs.Common.{AreSound, IsAccepted, IsWallet, rows_naming, rows_on}
 use Rattle.dex_bank.proofs.OpenCells.{AreCells-opened}
-use Rattle.dex_bank.proofs.OpenLists.{unmapped}
+use Rattle.dex_fold.proofs.MappedLists.{All-unmap}
 use Rattle.dex_bank.proofs.opening.opened.Goals as goal
 
 pub market_cells-requires-clause-sound : goal.market_cells-requires-clause-sound
-market_cells-requires-clause-sound c = unmapped AreSound market_accounts_of c.args.start.markets.items c.requires.start.sound
+market_cells-requires-clause-sound c = All-unmap AreSound market_accounts_of c.args.start.markets.items c.requires.start.sound
 
 pub market_cells-requires-clause-accepted : goal.market_cells-requires-clause-accepted
-market_cells-requires-clause-accepted c = unmapped IsAccepted market_accounts_of c.args.start.markets.items c.requires.start.accepted.markets
+market_cells-requires-clause-accepted c = All-unmap IsAccepted market_accounts_of c.args.start.markets.items c.requires.start.accepted.markets
 
 pub wallet_cells-requires-clause-wallets : goal.wallet_cells-requires-clause-wallets
-wallet_cells-requires-clause-wallets c = unmapped (λ w. IsWallet w.bytes) named_of c.args.start.wallets.items c.requires.start.accepted.wallets
+wallet_cells-requires-clause-wallets c = All-unmap (λ w. IsWallet w.bytes) named_of c.args.start.wallets.items c.requires.start.accepted.wallets
 
 -- as many as there are of what was counted
 long : {A B : Type 0} (f : B → ℕ) (g : A → B) (xs : List A) (rooms told : List ℕ) → rooms ≡ told → told ≡ map f (map g xs) → length rooms ≡ length xs
@@ -21,16 +21,16 @@ long f g xs rooms told is counted = ap (λ (l : List ℕ). length l) (is ∙ cou
 pub market_cells-requires-clause-rooms : goal.market_cells-requires-clause-rooms
 market_cells-requires-clause-rooms c =
     long (λ (one : PlainMarketAccounts). rows_on one.address (map row_of c.args.rows.now)) market_accounts_of c.args.start.markets.items c.deref.result.now
-    c.in_ok-market_rooms.market_rooms.items c.deref.ensures.value c.in_ok-market_rooms.ensures
+    c.in_ok-rooms.rooms.markets.items c.deref.ensures.value c.in_ok-rooms.ensures.markets
 
 pub wallet_cells-requires-clause-rooms : goal.wallet_cells-requires-clause-rooms
 wallet_cells-requires-clause-rooms c =
     long (λ (one : PlainAccount). rows_naming one.address (map row_of c.args.rows.now)) named_of c.args.start.wallets.items c.deref-2.result.now
-    c.in_ok-wallet_rooms.wallet_rooms.items c.deref-2.ensures.value c.in_ok-wallet_rooms.ensures
+    c.in_ok-rooms.rooms.wallets.items c.deref-2.ensures.value c.in_ok-rooms.ensures.wallets
 
 pub invariant_of-result : goal.invariant_of-result
 invariant_of-result c =
     let rows = map row_of c.args.rows.now in
     AreCells-opened (accounts_of c.args.start) rows _ c.requires.start
-    (c.in_ok-markets.ensures rows (c.deref.ensures.value ∙ c.in_ok-market_rooms.ensures))
-    (c.in_ok-wallets.ensures.opened rows (c.deref-2.ensures.value ∙ c.in_ok-wallet_rooms.ensures)) c.in_ok-wallets.ensures.cells
+    (c.in_ok-markets.ensures rows (c.deref.ensures.value ∙ c.in_ok-rooms.ensures.markets))
+    (c.in_ok-wallets.ensures.opened rows (c.deref-2.ensures.value ∙ c.in_ok-rooms.ensures.wallets)) c.in_ok-wallets.ensures.cells

@@ -1,38 +1,31 @@
-use Rattle.std.proofs.Common.{◌≡◌, ℕ, ◌<◌, List, [], ◌∷◌, length, get_or, is_some, arith, Option, sym, ap, ◌∙◌, subst}
-use Rattle.dex_fold.proofs.Common.{Refusal, Seen, request_of, row_of, seen_by, why, why_in}
-use Rattle.dex_bank.proofs.Common.{CanAct, CellsState, IsFirstAt, MarketCellState, cells_inside, world_of}
+use Rattle.std.proofs.Common.{◌≡◌, get_or, is_some, Option, sym, ap, ◌∙◌, subst}
+use Rattle.dex_fold.proofs.Common.{Refusal, Seen, request_of, row_of, why}
+use Rattle.dex_bank.proofs.Common.{AreCells, CellsState, MarketCellState}
+use Rattle.std.specs.Result.{is_err}
 use Rattle.dex_cell.specs.CellState.{IsFor, market_at}
-use Rattle.dex_bank.proofs.StepCells.{can-act-at, refused-here}
+use Rattle.dex_cell.proofs.PlanLaws.{answered-refused}
+use Rattle.dex_bank.proofs.StepCells.{can-act-on, refused-here}
 use Rattle.dex_bank.proofs.stepping.is_refused.Goals as goal
+use Rattle.dex_bank.proofs.stepping.is_refused.Goals.{After-index}
 
-pub is_refused_at-requires-clause-row : goal.is_refused_at-requires-clause-row
-is_refused_at-requires-clause-row c = λ default.
-    let cells : CellsState = cells_inside c.cells.inside in
-    let row = c.args.row.now in
-    let seen : Seen = c.seen_by-seen.result in
-    let place = c.args.standing.now.market in
-    subst (λ (ms : List MarketCellState). IsFor row seen (get_or ms place default)) (sym c.deref.ensures.value)
-    ((can-act-at row seen place cells
-    (subst (λ (cs : CellsState). seen ≡ seen_by (row_of row) (world_of cs)) (sym c.cells.view_is) c.seen_by-seen.ensures.seen)
-    (subst (λ (cs : CellsState). IsFirstAt row.market cs.markets place) (sym c.cells.view_is) c.requires.places.market)
-    c.cells.invariant (subst (CanAct (row_of row)) (sym c.cells.view_is) c.requires.row) c.seen_by-seen.ensures.fits).for default)
+-- the cell that is read
+read-is : (c : After-index) → c.index.result.now ≡ get_or c.args.cells.now.markets c.args.standing.now.market c.index.result.now
+read-is c =
+    c.index.ensures ∙ ap (λ (cs : CellsState). get_or cs.markets c.args.standing.now.market c.index.result.now) c.cells.view_is
 
--- one of some cells
-some-of : (cells : List MarketCellState) (place : ℕ) → place < length cells → MarketCellState
-some-of [] place within = absurd (omega (arith, within))
-some-of (cell ∷ cells) place within = cell
+pub decide-requires : goal.decide-requires
+decide-requires c =
+    subst (IsFor c.args.row.now c.seen_by-seen.result) (sym (read-is (goal.at.decide-requires c).After-index))
+    (can-act-on c.args.row.now c.seen_by-seen.result c.args.standing.now.market c.args.cells.now c.seen_by-seen.ensures.seen c.requires.places.market c.index.result.now
+    (subst AreCells c.cells.view_is c.cells.invariant) c.requires.row c.seen_by-seen.ensures.fits).for
 
 pub returns-clause-refused : goal.returns-clause-refused
 returns-clause-refused c =
-    let cells : CellsState = cells_inside c.cells.inside in
-    let row = c.args.row.now in
+    let row = row_of c.args.row.now in
     let seen : Seen = c.seen_by-seen.result in
-    let place = c.args.standing.now.market in
-    let default : MarketCellState = some-of c.args.cells.now.markets place c.requires.places.market.within in
-    subst (λ (cs : CellsState). c.is_refused_at.result ≡ is_some (why_in (world_of cs) (row_of row))) c.cells.view_is
-    (subst (λ (ms : List MarketCellState). c.is_refused_at.result ≡ is_some (why (request_of (row_of row)) seen (market_at (get_or ms place default)))) c.deref.ensures.value
-    (c.is_refused_at.ensures default)
+    c.is_err.ensures.value
+    ∙ ap is_err c.decide.ensures
+    ∙ answered-refused (why (request_of row) seen (market_at c.index.result.now)) _
+    ∙ ap (λ (cell : MarketCellState). is_some (why (request_of row) seen (market_at cell))) (read-is (goal.at.returns-clause-refused c).After-index)
     ∙ ap (λ (found : Option Refusal). is_some found)
-    (refused-here row seen place cells
-    (subst (λ (cs : CellsState). seen ≡ seen_by (row_of row) (world_of cs)) (sym c.cells.view_is) c.seen_by-seen.ensures.seen)
-    (subst (λ (cs : CellsState). IsFirstAt row.market cs.markets place) (sym c.cells.view_is) c.requires.places.market) default))
+    (refused-here c.args.row.now seen c.args.standing.now.market c.args.cells.now c.seen_by-seen.ensures.seen c.requires.places.market c.index.result.now)

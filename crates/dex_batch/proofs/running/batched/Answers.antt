@@ -5,10 +5,9 @@ use Rattle.dex_types.specs.declared.rows.Row.{Row}
 use Rattle.dex_types.specs.declared.rows.RowPlaces.{RowPlaces}
 use Rattle.dex_types.specs.Accounts.{PlainAccount, PlainMarketAccounts, market_accounts_of, named_of}
 use Rattle.dex_types.specs.Rows.{row_of}
-use Rattle.dex_script.specs.Drafts.{PlainScript}
-use Rattle.dex_script.specs.Facts.{IsScript}
-use Rattle.dex_script.specs.Places.{ArePlaced}
-use Rattle.dex_team.specs.Slots.{market_addresses, wallet_addresses}
+use Rattle.dex_script_facts.specs.PlainScript.{PlainScript}
+use Rattle.dex_script_facts.specs.Facts.{IsScript}
+use Rattle.dex_script_facts.specs.Places.{ArePlaced, market_addresses, wallet_addresses}
 use Rattle.dex_batch.proofs.Endings.{rows-few}
 use Rattle.dex_batch.proofs.running.batched.Goals as goal
 

@@ -3,7 +3,7 @@ use Rattle.dex_report.specs.declared.outcome.Outcome.{Outcome}
 use Rattle.dex_report.specs.Outcomes.{outcome_of}
 use Rattle.dex_replay.specs.Replays.{IsReplayOf}
 use Rattle.dex_replay.specs.Runs.{IsRunOf}
-use Rattle.dex_script.specs.Facts.{IsScript}
+use Rattle.dex_script_facts.specs.Facts.{IsScript}
 use Rattle.dex_batch.proofs.running.run_batch.Goals as goal
 
 then-ok : {A E : Type 0} (P Q : A → Type 0) (result : Result A E) → ((x : A) → P x → Q x) → IfOk result P → IfOk result Q

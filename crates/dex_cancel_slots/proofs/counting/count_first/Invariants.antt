@@ -5,8 +5,8 @@ use Rattle.dex_cancel_slots.proofs.counting.count_first.Given as goal
 
 abbrev pub invariant-slots : goal.invariant-slots
 invariant-slots g l =
-    let named = orders_in any_holding (g.B.SideRead.orders l.bids) (g.A.SideRead.orders l.asks) in record {
-      sum : l.count + length (named (drop l.slot (slots_in l.orders))) ≡ length (named (slots_in l.orders));
+    let named = orders_in any_holding (g.B.SideRead.orders l.own.bids.now) (g.A.SideRead.orders l.own.asks.now) in record {
+      sum : l.count + length (named (drop l.slot (slots_in l.own.orders))) ≡ length (named (slots_in l.own.orders));
       small : l.count ≤ l.slot;
       most : l.count ≤ l.limit;
     }

@@ -9,11 +9,11 @@ use Rattle.dex_cancel_slots.proofs.counting.count_listed.Goals.{then-takes_one, 
 
 pub loop-place-preserved : goal.loop-place-preserved
 loop-place-preserved g c =
-    let bids = g.B.SideRead.orders c.args.bids.now in
-    let asks = g.A.SideRead.orders c.args.asks.now in
-    let all = all_orders_of c.args.account bids asks in
-    let bids_held = g.met.B.SideRead.is_book_side c.args.bids.now c.requires.bids in
-    let asks_held = g.met.A.SideRead.is_book_side c.args.asks.now c.requires.asks in
+    let bids = g.B.SideRead.orders c.args.own.now.bids.now in
+    let asks = g.A.SideRead.orders c.args.own.now.asks.now in
+    let all = all_orders_of c.args.own.now.account bids asks in
+    let bids_held = g.met.B.SideRead.is_book_side c.args.own.now.bids.now c.requires.own.bids in
+    let asks_held = g.met.A.SideRead.is_book_side c.args.own.now.asks.now c.requires.own.asks in
     let ids = c.args.ids.now.ids in
     let place = c.loop-place.place in
     let clients = take c.args.ids.now.count ids in
@@ -21,7 +21,7 @@ loop-place-preserved g c =
     let most = c.args.ids.now.at_most_eight in
     let within : place < c.args.ids.now.count = omega (arith, c.loop-place-test.true, c.from-place-end.ensures) in
     let more = length-next clients place client all (next-id ids c.args.ids.now.count place within (omega (arith, most))) in
-    let one = length-taken_by client (take place clients) all (all-apart c.args.account _ _ bids asks bids_held.in_order asks_held.in_order) in
+    let one = length-taken_by client (take place clients) all (all-apart c.args.own.now.account _ _ bids asks bids_held.in_order asks_held.in_order) in
     let test = ap (λ cs. one_if (not (eqb client 0) && ltb (count_among client cs) (count_of_client client all))) (take-take place c.args.ids.now.count ids (omega (arith, within))) in
     let is = ap one_if c.takes_one.ensures in
     let held = c.loop-place.invariant in elim c.if-takes_one.branch [

@@ -1,8 +1,9 @@
-use Rattle.std.proofs.Common.{refl, sym, ◌∙◌, arith}
+use Rattle.std.proofs.Common.{refl, sym, ap, ◌∙◌, arith}
+use Rattle.dex_orders.specs.OrdersAccount.{slots_of}
 use Rattle.dex_orders.proofs.SlotLaw.{length-slots_of}
 use Rattle.dex_cancel.specs.Finding.{maybe_resting, older_of}
 use Rattle.dex_cancel_slots.specs.Given.{slots_in}
-use Rattle.dex_cancel_slots.specs.Slots.{has_client, oldest_of, orders_in}
+use Rattle.dex_cancel_slots.specs.Slots.{has_client, held_in, named_by_slot, oldest_of, orders_in}
 use Rattle.dex_cancel_slots.proofs.AnswerLaws.{told-oldest}
 use Rattle.dex_cancel_slots.proofs.SlotSteps.{older_of-none, oldest-step}
 use Rattle.dex_cancel_slots.proofs.TakenLaws.{past-taken}
@@ -10,9 +11,17 @@ use Rattle.dex_cancel_slots.proofs.finding.find_oldest.Goals as goal
 
 pub slots-preserved : goal.slots-preserved
 slots-preserved g c =
-    oldest-step (has_client c.args.client) (g.B.SideRead.orders c.args.bids.now) (g.A.SideRead.orders c.args.asks.now) (slots_in c.args.orders.now) c.slots.slot
+    let test = has_client c.args.client in
+    let bids = g.B.SideRead.orders c.args.bids.now in
+    let asks = g.A.SideRead.orders c.args.asks.now in
+    let own = c.gathered.result in
+    let named = c.named_at.ensures
+    ∙ ap (λ b. named_by_slot test (g.B.SideRead.orders b) (g.A.SideRead.orders own.asks.now) (held_in (slots_in own.orders) c.slots.slot)) c.gathered.ensures.bids
+    ∙ ap (λ a. named_by_slot test bids (g.A.SideRead.orders a) (held_in (slots_in own.orders) c.slots.slot)) c.gathered.ensures.asks
+    ∙ ap (λ b. named_by_slot test bids asks (held_in (slots_of b) c.slots.slot)) c.gathered.ensures.orders in
+    oldest-step test bids asks (slots_in c.args.orders.now) c.slots.slot
     (omega (arith, length-slots_of c.args.orders.now.bytes.now, c.slots-test.true, c.taken_end-end.ensures.within))
-    (maybe_resting c.slots.found) (maybe_resting c.named_at.result) (maybe_resting c.older_of-found.result) c.named_at.ensures c.older_of-found.ensures
+    (maybe_resting c.slots.found) (maybe_resting c.named_at.result) (maybe_resting c.older_of-found.result) named c.older_of-found.ensures
     ∙ c.slots.invariant
 
 pub returns : goal.returns

@@ -1,35 +1,16 @@
-use Rattle.std.proofs.Common.{All, List, append-nil, append_assoc, map, subst}
+use Rattle.std.proofs.Common.{All, List, map, subst}
 use Rattle.dex_types.specs.declared.account_bytes.MarketAccounts.{MarketAccounts}
-use Rattle.dex_types.specs.declared.account_bytes.Named.{Named}
-use Rattle.dex_types.specs.Accounts.{market_accounts_of, named_of}
-use Rattle.dex_dump.specs.Accepted.{IsHeld, IsHeldMarket}
-use Rattle.dex_dump.specs.DumpText.{account_rows, behind_first, lines_text}
-use Rattle.dex_dump.proofs.TextLaws.{lines_text-append}
+use Rattle.dex_types.specs.Accounts.{accounts_of, market_accounts_of}
+use Rattle.dex_dump.specs.Accepted.{IsHeldMarket}
+use Rattle.dex_dump.proofs.WholeLaws.{whole-held, whole-text}
 use Rattle.dex_dump.proofs.writing.append_dump.Goals as goal
 
 pub returns-clause-text : goal.returns-clause-text
-unfolding account_rows behind_first lines_text
 returns-clause-text c =
-    rw (
-      c.in_ok-write_word-2.ensures,
-      c.in_ok-write_markets.ensures.text,
-      c.in_ok-write_accounts-2.ensures.text,
-      c.in_ok-write_name-2.ensures.text,
-      c.in_ok-write_name.ensures.text,
-      c.in_ok-write_accounts.ensures.text,
-      c.in_ok-write_word.ensures,
-      c.deref.ensures.value,
-      c.deref-2.ensures.value,
-      c.deref-3.ensures.value,
-    )
-    (simp (lines_text-append, append_assoc, append-nil))
+    rw (c.in_ok-write_word.ensures, c.in_ok-write_markets.ensures.text, c.in_ok-write_front.ensures.text, c.deref.ensures.value)
+    (whole-text (accounts_of c.args.accounts.now) c.args.text.now.items)
 
 pub returns-clause-held : goal.returns-clause-held
-returns-clause-held c = record {
-  mints = subst (λ (mints : List Named). All IsHeld (map named_of mints)) c.deref.ensures.value c.in_ok-write_accounts.ensures.held;
-  srm = c.in_ok-write_name.ensures.held;
-  msrm = c.in_ok-write_name-2.ensures.held;
-  wallets = subst (λ (wallets : List Named). All IsHeld (map named_of wallets)) c.deref-2.ensures.value c.in_ok-write_accounts-2.ensures.held;
-  markets = subst (λ (markets : List MarketAccounts). All IsHeldMarket (map market_accounts_of markets)) c.deref-3.ensures.value
-      c.in_ok-write_markets.ensures.held;
-}
+returns-clause-held c =
+    let markets = λ (markets : List MarketAccounts). All IsHeldMarket (map market_accounts_of markets) in
+    whole-held (accounts_of c.args.accounts.now) c.in_ok-write_front.ensures.held (subst markets c.deref.ensures.value c.in_ok-write_markets.ensures.held)

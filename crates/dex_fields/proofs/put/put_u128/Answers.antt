@@ -1,6 +1,5 @@
 use Rattle.std.proofs.Common.{ap, ◌∙◌, arith, sym}
 use Rattle.dex_fields.specs.Bytes.{bytes_of_number, with_bytes, with_number}
-use Rattle.dex_fields.proofs.Numbers.{bytes_low_first-is}
 use Rattle.dex_fields.proofs.Writing.{with_number-fits}
 use Rattle.dex_fields.proofs.put.put_u128.Goals as goal
 
@@ -10,7 +9,7 @@ returns-clause-bytes c =
     let bytes = c.args.bytes.now in
     let value = c.args.value in
     c.put_piece.ensures.bytes
-    ∙ ap (with_bytes bytes c.args.field) (c.to_le_bytes.ensures ∙ bytes_low_first-is 16 value ∙ ap (λ n. bytes_of_number n value) (sym c.requires.wide))
+    ∙ ap (with_bytes bytes c.args.field) (c.halves.ensures ∙ ap (λ n. bytes_of_number n value) (sym c.requires.wide))
 
 pub returns-clause-given : goal.returns-clause-given
 returns-clause-given c =

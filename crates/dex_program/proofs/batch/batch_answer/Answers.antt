@@ -4,14 +4,14 @@ use Rattle.dex_report.specs.Outcomes.{PlainOutcome, outcome_of}
 use Rattle.dex_report.specs.Report.{report_text}
 use Rattle.dex_report.specs.Telling.{FitOutcome}
 use Rattle.dex_replay.proofs.InFront.{run-told}
-use Rattle.dex_script.specs.Drafts.{PlainScript}
-use Rattle.dex_script.specs.Facts.{IsScript}
+use Rattle.dex_script_facts.specs.PlainScript.{PlainScript}
+use Rattle.dex_script_facts.specs.Facts.{IsScript}
 use Rattle.dex_answers.specs.Answers.{rows_told}
-use Rattle.dex_answers.specs.declared.status.Status.TheVariants as status
 use Rattle.dex_answers.proofs.PairLaws.{played}
-use Rattle.dex_answers.proofs.TextLaws.{says-more}
 use Rattle.dex_plain.proofs.LaneAnswerLaws.{no-batch}
 use Rattle.dex_plain.specs.LaneAnswers.{AnswersBatch}
+use Rattle.dex_program.specs.Told.{text_of}
+use Rattle.dex_program.proofs.Pieces.{says-more}
 use Rattle.dex_program.proofs.batch.batch_answer.Goals as goal
 
 pub run_batch-requires-clause-rows : goal.run_batch-requires-clause-rows
@@ -25,7 +25,7 @@ returns-in_ok-outcome-in-Ok g c =
     let is : IsScript script = subst IsScript c.script.view_is c.script.invariant.0 in
     let counted = rw c.deref.ensures.value at c.items_in-rows.ensures in
     let told = subst (λ (one : PlainScript). c.items_in-rows.result ≡ rows_told one) c.script.view_is counted in
-    says-more _ (AnswersBatch c.args.bytes.now) status.Ok _ (FitOutcome outcome) c.report_of.ensures.text c.report_of.ensures.fits
+    says-more _ (AnswersBatch c.args.bytes.now) _ (FitOutcome outcome) c.report_of.ensures.status c.report_of.ensures.text c.report_of.ensures.fits
     (λ fits. (
       script,
       outcome,
@@ -37,4 +37,4 @@ returns-in_ok-outcome-in-Ok g c =
 
 pub returns-in-Err : goal.returns-in-Err
 returns-in-Err g c =
-    IfOk-weaker c.no_script.result _ _ (λ told why. no-batch c.args.bytes.now told.status told.text.items why) (c.no_script.ensures true c.args.bytes.now c.in-Err.ensures.told)
+    IfOk-weaker c.refused.result _ _ (λ told why. no-batch c.args.bytes.now told.status (text_of told) why) (c.refused.ensures true c.args.bytes.now c.in-Err.ensures.told)

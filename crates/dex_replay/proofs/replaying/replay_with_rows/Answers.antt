@@ -1,14 +1,12 @@
 use Rattle.std.proofs.Common.{List, map, sym, ap, subst, ◌∙◌}
 use Rattle.dex_fold.proofs.Common.{Row, row_of}
 use Rattle.dex_bank.specs.Places.{ArePlacedIn}
-use Rattle.dex_replay.proofs.Common.{IsReplayOf, outcome_of}
+use Rattle.dex_replay.proofs.Common.{outcome_of}
 use Rattle.dex_replay.proofs.RunOf.{items-replay, replay-is-run}
-use Rattle.dex_replay.proofs.Starts.{opened-opened}
 use Rattle.dex_replay.proofs.replaying.replay_with_rows.Goals as goal
 
 pub act_all-cells-requires-clause-script : goal.act_all-cells-requires-clause-script
-act_all-cells-requires-clause-script c =
-    (c.args.script, c.in_ok-cells.ensures.script, c.in_ok-cells.ensures.cells, ap (λ (rows : List Row). map row_of rows) c.deref.ensures.value ∙ c.in_ok-cells.ensures.rows)
+act_all-cells-requires-clause-script c = (c.args.script, c.in_ok-cells.ensures.script, c.in_ok-cells.ensures.cells, ap (λ (rows : List Row). map row_of rows) c.deref.ensures.value ∙ c.in_ok-cells.ensures.rows)
 
 pub act_all-cells-requires-clause-places : goal.act_all-cells-requires-clause-places
 act_all-cells-requires-clause-places c =
@@ -20,9 +18,8 @@ returns-in-Ok-clause-outcome c =
     let script = c.args.script in
     let is = c.in_ok-cells.ensures.script in
     let made = c.in_ok-cells.ensures.cells in
-    subst (IsReplayOf script) (sym c.in-Ok.ensures.outcome)
-    (items-replay script c.act_all-cells.result is (c.act_all-cells.ensures.kept ∙ opened-opened script c.in_ok-cells.cells made) c.in-Ok.ensures.cells
-    (c.act_all-cells.ensures.acted script is made (ap (λ (rows : List Row). map row_of rows) c.deref.ensures.value ∙ c.in_ok-cells.ensures.rows)))
+    items-replay script c.in_ok-cells.cells c.act_all-cells.result _ is made c.act_all-cells.ensures.kept c.in-Ok.ensures.cells
+    (c.act_all-cells.ensures.acted script is made (ap (λ (rows : List Row). map row_of rows) c.deref.ensures.value ∙ c.in_ok-cells.ensures.rows)) c.in-Ok.ensures.outcome
 
 pub returns-in-Ok-clause-run : goal.returns-in-Ok-clause-run
 returns-in-Ok-clause-run c = replay-is-run c.args.script (outcome_of c.in-Ok.outcome) c.in_ok-cells.ensures.script (returns-in-Ok-clause-outcome c)

@@ -6,27 +6,15 @@ use Rattle.dex_run.proofs.Openings.{all-mapped}
 use Rattle.dex_run.proofs.Seating.{market-gates, seats-at_bank, seats-fresh, seats-numbers, seats-of_bank, wallet-gates}
 use Rattle.dex_run.proofs.building.bank_over.Goals as goal
 
-pub market_gates-requires-clause-fresh : goal.market_gates-requires-clause-fresh
-market_gates-requires-clause-fresh c =
-    all-mapped (λ (cell : MarketCellState). cell.calls ≡ []) (market_opened c.args.outline.rows) (λ start. refl) c.args.outline.start.markets c.into_parts-mints.result.1.items
-    (c.into_parts-mints.ensures.markets ∙ ap (λ (cells : CellsState). cells.markets) c.requires)
+pub gates_over-requires : goal.gates_over-requires
+gates_over-requires c =
+    all-mapped (λ (cell : MarketCellState). (cell.calls ≡ []) × (cell.room ≡ rows_on cell.start.address c.args.outline.rows)) (market_opened c.args.outline.rows) (λ start. (refl, refl))
+    c.args.outline.start.markets c.into_parts-mints.result.1.items (c.into_parts-mints.ensures.markets ∙ ap (λ (cells : CellsState). cells.markets) c.requires)
 
-pub market_gates-requires-clause-room : goal.market_gates-requires-clause-room
-market_gates-requires-clause-room c =
-    all-mapped (λ (cell : MarketCellState). cell.room ≡ rows_on cell.start.address c.args.outline.rows) (market_opened c.args.outline.rows) (λ start. refl)
-    c.args.outline.start.markets c.into_parts-mints.result.1.items
-    (c.into_parts-mints.ensures.markets ∙ ap (λ (cells : CellsState). cells.markets) c.requires)
-
-pub wallet_gates-requires-clause-fresh : goal.wallet_gates-requires-clause-fresh
-wallet_gates-requires-clause-fresh c =
-    all-mapped (λ (cell : wallet.CellState). cell.entries ≡ []) (wallet_opened c.args.outline.rows) (λ start. refl) c.args.outline.start.wallets c.into_parts-mints.result.2.items
-    (c.into_parts-mints.ensures.wallets ∙ ap (λ (cells : CellsState). cells.wallets) c.requires)
-
-pub wallet_gates-requires-clause-room : goal.wallet_gates-requires-clause-room
-wallet_gates-requires-clause-room c =
-    all-mapped (λ (cell : wallet.CellState). cell.room ≡ rows_naming cell.address c.args.outline.rows) (wallet_opened c.args.outline.rows) (λ start. refl)
-    c.args.outline.start.wallets c.into_parts-mints.result.2.items
-    (c.into_parts-mints.ensures.wallets ∙ ap (λ (cells : CellsState). cells.wallets) c.requires)
+pub gates_over-requires-2 : goal.gates_over-requires-2
+gates_over-requires-2 c =
+    all-mapped (λ (cell : wallet.CellState). (cell.entries ≡ []) × (cell.room ≡ rows_naming cell.address c.args.outline.rows)) (wallet_opened c.args.outline.rows) (λ start. (refl, refl))
+    c.args.outline.start.wallets c.into_parts-mints.result.2.items (c.into_parts-mints.ensures.wallets ∙ ap (λ (cells : CellsState). cells.wallets) c.requires)
 
 pub seats_of-requires-clause-markets : goal.seats_of-requires-clause-markets
 seats_of-requires-clause-markets c =

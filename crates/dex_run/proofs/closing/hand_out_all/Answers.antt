@@ -1,8 +1,10 @@
 use Rattle.std.proofs.Common.{length, vec_len, sym, subst, rules, arith}
-use Rattle.dex_fold.proofs.Common.{All-push, YieldsList-from_vec, YieldsList-turn}
-use Rattle.dex_run.proofs.Common.{IsMarketGate, IsMarketPassAt, IsSeat, IsSeatOf, IsWalletGate, IsWalletPassAt, SeatState}
+use Rattle.dex_order.proofs.Common.{calls_on, entries_on}
+use Rattle.dex_replay.proofs.Common.{PlainScript}
+use Rattle.dex_fold.proofs.Common.{All-push, AllZip, PlainAccount, PlainMarketAccounts, YieldsList-from_vec, YieldsList-turn}
+use Rattle.dex_run.proofs.Common.{IsMarketGate, IsMarketPass, IsMarketPassAt, IsSeat, IsSeatOf, IsWalletGate, IsWalletPass, IsWalletPassAt, SeatState}
 use Rattle.dex_run.proofs.ColumnLists.{columns-free, columns-none, columns-room}
-use Rattle.dex_run.proofs.ClosingPasses.{market-count, market-more, wallet-count, wallet-more}
+use Rattle.dex_run.proofs.ClosingPasses.{one-each, one-more}
 use Rattle.dex_run.proofs.closing.hand_out_all.Goals as goal
 
 pub loop-seat-init : goal.loop-seat-init
@@ -21,7 +23,12 @@ hand_out-requires-clause-count c =
     let turn = YieldsList-turn (YieldsList-from_vec c.args.seats.items c.into_iter-seat-iterator.ensures.into_iter_gives.0 (search rules)) c.loop-seat.yielded c.loop-seat.seat-iterator c.loop-seat.yielded_by
     c.next.result c.next.new.self c.in-Some.seat c.in-Some.is c.next.ensures.steps in
     let of : IsSeatOf c.args.bank.now c.in-Some.seat = subst (λ (seat : SeatState). IsSeatOf c.args.bank.now seat) (sym turn.1) (c.requires.seats (length c.loop-seat.yielded) c.in-Some.seat turn.0) in
-    omega (arith, c.into_passes-own.result.0.ok.0, market-count c.args.bank.now c.in-Some.seat of c.loop-seat.yielded c.into_passes-own.result.0.items c.loop-seat.markets.items c.loop-seat.invariant.markets c.into_passes-own.ensures.markets)
+    omega (
+      arith,
+      c.into_passes-own.result.0.ok.0,
+      one-each (λ (start : PlainMarketAccounts) (seat : SeatState). calls_on start.address seat.calls) c.args.bank.now.script.start.markets c.args.bank.now.markets c.in-Some.seat c.in-Some.seat.markets
+          c.into_passes-own.result.0.items c.into_passes-own.ensures.markets of.markets c.loop-seat.yielded c.loop-seat.markets.items c.loop-seat.invariant.markets,
+    )
 
 pub hand_out-requires-clause-room : goal.hand_out-requires-clause-room
 hand_out-requires-clause-room c =
@@ -35,7 +42,12 @@ hand_out-requires-in-loop-seat-clause-count c =
     let turn = YieldsList-turn (YieldsList-from_vec c.args.seats.items c.into_iter-seat-iterator.ensures.into_iter_gives.0 (search rules)) c.loop-seat.yielded c.loop-seat.seat-iterator c.loop-seat.yielded_by
     c.next.result c.next.new.self c.in-Some.seat c.in-Some.is c.next.ensures.steps in
     let of : IsSeatOf c.args.bank.now c.in-Some.seat = subst (λ (seat : SeatState). IsSeatOf c.args.bank.now seat) (sym turn.1) (c.requires.seats (length c.loop-seat.yielded) c.in-Some.seat turn.0) in
-    omega (arith, c.into_passes-own.result.1.ok.0, wallet-count c.args.bank.now c.in-Some.seat of c.loop-seat.yielded c.into_passes-own.result.1.items c.loop-seat.wallets.items c.loop-seat.invariant.wallets c.into_passes-own.ensures.wallets)
+    omega (
+      arith,
+      c.into_passes-own.result.1.ok.0,
+      one-each (λ (start : PlainAccount) (seat : SeatState). entries_on start.address seat.calls) c.args.bank.now.script.start.wallets c.args.bank.now.wallets c.in-Some.seat c.in-Some.seat.wallets
+          c.into_passes-own.result.1.items c.into_passes-own.ensures.wallets of.wallets c.loop-seat.yielded c.loop-seat.wallets.items c.loop-seat.invariant.wallets,
+    )
 
 pub hand_out-requires-in-loop-seat-clause-room : goal.hand_out-requires-in-loop-seat-clause-room
 hand_out-requires-in-loop-seat-clause-room c =
@@ -50,11 +62,14 @@ loop-seat-preserved c =
     c.next.result c.next.new.self c.in-Some.seat c.in-Some.is c.next.ensures.steps in
     let of : IsSeatOf c.args.bank.now c.in-Some.seat = subst (λ (seat : SeatState). IsSeatOf c.args.bank.now seat) (sym turn.1) (c.requires.seats (length c.loop-seat.yielded) c.in-Some.seat turn.0) in
     record {
-      markets = market-more c.args.bank.now c.in-Some.seat of c.loop-seat.yielded c.into_passes-own.result.0.items c.loop-seat.markets.items c.hand_out.new.columns.items c.loop-seat.invariant.markets
-          c.into_passes-own.ensures.kept c.into_passes-own.ensures.markets c.hand_out.ensures;
+      markets = one-more (λ (start : PlainMarketAccounts) (seat : SeatState). calls_on start.address seat.calls) c.args.bank.now.script.start.markets c.args.bank.now.markets c.in-Some.seat c.in-Some.seat.markets
+          c.into_passes-own.result.0.items c.into_passes-own.ensures.markets of.markets c.loop-seat.yielded c.loop-seat.markets.items c.loop-seat.invariant.markets c.hand_out.new.columns.items
+          (subst (λ (s : PlainScript). AllZip (IsMarketPass c.in-Some.seat.lane c.in-Some.seat.calls) s.start.markets c.in-Some.seat.markets) of.script c.into_passes-own.ensures.kept.markets) c.hand_out.ensures;
       market_room = columns-room (vec_len c.args.seats) c.loop-seat.markets.items c.hand_out.new.columns.items c.into_passes-own.result.0.items c.hand_out.ensures c.loop-seat.invariant.market_room;
-      wallets = wallet-more c.args.bank.now c.in-Some.seat of c.loop-seat.yielded c.into_passes-own.result.1.items c.loop-seat.wallets.items c.hand_out-in-loop-seat.new.columns.items c.loop-seat.invariant.wallets
-          c.into_passes-own.ensures.kept c.into_passes-own.ensures.wallets c.hand_out-in-loop-seat.ensures;
+      wallets = one-more (λ (start : PlainAccount) (seat : SeatState). entries_on start.address seat.calls) c.args.bank.now.script.start.wallets c.args.bank.now.wallets c.in-Some.seat c.in-Some.seat.wallets
+          c.into_passes-own.result.1.items c.into_passes-own.ensures.wallets of.wallets c.loop-seat.yielded c.loop-seat.wallets.items c.loop-seat.invariant.wallets c.hand_out-in-loop-seat.new.columns.items
+          (subst (λ (s : PlainScript). AllZip (IsWalletPass c.in-Some.seat.lane c.in-Some.seat.calls) s.start.wallets c.in-Some.seat.wallets) of.script c.into_passes-own.ensures.kept.wallets)
+          c.hand_out-in-loop-seat.ensures;
       wallet_room = columns-room (vec_len c.args.seats) c.loop-seat.wallets.items c.hand_out-in-loop-seat.new.columns.items c.into_passes-own.result.1.items c.hand_out-in-loop-seat.ensures c.loop-seat.invariant.wallet_room;
       kept = All-push IsSeat c.loop-seat.yielded c.in-Some.seat c.loop-seat.invariant.kept c.into_passes-own.ensures.kept;
     }

@@ -1,93 +1,41 @@
-use Rattle.std.proofs.Common.{ℕ, ◌+◌, ◌∙◌, ap, sym, length, map, take, arith}
-use Rattle.dex_fold.proofs.Common.{row_of, rows_of_lane}
+use Rattle.std.proofs.Common.{◌+◌, ◌∙◌, ap, arith, drop, refl, sym}
 use Rattle.dex_replay.proofs.Common.{PlainScript}
-use Rattle.dex_run.proofs.LaneRows.{are-legs, begins-alone, begins-two, calls-more, calls-two, higher-behind, lower-before, next-both, next-own, one-number, places-long, row-placed}
+use Rattle.dex_run.proofs.LaneItems.{rest-first, rest-next, rest-none}
 use Rattle.dex_run.proofs.lane.submit_all.Goals as goal
 
--- ---- two legs
+pub bounds-by_lane-lane : goal.bounds-by_lane-lane
+bounds-by_lane-lane g c = omega (arith, c.requires.within, c.lane-lane.ensures.lane)
 
-pub submit_both-requires-clause-first : goal.submit_both-requires-clause-first
-submit_both-requires-clause-first g c =
-    row-placed c.args.bank.now c.args.rows.now c.args.places.now c.args.seat.now c.requires c.item.place c.index-rows-place.result _ (omega (arith, c.item-test.true)) c.index-rows-place.is
-
-pub submit_both-requires-clause-second : goal.submit_both-requires-clause-second
-submit_both-requires-clause-second g c =
-    row-placed c.args.bank.now c.args.rows.now c.args.places.now c.args.seat.now c.requires (c.item.place + 1) c.index-rows-next.result _
-    (c.is_swap.ensures.yes c.if-is_swap.true c.index-rows-place.result).0 c.index-rows-next.is
-
-pub submit_own-requires-clause-places : goal.submit_own-requires-clause-places
-submit_own-requires-clause-places g c =
-    row-placed c.args.bank.now c.args.rows.now c.args.places.now c.args.seat.now c.requires c.item.place c.index-rows-place-else-is_swap.result _ (omega (arith, c.item-test.true))
-    c.index-rows-place-else-is_swap.is
-
--- ---- each row has places
-
-pub bounds-places-place : goal.bounds-places-place
-bounds-places-place g c = omega (arith, c.item-test.true, places-long c.args.bank.now c.args.rows.now c.args.places.now c.args.seat.now c.requires)
-
-pub bounds-places-next : goal.bounds-places-next
-bounds-places-next g c =
-    omega (arith, (c.is_swap.ensures.yes c.if-is_swap.true c.index-rows-place.result).0, places-long c.args.bank.now c.args.rows.now c.args.places.now c.args.seat.now c.requires)
-
-pub bounds-places-place-else-is_swap : goal.bounds-places-place-else-is_swap
-bounds-places-place-else-is_swap g c = omega (arith, c.item-test.true, places-long c.args.bank.now c.args.rows.now c.args.places.now c.args.seat.now c.requires)
-
--- ---- what the items need
-
-pub submit_both-requires-clause-lane : goal.submit_both-requires-clause-lane
-submit_both-requires-clause-lane g c =
-    (are-legs c.args.seat.now.script c.args.rows.now c.requires.rows_are c.requires.is.rows c.item.place c.index-rows-place.result c.index-rows-next.result
-    c.index-rows-place.is c.index-rows-next.is (c.is_swap.ensures.yes c.if-is_swap.true)).lane
-
-pub submit_both-requires-clause-legs : goal.submit_both-requires-clause-legs
-submit_both-requires-clause-legs g c = λ own.
-    let first = c.index-rows-place.result in
-    let second = c.index-rows-next.result in
-    let swap = c.is_swap.ensures.yes c.if-is_swap.true in
-    next-both c.args.rows.now c.item.place first second c.item.seat (swap first).0 c.index-rows-place.is c.index-rows-next.is
-    (c.requires.rows_are ∙ ap (λ (s : PlainScript). s.rows) (sym c.item.invariant.script))
-    (c.item.invariant.calls ∙ ap (λ (n : ℕ). length (rows_of_lane n (map row_of (take c.item.place c.args.rows.now)))) (sym c.item.invariant.lane))
-    (lower-before c.args.rows.now c.item.place first (omega (arith, c.item-test.true)) c.index-rows-place.is c.item.invariant.begins)
-    (one-number c.args.rows.now c.item.place first second c.index-rows-place.is c.index-rows-next.is swap)
-    (are-legs c.args.seat.now.script c.args.rows.now c.requires.rows_are c.requires.is.rows c.item.place first second c.index-rows-place.is c.index-rows-next.is swap)
-    own
-
-pub item-preserved-then-is_swap : goal.item-preserved-then-is_swap
-item-preserved-then-is_swap g c =
-    let first = c.index-rows-place.result in
-    let second = c.index-rows-next.result in
-    let swap = c.is_swap.ensures.yes c.if-is_swap.true in
-    record {
-      of_bank = c.submit_both.ensures.bank;
-      lane = c.submit_both.ensures.lane ∙ c.item.invariant.lane;
-      script = c.submit_both.ensures.script ∙ c.item.invariant.script;
-      begins = begins-two c.args.seat.now.script c.args.rows.now c.requires.rows_are c.requires.is.rows c.item.place c.item.invariant.begins swap;
-      calls =
-          calls-two c.args.rows.now c.item.place first second c.args.seat.now.lane c.item.seat.lane (length c.item.seat.calls) (length c.submit_both.new.seat.calls) (swap first).0
-          c.index-rows-place.is c.index-rows-next.is c.item.invariant.lane c.item.invariant.calls c.submit_both.ensures.calls;
-    }
-
--- ---- a row alone
-
-pub submit_own-requires-clause-row : goal.submit_own-requires-clause-row
-submit_own-requires-clause-row g c = λ own.
-    let row = c.index-rows-place-else-is_swap.result in
-    next-own c.args.rows.now c.item.place row c.item.seat (omega (arith, c.item-test.true)) c.index-rows-place-else-is_swap.is
-    (c.requires.rows_are ∙ ap (λ (s : PlainScript). s.rows) (sym c.item.invariant.script))
-    (c.item.invariant.calls ∙ ap (λ (n : ℕ). length (rows_of_lane n (map row_of (take c.item.place c.args.rows.now)))) (sym c.item.invariant.lane))
-    (lower-before c.args.rows.now c.item.place row (omega (arith, c.item-test.true)) c.index-rows-place-else-is_swap.is c.item.invariant.begins)
-    (higher-behind c.args.seat.now.script c.args.rows.now c.requires.rows_are c.requires.is.rows c.item.place row (omega (arith, c.item-test.true)) c.index-rows-place-else-is_swap.is
-    (begins-alone c.args.seat.now.script c.args.rows.now c.requires.rows_are c.requires.is.rows c.item.place c.item.invariant.begins (c.is_swap.ensures.no c.if-is_swap.false)))
-    own
-
-pub item-preserved : goal.item-preserved
-item-preserved g c = record {
-  of_bank = c.submit_own.ensures.bank;
-  lane = c.submit_own.ensures.lane ∙ c.item.invariant.lane;
-  script = c.submit_own.ensures.script ∙ c.item.invariant.script;
-  begins =
-      begins-alone c.args.seat.now.script c.args.rows.now c.requires.rows_are c.requires.is.rows c.item.place c.item.invariant.begins (c.is_swap.ensures.no c.if-is_swap.false);
-  calls =
-      calls-more c.args.rows.now c.item.place c.index-rows-place-else-is_swap.result c.args.seat.now.lane c.item.seat.lane (length c.item.seat.calls)
-      (length c.submit_own.new.seat.calls) (omega (arith, c.item-test.true)) c.index-rows-place-else-is_swap.is c.item.invariant.lane c.item.invariant.calls c.submit_own.ensures.calls;
+pub loop-item-init : goal.loop-item-init
+loop-item-init g c = record {
+  of_bank = c.requires.of_bank;
+  lane = refl;
+  rest = rest-first c.args.rows.now c.args.by_lane.now c.args.seat.now c.lane-lane.result c.index-by_lane-lane.result c.requires.index c.requires.within c.requires.fresh c.lane-lane.ensures.lane c.index-by_lane-lane.is;
 }
+
+pub submit_item-requires-clause-item : goal.submit_item-requires-clause-item
+submit_item-requires-clause-item g c =
+    (rest-next c.args.rows.now c.loop-item.seat c.index-by_lane-lane.result.items c.loop-item.item c.index.result.now
+    (omega (arith, c.loop-item-test.true, c.len-item-end.ensures, c.index-by_lane-lane.result.ok.0)) c.index.ensures c.loop-item.invariant.rest).0
+
+pub loop-item-preserved : goal.loop-item-preserved
+loop-item-preserved g c = record {
+  of_bank = c.submit_item.ensures.bank;
+  lane = c.submit_item.ensures.lane ∙ c.loop-item.invariant.lane;
+  rest =
+      c.submit_item.ensures.rest (drop (c.loop-item.item + 1) c.index-by_lane-lane.result.items)
+      (rest-next c.args.rows.now c.loop-item.seat c.index-by_lane-lane.result.items c.loop-item.item c.index.result.now
+      (omega (arith, c.loop-item-test.true, c.len-item-end.ensures, c.index-by_lane-lane.result.ok.0)) c.index.ensures c.loop-item.invariant.rest);
+}
+
+pub returns : goal.returns
+returns g c =
+    let script = c.loop-item.invariant.of_bank.script in
+    record {
+      of_bank = c.loop-item.invariant.of_bank;
+      lane = c.loop-item.invariant.lane;
+      script = script ∙ sym c.requires.of_bank.script;
+      done =
+          rest-none c.args.rows.now c.loop-item.seat c.index-by_lane-lane.result.items c.loop-item.item (omega (arith, c.loop-item-test.false, c.len-item-end.ensures, c.index-by_lane-lane.result.ok.0))
+          (c.requires.are.rows_are ∙ ap (λ (s : PlainScript). s.rows) (sym script)) c.loop-item.invariant.rest;
+    }

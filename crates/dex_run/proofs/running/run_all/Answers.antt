@@ -1,14 +1,14 @@
 use Rattle.std.proofs.Common.{List, map, ap, ◌∙◌, sym, subst, arith}
 use Rattle.dex_fold.proofs.Common.{AllZip, AllZip-long, take_at}
-use Rattle.dex_run.proofs.Common.{CanRun, HasRun, IsJobOf, LaneJob}
+use Rattle.dex_run.proofs.Common.{HasRun, IsJobOf, LaneJob}
 use Rattle.std.specs.List.{All}
-use Rattle.dex_run.proofs.Jobs.{jobs-ran, jobs-ready}
+use Rattle.dex_run.proofs.Jobs.{IsReady, jobs-ran, jobs-ready}
 use Rattle.dex_run.proofs.running.run_all.Goals as goal
 
 pub run_jobs-requires-clause-ready : goal.run_jobs-requires-clause-ready
 run_jobs-requires-clause-ready g c κs within =
-    subst (All (λ (job : LaneJob g.row.R.Denot g.row.P.Denot). CanRun job.bank.now job.rows.now job.places.now job.seat)) (sym c.deref_mut.ensures.value)
-    (jobs-ready c.args.bank.now c.args.rows.now c.args.places.now c.args.seats.items c.in_ok-jobs.jobs.items c.requires c.in_ok-jobs.ensures)
+    subst (All (λ (job : LaneJob g.row.R.Denot g.row.P.Denot). IsReady job)) (sym c.deref_mut.ensures.value)
+    (jobs-ready c.args.bank.now c.args.rows.now c.args.places.now c.args.by_lane.now c.args.seats.items c.in_ok-jobs.jobs.items c.requires c.in_ok-jobs.ensures)
 
 pub seats_back-requires : goal.seats_back-requires
 seats_back-requires g c = (
@@ -17,7 +17,7 @@ seats_back-requires g c = (
     arith,
     c.in-Ok.ensures.capacity,
     c.len.ensures,
-    AllZip-long (IsJobOf c.args.bank.now c.args.rows.now c.args.places.now) c.args.seats.items c.in_ok-jobs.jobs.items c.in_ok-jobs.ensures,
+    AllZip-long (IsJobOf c.args.bank.now c.args.rows.now c.args.places.now c.args.by_lane.now) c.args.seats.items c.in_ok-jobs.jobs.items c.in_ok-jobs.ensures,
     c.in_ok-jobs.jobs.ok.0,
     c.args.seats.ok.0,
   ),
@@ -30,6 +30,6 @@ returns g c =
     (c.seats_back.ensures
     ∙ ap (map (λ (job : LaneJob g.row.R.Denot g.row.P.Denot). job.seat))
     (take_at c.run_jobs.new.jobs _ c.in_ok-jobs.jobs.len (omega (arith, c.run_jobs.ensures.count, c.deref_mut.ensures.len)))))
-    (jobs-ran c.args.bank.now c.args.rows.now c.args.places.now c.args.seats.items c.in_ok-jobs.jobs.items c.run_jobs.new.jobs c.in_ok-jobs.ensures
+    (jobs-ran c.args.bank.now c.args.rows.now c.args.places.now c.args.by_lane.now c.args.seats.items c.in_ok-jobs.jobs.items c.run_jobs.new.jobs c.in_ok-jobs.ensures
     (subst (λ (l : List (LaneJob g.row.R.Denot g.row.P.Denot)). AllZip (λ (one other : LaneJob g.row.R.Denot g.row.P.Denot). HasRun one.bank.now one.seat other.seat) l c.run_jobs.new.jobs)
     c.deref_mut.ensures.value c.run_jobs.ensures.ran))

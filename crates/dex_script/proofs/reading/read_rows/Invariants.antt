@@ -3,7 +3,7 @@ use Rattle.dex_script.specs.Scripts.{draft_after}
 use Rattle.dex_script.proofs.reading.read_rows.Given as goal
 
 abbrev pub invariant-rows : goal.invariant-rows
-invariant-rows l = draft_after l.reader l.number l.rows ≡ draft_after l.fn.before l.fn.first l.fn.rows
+invariant-rows l = draft_after l.reader l.number l.rows ≡ draft_after l.initial.reader l.initial.number l.fn.rows
 
 abbrev pub decreases-rows : goal.decreases-rows
 decreases-rows l = length l.rows

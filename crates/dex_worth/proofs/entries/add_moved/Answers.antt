@@ -2,7 +2,6 @@ use Rattle.std.proofs.Common.{◌+◌, Option, refl, sym, subst}
 use Rattle.dex_types.specs.declared.addresses.Address.{Address}
 use Rattle.dex_worth.specs.declared.entries.Moved.{Moved}
 use Rattle.dex_worth.specs.Amounts.{AreSums, AreWithin, both}
-use Rattle.dex_worth.specs.declared.amounts.Amounts.{Amounts}
 use Rattle.dex_worth.specs.Entries.{IsSmall, deposited_in, settled_in}
 use Rattle.dex_worth.proofs.Sums.{sums-added, within-added}
 use Rattle.dex_worth.proofs.entries.add_moved.Goals as goal

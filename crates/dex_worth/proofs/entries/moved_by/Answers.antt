@@ -1,10 +1,10 @@
 use Rattle.std.proofs.Common.{ℕ, map, Some, sym, ap, ◌∙◌}
 use Rattle.dex_types.specs.declared.rows.Row.{Row}
-use Rattle.dex_types.specs.Rows.{PlainRow, row_of}
+use Rattle.dex_types.specs.Rows.{row_of}
 use Rattle.dex_instruction.specs.Reading.{decoded}
 use Rattle.dex_worth.specs.declared.amounts.Amounts.{Amounts}
 use Rattle.dex_worth.specs.Entries.{entered, for_first}
-use Rattle.dex_worth.specs.Told.{side_of}
+use Rattle.dex_replay.specs.Told.{side_of}
 use Rattle.dex_worth.proofs.Moving.{call-is, moved-are, no-call, nothing-moved}
 use Rattle.dex_worth.proofs.entries.moved_by.Goals as goal
 

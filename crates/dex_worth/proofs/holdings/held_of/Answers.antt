@@ -1,5 +1,4 @@
-use Rattle.std.proofs.Common.{◌≡◌, map, refl, subst, sym, ap, ◌∙◌}
-use Rattle.dex_types.specs.declared.addresses.Address.{Address}
+use Rattle.std.proofs.Common.{◌≡◌, subst, sym, ap}
 use Rattle.dex_types.specs.Accounts.{market_accounts_of}
 use Rattle.dex_accounts.specs.Decoded.{market_in}
 use Rattle.dex_audit_rules.specs.Books.{PlainGathered, gathered_in, plain_gathered}

@@ -1,7 +1,8 @@
-use Rattle.std.proofs.Common.{◌≡◌, ◌∷◌, [], ◌++◌, ◌<◌, List, length, map, get_or, take, refl, sym, ap, ◌∙◌, arith}
+use Rattle.std.proofs.Common.{◌∷◌, [], ◌++◌, ◌<◌, List, length, map, get_or, take, sym, ap, ◌∙◌}
 use Rattle.std.proofs.lemmas.List.{append_assoc}
 use Rattle.dex_types.specs.declared.addresses.Address.{Address}
-use Rattle.dex_worth.specs.Rows.{PlainWorthRow, plain_row, plain_worth, row_by}
+use Rattle.dex_replay.specs.WorthTold.{PlainWorthRow}
+use Rattle.dex_worth.specs.Rows.{plain_row, plain_worth, row_by}
 use Rattle.dex_worth.proofs.Lists.{map-more}
 use Rattle.dex_worth.proofs.Showing.{row-here}
 use Rattle.dex_worth.proofs.table.add_rows.Goals as goal

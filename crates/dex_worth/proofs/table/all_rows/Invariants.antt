@@ -2,9 +2,10 @@ use Rattle.std.proofs.Common.{◌≡◌, map, take}
 use Rattle.dex_types.specs.Accounts.{market_accounts_of}
 use Rattle.dex_types.specs.Rows.{row_of}
 use Rattle.dex_report.specs.Outcomes.{market_journal_of}
-use Rattle.dex_script.specs.Drafts.{PlainScript}
+use Rattle.dex_script_facts.specs.PlainScript.{PlainScript}
 use Rattle.dex_worth.specs.Rows.{plain_row}
-use Rattle.dex_worth.specs.Tables.{AreToldHere, tables_told}
+use Rattle.dex_replay.specs.WorthTold.{tables_told}
+use Rattle.dex_worth.specs.Tables.{AreToldHere}
 use Rattle.dex_worth.proofs.table.all_rows.Given as goal
 
 abbrev pub invariant-loop-place : goal.invariant-loop-place

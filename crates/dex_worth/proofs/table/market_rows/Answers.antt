@@ -1,8 +1,7 @@
-use Rattle.std.proofs.Common.{ℕ, ◌≡◌, ◌≤◌, ◌*◌, ◌^◌, ◌++◌, Some, List, length, map, subst, sym, ap, ◌∙◌, arith}
+use Rattle.std.proofs.Common.{◌≡◌, ◌≤◌, ◌^◌, ◌++◌, Some, List, length, map, subst, sym, ap, ◌∙◌, arith}
 use Rattle.std.proofs.lemmas.Result.{on_ok_weaker}
 use Rattle.dex_types.specs.declared.account_bytes.OrdersAccount.{OrdersAccount}
 use Rattle.dex_types.specs.declared.addresses.Address.{Address}
-use Rattle.dex_types.specs.declared.movements.Entry.{Entry}
 use Rattle.dex_types.specs.Accounts.{PlainMarketAccounts, market_accounts_of}
 use Rattle.dex_types.specs.Trader.{Trader}
 use Rattle.dex_accounts.specs.Decoded.{market_in}
@@ -12,7 +11,8 @@ use Rattle.dex_report.specs.Outcomes.{PlainMarketJournal, market_journal_of}
 use Rattle.dex_worth.specs.Amounts.{AreWithin}
 use Rattle.dex_worth.specs.Entries.{all_in, all_out}
 use Rattle.dex_worth.specs.Holdings.{held_amounts}
-use Rattle.dex_worth.specs.Rows.{PlainWorthRow, plain_row}
+use Rattle.dex_replay.specs.WorthTold.{PlainWorthRow}
+use Rattle.dex_worth.specs.Rows.{plain_row}
 use Rattle.dex_worth.proofs.Markets.{few-within, held-within, market-shown, owners-are}
 use Rattle.dex_worth.proofs.Outcomes.{calls-told}
 use Rattle.dex_worth.proofs.Sums.{sums-moved}

@@ -5,7 +5,8 @@ use Rattle.dex_types.specs.declared.account_bytes.MarketAccounts.{MarketAccounts
 use Rattle.dex_types.specs.Accounts.{PlainMarketAccounts, market_accounts_of}
 use Rattle.dex_accounts.specs.Accepted.{IsAccepted}
 use Rattle.dex_report.specs.Outcomes.{PlainMarketJournal, PlainOutcome, market_journal_of, outcome_of}
-use Rattle.dex_worth.specs.Tables.{AreToldHere, tables_told}
+use Rattle.dex_replay.specs.WorthTold.{tables_told}
+use Rattle.dex_worth.specs.Tables.{AreToldHere}
 use Rattle.dex_worth.proofs.Markets.{accepted-at}
 use Rattle.dex_worth.proofs.Outcomes.{all-here, all-pay}
 use Rattle.dex_worth.proofs.table.worth_table.Goals as goal

@@ -17,7 +17,7 @@ use Rattle.dex_cell.specs.Paying.{CanMoveShare, moved_share, paid_in, paid_out, 
 use Rattle.dex_cell.proofs.CallLaws.{called}
 use Rattle.dex_cell.proofs.InsideLaws.{calls-grow, entries-grow}
 use Rattle.dex_cell.proofs.PayLaws.{coin-moved, coin-moves, mints-are, paid_by, pc-moved, pc-moves}
-use Rattle.dex_cell.proofs.PlanLaws.{coin-enters, pc-enters, plan-moves-cell, planned-done}
+use Rattle.dex_cell.proofs.PlanLaws.{plan-moves-cell, planned-done}
 use Rattle.dex_cell.proofs.market_cell.MarketCell.carry_out.Goals as goal
 
 -- ---- before the parcels move
@@ -31,26 +31,20 @@ pay-payouts-requires-clause-coin c =
     subst (λ (t : Transfers). CanMoveShare c.self.inside.coin t.coin_out t.coin_in c.args.coin) (sym (moved-first c))
     (coin-moves (cell_inside c.self.inside) c.args.row.now c.args.seen.now c.args.coin c.self.invariant.cell
     (subst (λ (cell : MarketCellState). c.args.coin ≡ paid_in Coin c.args.plan.now (market_at cell)) (sym c.self.view_is) c.requires.coin
-    ∙ ap (parcel_of (mint_of Coin (market_at (cell_inside c.self.inside))))
-    (sym (coin-enters c.args.plan.now) ∙ ap (λ (t : Transfers). t.coin_in) (sym c.amounts_of-amounts.ensures ∙ moved-first c))))
+    ∙ ap (λ (t : Transfers). parcel_of (mint_of Coin (market_at (cell_inside c.self.inside))) t.coin_in) (sym c.amounts_of-amounts.ensures ∙ moved-first c)))
 
 pub pay-payouts-requires-clause-pc : goal.pay-payouts-requires-clause-pc
 pay-payouts-requires-clause-pc c =
     subst (λ (t : Transfers). CanMoveShare c.self.inside.pc (t.pc_out + t.referrer_out) t.pc_in c.args.pc) (sym (moved-first c))
     (pc-moves (cell_inside c.self.inside) c.args.row.now c.args.seen.now c.args.pc c.self.invariant.cell
     (subst (λ (cell : MarketCellState). c.args.pc ≡ paid_in Pc c.args.plan.now (market_at cell)) (sym c.self.view_is) c.requires.pc
-    ∙ ap (parcel_of (mint_of Pc (market_at (cell_inside c.self.inside))))
-    (sym (pc-enters c.args.plan.now) ∙ ap (λ (t : Transfers). t.pc_in) (sym c.amounts_of-amounts.ensures ∙ moved-first c))))
+    ∙ ap (λ (t : Transfers). parcel_of (mint_of Pc (market_at (cell_inside c.self.inside))) t.pc_in) (sym c.amounts_of-amounts.ensures ∙ moved-first c)))
 
 -- ---- before the entry is written
 
-moved-then : (c : goal.After-amounts-2-1) → transfers_of c.amounts_of-amounts.result ≡ (step_on c.args.row.now c.args.seen.now (cell_inside c.self.inside)).transfers
-moved-then c =
-    plan-moves-cell (cell_inside c.self.inside) c.args.self.now c.args.row.now c.args.seen.now c.args.plan.now _ c.self.view_is c.requires.decided c.amounts_of-amounts.ensures
-
 pub write_down-requires-clause-moves : goal.write_down-requires-clause-moves
 write_down-requires-clause-moves c =
-    subst (CanMoveEach c.args.seen.now) (sym (moved-then c))
+    subst (CanMoveEach c.args.seen.now) (sym (plan-moves-cell (cell_inside c.self.inside) c.args.self.now c.args.row.now c.args.seen.now c.args.plan.now _ c.self.view_is c.requires.decided c.amounts_of-amounts.ensures))
     (λ wallet. row-moves (asked_of (row_of c.args.row.now)) c.args.seen.now (market_at (cell_inside c.self.inside)) wallet c.self.invariant.cell.sound.sound c.requires.row.sees)
 
 -- ---- at the end

@@ -1,9 +1,9 @@
-use Rattle.std.proofs.Common.{arith, subst, sym}
+use Rattle.std.proofs.Common.{arith, refl, subst, sym}
 use Rattle.dex_types.specs.Rows.{row_of}
+use Rattle.dex_cell.specs.CellState.{HasSpare, MarketCellState, held_made}
 use Rattle.dex_act.proofs.Sights.{sees-named}
 use Rattle.dex_journals.specs.Inside.{market_inside, numbers_in}
-use Rattle.dex_journals.specs.Journals.{BankMarketState}
-use Rattle.dex_journals.proofs.MarketLaws.{MayAct, has-held, spare-market}
+use Rattle.dex_journals.proofs.MarketLaws.{AddsCall, MayAct, held-adds, has-more, spare-market}
 use Rattle.dex_journals.proofs.StampedLists.{numbers-more}
 use Rattle.dex_journals.proofs.market.BankMarket.hold.Goals as goal
 
@@ -12,23 +12,22 @@ places_in-places-requires c = sees-named (row_of c.args.row.now) c.args.seen.now
 
 pub hold-reply-requires-clause-spare : goal.hold-reply-requires-clause-spare
 hold-reply-requires-clause-spare c =
-    let row = c.args.row.now in
-    let may : MayAct row c.args.stamp.now.number (market_inside c.self.inside) =
-    subst (λ (one : BankMarketState). MayAct row c.args.stamp.now.number one) (sym c.self.view_is)
-    (record { lane = c.requires.lane; above = c.requires.stamp }) in
-    spare-market (market_inside c.self.inside) c.self.invariant row.lane may.lane
+    let market = market_inside c.self.inside in
+    let may : MayAct c.args.row.now c.args.stamp.now.number market =
+    subst (MayAct c.args.row.now c.args.stamp.now.number) (sym c.self.view_is) (record { lane = c.requires.lane; above = c.requires.stamp }) in
+    subst HasSpare (sym c.as_mut.ensures.value) (spare-market market c.self.invariant c.args.row.now.lane may.lane)
 
 pub invariant_of-self : goal.invariant_of-self
 invariant_of-self c =
     let market = market_inside c.self.inside in
     let row = c.args.row.now in
     let stamp = c.args.stamp.now.number in
-    let may : MayAct row stamp market =
-    subst (λ (one : BankMarketState). MayAct row stamp one) (sym c.self.view_is)
-    (record { lane = c.requires.lane; above = c.requires.stamp }) in
-    has-held market row c.args.seen.now c.hold-reply.new.market stamp c.later-self-inside.result.number
-    (numbers_in c.and-self-inside.result.items) c.self.invariant may c.hold-reply.ensures.cell c.hold-reply.ensures.held
-    (numbers-more c.self.inside.stamps.items c.and-self-inside.result.items c.args.stamp.now c.and-self-inside.ensures)
+    let call = held_made (row_of row) c.args.seen.now in
+    let may : MayAct row stamp market = subst (MayAct row stamp) (sym c.self.view_is) (record { lane = c.requires.lane; above = c.requires.stamp }) in
+    let adds : AddsCall call market.cell c.hold-reply.new.market = subst (λ (cell : MarketCellState). AddsCall (held_made (row_of row) c.args.seen.now) cell c.hold-reply.new.market) c.as_mut.ensures.value
+    (held-adds row c.args.seen.now c.as_mut.result.now c.hold-reply.new.market c.hold-reply.ensures.held) in
+    has-more market row c.hold-reply.new.market call stamp c.later-self-inside.result.number (numbers_in c.and-self-inside.result.items) c.self.invariant may
+    c.hold-reply.ensures.cell adds refl (numbers-more c.self.inside.stamps.items c.and-self-inside.result.items c.args.stamp.now c.and-self-inside.ensures)
     (omega (arith, c.later-self-inside.ensures))
 
 pub returns-clause-kept : goal.returns-clause-kept

@@ -1,6 +1,7 @@
 use Rattle.std.proofs.Common.{◌≡◌, length, subst, sym, ap, ◌∙◌}
 use Rattle.std.proofs.lemmas.List.{length-map}
 use Rattle.dex_history.specs.Journal.{Call}
+use Rattle.dex_cell.specs.CellState.{entries_of}
 use Rattle.dex_journals.specs.Inside.{market_inside}
 use Rattle.dex_journals.specs.Journals.{BankMarketState, market_calls}
 use Rattle.dex_journals.proofs.MarketLaws.{length-calls}
@@ -10,6 +11,6 @@ pub returns-clause-length : goal.returns-clause-length
 returns-clause-length c =
     let market = market_inside c.self.inside in
     subst (λ (one : BankMarketState). length c.entries.result.now ≡ length (market_calls one)) c.self.view_is
-    (ap length c.entries.ensures.entries
+    (ap length (c.entries.ensures.entries ∙ ap entries_of c.deref.ensures)
     ∙ length-map market.cell.calls (λ (call : Call). call.entry)
     ∙ sym (length-calls market c.self.invariant.counted))

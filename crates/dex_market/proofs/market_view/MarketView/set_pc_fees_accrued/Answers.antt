@@ -1,16 +1,12 @@
-use Rattle.std.proofs.Common.{◌≡◌, lit≤, refl, sym, ap, subst, ◌∙◌}
+use Rattle.std.proofs.Common.{lit≤, refl, sym, ap, subst, ◌∙◌}
 use Rattle.dex_fields.specs.declared.market.TheConstants.{PC_FEES_ACCRUED}
-use Rattle.dex_fields.specs.Bytes.{number_in, with_number}
 use Rattle.dex_market.specs.MarketAccount.{IsMarket, market_words}
-use Rattle.dex_market.proofs.WordWrites.{IsMarket-beside, pc_fees_accrued_written}
+use Rattle.dex_market.proofs.WordWrites.{IsMarket-beside, pc_fees_accrued_written, put-given}
 use Rattle.dex_market.proofs.market_view.MarketView.set_pc_fees_accrued.Goals as goal
-
-given : (c : goal.After-put_u64) → number_in (with_number c.args.self.now.bytes.now PC_FEES_ACCRUED c.args.value) PC_FEES_ACCRUED ≡ c.args.value
-given c = ap (λ bytes. number_in bytes PC_FEES_ACCRUED) (sym c.put_u64.ensures.bytes) ∙ c.put_u64.ensures.given
 
 pub returns-clause-words : goal.returns-clause-words
 returns-clause-words c =
-    ap market_words c.put_u64.ensures.bytes ∙ pc_fees_accrued_written c.args.self.now.bytes.now c.args.value (given c)
+    ap market_words c.put_u64.ensures.bytes ∙ pc_fees_accrued_written c.args.self.now.bytes.now c.args.value (put-given _ _ _ _ c.put_u64.ensures.bytes c.put_u64.ensures.given)
 
 pub returns-clause-accepted : goal.returns-clause-accepted
 returns-clause-accepted c =

@@ -5,17 +5,17 @@ use Rattle.dex_stage.specs.Stages.{IsMarketAt}
 use Rattle.dex_team.proofs.Starting.{first-more}
 use Rattle.dex_team.proofs.homes.Homes.all_markets.Goals as goal
 
-pub lend_market-hand-requires-clause-place : goal.lend_market-hand-requires-clause-place
-lend_market-hand-requires-clause-place g c = omega (arith, c.loop-place-test.true, c.len-place-end.ensures, c.self.invariant.markets.long)
+pub lend-hand-requires-clause-place : goal.lend-hand-requires-clause-place
+lend-hand-requires-clause-place g c = omega (arith, c.loop-place-test.true, c.len-place-end.ensures, c.self.invariant.markets.long)
 
 pub loop-place-preserved : goal.loop-place-preserved
 loop-place-preserved g c =
     let here : IsMarketAt g.J.Naming.script c.args.self.now.next c.loop-place.place c.into_market.result =
     subst (λ (cell : MarketCellState). IsMarketAt g.J.Naming.script c.args.self.now.next c.loop-place.place cell) (sym c.into_market.ensures)
-    (subst (λ (n : ℕ). IsMarketAt g.J.Naming.script n c.loop-place.place c.lend_market-hand.result) c.loop-place.invariant.next c.lend_market-hand.ensures.at) in
+    (subst (λ (n : ℕ). IsMarketAt g.J.Naming.script n c.loop-place.place c.lend-hand.result) c.loop-place.invariant.next c.lend-hand.ensures.at) in
     record {
-      next = c.lend_market-hand.ensures.keeps.next ∙ c.loop-place.invariant.next;
-      slots = c.lend_market-hand.ensures.keeps.markets.long ∙ c.loop-place.invariant.slots;
+      next = c.lend-hand.ensures.keeps.next ∙ c.loop-place.invariant.next;
+      slots = c.lend-hand.ensures.keeps.markets.long ∙ c.loop-place.invariant.slots;
       long = omega (arith, c.loop-place.invariant.long, ap length c.in_ok-add.ensures, length-append c.loop-place.cells.items (c.into_market.result ∷ []));
       at = first-more (IsMarketAt g.J.Naming.script c.args.self.now.next) c.loop-place.cells.items c.add.new.items.items c.loop-place.place c.into_market.result
           c.loop-place.invariant.at c.loop-place.invariant.long here c.in_ok-add.ensures;

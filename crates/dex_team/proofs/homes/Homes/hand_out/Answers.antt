@@ -1,7 +1,7 @@
 use Rattle.std.proofs.Common.{ap, refl, arith}
 use Rattle.std.proofs.lemmas.List.{length-map}
 use Rattle.dex_types.specs.Rows.{row_of}
-use Rattle.dex_script.proofs.PlacedLaws.{placed-long}
+use Rattle.dex_script_facts.proofs.PlacedLaws.{placed-long}
 use Rattle.dex_team.specs.Slots.{HomesState}
 use Rattle.dex_team.proofs.Handing.{next-row}
 use Rattle.dex_team.proofs.homes.Homes.hand_out.Goals as goal

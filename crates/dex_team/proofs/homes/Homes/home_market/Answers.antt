@@ -1,6 +1,7 @@
 use Rattle.std.proofs.Common.{◌<◌, refl, subst, arith}
 use Rattle.dex_types.specs.declared.addresses.Address.{Address}
-use Rattle.dex_team.specs.Slots.{HomesState, IsPlace}
+use Rattle.dex_script_facts.specs.Places.{IsPlace}
+use Rattle.dex_team.specs.Slots.{HomesState}
 use Rattle.dex_team.proofs.Returning.{market-back}
 use Rattle.dex_team.proofs.homes.Homes.home_market.Goals as goal
 

@@ -6,10 +6,12 @@ use Rattle.std.proofs.Math.Nat.{le-max_right}
 use Rattle.dex_locks.specs.Places.{front}
 use Rattle.dex_fold.proofs.MappedLists.{AllZip-last}
 use Rattle.dex_turns.proofs.Growing.{WalletPass}
-use Rattle.dex_turns.proofs.Taking.{Facts, facts-grown, facts-hand, facts-leave, facts-mid, facts-number, facts-ready, front-none, front-some, grown-none, rest-long, rest_of}
-use Rattle.dex_turns.proofs.Placed.{wallet-placed}
+use Rattle.dex_turns.proofs.Taking.{Facts, facts-grown, facts-hand, facts-leave, facts-mid, facts-number, facts-of, facts-ready, front-none, front-some, grown-none, rest-long, rest_of}
+use Rattle.dex_script_facts.proofs.PlacedLaws.{wallet-placed}
 use Rattle.dex_turns.proofs.Taking as taking
 use Rattle.dex_turns.specs.Submitted.{Written}
+use Rattle.dex_turns.proofs.bank.Bank.+with_wallets.Given as given
+use Rattle.dex_turns.proofs.bank.Bank.+with_wallets.Goals.{After-take_wallet-cell}
 use Rattle.dex_turns.proofs.bank.Bank.+with_wallets.Goals as goal
 
 -- ---- before the turn
@@ -61,19 +63,15 @@ put_in_hand-requires g t c =
 
 -- ---- the other wallets
 
+facts : (g : given.Over) (t : ℕ) (c : After-take_wallet-cell g t) → Facts c.args.self.now (g.A.Acts.named c.args.item.now) (g.A.Acts.lane c.args.item.now) c.in-Some.address (front (rest_of c.args.others.now))
+    c.args.hands.now.items c.args.passes.now.items c.place-place.result c.wallet_gate-gate.result.now c.index_mut.result.now c.take_wallet-cell.new.pass c.take_wallet-cell.result.1
+facts g t c =
+    facts-of c.args.self.now (g.A.Acts.named c.args.item.now) (g.A.Acts.lane c.args.item.now) c.in-Some.address c.args.others.now c.args.hands.now.items c.args.passes.now.items
+    c.place-place.result c.wallet_gate-gate.result.now c.index_mut.result.now c.take_wallet-cell.new.pass c.take_wallet-cell.result.1 (sym c.first_of.ensures ∙ c.in-Some.is) c.requires.named c.requires.hands
+    c.requires.passes c.requires.bank (c.place-place.ensures c.args.self.now.script c.requires.placed) (c.wallet_gate-gate.ensures c.wallet_gate-gate.result.now) c.index_mut.ensures.value c.take_wallet-cell.ensures.out
+
 pub with_wallets-made-requires : goal.with_wallets-made-requires
 with_wallets-made-requires g t c κs within =
-    let facts : Facts c.args.self.now (g.A.Acts.named c.args.item.now) (g.A.Acts.lane c.args.item.now) c.in-Some.address (front (rest_of c.args.others.now)) c.args.hands.now.items c.args.passes.now.items c.place-place.result c.wallet_gate-gate.result.now
-    c.index_mut.result.now c.take_wallet-cell.new.pass c.take_wallet-cell.result.1 = record {
-      may = c.requires.named;
-      hand = subst (λ (l : List Address). AreInHand c.args.self.now.script (g.A.Acts.named c.args.item.now) l c.args.hands.now.items) (front-some c.args.others.now c.in-Some.address (sym c.first_of.ensures ∙ c.in-Some.is)) c.requires.hands;
-      ready = subst (λ (l : List Address). AreReady c.args.self.now (g.A.Acts.lane c.args.item.now) l c.args.passes.now.items) (front-some c.args.others.now c.in-Some.address (sym c.first_of.ensures ∙ c.in-Some.is)) c.requires.passes;
-      kept = c.requires.bank;
-      at = (wallet-placed c.args.self.now.script c.in-Some.address c.place-place.result (c.place-place.ensures c.args.self.now.script c.requires.placed));
-      gate_is = c.wallet_gate-gate.ensures c.wallet_gate-gate.result.now;
-      before_is = c.index_mut.ensures.value;
-      is_out = c.take_wallet-cell.ensures.out;
-    } in
     let long = rest-long c.args.others.now c.in-Some.address (sym c.first_of.ensures ∙ c.in-Some.is) in
     let hands_long : length c.put_in_hand.new.hands.items ≡ length c.args.hands.now.items + 1 =
     ap length c.put_in_hand.ensures.items ∙ length-append c.args.hands.now.items (c.take_wallet-cell.result.0 ∷ []) in (
@@ -98,14 +96,8 @@ with_wallets-made-requires g t c κs within =
                         omega (arith, c.requires.below, c.later-later.ensures, le-max_right c.take_wallet-cell.result.1.last c.args.stamp.now.number),
                         (
                           subst (AreInHand c.args.self.now.script (g.A.Acts.named c.args.item.now) (front (rest_of c.args.others.now)))
-                              (sym (c.put_in_hand.ensures.items ∙ ap (λ (x : CellState). c.args.hands.now.items ++ x ∷ []) c.take_wallet-cell.ensures.cell))
-                              (facts-hand c.args.self.now (g.A.Acts.named c.args.item.now) (g.A.Acts.lane c.args.item.now) c.in-Some.address (front (rest_of c.args.others.now)) c.args.hands.now.items c.args.passes.now.items c.place-place.result c.wallet_gate-gate.result.now
-                              c.index_mut.result.now c.take_wallet-cell.new.pass c.take_wallet-cell.result.1 facts),
-                          (
-                            facts-ready c.args.self.now (g.A.Acts.named c.args.item.now) (g.A.Acts.lane c.args.item.now) c.in-Some.address (front (rest_of c.args.others.now)) c.args.hands.now.items c.args.passes.now.items c.place-place.result c.wallet_gate-gate.result.now
-                                c.index_mut.result.now c.take_wallet-cell.new.pass c.take_wallet-cell.result.1 facts,
-                            omega (arith, long, hands_long, c.requires.room, c.put_in_hand.ensures.room),
-                          ),
+                              (sym (c.put_in_hand.ensures.items ∙ ap (λ (x : CellState). c.args.hands.now.items ++ x ∷ []) c.take_wallet-cell.ensures.cell)) (facts-hand (facts g t (goal.at.with_wallets-made-requires g t c).After-take_wallet-cell)),
+                          (facts-ready (facts g t (goal.at.with_wallets-made-requires g t c).After-take_wallet-cell), omega (arith, long, hands_long, c.requires.room, c.put_in_hand.ensures.room)),
                         ),
                       ),
                     ),
@@ -128,93 +120,39 @@ take_from_hand-cell-requires g t c =
 
 pub index_mut-requires-in-Some : goal.index_mut-requires-in-Some
 index_mut-requires-in-Some g t c =
-    let facts : Facts c.args.self.now (g.A.Acts.named c.args.item.now) (g.A.Acts.lane c.args.item.now) c.in-Some.address (front (rest_of c.args.others.now)) c.args.hands.now.items c.args.passes.now.items c.place-place.result c.wallet_gate-gate.result.now
-    c.index_mut.result.now c.take_wallet-cell.new.pass c.take_wallet-cell.result.1 = record {
-      may = c.requires.named;
-      hand = subst (λ (l : List Address). AreInHand c.args.self.now.script (g.A.Acts.named c.args.item.now) l c.args.hands.now.items) (front-some c.args.others.now c.in-Some.address (sym c.first_of.ensures ∙ c.in-Some.is)) c.requires.hands;
-      ready = subst (λ (l : List Address). AreReady c.args.self.now (g.A.Acts.lane c.args.item.now) l c.args.passes.now.items) (front-some c.args.others.now c.in-Some.address (sym c.first_of.ensures ∙ c.in-Some.is)) c.requires.passes;
-      kept = c.requires.bank;
-      at = (wallet-placed c.args.self.now.script c.in-Some.address c.place-place.result (c.place-place.ensures c.args.self.now.script c.requires.placed));
-      gate_is = c.wallet_gate-gate.ensures c.wallet_gate-gate.result.now;
-      before_is = c.index_mut.ensures.value;
-      is_out = c.take_wallet-cell.ensures.out;
-    } in
     omega (
       arith,
-      (facts-mid c.args.self.now (g.A.Acts.named c.args.item.now) (g.A.Acts.lane c.args.item.now) c.in-Some.address (front (rest_of c.args.others.now)) c.args.hands.now.items c.args.passes.now.items c.place-place.result c.wallet_gate-gate.result.now
-          c.index_mut.result.now c.take_wallet-cell.new.pass c.take_wallet-cell.result.1 facts
-          (g.A.Acts.written c.args.item.now c.with_wallets-made.result) c.with_wallets-made.new.passes.items c.with_wallets-made.ensures.written.of_lane c.with_wallets-made.ensures.passes),
+      (facts-mid (facts g t (goal.at.index_mut-requires-in-Some g t c).After-take_wallet-cell) (g.A.Acts.written c.args.item.now c.with_wallets-made.result) c.with_wallets-made.new.passes.items c.with_wallets-made.ensures.written.of_lane c.with_wallets-made.ensures.passes),
     )
 
 pub leave_wallet-requires-clause-entry : goal.leave_wallet-requires-clause-entry
 leave_wallet-requires-clause-entry g t c =
-    let facts : Facts c.args.self.now (g.A.Acts.named c.args.item.now) (g.A.Acts.lane c.args.item.now) c.in-Some.address (front (rest_of c.args.others.now)) c.args.hands.now.items c.args.passes.now.items c.place-place.result c.wallet_gate-gate.result.now
-    c.index_mut.result.now c.take_wallet-cell.new.pass c.take_wallet-cell.result.1 = record {
-      may = c.requires.named;
-      hand = subst (λ (l : List Address). AreInHand c.args.self.now.script (g.A.Acts.named c.args.item.now) l c.args.hands.now.items) (front-some c.args.others.now c.in-Some.address (sym c.first_of.ensures ∙ c.in-Some.is)) c.requires.hands;
-      ready = subst (λ (l : List Address). AreReady c.args.self.now (g.A.Acts.lane c.args.item.now) l c.args.passes.now.items) (front-some c.args.others.now c.in-Some.address (sym c.first_of.ensures ∙ c.in-Some.is)) c.requires.passes;
-      kept = c.requires.bank;
-      at = (wallet-placed c.args.self.now.script c.in-Some.address c.place-place.result (c.place-place.ensures c.args.self.now.script c.requires.placed));
-      gate_is = c.wallet_gate-gate.ensures c.wallet_gate-gate.result.now;
-      before_is = c.index_mut.ensures.value;
-      is_out = c.take_wallet-cell.ensures.out;
-    } in
     let entry = AllZip-last (HasEntry (g.A.Acts.written c.args.item.now c.with_wallets-made.result)) c.args.hands.now.items c.take_from_hand-cell.new.hands.items c.take_wallet-cell.result.0 c.take_from_hand-cell.result
     (subst (λ (l : List CellState). AllZip (HasEntry (g.A.Acts.written c.args.item.now c.with_wallets-made.result)) l (c.take_from_hand-cell.new.hands.items ++ c.take_from_hand-cell.result ∷ [])) c.put_in_hand.ensures.items
     (subst (AllZip (HasEntry (g.A.Acts.written c.args.item.now c.with_wallets-made.result)) c.put_in_hand.new.hands.items) c.take_from_hand-cell.ensures.items c.with_wallets-made.ensures.hands)) in (
       g.A.Acts.written c.args.item.now c.with_wallets-made.result,
       sym c.stamp-own.ensures,
-      facts-leave c.args.self.now (g.A.Acts.named c.args.item.now) (g.A.Acts.lane c.args.item.now) c.in-Some.address (front (rest_of c.args.others.now)) c.args.hands.now.items c.args.passes.now.items c.place-place.result c.wallet_gate-gate.result.now
-          c.index_mut.result.now c.take_wallet-cell.new.pass c.take_wallet-cell.result.1 facts
-          (g.A.Acts.written c.args.item.now c.with_wallets-made.result) c.with_wallets-made.new.passes.items c.with_wallets-made.ensures.written.of_lane c.with_wallets-made.ensures.passes c.index_mut-in-Some.result.now c.index_mut-in-Some.ensures.value c.take_from_hand-cell.result
+      facts-leave (facts g t (goal.at.leave_wallet-requires-clause-entry g t c).After-take_wallet-cell) (g.A.Acts.written c.args.item.now c.with_wallets-made.result) c.with_wallets-made.new.passes.items c.with_wallets-made.ensures.written.of_lane c.with_wallets-made.ensures.passes c.index_mut-in-Some.result.now c.index_mut-in-Some.ensures.value c.take_from_hand-cell.result
           (subst (λ (x : CellState). HasEntry (g.A.Acts.written c.args.item.now c.with_wallets-made.result) x c.take_from_hand-cell.result) c.take_wallet-cell.ensures.cell entry.1)
           (omega (arith, c.with_wallets-made.ensures.written.later, c.later-later.ensures, le-max_left c.take_wallet-cell.result.1.last c.args.stamp.now.number)),
     )
 
 pub leave_wallet-requires-clause-away : goal.leave_wallet-requires-clause-away
 leave_wallet-requires-clause-away g t c =
-    let facts : Facts c.args.self.now (g.A.Acts.named c.args.item.now) (g.A.Acts.lane c.args.item.now) c.in-Some.address (front (rest_of c.args.others.now)) c.args.hands.now.items c.args.passes.now.items c.place-place.result c.wallet_gate-gate.result.now
-    c.index_mut.result.now c.take_wallet-cell.new.pass c.take_wallet-cell.result.1 = record {
-      may = c.requires.named;
-      hand = subst (λ (l : List Address). AreInHand c.args.self.now.script (g.A.Acts.named c.args.item.now) l c.args.hands.now.items) (front-some c.args.others.now c.in-Some.address (sym c.first_of.ensures ∙ c.in-Some.is)) c.requires.hands;
-      ready = subst (λ (l : List Address). AreReady c.args.self.now (g.A.Acts.lane c.args.item.now) l c.args.passes.now.items) (front-some c.args.others.now c.in-Some.address (sym c.first_of.ensures ∙ c.in-Some.is)) c.requires.passes;
-      kept = c.requires.bank;
-      at = (wallet-placed c.args.self.now.script c.in-Some.address c.place-place.result (c.place-place.ensures c.args.self.now.script c.requires.placed));
-      gate_is = c.wallet_gate-gate.ensures c.wallet_gate-gate.result.now;
-      before_is = c.index_mut.ensures.value;
-      is_out = c.take_wallet-cell.ensures.out;
-    } in
-    let number = facts-number c.args.self.now (g.A.Acts.named c.args.item.now) (g.A.Acts.lane c.args.item.now) c.in-Some.address (front (rest_of c.args.others.now)) c.args.hands.now.items c.args.passes.now.items c.place-place.result c.wallet_gate-gate.result.now
-    c.index_mut.result.now c.take_wallet-cell.new.pass c.take_wallet-cell.result.1 facts
-    (g.A.Acts.written c.args.item.now c.with_wallets-made.result) c.with_wallets-made.new.passes.items c.with_wallets-made.ensures.written.of_lane c.with_wallets-made.ensures.passes c.index_mut-in-Some.result.now c.index_mut-in-Some.ensures.value in
+    let number = facts-number (facts g t (goal.at.leave_wallet-requires-clause-away g t c).After-take_wallet-cell) (g.A.Acts.written c.args.item.now c.with_wallets-made.result) c.with_wallets-made.new.passes.items c.with_wallets-made.ensures.written.of_lane c.with_wallets-made.ensures.passes c.index_mut-in-Some.result.now c.index_mut-in-Some.ensures.value in
     c.take_wallet-cell.ensures.away
     ∙ ap (λ (n : ℕ). record { gate = Some c.wallet_gate-gate.result.now; number = n; start = wallet_entries (left_by c.take_wallet-cell.result.1) }) (sym number)
 
 pub returns-in-Some-clause-passes : goal.returns-in-Some-clause-passes
 returns-in-Some-clause-passes g t c =
-    let facts : Facts c.args.self.now (g.A.Acts.named c.args.item.now) (g.A.Acts.lane c.args.item.now) c.in-Some.address (front (rest_of c.args.others.now)) c.args.hands.now.items c.args.passes.now.items c.place-place.result c.wallet_gate-gate.result.now
-    c.index_mut.result.now c.take_wallet-cell.new.pass c.take_wallet-cell.result.1 = record {
-      may = c.requires.named;
-      hand = subst (λ (l : List Address). AreInHand c.args.self.now.script (g.A.Acts.named c.args.item.now) l c.args.hands.now.items) (front-some c.args.others.now c.in-Some.address (sym c.first_of.ensures ∙ c.in-Some.is)) c.requires.hands;
-      ready = subst (λ (l : List Address). AreReady c.args.self.now (g.A.Acts.lane c.args.item.now) l c.args.passes.now.items) (front-some c.args.others.now c.in-Some.address (sym c.first_of.ensures ∙ c.in-Some.is)) c.requires.passes;
-      kept = c.requires.bank;
-      at = (wallet-placed c.args.self.now.script c.in-Some.address c.place-place.result (c.place-place.ensures c.args.self.now.script c.requires.placed));
-      gate_is = c.wallet_gate-gate.ensures c.wallet_gate-gate.result.now;
-      before_is = c.index_mut.ensures.value;
-      is_out = c.take_wallet-cell.ensures.out;
-    } in
     let entry = AllZip-last (HasEntry (g.A.Acts.written c.args.item.now c.with_wallets-made.result)) c.args.hands.now.items c.take_from_hand-cell.new.hands.items c.take_wallet-cell.result.0 c.take_from_hand-cell.result
     (subst (λ (l : List CellState). AllZip (HasEntry (g.A.Acts.written c.args.item.now c.with_wallets-made.result)) l (c.take_from_hand-cell.new.hands.items ++ c.take_from_hand-cell.result ∷ [])) c.put_in_hand.ensures.items
     (subst (AllZip (HasEntry (g.A.Acts.written c.args.item.now c.with_wallets-made.result)) c.put_in_hand.new.hands.items) c.take_from_hand-cell.ensures.items c.with_wallets-made.ensures.hands)) in
     subst (λ (l : List Address). HaveGrown c.args.self.now l (g.A.Acts.written c.args.item.now c.with_wallets-made.result) c.args.passes.now.items
     (set c.with_wallets-made.new.passes.items c.place-place.result c.leave_wallet.new.pass)) (sym (front-some c.args.others.now c.in-Some.address (sym c.first_of.ensures ∙ c.in-Some.is)))
-    (facts-grown c.args.self.now (g.A.Acts.named c.args.item.now) (g.A.Acts.lane c.args.item.now) c.in-Some.address (front (rest_of c.args.others.now)) c.args.hands.now.items c.args.passes.now.items c.place-place.result c.wallet_gate-gate.result.now
-    c.index_mut.result.now c.take_wallet-cell.new.pass c.take_wallet-cell.result.1 facts
-    (g.A.Acts.written c.args.item.now c.with_wallets-made.result) c.with_wallets-made.new.passes.items c.with_wallets-made.ensures.written.of_lane c.with_wallets-made.ensures.passes c.index_mut-in-Some.result.now c.index_mut-in-Some.ensures.value c.leave_wallet.new.pass
+    (facts-grown (facts g t (goal.at.returns-in-Some-clause-passes g t c).After-take_wallet-cell) (g.A.Acts.written c.args.item.now c.with_wallets-made.result) c.with_wallets-made.new.passes.items c.with_wallets-made.ensures.written.of_lane c.with_wallets-made.ensures.passes c.index_mut-in-Some.result.now c.index_mut-in-Some.ensures.value c.leave_wallet.new.pass
     (c.leave_wallet.ensures (g.A.Acts.written c.args.item.now c.with_wallets-made.result) (sym c.stamp-own.ensures)
-    (facts-leave c.args.self.now (g.A.Acts.named c.args.item.now) (g.A.Acts.lane c.args.item.now) c.in-Some.address (front (rest_of c.args.others.now)) c.args.hands.now.items c.args.passes.now.items c.place-place.result c.wallet_gate-gate.result.now
-    c.index_mut.result.now c.take_wallet-cell.new.pass c.take_wallet-cell.result.1 facts
-    (g.A.Acts.written c.args.item.now c.with_wallets-made.result) c.with_wallets-made.new.passes.items c.with_wallets-made.ensures.written.of_lane c.with_wallets-made.ensures.passes c.index_mut-in-Some.result.now c.index_mut-in-Some.ensures.value c.take_from_hand-cell.result
+    (facts-leave (facts g t (goal.at.returns-in-Some-clause-passes g t c).After-take_wallet-cell) (g.A.Acts.written c.args.item.now c.with_wallets-made.result) c.with_wallets-made.new.passes.items c.with_wallets-made.ensures.written.of_lane c.with_wallets-made.ensures.passes c.index_mut-in-Some.result.now c.index_mut-in-Some.ensures.value c.take_from_hand-cell.result
     (subst (λ (x : CellState). HasEntry (g.A.Acts.written c.args.item.now c.with_wallets-made.result) x c.take_from_hand-cell.result) c.take_wallet-cell.ensures.cell entry.1)
     (omega (arith, c.with_wallets-made.ensures.written.later, c.later-later.ensures, le-max_left c.take_wallet-cell.result.1.last c.args.stamp.now.number)))))
 

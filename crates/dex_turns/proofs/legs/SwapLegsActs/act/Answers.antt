@@ -132,7 +132,7 @@ returns-clause-did g c =
           (ap (λ (call : Stamped Call). is_refused call.item) c.act_or_wait-two.ensures.call ∙ refused-is c.waits-2.result second two_seen n two_may ∙ sym c.is_refused-second_refused.ensures)
           c.waits.ensures c.waits-2.ensures;
       replies =
-          leg-replies c.act_or_wait-one.result.entry.reply c.act_or_wait-two.result.entry.reply c.waits.result c.waits-2.result c.is_refused-first_refused.result
+          leg-replies c.act_or_wait-one.result.entry.value.reply c.act_or_wait-two.result.entry.value.reply c.waits.result c.waits-2.result c.is_refused-first_refused.result
           c.is_refused-second_refused.result
           (ap (λ (call : Stamped Call). is_took call.item.entry.reply) c.act_or_wait-one.ensures.call ∙ took-is first legs.first one_seen m c.waits.result one_may
           ∙ ap (λ (b : Bool). not b && not c.waits.result) (sym c.is_refused-first_refused.ensures))

@@ -1,0 +1,13 @@
+use Rattle.std.proofs.Common.{◌≡◌, length, map, reverse}
+use Rattle.dex_fold.proofs.Common.{row_of}
+use Rattle.dex_replay.proofs.Common.{IsScript, PlainScript, opened}
+use Rattle.dex_replay.specs.Acting.{AreLeft}
+use Rattle.dex_replay.proofs.acting.use_up.Given as goal
+
+-- the same where they stand from the last to the first
+abbrev pub invariant-item : goal.invariant-item
+invariant-item l = (script : PlainScript) → IsScript script → l.fn.cells ≡ opened script → map row_of l.fn.rows.items ≡ script.rows
+    → AreLeft script (map row_of (reverse l.rows.items)) l.places l.cells
+
+abbrev pub decreases-item : goal.decreases-item
+decreases-item l = length l.rows.items

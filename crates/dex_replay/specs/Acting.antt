@@ -1,0 +1,42 @@
+-- Items that act one after the other, until no row is left.
+use Rattle.std.specs.Prelude.{◌≡◌, ℕ, ◌<◌, ◌≤◌, List, ◌∷◌, ◌++◌, All, Option, drop, length, slice_get}
+use Rattle.std.specs.List.{AllPairs, flat_map}
+use Rattle.dex_types.specs.declared.rows.RowPlaces.{RowPlaces}
+use Rattle.dex_types.specs.Rows.{PlainRow}
+use Rattle.dex_cell.specs.CellState.{MarketCellState}
+use Rattle.dex_fold.specs.Groups.{members}
+use Rattle.dex_fold.specs.Items.{Item, fold_items, items_of}
+use Rattle.dex_bank.specs.Cells.{CellsState, opened_of, world_of}
+use Rattle.dex_bank.specs.Opened.{opened}
+use Rattle.dex_bank.specs.Places.{ArePlacedIn}
+use Rattle.dex_script_facts.specs.PlainScript.{PlainScript}
+use Rattle.dex_script_facts.specs.Facts.{HasNoThree}
+use Rattle.dex_replay.specs.Replays.{start_world}
+
+-- of two rows the later one has no lower number
+abbrev pub NeverFalls : PlainRow → PlainRow → Type 0
+NeverFalls one other = one.number ≤ other.number
+
+-- the items of a script have acted on the cells up to these rows, which begin with an item and stand among the cells at these places
+pub record AreLeft (script : PlainScript) (left : List PlainRow) (places : List RowPlaces) (cells : CellsState) : Type 0 where
+  pub done : List Item
+  pub items : items_of script.rows ≡ done ++ items_of left
+  pub rows : flat_map members done ++ left ≡ script.rows
+  pub rising : AllPairs NeverFalls left
+  pub two : HasNoThree left
+  pub placed : ArePlacedIn cells left places
+  pub opened : opened_of cells ≡ opened script
+  pub addresses : All (λ (cell : MarketCellState). cell.accounts.address ≡ cell.start.address) cells.markets
+  pub acted : world_of cells ≡ fold_items done (start_world script)
+
+-- a row is left, and behind it others, with this one in front if there is any
+pub record IsNext (script : PlainScript) (row : PlainRow) (behind : Option PlainRow) (others : List PlainRow) (places : List RowPlaces)
+    (cells : CellsState) : Type 0 where
+  pub left : AreLeft script (row ∷ others) places cells
+  pub front : behind ≡ slice_get others 0
+
+-- so many of these rows were an item, and it has acted
+pub record HaveActed (script : PlainScript) (rows : List PlainRow) (places : List RowPlaces) (count : ℕ) (cells : CellsState) : Type 0 where
+  pub some : 0 < count
+  pub within : count ≤ length rows
+  pub left : AreLeft script (drop count rows) (drop count places) cells

@@ -1,6 +1,0 @@
-use Rattle.std.proofs.Common.{sym, ◌∙◌}
-use Rattle.dex_ring.proofs.RingLaw.{length-events_of}
-use Rattle.dex_ring.proofs.ring_ref.count_of.Goals as goal
-
-pub returns : goal.returns
-returns c = c.get_u64.ensures ∙ sym (length-events_of c.args.bytes.now)

@@ -1,9 +1,0 @@
-use Rattle.std.proofs.Common.{arith}
-use Rattle.dex_ring.proofs.RingLaw.{length-events_of}
-use Rattle.dex_ring.proofs.ring_ref.room_of.Goals as goal
-
-pub overflow_sub-result : goal.overflow_sub-result
-overflow_sub-result c = omega (arith, length-events_of c.args.bytes.now, c.requires.count)
-
-pub returns : goal.returns
-returns c = omega (arith, length-events_of c.args.bytes.now, c.requires.count)

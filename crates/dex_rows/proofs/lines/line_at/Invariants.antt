@@ -1,6 +1,0 @@
-use Rattle.std.proofs.Common.{◌≡◌, length}
-use Rattle.dex_rows.proofs.LineLemmas.{InLine}
-use Rattle.dex_rows.proofs.lines.line_at.Given as goal
-
-abbrev pub invariant-bytes : goal.invariant-bytes
-invariant-bytes l = (length l.fields ≡ 12) × InLine l.text l.start l.at l.count l.fields

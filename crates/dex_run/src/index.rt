@@ -1,0 +1,41 @@
+//! Where the items of each lane begin.
+
+ghost use Rattle.std.specs.Prelude.{◌≡◌, IfOk, length, map};
+ghost use Rattle.dex_types.specs.Rows.{row_of};
+ghost use Rattle.dex_script_facts.specs.PlainScript.{PlainScript};
+ghost use Rattle.dex_script_facts.specs.Facts.{AreRows};
+ghost use Rattle.dex_run.specs.LaneItems.{IsIndex};
+
+use crate::building::add;
+use crate::columns::columns_for;
+use dex_replay::is_swap;
+use dex_types::{NoMemory, Row};
+use std::alloc::Global;
+
+/// For each lane of a script the places at which its items begin, by one pass over the rows. Asks memory.
+pub(crate) fn places_by_lane(
+    alloc: Global,
+    lanes: u32,
+    rows: &[Row],
+) -> Result<Vec<Vec<usize>>, NoMemory>
+    requires { (script : PlainScript) × AreRows script × (map row_of rows.now ≡ script.rows)
+        × (lanes ≡ script.lanes) }
+    ensures count { IfOk result (λ by_lane. length by_lane.items ≡ lanes) }
+    ensures index { IfOk result (λ by_lane. IsIndex rows.now by_lane.items) }
+{
+    let Some(columns) = columns_for(alloc, lanes as usize, 0) else {
+        return Err(NoMemory);
+    };
+    let mut by_lane = columns;
+    let mut place = 0;
+    'item: while place < rows.len() {
+        let row = &rows[place];
+        add(&mut by_lane[row.lane as usize], place)?;
+        if is_swap(rows, place) {
+            place += 2;
+        } else {
+            place += 1;
+        }
+    }
+    Ok(by_lane)
+}

@@ -1,7 +1,0 @@
-use Rattle.std.proofs.Common.{◌≡◌, ◌++◌, map, take}
-use Rattle.dex_types.specs.Accounts.{named_of}
-use Rattle.dex_dump.specs.Accepted.{address_of}
-use Rattle.dex_script.proofs.taken.take_named.Given as goal
-
-abbrev pub invariant-loop-account : goal.invariant-loop-account
-invariant-loop-account l = l.taken.items ≡ l.initial.taken.items ++ map address_of (map named_of (take l.account-index l.accounts))

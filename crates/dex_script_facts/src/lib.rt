@@ -1,0 +1,10 @@
+//! Scripts, and what holds of each: accounts to start from, and the instruction rows that lanes hand in.
+#![tactic(auto)]
+
+mod addresses;
+mod placing;
+mod script;
+
+pub use addresses::{addresses_of_markets, addresses_of_wallets, push_address, push_named};
+pub use placing::{is_role, place_in};
+pub use script::Script;

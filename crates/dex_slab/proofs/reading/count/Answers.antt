@@ -1,9 +1,0 @@
-use Rattle.std.proofs.Common.{sym, ◌∙◌, arith}
-use Rattle.dex_slab.proofs.Standing.{count-listed, count-room}
-use Rattle.dex_slab.proofs.reading.count.Goals as goal
-
-pub overflow_cast-result : goal.overflow_cast-result
-overflow_cast-result c = omega (arith, c.get_u64.ensures, count-room c.args.bytes.now c.requires, c.requires.size.few)
-
-pub returns : goal.returns
-returns c side = c.get_u64.ensures ∙ sym (count-listed side c.args.bytes.now c.requires)
