@@ -8,8 +8,6 @@ use crate::terms::NoMemory;
 pub fn add<T: Drop>(items: &mut Vec<T>, item: T) -> Result<(), NoMemory>
     ensures { OnOk result (items.new.items ≡ items.old.items ++ item ∷ []) }
 {
-    match items.push(item) {
-        Ok(()) => Ok(()),
-        Err(_) => Err(NoMemory),
-    }
+    items.push(item)?;
+    Ok(())
 }
