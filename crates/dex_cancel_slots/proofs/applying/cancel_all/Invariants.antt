@@ -5,7 +5,7 @@ use Rattle.dex_accounts.specs.Keeps.{KeepsSide}
 use Rattle.dex_cancel.specs.TakenOff.{queue_of}
 use Rattle.dex_cancel.proofs.TakenOffLaws.{IsLeft}
 use Rattle.dex_cancel.proofs.ListedLaws.{left_after}
-use Rattle.dex_cancel_slots.proofs.applying.cancel_listed.Given as goal
+use Rattle.dex_cancel_slots.proofs.applying.cancel_all.Given as goal
 
 abbrev pub invariant-loop-place : goal.invariant-loop-place
 invariant-loop-place g l =
