@@ -11,18 +11,8 @@ ghost use Rattle.dex_audit_rules.specs.RulesOf.{told_by};
 
 use crate::supplies::tell_supplies;
 use dex_audit_rules::{Finding, Gathered, Rule, gather, tell_rule};
-use dex_types::{Accounts, MarketAccounts, NoMemory};
+use dex_types::{Accounts, MarketAccounts, NoMemory, add};
 use std::alloc::Global;
-
-/// Adds what was gathered of a market behind the others.
-fn add_gathered(all: &mut Vec<Gathered>, one: Gathered) -> Result<(), NoMemory>
-    ensures { OnOk result (all.new.items ≡ all.old.items ++ one ∷ []) }
-{
-    match all.push(one) {
-        Ok(()) => Ok(()),
-        Err(_) => Err(NoMemory),
-    }
-}
 
 /// The orders and events of each market.
 fn gather_all(alloc: Global, markets: &[MarketAccounts]) -> Result<Vec<Gathered>, NoMemory>
@@ -32,7 +22,7 @@ fn gather_all(alloc: Global, markets: &[MarketAccounts]) -> Result<Vec<Gathered>
     let mut all = Vec::new(alloc);
     for at in 0..markets.len() {
         let one = gather(alloc, &markets[at])?;
-        add_gathered(&mut all, one)?;
+        add(&mut all, one)?;
     }
     Ok(all)
 }
