@@ -89,7 +89,8 @@ fn tell_slot(
     held: Option<(u128, Side, u64)>,
     first: Option<u128>,
 ) -> Result<(), NoMemory>
-    ensures { OnOk result (found.new.items ≡ found.old.items ++ rules.unheld_finding owner slot (held_in held) first) }
+    ensures { OnOk result (found.new.items
+        ≡ found.old.items ++ rules.unheld_finding owner slot (held_in held) first) }
 {
     if let Some(id) = first {
         let finding = Finding {
