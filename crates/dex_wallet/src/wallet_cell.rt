@@ -2,7 +2,7 @@
 
 ghost use Rattle.std.specs.Prelude.{◌≡◌, ◌+◌, ◌-◌, ◌<◌, ◌≤◌, ◌^◌, length, IfOk};
 
-use crate::account::{append, balance, set_balance};
+use crate::account::{balance, set_balance};
 use crate::parcel::{Parcel, Share};
 use dex_token::WalletRef;
 use dex_types::{Address, MoveKind, NoMemory, WalletEntry, WalletSeen};
@@ -36,7 +36,6 @@ impl Model for WalletCell {
 }
 
 impl WalletCell {
-    ghost use Rattle.dex_types.specs.WalletJournal.{CanMove};
     ghost use Rattle.dex_token.specs.TokenAccount.{IsWallet, wallet_words};
     ghost use Rattle.dex_wallet.specs.TokenAmount.{held_in};
     ghost use Rattle.dex_wallet.specs.CellState.{HasSpare, IsWalletCell, balance_of, movement, new_cell};
@@ -145,7 +144,7 @@ impl WalletCell {
         ensures cell { IsWalletCell self.new }
     {
         let probe = self.movement(market, lane, row, MoveKind::Probe, 0);
-        append(&mut self.entries, probe);
+        self.entries.push_reserved(probe);
     }
 
     /// A row of this number, which this lane submits to this market, takes an amount out, as a parcel.
@@ -160,7 +159,7 @@ impl WalletCell {
         ensures cell { IsWalletCell self.new }
     {
         let debit = self.movement(market, lane, row, MoveKind::Debit, amount);
-        append(&mut self.entries, debit);
+        self.entries.push_reserved(debit);
         set_balance(&mut self.bytes, debit.before - amount);
         self.share.parcel.take(amount)
     }
@@ -178,7 +177,7 @@ impl WalletCell {
     {
         let amount = parcel.amount();
         let credit = self.movement(market, lane, row, MoveKind::Credit, amount);
-        append(&mut self.entries, credit);
+        self.entries.push_reserved(credit);
         set_balance(&mut self.bytes, credit.before + amount);
         self.share.parcel.put(parcel);
     }
