@@ -1,11 +1,10 @@
 //! Whether a row is refused, instruction by instruction. Each function reads only.
 
-ghost use Rattle.std.specs.Prelude.{◌≡◌, ◌==◌, MatchOption, Some, None};
+ghost use Rattle.std.specs.Prelude.{◌≡◌, ◌==◌, Some, None};
 ghost use Rattle.dex_types.specs.Cancel.{First};
 ghost use Rattle.dex_types.specs.Accounts.{market_accounts_of};
 ghost use Rattle.dex_types.specs.Reasons.{answered};
 ghost use Rattle.dex_types.specs.Why as reasons;
-ghost use Rattle.dex_orders.specs.OrdersAccount.{IsOpen};
 ghost use Rattle.dex_ring.specs.Ring.{IsEventQueue, ring_of, room_of};
 ghost use Rattle.dex_cancel.specs.Cancelling.{named_by};
 ghost use Rattle.dex_cancel.specs.declared.what.CancelWhat.TheVariants as cancels;
@@ -16,7 +15,7 @@ ghost use Rattle.dex_history.specs.Journal.{Sees, asked_of};
 ghost use Rattle.dex_types.specs.Rows.{row_of};
 ghost use Rattle.dex_plan.specs.declared.plan.Plan.TheVariants as plans;
 ghost use Rattle.dex_plan.specs.Given.{asked_by, market_of, party_on};
-ghost use Rattle.dex_decide.specs.Named.{IsActing, account_by, named_in, party_by};
+ghost use Rattle.dex_decide.specs.Named.{IsActing, party_by};
 ghost use Rattle.dex_plan.specs.Plans as planning;
 
 use crate::named::{Acting, named_first, open_named};
@@ -62,16 +61,6 @@ pub fn decide_disable_row(accounts: &MarketAccounts, row: &Row) -> Result<Plan, 
     }
 }
 
-/// The account that the row names first, if it is one of the market's.
-fn account_named<'a>(accounts: &'a MarketAccounts, row: &Row) -> Option<Acting<'a>>
-    ensures { MatchOption result
-        (named_in row.entry.now.named.items (market_accounts_of accounts.now).orders ≡ None)
-        (λ acting. named_in row.entry.now.named.items (market_accounts_of accounts.now).orders
-        ≡ Some (account_by acting.address acting.bytes.now)) }
-{
-    named_first(&accounts.orders, &row.named)
-}
-
 /// Opening an account.
 #[inline(never)]
 pub fn decide_init_row(accounts: &MarketAccounts, row: &Row) -> Result<Plan, Refusal>
@@ -81,7 +70,7 @@ pub fn decide_init_row(accounts: &MarketAccounts, row: &Row) -> Result<Plan, Ref
     let market = MarketRef {
         bytes: &accounts.market,
     };
-    match account_named(accounts, row) {
+    match named_first(&accounts.orders, &row.named) {
         None => Err(disabled_or_none(market)),
         Some(acting) => match decide_init(&market, acting.bytes) {
             Ok(()) => Ok(Plan::Init),
@@ -109,7 +98,7 @@ pub fn decide_close_row(accounts: &MarketAccounts, row: &Row) -> Result<Plan, Re
     ensures { result ≡ answered (reasons.of_party (reasons.why_close (asked_by row.entry.now))
         (party_on (asked_by row.entry.now) (market_of accounts.now))) plans.Close }
 {
-    match account_named(accounts, row) {
+    match named_first(&accounts.orders, &row.named) {
         None => Err(Refusal::NoAccount),
         Some(acting) => match decide_close(acting.bytes, row.signer) {
             Ok(()) => Ok(Plan::Close),

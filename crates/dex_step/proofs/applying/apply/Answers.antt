@@ -6,7 +6,7 @@ use Rattle.dex_accounts.specs.Decoded.{market_in}
 use Rattle.dex_plan.specs.declared.plan.Plan.TheVariants as plans
 use Rattle.dex_step.specs.ConsumeActs.{consume_step}
 use Rattle.dex_step.proofs.ApplyLaws.{first-holds, planned-as, stepped-as}
-use Rattle.dex_step.proofs.applying.do_plan.Goals as goal
+use Rattle.dex_step.proofs.applying.apply.Goals as goal
 
 pub settle_row-requires-clause-decided : goal.settle_row-requires-clause-decided
 settle_row-requires-clause-decided c =
