@@ -14,6 +14,11 @@ HasNoQuote text = All (λ byte. (byte == 34) ≡ false) text
 abbrev pub ends_row : ℕ → Bool
 ends_row byte = (byte == 13) || (byte == 10)
 
+-- a text that begins with a line end, or is over
+abbrev pub IsEnd : List ℕ → Type 0
+IsEnd [] = Unit {0}
+IsEnd (byte ∷ rest) = ends_row byte ≡ true
+
 -- what stands behind the line ends at the front of a text
 unfoldable pub behind_ends : List ℕ → List ℕ
 behind_ends [] = []

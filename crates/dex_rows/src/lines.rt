@@ -110,7 +110,7 @@ fn keep<'a>(fields: &mut [&'a [u8]; KEPT], count: usize, field: &'a [u8])
 }
 
 // Whether a byte ends a row.
-fn ends_row(byte: u8) -> bool
+pub(crate) fn ends_row(byte: u8) -> bool
     ensures { result ≡ ends_row byte }
 {
     byte == b'\r' || byte == b'\n'

@@ -15,7 +15,7 @@ use Rattle.dex_script.specs.declared.draft.Start.{Start}
 use Rattle.dex_script.specs.declared.fault.ScriptError.{ScriptError}
 use Rattle.dex_script.specs.declared.fault.ScriptError.TheVariants as script
 use Rattle.dex_script.specs.Drafts.{PlainDraft}
-use Rattle.dex_script.specs.Scripts.{IsRefused, Reads, Refusal}
+use Rattle.dex_script.specs.Scripts.{IsRefused, Reads, Refusal, draft_after}
 use Rattle.dex_script.specs.Scripts.Refusal.{AtRow, InAudit, InDump}
 
 -- the accounts so far
@@ -52,6 +52,12 @@ TellsRefusal script.NoMemory meant = Unit {0}
 abbrev pub TellsDraft : Result PlainDraft ScriptError → Result PlainDraft Refusal → Type 0
 TellsDraft (Ok draft) meant = meant ≡ Ok draft
 TellsDraft (Err error) meant = TellsRefusal error meant
+
+-- the draft behind the first of some rows, from which the others, the first of them of this number, leave what all leave; or the
+-- first faulty one
+abbrev pub TellsFront : Result PlainDraft ScriptError → ℕ → List Fields → Result PlainDraft Refusal → Type 0
+TellsFront (Ok draft) number left meant = meant ≡ draft_after draft number left
+TellsFront (Err error) number left meant = TellsRefusal error meant
 
 -- the draft that is left behind a row, or its fault
 abbrev pub TellsLeft : Result (Unit {0}) ScriptError → PlainDraft → Result PlainDraft Refusal → Type 0

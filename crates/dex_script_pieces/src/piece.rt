@@ -1,0 +1,43 @@
+//! A piece of the rows of a script, which one thread reads.
+
+ghost use Rattle.std.specs.Prelude.{⊤};
+ghost use Rattle.dex_script_pieces.specs.Pieces.{ReadsPiece};
+
+use dex_lanes::Job;
+use dex_rows::plain::PlainRows;
+use dex_rows::records::Rows;
+use dex_script::{Reader, ScriptError, read_rows};
+use std::alloc::Global;
+
+/// Some rows, where a piece of them begins: the number of the first, and the clock before it.
+#[derive(Drop)]
+pub(crate) struct Piece<'a> {
+    pub(crate) alloc: Global,
+    pub(crate) rows: PlainRows<'a>,
+    pub(crate) number: u32,
+    pub(crate) clock: i64,
+    /// Before it is read, a reader that has read none of its rows; then, what is read behind them, or their first fault.
+    pub(crate) reader: Result<Reader, ScriptError>,
+    /// The number of the row behind it, when it is read.
+    pub(crate) after: u32,
+}
+
+impl<'a> Job for Piece<'a> {
+    ghost ready = { λ piece. ⊤ };
+
+    ghost ran = { ReadsPiece };
+
+    fn run(&mut self) {
+        self.after = self.number;
+        let reader = std::mem::replace(&mut self.reader, Err(ScriptError::NoMemory));
+        self.reader = match reader {
+            Ok(reader) => read_rows(
+                self.alloc,
+                reader,
+                &mut self.after,
+                &mut Rows::of_plain(&self.rows),
+            ),
+            Err(error) => Err(error),
+        };
+    }
+}

@@ -1,0 +1,215 @@
+//! A script, from its bytes, whose rows are read by several threads.
+
+ghost use Rattle.std.specs.Prelude.{◌≡◌, ◌<◌, ◌≤◌, ℕ, All, List, IfOk, OnOk, length, true};
+ghost use Rattle.std.specs.List.{AllZip, flat_map};
+ghost use Rattle.dex_statement.specs.Words.{Fields};
+ghost use Rattle.dex_script_facts.specs.Facts.{HasNoSwap};
+ghost use Rattle.dex_script.specs.Drafts.{PlainDraft};
+ghost use Rattle.dex_script.specs.Pieces.{IsUnderway, number_after};
+ghost use Rattle.dex_script.specs.Scripts.{draft_after};
+ghost use Rattle.dex_script.specs.Telling.{TellsDraft, TellsScript};
+ghost use Rattle.dex_script_pieces.specs.Pieces.{ArePieces, HasRead, IsBeside, ReadsPiece};
+ghost use Rattle.dex_script_pieces.specs.declared.piece.Piece.{Piece};
+
+use crate::guesses::{Place, count_of, place_behind};
+use crate::piece::Piece;
+use dex_lanes::run_jobs;
+use dex_rows::plain::PlainRows;
+use dex_rows::records::Rows;
+use dex_script::{ReadRows, Reader, Script, ScriptError, read_first, read_rows, read_script_by};
+use std::alloc::{AllocError, Global};
+use std::marker::Sync;
+use std::thread::Threads;
+
+/// No piece is shorter than so many bytes.
+const SHORTEST: usize = 65_536;
+
+/// The script that a text is, as `read_script` of `dex_script`. Where the text has no quote, the rows behind the first
+/// instruction row are read by so many threads.
+pub fn read_script<R: Threads + Sync>(
+    rt: &R,
+    alloc: Global,
+    bytes: &[u8],
+    batch: bool,
+    threads: usize,
+) -> Result<Script, ScriptError>
+    ensures told { TellsScript result batch bytes.now }
+    ensures apart { IfOk result (λ script. batch ≡ true → HasNoSwap script.rows) }
+{
+    read_script_by(alloc, bytes, batch, &InPieces { rt, threads })
+}
+
+// Rows are read in so many pieces at most, on threads of this runtime.
+#[derive(Drop)]
+struct InPieces<'a, R> {
+    rt: &'a R,
+    threads: usize,
+}
+
+impl<'a, R: Threads + Sync> ReadRows for InPieces<'a, R> {
+    fn read_rows(
+        &self,
+        alloc: Global,
+        reader: Reader,
+        number: u32,
+        rows: &mut Rows<'_>,
+    ) -> Result<Reader, ScriptError> {
+        let mut number = number;
+        let reader = read_first(alloc, reader, &mut number, rows)?;
+        match rows.plain() {
+            Some(plain) if reader.is_underway() => {
+                read_plain(self.rt, alloc, reader, number, plain, self.threads)
+            }
+            _ => read_rows(alloc, reader, &mut number, rows),
+        }
+    }
+}
+
+// What is read behind rows, the first of which has this number, in so many pieces at most.
+fn read_plain<R: Threads + Sync>(
+    rt: &R,
+    alloc: Global,
+    reader: Reader,
+    number: u32,
+    rows: PlainRows<'_>,
+    threads: usize,
+) -> Result<Reader, ScriptError>
+    requires { IsUnderway reader }
+    ensures { TellsDraft result (draft_after reader number rows) }
+{
+    let mut number = number;
+    let count = threads.min(rows.size() / SHORTEST);
+    if count < 2 {
+        return read_rows(alloc, reader, &mut number, &mut Rows::of_plain(&rows));
+    }
+    let Ok(mut pieces) = pieces_of(alloc, reader, number, rows, count) else {
+        return Err(ScriptError::NoMemory);
+    };
+    run_jobs(rt, &mut pieces);
+    put_together(alloc, pieces)
+}
+
+// So many pieces of rows, the first of which has this number. The reader reads the first of them itself.
+fn pieces_of<'a>(
+    alloc: Global,
+    reader: Reader,
+    number: u32,
+    rows: PlainRows<'a>,
+    count: usize,
+) -> Result<Vec<Piece<'a>>, AllocError>
+    requires { 2 ≤ count }
+    ensures { IfOk result (λ pieces. ArePieces reader number rows pieces.items) }
+{
+    let size = rows.size() / count;
+    let clock = reader.clock();
+    let mut front = rows;
+    let left = front.cut(size);
+    let many = count_of(&front).saturating_add(count_of(&left));
+    let next = place_behind(alloc, &front, Place { number, clock });
+    let mut others = others_of(alloc, &reader, next, left, size, count)?;
+    let mut reader = reader;
+    reader.reserve(many)?;
+    let mut pieces = Vec::with_capacity(alloc, count)?;
+    pieces.push(Piece {
+        alloc,
+        rows: front,
+        number,
+        clock,
+        reader: Ok(reader),
+        after: number,
+    })?;
+    pieces.append(&mut others)?;
+    Ok(pieces)
+}
+
+// Pieces behind the first, one less than so many, of about this size: each with a reader beside this one.
+fn others_of<'a>(
+    alloc: Global,
+    reader: &Reader,
+    first: Place,
+    rows: PlainRows<'a>,
+    size: usize,
+    count: usize,
+) -> Result<Vec<Piece<'a>>, AllocError>
+    requires { 2 ≤ count }
+    ensures rows { IfOk result (λ pieces. flat_map (λ piece. piece.rows) pieces.items ≡ rows) }
+    ensures beside { IfOk result (λ pieces. All (IsBeside reader.now) pieces.items) }
+{
+    let mut at = first;
+    let mut left = rows;
+    let mut pieces = Vec::with_capacity(alloc, count)?;
+    for _ in 2..count {
+        let mut rows = left;
+        left = rows.cut(size);
+        let next = place_behind(alloc, &rows, at);
+        pieces.push(piece_beside(alloc, reader, at, rows)?)?;
+        at = next;
+    }
+    pieces.push(piece_beside(alloc, reader, at, left)?)?;
+    Ok(pieces)
+}
+
+// A piece that begins here, with a reader beside this one.
+fn piece_beside<'a>(
+    alloc: Global,
+    reader: &Reader,
+    at: Place,
+    rows: PlainRows<'a>,
+) -> Result<Piece<'a>, AllocError>
+    ensures { IfOk result (λ piece. (piece.rows ≡ rows) × IsBeside reader.now piece) }
+{
+    let mut beside = reader.beside(alloc, at.clock)?;
+    beside.reserve(count_of(&rows))?;
+    Ok(Piece {
+        alloc,
+        rows,
+        number: at.number,
+        clock: at.clock,
+        reader: Ok(beside),
+        after: at.number,
+    })
+}
+
+// What is read behind pieces. The first was read behind what stood before it.
+fn put_together(alloc: Global, pieces: Vec<Piece<'_>>) -> Result<Reader, ScriptError>
+    requires { 0 < length pieces.items }
+    ensures { (before : List Piece) (reader : PlainDraft) (number : ℕ) (rows : List Fields)
+        → IsUnderway reader → ArePieces reader number rows before → AllZip ReadsPiece before pieces.items
+        → TellsDraft result (draft_after reader number rows) }
+{
+    let mut pieces = pieces;
+    let first = pieces.remove(0);
+    let mut reader = first.reader?;
+    let mut number = first.after;
+    for piece in pieces {
+        reader = behind_piece(alloc, reader, &mut number, piece)?;
+    }
+    Ok(reader)
+}
+
+// What is read behind one more piece. One that begins elsewhere than was guessed, that finds no room or has a fault is read anew.
+fn behind_piece(
+    alloc: Global,
+    reader: Reader,
+    number: &mut u32,
+    piece: Piece<'_>,
+) -> Result<Reader, ScriptError>
+    requires underway { IsUnderway reader }
+    requires read { HasRead reader piece }
+    ensures told { TellsDraft result (draft_after reader number.old piece.rows) }
+    ensures number { OnOk result (number.new ≡ number_after number.old piece.rows) }
+{
+    let mut reader = reader;
+    if piece.number == *number && piece.clock == reader.clock() {
+        if let Ok(read) = piece.reader {
+            if reader.has_room(&read) {
+                let Ok(()) = reader.join(read) else {
+                    return Err(ScriptError::NoMemory);
+                };
+                *number = piece.after;
+                return Ok(reader);
+            }
+        }
+    }
+    read_rows(alloc, reader, number, &mut Rows::of_plain(&piece.rows))
+}
