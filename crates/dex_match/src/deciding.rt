@@ -128,9 +128,9 @@ fn decide_with<B: SideRead, A: SideRead>(
     taker: &Taker,
     balance: u64,
 ) -> Result<Decided, Refusal>
+    requires market { IsMarket market.now.bytes.now }
     requires own { B.holds own.now }
     requires opposite { A.holds opposite.now }
-    requires market { IsMarket market.now.bytes.now }
     requires requests { IsRequestQueue requests.now.bytes.now }
     requires events { IsEventQueue ring.now.bytes.now }
     requires account { IsOpen orders.now.bytes.now }
