@@ -1,5 +1,5 @@
 -- Rows of a text without quotes, as they stand in it.
-use Rattle.std.specs.Prelude.{ℕ, ◌+◌, ◌≡◌, ◌<◌, ◌≤◌, ◌==◌, ◌||◌, Bool, true, false, if◌then◌else◌, List, [], ◌∷◌, ◌++◌, All, Some, length, map, slice_index, take}
+use Rattle.std.specs.Prelude.{ℕ, ◌+◌, ◌≡◌, ◌<◌, ◌≤◌, ◌==◌, ◌||◌, Bool, true, false, if◌then◌else◌, List, [], ◌∷◌, ◌++◌, All, Some, get_or, length, map, slice_index, take}
 use Rattle.std.specs.Borrow.{Bor}
 use Rattle.std.specs.List.{slice_split}
 use Rattle.csv.specs.declared.parser.State.TheVariants as st
@@ -50,6 +50,13 @@ pub record IsFront (text : List ℕ) (n : ℕ) : Type 0 where
   pub fits : n ≤ length text
   pub whole : All (λ byte. ends_row byte ≡ false) (take n text)
   pub ended : n < length text → ends_row (slice_index text n) ≡ true
+
+-- no byte from one place of a text up to another is a comma or ends a row
+pub record IsPassed (text : List ℕ) (from to : ℕ) : Type 0 where
+  pub order : from ≤ to
+  pub within : to ≤ length text
+  pub comma : (place : ℕ) → from ≤ place → place < to → (get_or text place 0 == 44) ≡ false
+  pub ends : (place : ℕ) → from ≤ place → place < to → ends_row (get_or text place 0) ≡ false
 
 -- a field is kept at this place, if it is one of the first twelve
 pub record KeepsField (fields : List (Bor (List ℕ))) (place : ℕ) (field : List ℕ) (after : List (Bor (List ℕ))) : Type 0 where
