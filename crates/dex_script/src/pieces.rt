@@ -59,16 +59,6 @@ impl Reader {
         })
     }
 
-    /// Takes room for so many more rows, up to as many as a script may have.
-    pub fn reserve(&mut self, rows: u32) -> Result<(), AllocError>
-        ensures { self.new ≡ self.old }
-    {
-        let rows = rows.min(MOST) as usize;
-        self.draft.rows.reserve(rows)?;
-        self.places.reserve(rows)?;
-        Ok(())
-    }
-
     /// Whether there is room for as many instruction rows as a piece has.
     pub fn has_room(&self, piece: &Reader) -> bool
         ensures { result ≡ true → self.now.items + piece.now.items ≤ 100000 }

@@ -11,7 +11,7 @@ ghost use Rattle.dex_script.specs.Telling.{TellsDraft, TellsScript};
 ghost use Rattle.dex_script_pieces.specs.Pieces.{ArePieces, HasRead, IsBeside, ReadsPiece};
 ghost use Rattle.dex_script_pieces.specs.declared.piece.Piece.{Piece};
 
-use crate::guesses::{Place, count_of, place_behind};
+use crate::guesses::{Place, place_behind};
 use crate::piece::Piece;
 use dex_lanes::run_jobs;
 use dex_rows::plain::PlainRows;
@@ -22,7 +22,7 @@ use std::marker::Sync;
 use std::thread::Threads;
 
 /// No piece is shorter than so many bytes.
-const SHORTEST: usize = 65_536;
+const SHORTEST: usize = 1_048_576;
 
 /// The script that a text is, as `read_script` of `dex_script`. Where the text has no quote, the rows behind the first
 /// instruction row are read by so many threads.
@@ -104,11 +104,8 @@ fn pieces_of<'a>(
     let clock = reader.clock();
     let mut front = rows;
     let left = front.cut(size);
-    let many = count_of(&front).saturating_add(count_of(&left));
     let next = place_behind(alloc, &front, Place { number, clock });
     let mut others = others_of(alloc, &reader, next, left, size, count)?;
-    let mut reader = reader;
-    reader.reserve(many)?;
     let mut pieces = Vec::with_capacity(alloc, count)?;
     pieces.push(Piece {
         alloc,
@@ -158,8 +155,7 @@ fn piece_beside<'a>(
 ) -> Result<Piece<'a>, AllocError>
     ensures { IfOk result (λ piece. (piece.rows ≡ rows) × IsBeside reader.now piece) }
 {
-    let mut beside = reader.beside(alloc, at.clock)?;
-    beside.reserve(count_of(&rows))?;
+    let beside = reader.beside(alloc, at.clock)?;
     Ok(Piece {
         alloc,
         rows,
