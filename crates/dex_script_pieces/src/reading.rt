@@ -1,15 +1,11 @@
 //! A script, from its bytes, whose rows are read by several threads.
 
-ghost use Rattle.std.specs.Prelude.{◌≡◌, ◌<◌, ◌≤◌, ℕ, All, List, IfOk, OnOk, length, true};
-ghost use Rattle.std.specs.List.{AllZip, flat_map};
-ghost use Rattle.dex_statement.specs.Words.{Fields};
+ghost use Rattle.std.specs.Prelude.{◌≡◌, ◌≤◌, All, IfOk, OnOk, true};
 ghost use Rattle.dex_script_facts.specs.Facts.{HasNoSwap};
-ghost use Rattle.dex_script.specs.Drafts.{PlainDraft};
 ghost use Rattle.dex_script.specs.Pieces.{IsUnderway, number_after};
 ghost use Rattle.dex_script.specs.Scripts.{draft_after};
 ghost use Rattle.dex_script.specs.Telling.{TellsDraft, TellsScript};
-ghost use Rattle.dex_script_pieces.specs.Pieces.{ArePieces, HasRead, IsBeside, ReadsPiece};
-ghost use Rattle.dex_script_pieces.specs.declared.piece.Piece.{Piece};
+ghost use Rattle.dex_script_pieces.specs.Pieces.{ArePieces, HasRead, IsBeside, rows_of};
 
 use crate::guesses::{Place, place_behind};
 use crate::piece::Piece;
@@ -77,16 +73,35 @@ fn read_plain<R: Threads + Sync>(
     requires { IsUnderway reader }
     ensures { TellsDraft result (draft_after reader number rows) }
 {
-    let mut number = number;
     let count = threads.min(rows.size() / SHORTEST);
     if count < 2 {
+        let mut number = number;
         return read_rows(alloc, reader, &mut number, &mut Rows::of_plain(&rows));
     }
+    read_in_pieces(rt, alloc, reader, number, rows, count)
+}
+
+// The same, in so many pieces.
+fn read_in_pieces<R: Threads + Sync>(
+    rt: &R,
+    alloc: Global,
+    reader: Reader,
+    number: u32,
+    rows: PlainRows<'_>,
+    count: usize,
+) -> Result<Reader, ScriptError>
+    requires underway { IsUnderway reader }
+    requires several { 2 ≤ count }
+    ensures { TellsDraft result (draft_after reader number rows) }
+{
     let Ok(mut pieces) = pieces_of(alloc, reader, number, rows, count) else {
         return Err(ScriptError::NoMemory);
     };
     run_jobs(rt, &mut pieces);
-    put_together(alloc, pieces)
+    let first = pieces.remove(0);
+    let number = first.after;
+    let reader = first.reader?;
+    behind_pieces(alloc, reader, number, pieces)
 }
 
 // So many pieces of rows, the first of which has this number. The reader reads the first of them itself.
@@ -105,41 +120,41 @@ fn pieces_of<'a>(
     let mut front = rows;
     let left = front.cut(size);
     let next = place_behind(alloc, &front, Place { number, clock });
-    let mut others = others_of(alloc, &reader, next, left, size, count)?;
-    let mut pieces = Vec::with_capacity(alloc, count)?;
-    pieces.push(Piece {
-        alloc,
-        rows: front,
-        number,
-        clock,
-        reader: Ok(reader),
-        after: number,
-    })?;
-    pieces.append(&mut others)?;
+    let mut pieces = pieces_beside(alloc, &reader, next, left, size, count)?;
+    pieces.insert(
+        0,
+        Piece {
+            alloc,
+            rows: front,
+            number,
+            clock,
+            reader: Ok(reader),
+            after: number,
+        },
+    )?;
     Ok(pieces)
 }
 
-// Pieces behind the first, one less than so many, of about this size: each with a reader beside this one.
-fn others_of<'a>(
+// Pieces of rows that begin here, one less than so many, of about this size: each with a reader beside this one.
+fn pieces_beside<'a>(
     alloc: Global,
     reader: &Reader,
-    first: Place,
+    begin: Place,
     rows: PlainRows<'a>,
     size: usize,
     count: usize,
 ) -> Result<Vec<Piece<'a>>, AllocError>
-    requires { 2 ≤ count }
-    ensures rows { IfOk result (λ pieces. flat_map (λ piece. piece.rows) pieces.items ≡ rows) }
+    ensures rows { IfOk result (λ pieces. rows_of pieces.items ≡ rows) }
     ensures beside { IfOk result (λ pieces. All (IsBeside reader.now) pieces.items) }
 {
-    let mut at = first;
+    let mut at = begin;
     let mut left = rows;
     let mut pieces = Vec::with_capacity(alloc, count)?;
-    for _ in 2..count {
-        let mut rows = left;
-        left = rows.cut(size);
-        let next = place_behind(alloc, &rows, at);
-        pieces.push(piece_beside(alloc, reader, at, rows)?)?;
+    'pieces: for _ in 2..count {
+        let mut front = left;
+        left = front.cut(size);
+        let next = place_behind(alloc, &front, at);
+        pieces.push(piece_beside(alloc, reader, at, front)?)?;
         at = next;
     }
     pieces.push(piece_beside(alloc, reader, at, left)?)?;
@@ -153,30 +168,32 @@ fn piece_beside<'a>(
     at: Place,
     rows: PlainRows<'a>,
 ) -> Result<Piece<'a>, AllocError>
-    ensures { IfOk result (λ piece. (piece.rows ≡ rows) × IsBeside reader.now piece) }
+    ensures rows { IfOk result (λ piece. piece.rows ≡ rows) }
+    ensures beside { IfOk result (λ piece. IsBeside reader.now piece) }
 {
-    let beside = reader.beside(alloc, at.clock)?;
     Ok(Piece {
         alloc,
         rows,
         number: at.number,
         clock: at.clock,
-        reader: Ok(beside),
+        reader: Ok(reader.beside(alloc, at.clock)?),
         after: at.number,
     })
 }
 
-// What is read behind pieces. The first was read behind what stood before it.
-fn put_together(alloc: Global, pieces: Vec<Piece<'_>>) -> Result<Reader, ScriptError>
-    requires { 0 < length pieces.items }
-    ensures { (before : List Piece) (reader : PlainDraft) (number : ℕ) (rows : List Fields)
-        → IsUnderway reader → ArePieces reader number rows before → AllZip ReadsPiece before pieces.items
-        → TellsDraft result (draft_after reader number rows) }
+// What is read behind pieces that were read beside this reader, where the first row of theirs has this number.
+fn behind_pieces(
+    alloc: Global,
+    reader: Reader,
+    number: u32,
+    pieces: Vec<Piece<'_>>,
+) -> Result<Reader, ScriptError>
+    requires underway { IsUnderway reader }
+    requires read { All (HasRead reader) pieces.items }
+    ensures { TellsDraft result (draft_after reader number (rows_of pieces.items)) }
 {
-    let mut pieces = pieces;
-    let first = pieces.remove(0);
-    let mut reader = first.reader?;
-    let mut number = first.after;
+    let mut reader = reader;
+    let mut number = number;
     for piece in pieces {
         reader = behind_piece(alloc, reader, &mut number, piece)?;
     }
