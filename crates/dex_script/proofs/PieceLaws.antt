@@ -215,7 +215,7 @@ rows-joined draft number piece last (fields ∷ rows) alike is room =
     ∙ rows-joined draft (next_number number) a.0 last rows step.alike a.2 room
 
 -- markets and wallets stand at the same places without their accounts
-bare-same : (start : PlainAccounts) → HaveSamePlaces (bare start) start
+pub bare-same : (start : PlainAccounts) → HaveSamePlaces (bare start) start
 bare-same start = record {
   markets = λ address.
       let test : PlainMarketAccounts → Bool = λ market. is_same address market.address in
@@ -269,16 +269,22 @@ stays-joined first draft piece stays = record { under = record { late = stays.un
 
 -- ---- rows behind rows
 
+-- so are they behind one row more, or its fault
+abbrev AreBoth : ℕ → PlainDraft → List Fields → List Fields → Type 0
+AreBoth number draft rows more =
+    draft_after draft number (rows ++ more) ≡ (draft_after draft number rows >>= λ next. draft_after next (number_after number rows) more)
+
+both-behind : (number : ℕ) (rows more : List Fields) → ((next : PlainDraft) → AreBoth number next rows more) → (left : Result PlainDraft Refusal)
+    → (left >>= λ next. draft_after next number (rows ++ more))
+    ≡ ((left >>= λ next. draft_after next number rows) >>= λ next. draft_after next (number_after number rows) more)
+both-behind number rows more each (Ok next) = each next
+both-behind number rows more each (Err refusal) = refl
+
 pub after-both : (number : ℕ) (draft : PlainDraft) (rows more : List Fields)
     → draft_after draft number (rows ++ more) ≡ (draft_after draft number rows >>= λ next. draft_after next (number_after number rows) more)
 after-both number draft [] more = refl
-after-both number draft (fields ∷ rows) more = behind (fault_in number (with_row draft number fields))
-  where
-    behind : (left : Result PlainDraft Refusal)
-        → (left >>= λ next. draft_after next (next_number number) (rows ++ more))
-        ≡ ((left >>= λ next. draft_after next (next_number number) rows) >>= λ next. draft_after next (number_after (next_number number) rows) more)
-    behind (Ok next) = after-both (next_number number) next rows more
-    behind (Err refusal) = refl
+after-both number draft (fields ∷ rows) more =
+    both-behind (next_number number) rows more (λ next. after-both (next_number number) next rows more) (fault_in number (with_row draft number fields))
 
 -- ---- what a reader knows of a piece, and of a script with it
 
