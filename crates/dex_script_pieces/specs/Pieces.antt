@@ -1,5 +1,5 @@
 -- Pieces of rows, and what is read of them.
-use Rattle.std.specs.Prelude.{◌≡◌, ℕ, List, [], ◌∷◌, ◌++◌, Ok, IfOk, ⊥}
+use Rattle.std.specs.Prelude.{◌≡◌, ℕ, List, [], ◌∷◌, ◌++◌, ◌+◌, ◌≤◌, Ok, IfOk, IsOkAnd}
 use Rattle.std.specs.List.{All, flat_map}
 use Rattle.dex_statement.specs.Words.{Fields}
 use Rattle.dex_script.specs.Drafts.{PlainDraft}
@@ -35,6 +35,11 @@ abbrev pub HasRead : PlainDraft → Piece → Type 0
 HasRead draft piece =
     IfOk piece.reader (λ read. (draft_after (beside draft piece.clock) piece.number piece.rows ≡ Ok read)
     × (piece.after ≡ number_after piece.number piece.rows))
+
+-- a piece was read without a fault, and stands behind a draft and its rows, of which the next has this number
+abbrev pub IsNext : PlainDraft → ℕ → Piece → Type 0
+IsNext draft number piece =
+    (piece.number ≡ number) × (piece.clock ≡ draft.clock) × IsOkAnd piece.reader (λ read. draft.items + read.items ≤ 100000)
 
 -- the rows, the first of them of this number, as pieces that were read: the first behind the draft, the others beside it
 abbrev pub AreRead : PlainDraft → ℕ → List Fields → List Piece → Type 0

@@ -5,10 +5,10 @@ ghost use Rattle.dex_script_facts.specs.Facts.{HasNoSwap};
 ghost use Rattle.dex_script.specs.Pieces.{IsUnderway, number_after};
 ghost use Rattle.dex_script.specs.Scripts.{draft_after};
 ghost use Rattle.dex_script.specs.Telling.{TellsDraft, TellsScript};
-ghost use Rattle.dex_script_pieces.specs.Pieces.{ArePieces, HasRead, IsBeside, rows_of};
+ghost use Rattle.dex_script_pieces.specs.Pieces.{ArePieces, HasRead, IsBeside, IsNext, rows_of};
 
 use crate::guesses::{Place, place_behind};
-use crate::piece::Piece;
+use crate::piece::{Piece, read_behind};
 use dex_lanes::run_jobs;
 use dex_rows::plain::PlainRows;
 use dex_rows::records::Rows;
@@ -71,12 +71,12 @@ fn read_plain<R: Threads + Sync>(
     threads: usize,
 ) -> Result<Reader, ScriptError>
     requires { IsUnderway reader }
-    ensures { TellsDraft result (draft_after reader number rows) }
+    ensures { TellsDraft result (draft_after reader number rows.entry) }
 {
     let count = threads.min(rows.size() / SHORTEST);
     if count < 2 {
         let mut number = number;
-        return read_rows(alloc, reader, &mut number, &mut Rows::of_plain(&rows));
+        return read_behind(alloc, Ok(reader), &mut number, &rows);
     }
     read_in_pieces(rt, alloc, reader, number, rows, count)
 }
@@ -92,7 +92,7 @@ fn read_in_pieces<R: Threads + Sync>(
 ) -> Result<Reader, ScriptError>
     requires underway { IsUnderway reader }
     requires several { 2 ≤ count }
-    ensures { TellsDraft result (draft_after reader number rows) }
+    ensures { TellsDraft result (draft_after reader number rows.entry) }
 {
     let Ok(mut pieces) = pieces_of(alloc, reader, number, rows, count) else {
         return Err(ScriptError::NoMemory);
@@ -100,7 +100,7 @@ fn read_in_pieces<R: Threads + Sync>(
     run_jobs(rt, &mut pieces);
     let first = pieces.remove(0);
     let number = first.after;
-    let reader = first.reader?;
+    let reader = first.into_reader()?;
     behind_pieces(alloc, reader, number, pieces)
 }
 
@@ -113,7 +113,7 @@ fn pieces_of<'a>(
     count: usize,
 ) -> Result<Vec<Piece<'a>>, AllocError>
     requires { 2 ≤ count }
-    ensures { IfOk result (λ pieces. ArePieces reader number rows pieces.items) }
+    ensures { IfOk result (λ pieces. ArePieces reader number rows.entry pieces.items) }
 {
     let size = rows.size() / count;
     let clock = reader.clock();
@@ -144,7 +144,7 @@ fn pieces_beside<'a>(
     size: usize,
     count: usize,
 ) -> Result<Vec<Piece<'a>>, AllocError>
-    ensures rows { IfOk result (λ pieces. rows_of pieces.items ≡ rows) }
+    ensures rows { IfOk result (λ pieces. rows_of pieces.items ≡ rows.entry) }
     ensures beside { IfOk result (λ pieces. All (IsBeside reader.now) pieces.items) }
 {
     let mut at = begin;
@@ -168,7 +168,7 @@ fn piece_beside<'a>(
     at: Place,
     rows: PlainRows<'a>,
 ) -> Result<Piece<'a>, AllocError>
-    ensures rows { IfOk result (λ piece. piece.rows ≡ rows) }
+    ensures rows { IfOk result (λ piece. piece.rows ≡ rows.entry) }
     ensures beside { IfOk result (λ piece. IsBeside reader.now piece) }
 {
     Ok(Piece {
@@ -190,7 +190,7 @@ fn behind_pieces(
 ) -> Result<Reader, ScriptError>
     requires underway { IsUnderway reader }
     requires read { All (HasRead reader) pieces.items }
-    ensures { TellsDraft result (draft_after reader number (rows_of pieces.items)) }
+    ensures { TellsDraft result (draft_after reader number (rows_of pieces.entry.items)) }
 {
     let mut reader = reader;
     let mut number = number;
@@ -200,7 +200,7 @@ fn behind_pieces(
     Ok(reader)
 }
 
-// What is read behind one more piece. One that begins elsewhere than was guessed, that finds no room or has a fault is read anew.
+// What is read behind one more piece. One that is not the next as it is read anew.
 fn behind_piece(
     alloc: Global,
     reader: Reader,
@@ -209,20 +209,29 @@ fn behind_piece(
 ) -> Result<Reader, ScriptError>
     requires underway { IsUnderway reader }
     requires read { HasRead reader piece }
-    ensures told { TellsDraft result (draft_after reader number.old piece.rows) }
-    ensures number { OnOk result (number.new ≡ number_after number.old piece.rows) }
+    ensures told { TellsDraft result (draft_after reader number.old piece.entry.rows) }
+    ensures number { OnOk result (number.new ≡ number_after number.old piece.entry.rows) }
 {
-    let mut reader = reader;
-    if piece.number == *number && piece.clock == reader.clock() {
-        if let Ok(read) = piece.reader {
-            if reader.has_room(&read) {
-                let Ok(()) = reader.join(read) else {
-                    return Err(ScriptError::NoMemory);
-                };
-                *number = piece.after;
-                return Ok(reader);
-            }
+    if is_next(&reader, *number, &piece) {
+        *number = piece.after;
+        let read = piece.into_reader()?;
+        match reader.join(read) {
+            Ok(both) => Ok(both),
+            Err(_) => Err(ScriptError::NoMemory),
         }
+    } else {
+        read_behind(alloc, Ok(reader), number, &piece.rows)
     }
-    read_rows(alloc, reader, number, &mut Rows::of_plain(&piece.rows))
+}
+
+// Whether a piece begins where it was guessed, has no fault and finds room.
+fn is_next(reader: &Reader, number: u32, piece: &Piece<'_>) -> bool
+    ensures { result ≡ true → IsNext reader.now number piece.now }
+{
+    match &piece.reader {
+        Ok(read) => {
+            piece.number == number && piece.clock == reader.clock() && reader.has_room(read)
+        }
+        Err(_) => false,
+    }
 }
