@@ -1,6 +1,6 @@
 //! Rows behind an instruction row, read in pieces: each beside the others, and then put together.
 
-ghost use Rattle.std.specs.Prelude.{◌≡◌, ◌≤◌, ◌+◌, ◌&&◌, IfOk, OnOk, map, not, true};
+ghost use Rattle.std.specs.Prelude.{◌≡◌, ◌≤◌, ◌+◌, ◌&&◌, IfOk, map, not, true};
 ghost use Rattle.dex_types.specs.Accounts.{market_accounts_of, named_of};
 ghost use Rattle.dex_script.specs.Pieces as spec;
 
@@ -66,19 +66,26 @@ impl Reader {
         piece.draft.items <= MOST && self.draft.items <= MOST - piece.draft.items
     }
 
-    /// Adds the rows of a piece, which name the same markets and wallets.
-    pub fn join(&mut self, piece: Reader) -> Result<(), AllocError>
-        requires alike { spec.AreAlike self.old piece }
-        requires room { self.old.items + piece.items ≤ 100000 }
-        ensures { OnOk result (self.new ≡ spec.joined self.old piece) }
+    /// What is read with the rows of a piece behind, which name the same markets and wallets.
+    pub fn join(self, piece: Reader) -> Result<Reader, AllocError>
+        requires alike { spec.AreAlike self piece }
+        requires room { self.items + piece.items ≤ 100000 }
+        ensures { IfOk result (λ both. both ≡ spec.joined self piece) }
     {
-        let mut piece = piece;
-        self.draft.rows.append(&mut piece.draft.rows)?;
-        self.places.append(&mut piece.places)?;
-        self.draft.lanes = self.draft.lanes.max(piece.draft.lanes);
-        self.draft.clock = piece.draft.clock;
-        self.draft.items += piece.draft.items;
-        Ok(())
+        let mut draft = self.draft;
+        let mut places = self.places;
+        let mut more = piece.draft;
+        let mut others = piece.places;
+        draft.rows.append(&mut more.rows)?;
+        places.append(&mut others)?;
+        draft.lanes = draft.lanes.max(more.lanes);
+        draft.clock = more.clock;
+        draft.items += more.items;
+        Ok(Reader {
+            draft,
+            places,
+            names: self.names,
+        })
     }
 }
 

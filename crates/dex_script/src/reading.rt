@@ -181,7 +181,7 @@ pub fn read_rows(
 }
 
 /// What is read behind the rows up to the first instruction row, which is the last that is taken, or the first faulty one.
-/// The rows that are left are those behind it.
+/// The rows that are left are those behind it; where no instruction row stands among them, all are read.
 pub fn read_first(
     alloc: Global,
     mut reader: Reader,

@@ -8,7 +8,7 @@ use Rattle.dex_script.proofs.ScriptLaws.{answers-plain, tells}
 use Rattle.dex_script.proofs.reading.read_from_nothing.Goals as goal
 
 pub returns : goal.returns
-returns c =
+returns g c =
     let before = no_rows c.args.batch in
     let given : draft_after c.new.result 1 c.new-rows.result ≡ draft_after before 1 (rows_of c.args.bytes.now) =
     ap (λ (draft : PlainDraft). draft_after draft 1 c.new-rows.result) c.new.ensures
