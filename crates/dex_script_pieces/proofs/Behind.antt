@@ -1,5 +1,5 @@
 -- What is read behind pieces, one after the other.
-use Rattle.std.proofs.Common.{◌≡◌, ◌∙◌, ◌++◌, ◌<◌, ℕ, ℤ, suc, List, [], ◌∷◌, Result, Ok, Err, IfOk, All, ap, append-nil, append_assoc, drop, drop-cons, get_or, length, refl, remove, slice_index_or, subst, sym, take}
+use Rattle.std.proofs.Common.{◌≡◌, ◌∙◌, ◌++◌, ◌+◌, ◌<◌, ◌≤◌, ℕ, ℤ, suc, List, [], ◌∷◌, Result, Ok, Err, IfOk, IsOkAnd, All, ap, append-nil, append_assoc, drop, drop-cons, get_or, length, refl, remove, slice_index_or, subst, sym, take}
 use Rattle.std.specs.List.{AllZip, flat_map}
 use Rattle.std.proofs.lemmas.Grind.{flat_map-append}
 use Rattle.std.proofs.lemmas.List.{take-append-drop}
@@ -12,11 +12,11 @@ use Rattle.dex_script_facts.specs.Places.{market_place, wallet_place}
 use Rattle.dex_script.specs.declared.fault.ScriptError.{ScriptError}
 use Rattle.dex_script.specs.declared.fault.ScriptError.TheVariants as script
 use Rattle.dex_script.specs.Drafts.{PlainDraft}
-use Rattle.dex_script.specs.Pieces.{AreAlike, IsUnderway, bare, beside, number_after}
+use Rattle.dex_script.specs.Pieces.{AreAlike, IsUnderway, bare, beside, joined, number_after}
 use Rattle.dex_script.specs.Scripts.{Refusal, draft_after}
 use Rattle.dex_script.specs.Telling.{TellsDraft, TellsRefusal}
-use Rattle.dex_script.proofs.PieceLaws.{Stays, after-both, bare-same, stays-behind}
-use Rattle.dex_script_pieces.specs.Pieces.{ArePieces, AreRead, HasRead, IsBeside, ReadsPiece, rows_of}
+use Rattle.dex_script.proofs.PieceLaws.{Stays, after-both, bare-same, read-behind, stays-behind}
+use Rattle.dex_script_pieces.specs.Pieces.{ArePieces, AreRead, HasRead, IsBeside, IsNext, ReadsPiece, rows_of}
 use Rattle.dex_script_pieces.specs.declared.piece.Piece.{Piece}
 
 -- ---- rows behind rows
@@ -34,7 +34,7 @@ number-both number (row ∷ rows) more = number-both (next_number number) rows m
 -- the first fault of some rows is that of these and others
 refused-more : (error : ScriptError) (meant : Result PlainDraft Refusal) (next : PlainDraft → Result PlainDraft Refusal) → TellsRefusal error meant
     → TellsRefusal error (meant >>= next)
-refused-more (script.Row row kind code) meant next (fault, is, told) = (fault, ap (λ (r : Result PlainDraft Refusal). r >>= next) is, told)
+refused-more (script.Row row kind code) meant next (fault, is, same, also) = (fault, ap (λ (r : Result PlainDraft Refusal). r >>= next) is, same, also)
 refused-more (script.Dump fault) meant next is = ap (λ (r : Result PlainDraft Refusal). r >>= next) is
 refused-more (script.Audit found) meant next is = ap (λ (r : Result PlainDraft Refusal). r >>= next) is
 refused-more script.NoMemory meant next is = tt
@@ -122,6 +122,22 @@ others-read draft (b ∷ before) (a ∷ after) are (first, read) =
       ap (λ (rows : List Fields). rows ++ rows_of after) first.rows ∙ ap (λ (rows : List Fields). b.rows ++ rows) rest.1,
     )
 
+-- what a piece has that was read without a fault
+pub read-of : (draft : PlainDraft) (piece : Piece) (read : PlainDraft) → HasRead draft piece → piece.reader ≡ Ok read
+    → (draft_after (beside draft piece.clock) piece.number piece.rows ≡ Ok read) × (piece.after ≡ number_after piece.number piece.rows)
+read-of draft piece read has is =
+    subst (λ (r : Result PlainDraft ScriptError). IfOk r (λ (read : PlainDraft). (draft_after (beside draft piece.clock) piece.number piece.rows ≡ Ok read)
+    × (piece.after ≡ number_after piece.number piece.rows))) is has
+
+-- its rows leave what it has behind a draft that it is next to
+pub next-read : (draft : PlainDraft) (number : ℕ) (piece : Piece) (read both : PlainDraft) → IsUnderway draft → HasRead draft piece → piece.reader ≡ Ok read
+    → IsNext draft number piece → both ≡ joined draft read → draft_after draft number piece.rows ≡ Ok both
+next-read draft number piece read both under has is (at, clock, room) joins =
+    subst (λ (n : ℕ). draft_after draft n piece.rows ≡ Ok both) at
+    (read-behind draft piece.clock piece.number piece.rows read under clock (read-of draft piece read has is).0
+    (subst (λ (r : Result PlainDraft ScriptError). IsOkAnd r (λ (x : PlainDraft). draft.items + x.items ≤ 100000)) is room)
+    ∙ ap (λ (d : PlainDraft). Ok d) (sym joins))
+
 -- pieces of rows were read
 pub pieces-read : (draft : PlainDraft) (number : ℕ) (rows : List Fields) (before after : List Piece) → ArePieces draft number rows before
     → AllZip ReadsPiece before after → AreRead draft number rows after
@@ -160,3 +176,69 @@ parted pieces done piece so_far more next =
 pub rows-parted : (pieces done : List Piece) (piece : Piece) (behind : List Piece) → pieces ≡ done ++ (piece ∷ behind)
     → rows_of pieces ≡ rows_of done ++ (piece.rows ++ rows_of behind)
 rows-parted pieces done piece behind is = ap rows_of is ∙ flat_map-append (λ (p : Piece). p.rows) done (piece ∷ behind)
+
+-- ---- what goes for all pieces
+
+module _ (first : PlainDraft) (number : ℕ) (pieces done : List Piece) (piece : Piece) (so_far : done ≡ take (length done) pieces)
+    (more : length done < length pieces) (next : piece ≡ get_or pieces (length done) piece) (before : PlainDraft) (at : ℕ)
+    (stays : Stays first before) (read : draft_after first number (rows_of done) ≡ Ok before) (is_at : at ≡ number_after number (rows_of done)) where
+  -- the next piece was read beside this draft too
+  pub piece-here : All (HasRead first) pieces → HasRead before piece
+  piece-here all = has-behind first before piece stays (subst (HasRead first) (sym next) (all (length done) piece more))
+
+  -- its rows behind those so far
+  piece-behind : draft_after first number (rows_of done ++ piece.rows) ≡ draft_after before at piece.rows
+  piece-behind =
+      behind-both first number (rows_of done) piece.rows before read ∙ ap (λ (n : ℕ). draft_after before n piece.rows) (sym is_at)
+
+  pub piece-read : (after : PlainDraft) → draft_after before at piece.rows ≡ Ok after → draft_after first number (rows_of (done ++ piece ∷ [])) ≡ Ok after
+  piece-read after is = ap (draft_after first number) (rows-more done piece) ∙ piece-behind ∙ is
+
+  pub piece-number : (behind : ℕ) → behind ≡ number_after at piece.rows → behind ≡ number_after number (rows_of (done ++ piece ∷ []))
+  piece-number behind is =
+      is ∙ ap (λ (n : ℕ). number_after n piece.rows) is_at ∙ sym (number-both number (rows_of done) piece.rows)
+      ∙ sym (ap (number_after number) (rows-more done piece))
+
+  -- the first fault of its rows is that of all
+  pub piece-refused : (error : ScriptError) → TellsRefusal error (draft_after before at piece.rows) → TellsRefusal error (draft_after first number (rows_of pieces))
+  piece-refused error told =
+      let behind = drop (suc (length done)) pieces in
+      let all : rows_of pieces ≡ (rows_of done ++ piece.rows) ++ rows_of behind =
+      rows-parted pieces done piece behind (parted pieces done piece so_far more next) ∙ sym (append_assoc (rows_of done) piece.rows (rows_of behind)) in
+      subst (λ (rows : List Fields). TellsRefusal error (draft_after first number rows)) (sym all)
+      (refused-both error first number (rows_of done ++ piece.rows) (rows_of behind) (subst (TellsRefusal error) (sym piece-behind) told))
+
+-- ---- the first piece and the others
+
+module _ (draft : PlainDraft) (number : ℕ) (rows : List Fields) (first : Piece) (others : List Piece) (under : IsUnderway draft)
+    (are : AreRead draft number rows (first ∷ others)) where
+  -- a fault of the first is that of all
+  pub first-refused : (error : ScriptError) → first.reader ≡ Err error → TellsRefusal error (draft_after draft number rows)
+  first-refused error is =
+      subst (λ (all : List Fields). TellsRefusal error (draft_after draft number all)) are.2
+      (refused-both error draft number first.rows (rows_of others)
+      (subst (λ (r : Result PlainDraft ScriptError). TellsDraft r (draft_after draft number first.rows)) is are.0))
+
+  module _ (reader : PlainDraft) (is : first.reader ≡ Ok reader) where
+    first-read : draft_after draft number first.rows ≡ Ok reader
+    first-read = subst (λ (r : Result PlainDraft ScriptError). TellsDraft r (draft_after draft number first.rows)) is are.0
+
+    first-stays : Stays draft reader
+    first-stays = stays-behind draft number reader first.rows under first-read
+
+    pub first-underway : IsUnderway reader
+    first-underway = first-stays.under
+
+    pub others-behind : All (HasRead reader) others
+    others-behind = all-behind draft reader others first-stays are.3
+
+    -- what the others leave behind the first is what all rows leave
+    pub all-told : (result : Result PlainDraft ScriptError) → TellsDraft result (draft_after reader first.after (rows_of others))
+        → TellsDraft result (draft_after draft number rows)
+    all-told result told =
+        let at : first.after ≡ number_after number first.rows =
+        subst (λ (r : Result PlainDraft ScriptError). IfOk r (λ (read : PlainDraft). first.after ≡ number_after number first.rows)) is are.1 in
+        let all : draft_after draft number rows ≡ draft_after reader first.after (rows_of others) =
+        ap (draft_after draft number) (sym are.2) ∙ behind-both draft number first.rows (rows_of others) reader first-read
+        ∙ ap (λ (n : ℕ). draft_after reader n (rows_of others)) (sym at) in
+        subst (TellsDraft result) (sym all) told

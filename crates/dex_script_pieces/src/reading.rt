@@ -1,5 +1,6 @@
 //! A script, from its bytes, whose rows are read by several threads.
 
+ghost use Rattle.std.specs.Thread.{IsSync};
 ghost use Rattle.std.specs.Prelude.{◌≡◌, ◌≤◌, All, IfOk, OnOk, true};
 ghost use Rattle.dex_script_facts.specs.Facts.{HasNoSwap};
 ghost use Rattle.dex_script.specs.Pieces.{IsUnderway, number_after};
@@ -37,9 +38,10 @@ pub fn read_script<R: Threads + Sync>(
 
 // Rows are read in so many pieces at most, on threads of this runtime.
 #[derive(Drop)]
-struct InPieces<'a, R> {
+struct InPieces<'a, R: Threads + Sync> {
     rt: &'a R,
     threads: usize,
+    ghost shared: { IsSync R.row },
 }
 
 impl<'a, R: Threads + Sync> ReadRows for InPieces<'a, R> {
@@ -52,11 +54,12 @@ impl<'a, R: Threads + Sync> ReadRows for InPieces<'a, R> {
     ) -> Result<Reader, ScriptError> {
         let mut number = number;
         let reader = read_first(alloc, reader, &mut number, rows)?;
+        if !reader.is_underway() {
+            return Ok(reader);
+        }
         match rows.plain() {
-            Some(plain) if reader.is_underway() => {
-                read_plain(self.rt, alloc, reader, number, plain, self.threads)
-            }
-            _ => read_rows(alloc, reader, &mut number, rows),
+            Some(plain) => read_plain(self.rt, alloc, reader, number, plain, self.threads),
+            None => read_rows(alloc, reader, &mut number, rows),
         }
     }
 }
