@@ -1,5 +1,5 @@
 -- Rows that are read behind the bare markets and wallets of a script, and added to it, are read behind the script.
-use Rattle.std.proofs.Common.{◌≡◌, ◌∙◌, ◌+◌, ◌-◌, ◌^◌, ◌<◌, ◌≤◌, ◌||◌, ◌==◌, ℕ, ℤ, Bool, true, false, not, nat_le, List, [], ◌∷◌, ◌++◌, Option, Some, None, Result, Ok, Err, ap, append_assoc, append-nil, arith, map, max, refl, subst, sym}
+use Rattle.std.proofs.Common.{◌≡◌, ◌∙◌, ◌+◌, ◌-◌, ◌^◌, ◌≤◌, ◌==◌, ℕ, ℤ, Bool, true, false, not, nat_le, List, [], ◌∷◌, ◌++◌, Option, Some, None, Result, Ok, Err, ap, append_assoc, append-nil, arith, map, max, refl, subst, sym}
 use Rattle.std.proofs.lemmas.Bool.{lt-leb}
 use Rattle.std.proofs.lemmas.Iterator.Adapters.{position_from-zero}
 use Rattle.std.proofs.lemmas.List.{length-map}
@@ -25,7 +25,7 @@ use Rattle.dex_script.specs.Pieces.{AreAlike, HaveSamePlaces, IsUnderway, bare, 
 use Rattle.dex_script.specs.Rows.{IsSetup, exceeds_row, instruction_row, is_bad_swap, is_full, is_unknown, with_clock, with_instruction, with_item, with_known, with_legs, with_program, with_row, with_statement, with_swap, with_two}
 use Rattle.dex_script.specs.Scripts.{Refusal, draft_after, fault_in}
 use Rattle.dex_script.proofs.FaultLaws.{bind-ok, differ, ok-same, or-none, unless-ok}
-use Rattle.dex_script.proofs.ItemRows.{IsOneRow, IsSwapRow, first_leg, instruction-row, second_leg, swap-row}
+use Rattle.dex_script.proofs.ItemRows.{first_leg, instruction-row, second_leg, swap-row}
 use Rattle.dex_script.proofs.NameLaws.{known, position-map, unknown}
 use Rattle.dex_script.proofs.OrderLaws.{by-row, first-row, through}
 use Rattle.dex_script.proofs.RowParts.{market-row, mint-row, msrm-row, orders-row, srm-row, wallet-row}

@@ -1,6 +1,6 @@
 //! A script, from its bytes.
 
-ghost use Rattle.std.specs.Prelude.{◌≡◌, IfOk, OnOk, false, true};
+ghost use Rattle.std.specs.Prelude.{◌≡◌, IfOk, OnOk, false, true, ⊤};
 ghost use Rattle.dex_types.specs.Accounts.{accounts_of};
 ghost use Rattle.dex_dump.specs.Accepted.{AreAccepted};
 ghost use Rattle.dex_dump.specs.Answers.{next_number};
@@ -28,6 +28,9 @@ use std::alloc::Global;
 
 /// How the rows of a script are read.
 pub trait ReadRows {
+    /// What a way to read needs.
+    ghost ready: { Self → Type 0 };
+
     /// What is read behind the rows that are left, the first of which has this number, or the first faulty one.
     fn read_rows(
         &self,
@@ -36,6 +39,7 @@ pub trait ReadRows {
         number: u32,
         rows: &mut Rows<'_>,
     ) -> Result<Reader, ScriptError>
+        requires { ready self.now }
         ensures { TellsDraft result (draft_after reader number rows.old) };
 }
 
@@ -44,6 +48,8 @@ pub trait ReadRows {
 struct InTurn;
 
 impl ReadRows for InTurn {
+    ghost ready = { λ how. ⊤ };
+
     fn read_rows(
         &self,
         alloc: Global,
@@ -73,6 +79,7 @@ pub fn read_script_by<H: ReadRows>(
     batch: bool,
     how: &H,
 ) -> Result<Script, ScriptError>
+    requires { H.ready how.now }
     ensures told { TellsScript result batch bytes.now }
     ensures apart { IfOk result (λ script. batch ≡ true → HasNoSwap script.rows) }
 {
@@ -93,6 +100,7 @@ fn read_text<H: ReadRows>(
     batch: bool,
     how: &H,
 ) -> Result<Reader, ScriptError>
+    requires { H.ready how.now }
     ensures { TellsText result batch bytes.now }
 {
     if begins_with_dump(alloc, bytes)? {
@@ -109,7 +117,8 @@ fn read_from_nothing<H: ReadRows>(
     batch: bool,
     how: &H,
 ) -> Result<Reader, ScriptError>
-    requires { begins_with_dump (rows_of bytes.now) ≡ false }
+    requires begins { begins_with_dump (rows_of bytes.now) ≡ false }
+    requires ready { H.ready how.now }
     ensures { TellsText result batch bytes.now }
 {
     let mut rows = Rows::new(alloc, bytes);
@@ -123,7 +132,8 @@ fn read_behind_dump<H: ReadRows>(
     batch: bool,
     how: &H,
 ) -> Result<Reader, ScriptError>
-    requires { begins_with_dump (rows_of bytes.now) ≡ true }
+    requires begins { begins_with_dump (rows_of bytes.now) ≡ true }
+    requires ready { H.ready how.now }
     ensures { TellsText result batch bytes.now }
 {
     let mut rows = Rows::new(alloc, bytes);
@@ -181,7 +191,7 @@ pub fn read_rows(
 }
 
 /// What is read behind the rows up to the first instruction row, which is the last that is taken, or the first faulty one.
-/// The rows that are left are those behind it.
+/// The rows that are left are those behind it; where no instruction row stands among them, all are read.
 pub fn read_first(
     alloc: Global,
     mut reader: Reader,

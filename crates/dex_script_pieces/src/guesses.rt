@@ -19,15 +19,11 @@ pub(crate) fn place_behind(alloc: Global, rows: &PlainRows<'_>, first: Place) ->
         None => first.clock,
         Some(last) => clock_in(alloc, &last).unwrap_or(first.clock),
     };
+    let count = rows.line_feeds().min(u32::MAX as usize) as u32;
     Place {
-        number: first.number.saturating_add(count_of(rows)),
+        number: first.number.saturating_add(count),
         clock,
     }
-}
-
-/// How many rows these may be.
-pub(crate) fn count_of(rows: &PlainRows<'_>) -> u32 {
-    rows.line_feeds().min(u32::MAX as usize) as u32
 }
 
 // The clock that the first of these rows sets, if it does.

@@ -4,5 +4,7 @@
 mod guesses;
 mod piece;
 mod reading;
+#[cfg(test)]
+mod tests;
 
 pub use reading::read_script;

@@ -1,6 +1,9 @@
 //! A piece of the rows of a script, which one thread reads.
 
-ghost use Rattle.std.specs.Prelude.{⊤};
+ghost use Rattle.std.specs.Prelude.{◌≡◌, IfOk, OnOk, ⊤};
+ghost use Rattle.dex_script.specs.Pieces.{number_after};
+ghost use Rattle.dex_script.specs.Scripts.{draft_after};
+ghost use Rattle.dex_script.specs.Telling.{TellsDraft};
 ghost use Rattle.dex_script_pieces.specs.Pieces.{ReadsPiece};
 
 use dex_lanes::Job;
@@ -30,14 +33,29 @@ impl<'a> Job for Piece<'a> {
     fn run(&mut self) {
         self.after = self.number;
         let reader = std::mem::replace(&mut self.reader, Err(ScriptError::NoMemory));
-        self.reader = match reader {
-            Ok(reader) => read_rows(
-                self.alloc,
-                reader,
-                &mut self.after,
-                &mut Rows::of_plain(&self.rows),
-            ),
-            Err(error) => Err(error),
-        };
+        self.reader = read_behind(self.alloc, reader, &mut self.after, &self.rows);
     }
+}
+
+impl<'a> Piece<'a> {
+    /// What was read.
+    pub(crate) fn into_reader(self) -> Result<Reader, ScriptError>
+        ensures { result ≡ self.entry.reader }
+    {
+        self.reader
+    }
+}
+
+/// What is read behind rows, the first of which has this number, if none before them is faulty. Raises the number to that of the
+/// row behind them.
+pub(crate) fn read_behind(
+    alloc: Global,
+    reader: Result<Reader, ScriptError>,
+    number: &mut u32,
+    rows: &PlainRows<'_>,
+) -> Result<Reader, ScriptError>
+    ensures told { IfOk reader (λ before. TellsDraft result (draft_after before number.old rows.now)) }
+    ensures number { OnOk result (number.new ≡ number_after number.old rows.now) }
+{
+    read_rows(alloc, reader?, number, &mut Rows::of_plain(rows))
 }

@@ -1,18 +1,15 @@
 //! A script, from its bytes, whose rows are read by several threads.
 
-ghost use Rattle.std.specs.Prelude.{◌≡◌, ◌<◌, ◌≤◌, ℕ, All, List, IfOk, OnOk, length, true};
-ghost use Rattle.std.specs.List.{AllZip, flat_map};
-ghost use Rattle.dex_statement.specs.Words.{Fields};
+ghost use Rattle.std.specs.Thread.{IsSync};
+ghost use Rattle.std.specs.Prelude.{◌≡◌, ◌≤◌, All, IfOk, OnOk, true};
 ghost use Rattle.dex_script_facts.specs.Facts.{HasNoSwap};
-ghost use Rattle.dex_script.specs.Drafts.{PlainDraft};
 ghost use Rattle.dex_script.specs.Pieces.{IsUnderway, number_after};
 ghost use Rattle.dex_script.specs.Scripts.{draft_after};
 ghost use Rattle.dex_script.specs.Telling.{TellsDraft, TellsScript};
-ghost use Rattle.dex_script_pieces.specs.Pieces.{ArePieces, HasRead, IsBeside, ReadsPiece};
-ghost use Rattle.dex_script_pieces.specs.declared.piece.Piece.{Piece};
+ghost use Rattle.dex_script_pieces.specs.Pieces.{ArePieces, HasRead, IsBeside, IsNext, rows_of};
 
-use crate::guesses::{Place, count_of, place_behind};
-use crate::piece::Piece;
+use crate::guesses::{Place, place_behind};
+use crate::piece::{Piece, read_behind};
 use dex_lanes::run_jobs;
 use dex_rows::plain::PlainRows;
 use dex_rows::records::Rows;
@@ -22,7 +19,7 @@ use std::marker::Sync;
 use std::thread::Threads;
 
 /// No piece is shorter than so many bytes.
-const SHORTEST: usize = 65_536;
+const SHORTEST: usize = 1_048_576;
 
 /// The script that a text is, as `read_script` of `dex_script`. Where the text has no quote, the rows behind the first
 /// instruction row are read by so many threads.
@@ -41,9 +38,10 @@ pub fn read_script<R: Threads + Sync>(
 
 // Rows are read in so many pieces at most, on threads of this runtime.
 #[derive(Drop)]
-struct InPieces<'a, R> {
+struct InPieces<'a, R: Threads + Sync> {
     rt: &'a R,
     threads: usize,
+    ghost shared: { IsSync R.row },
 }
 
 impl<'a, R: Threads + Sync> ReadRows for InPieces<'a, R> {
@@ -56,11 +54,12 @@ impl<'a, R: Threads + Sync> ReadRows for InPieces<'a, R> {
     ) -> Result<Reader, ScriptError> {
         let mut number = number;
         let reader = read_first(alloc, reader, &mut number, rows)?;
+        if !reader.is_underway() {
+            return Ok(reader);
+        }
         match rows.plain() {
-            Some(plain) if reader.is_underway() => {
-                read_plain(self.rt, alloc, reader, number, plain, self.threads)
-            }
-            _ => read_rows(alloc, reader, &mut number, rows),
+            Some(plain) => read_plain(self.rt, alloc, reader, number, plain, self.threads),
+            None => read_rows(alloc, reader, &mut number, rows),
         }
     }
 }
@@ -75,18 +74,37 @@ fn read_plain<R: Threads + Sync>(
     threads: usize,
 ) -> Result<Reader, ScriptError>
     requires { IsUnderway reader }
-    ensures { TellsDraft result (draft_after reader number rows) }
+    ensures { TellsDraft result (draft_after reader number rows.entry) }
 {
-    let mut number = number;
     let count = threads.min(rows.size() / SHORTEST);
     if count < 2 {
-        return read_rows(alloc, reader, &mut number, &mut Rows::of_plain(&rows));
+        let mut number = number;
+        return read_behind(alloc, Ok(reader), &mut number, &rows);
     }
+    read_in_pieces(rt, alloc, reader, number, rows, count)
+}
+
+// The same, in so many pieces.
+fn read_in_pieces<R: Threads + Sync>(
+    rt: &R,
+    alloc: Global,
+    reader: Reader,
+    number: u32,
+    rows: PlainRows<'_>,
+    count: usize,
+) -> Result<Reader, ScriptError>
+    requires underway { IsUnderway reader }
+    requires several { 2 ≤ count }
+    ensures { TellsDraft result (draft_after reader number rows.entry) }
+{
     let Ok(mut pieces) = pieces_of(alloc, reader, number, rows, count) else {
         return Err(ScriptError::NoMemory);
     };
     run_jobs(rt, &mut pieces);
-    put_together(alloc, pieces)
+    let first = pieces.remove(0);
+    let number = first.after;
+    let reader = first.into_reader()?;
+    behind_pieces(alloc, reader, number, pieces)
 }
 
 // So many pieces of rows, the first of which has this number. The reader reads the first of them itself.
@@ -98,51 +116,48 @@ fn pieces_of<'a>(
     count: usize,
 ) -> Result<Vec<Piece<'a>>, AllocError>
     requires { 2 ≤ count }
-    ensures { IfOk result (λ pieces. ArePieces reader number rows pieces.items) }
+    ensures { IfOk result (λ pieces. ArePieces reader number rows.entry pieces.items) }
 {
     let size = rows.size() / count;
     let clock = reader.clock();
     let mut front = rows;
     let left = front.cut(size);
-    let many = count_of(&front).saturating_add(count_of(&left));
     let next = place_behind(alloc, &front, Place { number, clock });
-    let mut others = others_of(alloc, &reader, next, left, size, count)?;
-    let mut reader = reader;
-    reader.reserve(many)?;
-    let mut pieces = Vec::with_capacity(alloc, count)?;
-    pieces.push(Piece {
-        alloc,
-        rows: front,
-        number,
-        clock,
-        reader: Ok(reader),
-        after: number,
-    })?;
-    pieces.append(&mut others)?;
+    let mut pieces = pieces_beside(alloc, &reader, next, left, size, count)?;
+    pieces.insert(
+        0,
+        Piece {
+            alloc,
+            rows: front,
+            number,
+            clock,
+            reader: Ok(reader),
+            after: number,
+        },
+    )?;
     Ok(pieces)
 }
 
-// Pieces behind the first, one less than so many, of about this size: each with a reader beside this one.
-fn others_of<'a>(
+// Pieces of rows that begin here, one less than so many, of about this size: each with a reader beside this one.
+fn pieces_beside<'a>(
     alloc: Global,
     reader: &Reader,
-    first: Place,
+    begin: Place,
     rows: PlainRows<'a>,
     size: usize,
     count: usize,
 ) -> Result<Vec<Piece<'a>>, AllocError>
-    requires { 2 ≤ count }
-    ensures rows { IfOk result (λ pieces. flat_map (λ piece. piece.rows) pieces.items ≡ rows) }
+    ensures rows { IfOk result (λ pieces. rows_of pieces.items ≡ rows.entry) }
     ensures beside { IfOk result (λ pieces. All (IsBeside reader.now) pieces.items) }
 {
-    let mut at = first;
+    let mut at = begin;
     let mut left = rows;
     let mut pieces = Vec::with_capacity(alloc, count)?;
-    for _ in 2..count {
-        let mut rows = left;
-        left = rows.cut(size);
-        let next = place_behind(alloc, &rows, at);
-        pieces.push(piece_beside(alloc, reader, at, rows)?)?;
+    'pieces: for _ in 2..count {
+        let mut front = left;
+        left = front.cut(size);
+        let next = place_behind(alloc, &front, at);
+        pieces.push(piece_beside(alloc, reader, at, front)?)?;
         at = next;
     }
     pieces.push(piece_beside(alloc, reader, at, left)?)?;
@@ -156,38 +171,39 @@ fn piece_beside<'a>(
     at: Place,
     rows: PlainRows<'a>,
 ) -> Result<Piece<'a>, AllocError>
-    ensures { IfOk result (λ piece. (piece.rows ≡ rows) × IsBeside reader.now piece) }
+    ensures rows { IfOk result (λ piece. piece.rows ≡ rows.entry) }
+    ensures beside { IfOk result (λ piece. IsBeside reader.now piece) }
 {
-    let mut beside = reader.beside(alloc, at.clock)?;
-    beside.reserve(count_of(&rows))?;
     Ok(Piece {
         alloc,
         rows,
         number: at.number,
         clock: at.clock,
-        reader: Ok(beside),
+        reader: Ok(reader.beside(alloc, at.clock)?),
         after: at.number,
     })
 }
 
-// What is read behind pieces. The first was read behind what stood before it.
-fn put_together(alloc: Global, pieces: Vec<Piece<'_>>) -> Result<Reader, ScriptError>
-    requires { 0 < length pieces.items }
-    ensures { (before : List Piece) (reader : PlainDraft) (number : ℕ) (rows : List Fields)
-        → IsUnderway reader → ArePieces reader number rows before → AllZip ReadsPiece before pieces.items
-        → TellsDraft result (draft_after reader number rows) }
+// What is read behind pieces that were read beside this reader, where the first row of theirs has this number.
+fn behind_pieces(
+    alloc: Global,
+    reader: Reader,
+    number: u32,
+    pieces: Vec<Piece<'_>>,
+) -> Result<Reader, ScriptError>
+    requires underway { IsUnderway reader }
+    requires read { All (HasRead reader) pieces.items }
+    ensures { TellsDraft result (draft_after reader number (rows_of pieces.entry.items)) }
 {
-    let mut pieces = pieces;
-    let first = pieces.remove(0);
-    let mut reader = first.reader?;
-    let mut number = first.after;
+    let mut reader = reader;
+    let mut number = number;
     for piece in pieces {
         reader = behind_piece(alloc, reader, &mut number, piece)?;
     }
     Ok(reader)
 }
 
-// What is read behind one more piece. One that begins elsewhere than was guessed, that finds no room or has a fault is read anew.
+// What is read behind one more piece. One that is not the next as it is read anew.
 fn behind_piece(
     alloc: Global,
     reader: Reader,
@@ -196,20 +212,29 @@ fn behind_piece(
 ) -> Result<Reader, ScriptError>
     requires underway { IsUnderway reader }
     requires read { HasRead reader piece }
-    ensures told { TellsDraft result (draft_after reader number.old piece.rows) }
-    ensures number { OnOk result (number.new ≡ number_after number.old piece.rows) }
+    ensures told { TellsDraft result (draft_after reader number.old piece.entry.rows) }
+    ensures number { OnOk result (number.new ≡ number_after number.old piece.entry.rows) }
 {
-    let mut reader = reader;
-    if piece.number == *number && piece.clock == reader.clock() {
-        if let Ok(read) = piece.reader {
-            if reader.has_room(&read) {
-                let Ok(()) = reader.join(read) else {
-                    return Err(ScriptError::NoMemory);
-                };
-                *number = piece.after;
-                return Ok(reader);
-            }
+    if is_next(&reader, *number, &piece) {
+        *number = piece.after;
+        let read = piece.into_reader()?;
+        match reader.join(read) {
+            Ok(both) => Ok(both),
+            Err(_) => Err(ScriptError::NoMemory),
         }
+    } else {
+        read_behind(alloc, Ok(reader), number, &piece.rows)
     }
-    read_rows(alloc, reader, number, &mut Rows::of_plain(&piece.rows))
+}
+
+// Whether a piece begins where it was guessed, has no fault and finds room.
+fn is_next(reader: &Reader, number: u32, piece: &Piece<'_>) -> bool
+    ensures { result ≡ true → IsNext reader.now number piece.now }
+{
+    match &piece.reader {
+        Ok(read) => {
+            piece.number == number && piece.clock == reader.clock() && reader.has_room(read)
+        }
+        Err(_) => false,
+    }
 }

@@ -14,5 +14,5 @@ returns g c =
     ap (λ (draft : PlainDraft). draft_after draft 1 c.new-rows.result) c.new.ensures
     ∙ ap (λ (rows : List Fields). draft_after before 1 rows) c.new-rows.ensures in
     tells c.args.batch c.args.bytes.now (draft_after before 1 (rows_of c.args.bytes.now))
-    (answers-plain c.args.batch c.args.bytes.now c.requires)
+    (answers-plain c.args.batch c.args.bytes.now c.requires.begins)
     c.read_rows.result (subst (TellsDraft c.read_rows.result) given c.read_rows.ensures)
