@@ -49,7 +49,8 @@ pub(crate) fn texts_of<R: Threads + Sync>(
     parts: Vec<Part>,
 ) -> Result<Vec<Vec<u8>>, AllocError>
     ensures fits { IfOk result (λ texts. All FitPart parts.items) }
-    ensures text { IfOk result (λ texts. flat_map (λ text. text.items) texts.items ≡ flat_map part_lines parts.items) }
+    ensures text { IfOk result (λ texts. flat_map (λ text. text.items) texts.items
+        ≡ flat_map part_lines parts.items) }
 {
     let groups = groups_of(alloc, parts)?;
     let mut jobs = jobs_of(alloc, groups)?;
