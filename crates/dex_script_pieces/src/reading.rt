@@ -1,6 +1,6 @@
 //! A script, from its bytes, whose rows are read by several threads.
 
-ghost use Rattle.std.specs.Thread.{IsSync};
+ghost use denote.Param.Send.{IsSync};
 ghost use Rattle.std.specs.Prelude.{◌≡◌, ◌≤◌, All, IfOk, OnOk, true};
 ghost use Rattle.dex_script_facts.specs.Facts.{HasNoSwap};
 ghost use Rattle.dex_script.specs.Pieces.{IsUnderway, number_after};
@@ -38,13 +38,14 @@ pub fn read_script<R: Threads + Sync>(
 
 // Rows are read in so many pieces at most, on threads of this runtime.
 #[derive(Drop)]
-struct InPieces<'a, R: Threads + Sync> {
+struct InPieces<'a, R> {
     rt: &'a R,
     threads: usize,
-    ghost shared: { IsSync R.row },
 }
 
 impl<'a, R: Threads + Sync> ReadRows for InPieces<'a, R> {
+    ghost ready = { λ how. IsSync R.row };
+
     fn read_rows(
         &self,
         alloc: Global,

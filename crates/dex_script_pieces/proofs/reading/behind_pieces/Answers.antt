@@ -22,13 +22,13 @@ behind_piece-requires-clause-read c =
 
 pub returns-in_err-reader : goal.returns-in_err-reader
 returns-in_err-reader c =
+    let error = c.in_err-reader.field-0.0 in
+    let is : c.from_residual.result ≡ Err error = search rules in
     let loop = c.loop-piece in
     let road = YieldsList-from_vec c.args.pieces.items c.into_iter-piece-iterator.ensures.into_iter_gives.0 (search rules) in
     let turn = YieldsList-turn road loop.yielded loop.piece-iterator loop.yielded_by c.next.result c.next.new.self c.in-Some.piece c.in-Some.is c.next.ensures.steps in
     let so_far : loop.yielded ≡ take (length loop.yielded) c.args.pieces.items =
     sym (map-id loop.yielded) ∙ YieldsList-so_far road loop.yielded loop.piece-iterator loop.yielded_by in
-    let error = c.in_err-reader.field-0.0 in
-    let is : c.from_residual.result ≡ Err error = search rules in
     subst (λ (r : Result PlainDraft ScriptError). TellsDraft r (draft_after c.args.reader c.args.number (rows_of c.args.pieces.items))) (sym is)
     (piece-refused c.args.reader c.args.number c.args.pieces.items loop.yielded c.in-Some.piece so_far turn.0 turn.1 loop.reader loop.number
     loop.invariant.stays loop.invariant.read loop.invariant.number error c.in_err-reader.ensures.told)
