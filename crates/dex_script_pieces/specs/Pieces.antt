@@ -1,5 +1,5 @@
 -- Pieces of rows, and what is read of them.
-use Rattle.std.specs.Prelude.{◌≡◌, ℕ, List, [], ◌∷◌, ◌++◌, ◌+◌, ◌≤◌, Ok, IfOk, IsOkAnd}
+use Rattle.std.specs.Prelude.{◌≡◌, ℕ, List, [], ◌∷◌, ◌+◌, ◌≤◌, Ok, IfOk, IsOkAnd}
 use Rattle.std.specs.List.{All, flat_map}
 use Rattle.dex_statement.specs.Words.{Fields}
 use Rattle.dex_script.specs.Drafts.{PlainDraft}

@@ -1,4 +1,4 @@
-use Rattle.std.proofs.Common.{◌≡◌, ◌∙◌, Ok, sym}
+use Rattle.std.proofs.Common.{◌∙◌, sym}
 use Rattle.dex_script_pieces.specs.Pieces.{IsNext}
 use Rattle.dex_script_pieces.proofs.Behind.{alike-behind, next-read, read-of}
 use Rattle.dex_script_pieces.proofs.reading.behind_piece.Goals as goal

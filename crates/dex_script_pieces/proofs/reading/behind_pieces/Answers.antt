@@ -1,11 +1,10 @@
-use Rattle.std.proofs.Common.{◌≡◌, ◌∙◌, ◌<◌, Err, List, Result, length, map, map-id, rules, subst, sym, take}
+use Rattle.std.proofs.Common.{◌≡◌, ◌∙◌, Err, Result, length, map-id, rules, subst, sym, take}
 use Rattle.std.proofs.lemmas.Iterator.Adapters.{YieldsList-from_vec}
 use Rattle.std.proofs.lemmas.Iterator.Consumers.{YieldsList-so_far, YieldsList-turn}
 use Rattle.dex_script.specs.declared.fault.ScriptError.{ScriptError}
 use Rattle.dex_script.specs.Drafts.{PlainDraft}
 use Rattle.dex_script.specs.Scripts.{draft_after}
 use Rattle.dex_script.specs.Telling.{TellsDraft}
-use Rattle.dex_script_pieces.specs.declared.piece.Piece.{Piece}
 use Rattle.dex_script_pieces.specs.Pieces.{rows_of}
 use Rattle.dex_script_pieces.proofs.Behind.{piece-here, piece-number, piece-read, piece-refused, stays-more}
 use Rattle.dex_script_pieces.proofs.reading.behind_pieces.Goals as goal

@@ -1,4 +1,4 @@
-use Rattle.std.proofs.Common.{◌≡◌, ◌∙◌, ◌++◌, [], ◌∷◌, All, List, ap, append_assoc, subst, sym}
+use Rattle.std.proofs.Common.{◌∙◌, ◌++◌, [], ◌∷◌, List, ap, append_assoc, sym}
 use Rattle.std.proofs.lemmas.List.Elements.{All-push, All-same}
 use Rattle.dex_statement.specs.Words.{Fields}
 use Rattle.dex_script_pieces.specs.declared.piece.Piece.{Piece}
