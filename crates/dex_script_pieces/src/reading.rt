@@ -18,7 +18,7 @@ use std::alloc::{AllocError, Global};
 use std::marker::Sync;
 use std::thread::Threads;
 
-/// No piece is shorter than so many bytes.
+/// No piece but the last is shorter than so many bytes.
 const SHORTEST: usize = 1_048_576;
 
 /// The script that a text is, as `read_script` of `dex_script`. Where the text has no quote, the rows behind the first
