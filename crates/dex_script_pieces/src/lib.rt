@@ -4,7 +4,5 @@
 mod guesses;
 mod piece;
 mod reading;
-#[cfg(test)]
-mod tests;
 
 pub use reading::read_script;

@@ -1,7 +1,7 @@
 //! A script that is long enough to be read in pieces.
 
-use crate::read_script;
 use dex_script::{Script, ScriptError};
+use dex_script_pieces::read_script;
 use std::alloc::{AllocError, Global};
 use std::test::Fail;
 
