@@ -28,11 +28,11 @@ const LAST_BEFORE: u32 = SETUP + 1 + LATER;
 /// An instruction row that names many accounts.
 const ROW: &[u8] = b"do,1,m,ann,";
 
-const NAMED: &[u8] = b"an_account_with_a_rather_long_na";
+const NAMED: &[u8] = b"an_account_of_long_names";
 
 const BEHIND: &[u8] = b",-,-,-,-,consume 16\n";
 
-// The text, which is some four megabytes long, with a row that is none at this place, if there is such a place.
+// The text, which is some three megabytes long, with a row that is none at this place, if there is such a place.
 fn text(alloc: Global, bad: u32) -> Result<Vec<u8>, AllocError> {
     let mut text = Vec::new(alloc);
     text.extend_from_slice(FRONT)?;
