@@ -110,7 +110,8 @@ fn read_text<H: ReadRows>(
     }
 }
 
-/// What a text that begins with no dump says.
+/// What a text that begins with no dump says. It is not inlined, since the rows of a text take much of the stack.
+#[inline(never)]
 fn read_from_nothing<H: ReadRows>(
     alloc: Global,
     bytes: &[u8],
@@ -125,7 +126,8 @@ fn read_from_nothing<H: ReadRows>(
     how.read_rows(alloc, Reader::new(alloc, batch), 1, &mut rows)
 }
 
-/// What a text that begins with a dump says.
+/// What a text that begins with a dump says. It is not inlined either.
+#[inline(never)]
 fn read_behind_dump<H: ReadRows>(
     alloc: Global,
     bytes: &[u8],
