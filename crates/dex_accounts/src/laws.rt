@@ -55,7 +55,8 @@ pub fn accounts_stand_for_the_market_of_their_parts()
 pub fn parts_tell_their_market()
     ensures sizes { (parts : MarketParts) (m : Market) → AreOf parts m
         → sizes_of (market_words parts.market) ≡ m.listing.sizes }
-    ensures events { (parts : MarketParts) (m : Market) → AreOf parts m → ring_of parts.events ≡ ring_of_market m }
+    ensures events { (parts : MarketParts) (m : Market) → AreOf parts m
+        → ring_of parts.events ≡ ring_of_market m }
     ensures event_room { (parts : MarketParts) (m : Market) → AreOf parts m
         → room_of (ring_of parts.events) ≡ event_room m }
     ensures orders { (parts : MarketParts) (m : Market) → AreOf parts m → (side : Side)
@@ -105,7 +106,8 @@ pub fn what_is_put_into_parts_is_put_into_their_market()
         → AreOf (record parts { events = bytes }) (record m { events = events; events_appended = appended }) }
     ensures requests { (parts : MarketParts) (m : Market) → AreOf parts m → (bytes : List ℕ) (next : ℕ)
         → IsRequestQueue bytes
-        → next_sequence bytes ≡ next → AreOf (record parts { requests = bytes }) (record m { next_sequence = next }) }
+        → next_sequence bytes ≡ next
+        → AreOf (record parts { requests = bytes }) (record m { next_sequence = next }) }
     ensures accounts { (parts : MarketParts) (m : Market) → AreOf parts m
         → (accounts : List PlainAccount) (traders : Traders)
         → StandForTraders accounts m.listing.address traders

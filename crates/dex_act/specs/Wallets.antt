@@ -19,7 +19,8 @@ use Rattle.dex_token.specs.TokenAccount.{wallet_words}
 use Rattle.dex_movements.specs.Amounts.{is_probe}
 use Rattle.dex_wallet.specs.CellState.{CellState, HasSpare, IsWalletCell, balance_of, new_cell, seen_of, with_entry}
 use Rattle.dex_wallet.specs.TokenAmount.{TokenAmount}
-use Rattle.dex_cell.specs.CellState.{MarketCellState, step_on}
+use Rattle.dex_cell.specs.CellState as market_cell
+use Rattle.dex_cell.specs.CellState.{IsFor, IsMarketCell, MarketCellState, step_on}
 use Rattle.dex_cell.specs.Paying.{parcel_of}
 use Rattle.dex_fold.specs.Fold.{wallet_acted}
 use Rattle.dex_fold.specs.World.{WalletState}
@@ -317,3 +318,11 @@ pub record SeesCells (seen : Seen) (cells : List CellState) : Type 0 where
   pub home : All (IsHome cells) (roles_of seen)
   pub fits : All Fits (roles_of seen)
   pub spare : All (λ (cell : CellState). any_hit cell.address (roles_of seen) ≡ true → HasSpare cell) cells
+
+-- a row can act on its market's cell and on those of the wallets that it sees, which stand at these places
+pub record CanActAt (asked : Row) (sees : Seen) (at : WalletPlaces) (cell : MarketCellState) (cells : List CellState) : Type 0 where
+  pub row : IsFor asked sees cell
+  pub market : IsMarketCell cell
+  pub spare : market_cell.HasSpare cell
+  pub wallets : SeesCells sees cells
+  pub places : AreSeenAt cells sees at

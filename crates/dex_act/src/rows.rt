@@ -10,7 +10,7 @@ ghost use Rattle.dex_cell.specs.CellState.{CanHold, HasActed, HasSpare, HasTaken
 ghost use Rattle.dex_cell.specs.CellState.{answer_on, held_on, refused_on, step_on};
 ghost use Rattle.dex_fold.specs.Fold.{wallet_acted};
 ghost use Rattle.dex_wallet.specs.CellState.{IsWalletCell};
-ghost use Rattle.dex_act.specs.Wallets.{AreApart, ArePlacesAmong, AreSeenAt, SeesCells, cells_acted, cells_paid};
+ghost use Rattle.dex_act.specs.Wallets.{AreApart, ArePlacesAmong, CanActAt, SeesCells, cells_acted, cells_paid};
 ghost use Rattle.dex_act.specs.Wallets.{made_of, states_acted, wallet_state_of};
 
 use crate::places::{Asked, WalletPlaces};
@@ -22,11 +22,7 @@ use dex_wallet::WalletCell;
 
 /// Does a row as it was decided: its deposits leave its wallets, its market makes its step, and its payouts enter its wallets.
 fn accept(market: &mut MarketCell, wallets: &mut [WalletCell], asked: &Asked, plan: &Plan)
-    requires row { IsFor asked.now.row.now asked.now.seen.now market.old }
-    requires market { IsMarketCell market.old }
-    requires spare { HasSpare market.old }
-    requires wallets { SeesCells asked.now.seen.now wallets.old }
-    requires places { AreSeenAt wallets.old asked.now.seen.now asked.now.places.now }
+    requires can { CanActAt asked.now.row.now asked.now.seen.now asked.now.places.now market.old wallets.old }
     requires decided { Ok plan.now ≡ answer_on asked.now.row.now asked.now.seen.now market.old }
     ensures taken { HasTaken asked.now.row.now asked.now.seen.now market.old market.new }
     ensures wallets { wallets.new ≡ cells_paid asked.now.row.now asked.now.seen.now market.old wallets.old }
@@ -39,11 +35,7 @@ fn accept(market: &mut MarketCell, wallets: &mut [WalletCell], asked: &Asked, pl
 
 /// Decides a row, and does it or writes down that it is refused.
 fn answer(market: &mut MarketCell, wallets: &mut [WalletCell], asked: &Asked)
-    requires row { IsFor asked.now.row.now asked.now.seen.now market.old }
-    requires market { IsMarketCell market.old }
-    requires spare { HasSpare market.old }
-    requires wallets { SeesCells asked.now.seen.now wallets.old }
-    requires places { AreSeenAt wallets.old asked.now.seen.now asked.now.places.now }
+    requires { CanActAt asked.now.row.now asked.now.seen.now asked.now.places.now market.old wallets.old }
     ensures taken { HasTaken asked.now.row.now asked.now.seen.now market.old market.new }
     ensures wallets { wallets.new ≡ cells_paid asked.now.row.now asked.now.seen.now market.old wallets.old }
 {

@@ -44,7 +44,8 @@ pub(crate) fn play_taken(alloc: Global, bytes: Vec<u8>) -> Result<Played, NoMemo
 
 /// Lets the items of what was read act.
 fn play_read(alloc: Global, read: Result<Script, ScriptError>) -> Result<Played, NoMemory>
-    ensures { (bytes : List ℕ) → TellsScript read false bytes → IfOk result (λ played. TellsPlayed played bytes) }
+    ensures { (bytes : List ℕ) → TellsScript read false bytes
+        → IfOk result (λ played. TellsPlayed played bytes) }
 {
     match read {
         Ok(script) => {

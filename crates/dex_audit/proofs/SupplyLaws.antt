@@ -3,6 +3,7 @@ use Rattle.std.proofs.Common.{◌≡◌, ℕ, ◌+◌, ◌<◌, List, [], ◌∷
 use Rattle.std.proofs.lemmas.List.{append_assoc, get_or-map, length-map, map-append, take_more}
 use Rattle.std.specs.List.{All}
 use Rattle.dex_types.specs.Accounts.{PlainMarketAccounts}
+use Rattle.dex_audit_rules.proofs.ListLaws.{both}
 use Rattle.dex_audit_rules.specs.declared.gathered.Gathered.{Gathered}
 use Rattle.dex_audit_rules.specs.Books.{PlainGathered, gathered_in, plain_gathered}
 use Rattle.dex_audit.specs.Audited.{AreGathered}
@@ -38,8 +39,15 @@ gathered-at gathered markets i one market are lt is here =
 
 -- ---- findings told behind one another
 
-pub four : {X : Type 0} (a b c d f1 f2 f3 f4 : List X) → f1 ≡ a → f2 ≡ f1 ++ b → f3 ≡ f2 ++ c → f4 ≡ f3 ++ d → f4 ≡ a ++ (b ++ (c ++ d))
-four a b c d f1 f2 f3 f4 is1 is2 is3 is4 =
-    is4 ∙ ap (λ (l : List _). l ++ d) (is3 ∙ ap (λ (l : List _). l ++ c) (is2 ∙ ap (λ (l : List _). l ++ b) is1))
+-- five told behind one another
+pub five : {X : Type 0} (a b c d e f0 f1 f2 f3 f4 f5 : List X) → f1 ≡ f0 ++ a → f2 ≡ f1 ++ b → f3 ≡ f2 ++ c → f4 ≡ f3 ++ d → f5 ≡ f4 ++ e
+    → f5 ≡ f0 ++ (a ++ (b ++ (c ++ (d ++ e))))
+five a b c d e f0 f1 f2 f3 f4 f5 is1 is2 is3 is4 is5 =
+    both f0 a (b ++ (c ++ (d ++ e))) f1 f5 is1
+    (both f1 b (c ++ (d ++ e)) f2 f5 is2 (both f2 c (d ++ e) f3 f5 is3 (both f3 d e f4 f5 is4 is5)))
+
+pub four : {X : Type 0} (a b c d f1 f2 f3 : List X) → f1 ≡ a ++ b → f2 ≡ f1 ++ c → f3 ≡ f2 ++ d → f3 ≡ a ++ (b ++ (c ++ d))
+four a b c d f1 f2 f3 is1 is2 is3 =
+    is3 ∙ ap (λ (l : List _). l ++ d) (is2 ∙ ap (λ (l : List _). l ++ c) is1)
     ∙ append_assoc (a ++ b) c d
     ∙ append_assoc a b (c ++ d)

@@ -1,6 +1,6 @@
 //! The audit of all accounts.
 
-ghost use Rattle.std.specs.Prelude.{◌≡◌, [], ◌∷◌, ◌++◌, All, map, OnOk, IfOk};
+ghost use Rattle.std.specs.Prelude.{◌≡◌, ◌++◌, All, map, OnOk, IfOk};
 ghost use Rattle.std.specs.List.{flat_map};
 ghost use Rattle.dex_types.specs.Accounts.{accounts_of, market_accounts_of};
 ghost use Rattle.dex_accounts.specs.Accepted.{IsAccepted};
@@ -11,18 +11,8 @@ ghost use Rattle.dex_audit_rules.specs.RulesOf.{told_by};
 
 use crate::supplies::tell_supplies;
 use dex_audit_rules::{Finding, Gathered, Rule, gather, tell_rule};
-use dex_types::{Accounts, MarketAccounts, NoMemory};
+use dex_types::{Accounts, MarketAccounts, NoMemory, add};
 use std::alloc::Global;
-
-/// Adds what was gathered of a market behind the others.
-fn add_gathered(all: &mut Vec<Gathered>, one: Gathered) -> Result<(), NoMemory>
-    ensures { OnOk result (all.new.items ≡ all.old.items ++ one ∷ []) }
-{
-    match all.push(one) {
-        Ok(()) => Ok(()),
-        Err(_) => Err(NoMemory),
-    }
-}
 
 /// The orders and events of each market.
 fn gather_all(alloc: Global, markets: &[MarketAccounts]) -> Result<Vec<Gathered>, NoMemory>
@@ -32,7 +22,7 @@ fn gather_all(alloc: Global, markets: &[MarketAccounts]) -> Result<Vec<Gathered>
     let mut all = Vec::new(alloc);
     for at in 0..markets.len() {
         let one = gather(alloc, &markets[at])?;
-        add_gathered(&mut all, one)?;
+        add(&mut all, one)?;
     }
     Ok(all)
 }
@@ -56,8 +46,8 @@ fn tell_markets(
     Ok(())
 }
 
-/// Tells what breaks the rules of orders, events and slots.
-fn tell_slot_rules(
+/// Tells what breaks the rules of markets, rule by rule, but for that of single orders.
+fn tell_market_rules(
     alloc: Global,
     found: &mut Vec<Finding>,
     markets: &[MarketAccounts],
@@ -65,29 +55,15 @@ fn tell_slot_rules(
 ) -> Result<(), NoMemory>
     requires accepted { All IsAccepted (map market_accounts_of markets.now) }
     requires gathered { AreGathered gathered.now (map market_accounts_of markets.now) }
-    ensures { OnOk result (found.new.items ≡ found.old.items
-        ++ audits.slot_findings (map market_accounts_of markets.now)) }
+    ensures { let all = map market_accounts_of markets.now in
+        OnOk result (found.new.items ≡ found.old.items ++ (audits.slot_findings all ++ audits.fund_findings all)) }
 {
     tell_markets(alloc, found, markets, gathered, Rule::Homeless)?;
     tell_markets(alloc, found, markets, gathered, Rule::Misheld)?;
     tell_markets(alloc, found, markets, gathered, Rule::Unpaired)?;
     tell_markets(alloc, found, markets, gathered, Rule::Astray)?;
     tell_markets(alloc, found, markets, gathered, Rule::Ungiven)?;
-    tell_markets(alloc, found, markets, gathered, Rule::Repeated)
-}
-
-/// Tells what breaks the rules of funds, but for those of single mints and orders.
-fn tell_fund_rules(
-    alloc: Global,
-    found: &mut Vec<Finding>,
-    markets: &[MarketAccounts],
-    gathered: &[Gathered],
-) -> Result<(), NoMemory>
-    requires accepted { All IsAccepted (map market_accounts_of markets.now) }
-    requires gathered { AreGathered gathered.now (map market_accounts_of markets.now) }
-    ensures { OnOk result (found.new.items ≡ found.old.items
-        ++ audits.fund_findings (map market_accounts_of markets.now)) }
-{
+    tell_markets(alloc, found, markets, gathered, Rule::Repeated)?;
     tell_markets(alloc, found, markets, gathered, Rule::Totals)?;
     tell_markets(alloc, found, markets, gathered, Rule::Deposits)?;
     tell_markets(alloc, found, markets, gathered, Rule::Vaults)?;
@@ -104,8 +80,7 @@ pub fn audit(alloc: Global, accounts: &Accounts) -> Result<Vec<Finding>, NoMemor
     let markets = &accounts.markets;
     let gathered = gather_all(alloc, markets)?;
     let mut found = Vec::new(alloc);
-    tell_slot_rules(alloc, &mut found, markets, &gathered)?;
-    tell_fund_rules(alloc, &mut found, markets, &gathered)?;
+    tell_market_rules(alloc, &mut found, markets, &gathered)?;
     tell_supplies(&mut found, &accounts.mints, accounts)?;
     tell_markets(alloc, &mut found, markets, &gathered, Rule::TooLarge)?;
     Ok(found)

@@ -24,5 +24,6 @@ pub fn mints_without_findings_are_conserved()
 /// which they stand, and each mint is conserved.
 pub fn an_audit_finds_nothing_exactly_where_markets_are_sound_and_mints_conserved()
     ensures { (accounts : PlainAccounts) → AreAccepted accounts → HoldBytes accounts
-        → (findings accounts ≡ []) ↔ (All AreSound accounts.markets × All (IsConserved accounts) accounts.mints) }
+        → (findings accounts ≡ [])
+        ↔ (All AreSound accounts.markets × All (IsConserved accounts) accounts.mints) }
 {}

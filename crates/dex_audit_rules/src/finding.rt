@@ -1,9 +1,9 @@
 //! What an audit tells.
 
-ghost use Rattle.std.specs.Prelude.{◌≡◌, [], ◌∷◌, ◌++◌, OnOk};
+ghost use Rattle.std.specs.Prelude.{◌≡◌, ◌++◌, OnOk};
 ghost use Rattle.dex_audit_rules.specs.Lists.{unless};
 
-use dex_types::{Address, NoMemory};
+use dex_types::{Address, NoMemory, add};
 
 /// A place where a rule over several accounts fails. `kind` is the number of the rule, from 1 to 13; `place` is a
 /// number of an order, of an event or of a slot, or the first byte of an amount, in `account`; `found` and `wanted` are
@@ -17,22 +17,12 @@ pub struct Finding {
     pub wanted: u128,
 }
 
-/// Adds a finding behind the others.
-pub fn tell(found: &mut Vec<Finding>, finding: Finding) -> Result<(), NoMemory>
-    ensures { OnOk result (found.new.items ≡ found.old.items ++ finding ∷ []) }
-{
-    match found.push(finding) {
-        Ok(()) => Ok(()),
-        Err(_) => Err(NoMemory),
-    }
-}
-
 /// Adds the finding, unless the rule holds.
 pub fn tell_unless(found: &mut Vec<Finding>, holds: bool, finding: Finding) -> Result<(), NoMemory>
     ensures { OnOk result (found.new.items ≡ found.old.items ++ unless holds finding) }
 {
     if !holds {
-        tell(found, finding)?;
+        add(found, finding)?;
     }
     Ok(())
 }

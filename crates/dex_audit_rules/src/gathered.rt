@@ -1,6 +1,6 @@
 //! The orders and events of a market, taken out of its accounts once for all rules.
 
-ghost use Rattle.std.specs.Prelude.{◌≡◌, [], ◌∷◌, ◌++◌, map, OnOk, IfOk};
+ghost use Rattle.std.specs.Prelude.{◌≡◌, map, IfOk};
 ghost use Rattle.dex_types.specs.Accounts.{market_accounts_of};
 ghost use Rattle.dex_types.specs.QueuedEvent.{decoded_event};
 ghost use Rattle.dex_accounts.specs.Accepted.{IsAccepted};
@@ -10,7 +10,7 @@ ghost use Rattle.dex_audit_rules.specs.Books.{plain_gathered, gathered_in};
 
 use dex_ring::RingRef;
 use dex_slab::SlabRef;
-use dex_types::{Event, MarketAccounts, NoMemory, Order, Side, SideRead};
+use dex_types::{Event, MarketAccounts, NoMemory, Order, Side, SideRead, add};
 use std::alloc::Global;
 
 /// A market's resting orders, in book order, and its pending events, from the front.
@@ -19,16 +19,6 @@ pub struct Gathered {
     pub bids: Vec<Order>,
     pub asks: Vec<Order>,
     pub events: Vec<Event>,
-}
-
-/// Adds an order behind the others.
-fn add_order(orders: &mut Vec<Order>, order: Order) -> Result<(), NoMemory>
-    ensures { OnOk result (orders.new.items ≡ orders.old.items ++ order ∷ []) }
-{
-    match orders.push(order) {
-        Ok(()) => Ok(()),
-        Err(_) => Err(NoMemory),
-    }
 }
 
 /// The resting orders of a side's account, in book order.
@@ -40,20 +30,10 @@ fn resting_orders(alloc: Global, bytes: &[u8], side: Side) -> Result<Vec<Order>,
     let mut orders = Vec::new(alloc);
     let mut next = slab.best();
     'orders: while let Some(order) = next {
-        add_order(&mut orders, order)?;
+        add(&mut orders, order)?;
         next = slab.after(order.id);
     }
     Ok(orders)
-}
-
-/// Adds an event behind the others.
-fn add_event(events: &mut Vec<Event>, event: Event) -> Result<(), NoMemory>
-    ensures { OnOk result (events.new.items ≡ events.old.items ++ event ∷ []) }
-{
-    match events.push(event) {
-        Ok(()) => Ok(()),
-        Err(_) => Err(NoMemory),
-    }
 }
 
 /// The pending events of an event queue, from the front.
@@ -63,7 +43,7 @@ fn pending_events(alloc: Global, ring: &RingRef<'_>) -> Result<Vec<Event>, NoMem
 {
     let mut events = Vec::new(alloc);
     for number in 0..ring.len() {
-        add_event(&mut events, ring.at(number))?;
+        add(&mut events, ring.at(number))?;
     }
     Ok(events)
 }

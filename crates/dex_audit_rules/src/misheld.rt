@@ -9,10 +9,10 @@ ghost use Rattle.dex_tallies.specs.Held.{is_held};
 ghost use Rattle.dex_tallies.specs.Reading.{AreOrders, held_in, traders};
 ghost use Rattle.dex_audit_rules.specs.Slots as rules;
 
-use crate::finding::{Finding, tell};
+use crate::finding::Finding;
 use dex_orders::OrdersRef;
 use dex_tallies::{id_held, is_held, opened};
-use dex_types::{Address, NoMemory, Order, OrdersAccount, Side, is_same};
+use dex_types::{Address, NoMemory, Order, OrdersAccount, Side, add, is_same};
 
 /// Whether the order rests for the place, and what the place holds is another.
 fn is_unheld(
@@ -89,7 +89,8 @@ fn tell_slot(
     held: Option<(u128, Side, u64)>,
     first: Option<u128>,
 ) -> Result<(), NoMemory>
-    ensures { OnOk result (found.new.items ≡ found.old.items ++ rules.unheld_finding owner slot (held_in held) first) }
+    ensures { OnOk result (found.new.items
+        ≡ found.old.items ++ rules.unheld_finding owner slot (held_in held) first) }
 {
     if let Some(id) = first {
         let finding = Finding {
@@ -99,7 +100,7 @@ fn tell_slot(
             found: id_held(held),
             wanted: id,
         };
-        tell(found, finding)?;
+        add(found, finding)?;
     }
     Ok(())
 }

@@ -14,7 +14,7 @@ ghost use Rattle.dex_audit_rules.specs.Slots.{holding, number_of};
 
 use dex_orders::OrdersRef;
 use dex_tallies::opened;
-use dex_types::{Address, NoMemory, OrdersAccount, Side};
+use dex_types::{Address, NoMemory, OrdersAccount, Side, add};
 use std::alloc::Global;
 
 /// A taken slot of an open account: whose it is, its number, and the id, side and client id of its order.
@@ -61,10 +61,7 @@ fn add_slot(
         side,
         client,
     };
-    match taken.push(here) {
-        Ok(()) => Ok(()),
-        Err(_) => Err(NoMemory),
-    }
+    add(taken, here)
 }
 
 /// Adds the taken slots of an open account.

@@ -88,7 +88,8 @@ pub fn pc_deposits(book: &Book<'_>) -> u128
 /// What the referrer rebates must be.
 pub fn rebates(book: &Book<'_>) -> u128
     requires { IsBook book.now }
-    ensures { (m : Market) → IsOf book.now m → result ≡ capped (all_referrers m.traders + total referred m.events) }
+    ensures { (m : Market) → IsOf book.now m
+        → result ≡ capped (all_referrers m.traders + total referred m.events) }
 {
     let held = sum_amounts(book.accounts, Amount::Referrer);
     held.saturating_add(sum_pending(book.events, Weight::Referred))
@@ -125,7 +126,8 @@ fn tell_totals_of(
 /// Tells the totals of open accounts that are not their sums.
 pub fn tell_totals(found: &mut Vec<Finding>, book: &Book<'_>) -> Result<(), NoMemory>
     requires { IsBook book.now }
-    ensures { (m : Market) → IsOf book.now m → OnOk result (found.new.items ≡ found.old.items ++ rules.totals_in m) }
+    ensures { (m : Market) → IsOf book.now m
+        → OnOk result (found.new.items ≡ found.old.items ++ rules.totals_in m) }
 {
     for account in book.accounts {
         if let Some(view) = opened(&account.bytes) {

@@ -1,5 +1,5 @@
 -- A row at its market.
-use Rattle.std.specs.Prelude.{◌≡◌, ℕ, ◌<◌, ◌||◌, Bool, true, false, List, length, slice_index_or}
+use Rattle.std.specs.Prelude.{◌≡◌, ℕ, ◌<◌, ◌||◌, Bool, true, false, List, length, slice_index_or, None}
 use Rattle.dex_types.specs.declared.addresses.Address.{Address}
 use Rattle.dex_types.specs.declared.replies.Reply.{Reply}
 use Rattle.dex_types.specs.declared.rows.Row.{Row}
@@ -13,7 +13,7 @@ use Rattle.dex_fold.specs.Fold.{market_acted}
 pub use Rattle.dex_fold.specs.Items.{doing}
 pub use Rattle.dex_act.specs.Acted.{HaveActed}
 use Rattle.dex_act.specs.Wallets.{SeesCells}
-use Rattle.dex_bank.specs.Cells.{market_state_of}
+use Rattle.dex_bank.specs.Cells.{CellsState, market_state_of}
 
 -- the first of the cells whose market has this address stands at the place
 pub record IsFirstAt (address : Address) (cells : List MarketCellState) (place : ℕ) : Type 0 where
@@ -21,6 +21,18 @@ pub record IsFirstAt (address : Address) (cells : List MarketCellState) (place :
   pub here : (default : MarketCellState) → is_same address (slice_index_or cells place default).accounts.address ≡ true
   pub before : (k : ℕ) → k < place → (default : MarketCellState)
       → is_same address (slice_index_or cells k default).accounts.address ≡ false
+
+-- what a row sees that names no wallet
+abbrev pub nothing_seen : CellsState → Seen
+nothing_seen cells = record {
+  coin = None;
+  pc = None;
+  discount = None;
+  referrer = None;
+  srm = cells.srm;
+  msrm = cells.msrm;
+  program = cells.program;
+}
 
 -- a row that sees so much can act on this market and on these wallets
 pub record CanActOn (row : Row) (seen : Seen) (cell : MarketCellState) (wallets : List CellState) : Type 0 where

@@ -28,9 +28,7 @@ pub struct Cells {
 }
 
 impl Model for Cells {
-    ghost use Rattle.std.specs.Prelude.{map};
-    ghost use Rattle.dex_types.specs.Accounts.{named_of};
-    ghost use Rattle.dex_bank.specs.Cells.{AreCells, CellsState};
+    ghost use Rattle.dex_bank.specs.Cells.{CellsState};
     ghost use Rattle.dex_bank.specs.CellsInside.{cells_inside, IsKept};
 
     ghost Value = { CellsState };
@@ -47,6 +45,7 @@ impl Cells {
     ghost use Rattle.dex_script_facts.specs.Facts.{IsScript};
     ghost use Rattle.dex_script_facts.specs.Places.{ArePlaced};
     ghost use Rattle.dex_bank.specs.Cells.{AreCells, CanAct, CanActBoth};
+    ghost use Rattle.dex_bank.specs.CellsInside.{cells_by};
     ghost use Rattle.dex_bank.specs.Closed as left;
     ghost use Rattle.dex_bank.specs.Opened as first;
     ghost use Rattle.dex_bank.specs.Places.{ArePlacedIn, ArePlacesIn};
@@ -93,22 +92,8 @@ impl Cells {
         wallets: Vec<WalletCell>,
         program: Program,
     ) -> Cells
-        requires cells { AreCells (record {
-          mints = map named_of mints.items;
-          srm = srm;
-          msrm = msrm;
-          markets = markets.items;
-          wallets = wallets.items;
-          program = program;
-        }) }
-        ensures { result ≡ record {
-          mints = map named_of mints.items;
-          srm = srm;
-          msrm = msrm;
-          markets = markets.items;
-          wallets = wallets.items;
-          program = program;
-        } }
+        requires cells { AreCells (cells_by mints.items srm msrm markets.items wallets.items program) }
+        ensures { result ≡ cells_by mints.items srm msrm markets.items wallets.items program }
     {
         Cells {
             mints,
@@ -129,11 +114,9 @@ impl Cells {
     {
         let Cells {
             mints,
-            srm: _,
-            msrm: _,
             markets,
             wallets,
-            program: _,
+            ..
         } = self;
         (mints, markets, wallets)
     }

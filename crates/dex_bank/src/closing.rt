@@ -1,7 +1,6 @@
 //! What cells leave where they are closed.
 
-ghost use Rattle.std.specs.Prelude.{◌≡◌, ◌<◌, ◌≤◌, ◌++◌, ◌∷◌, [], IfErr, IfOk, length, map};
-ghost use Rattle.std.specs.Prelude.{vec_len, vec_capacity};
+ghost use Rattle.std.specs.Prelude.{◌≡◌, ◌≤◌, [], IfErr, IfOk, length, map, vec_len, vec_capacity};
 ghost use Rattle.dex_types.specs.Accounts.{market_accounts_of, named_of};
 ghost use Rattle.dex_cell.specs.CellState.{MarketCellState};
 ghost use Rattle.dex_report.specs.Outcomes.{market_journal_of, outcome_of, wallet_journal_of};
@@ -14,15 +13,6 @@ use dex_report::{MarketJournal, Outcome, WalletJournal};
 use dex_types::{Accounts, MarketAccounts, Named, NoMemory};
 use dex_wallet::WalletCell;
 use std::alloc::Global;
-
-/// Writes an item behind the others, where room for it is reserved.
-fn append<T: Drop>(items: &mut Vec<T>, item: T)
-    requires { vec_len items.old < vec_capacity items.old }
-    ensures items { items.new.items ≡ items.old.items ++ item ∷ [] }
-    ensures reserved { vec_capacity items.old ≤ vec_capacity items.new }
-{
-    items.push(item).unwrap();
-}
 
 /// What a market's cell leaves.
 fn market_left(cell: MarketCell) -> (MarketAccounts, MarketJournal)
@@ -51,8 +41,8 @@ fn markets_left(
     } = room;
     for cell in cells {
         let (own, journal) = market_left(cell);
-        append(&mut accounts, own);
-        append(&mut journals, journal);
+        accounts.push_reserved(own);
+        journals.push_reserved(journal);
     }
     OutcomeParts { accounts, journals }
 }
@@ -83,8 +73,8 @@ fn wallets_left(
     } = room;
     for cell in cells {
         let (own, journal) = wallet_left(cell);
-        append(&mut accounts, own);
-        append(&mut journals, journal);
+        accounts.push_reserved(own);
+        journals.push_reserved(journal);
     }
     OutcomeParts { accounts, journals }
 }

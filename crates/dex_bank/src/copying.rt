@@ -3,19 +3,8 @@
 ghost use Rattle.std.specs.Prelude.{◌≡◌, IfOk, map};
 ghost use Rattle.dex_types.specs.Accounts.{accounts_of};
 
-use crate::opening::add;
-use dex_types::{Accounts, MarketAccounts, Named, NoMemory, OrdersAccount};
+use dex_types::{Accounts, MarketAccounts, Named, NoMemory, OrdersAccount, add};
 use std::alloc::Global;
-
-/// The same bytes, in a buffer of their own.
-fn copy_of(alloc: Global, bytes: &[u8]) -> Result<Vec<u8>, NoMemory>
-    ensures { IfOk result (λ copy. copy.items ≡ bytes.now) }
-{
-    match Vec::from_slice(alloc, bytes) {
-        Ok(copy) => Ok(copy),
-        Err(_) => Err(NoMemory),
-    }
-}
 
 /// What can be copied into buffers of its own.
 trait Copied: Drop {
@@ -50,7 +39,7 @@ impl Copied for Named {
     fn copied(&self, alloc: Global) -> Result<Named, NoMemory> {
         Ok(Named {
             address: self.address,
-            bytes: copy_of(alloc, &self.bytes)?,
+            bytes: Vec::from_slice(alloc, &self.bytes)?,
         })
     }
 }
@@ -65,7 +54,7 @@ impl Copied for OrdersAccount {
     fn copied(&self, alloc: Global) -> Result<OrdersAccount, NoMemory> {
         Ok(OrdersAccount {
             address: self.address,
-            bytes: copy_of(alloc, &self.bytes)?,
+            bytes: Vec::from_slice(alloc, &self.bytes)?,
         })
     }
 }
@@ -81,13 +70,13 @@ impl Copied for MarketAccounts {
         Ok(MarketAccounts {
             address: self.address,
             authority: self.authority,
-            market: copy_of(alloc, &self.market)?,
-            coin_vault: copy_of(alloc, &self.coin_vault)?,
-            pc_vault: copy_of(alloc, &self.pc_vault)?,
-            requests: copy_of(alloc, &self.requests)?,
-            events: copy_of(alloc, &self.events)?,
-            bids: copy_of(alloc, &self.bids)?,
-            asks: copy_of(alloc, &self.asks)?,
+            market: Vec::from_slice(alloc, &self.market)?,
+            coin_vault: Vec::from_slice(alloc, &self.coin_vault)?,
+            pc_vault: Vec::from_slice(alloc, &self.pc_vault)?,
+            requests: Vec::from_slice(alloc, &self.requests)?,
+            events: Vec::from_slice(alloc, &self.events)?,
+            bids: Vec::from_slice(alloc, &self.bids)?,
+            asks: Vec::from_slice(alloc, &self.asks)?,
             orders: copies(alloc, &self.orders)?,
         })
     }

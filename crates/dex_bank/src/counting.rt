@@ -1,6 +1,6 @@
 //! How many rows name each market and each wallet, counted by their places in one pass over the rows.
 
-ghost use Rattle.std.specs.Prelude.{◌≡◌, ◌&&◌, not, ℕ, IfOk, length, map, replicate};
+ghost use Rattle.std.specs.Prelude.{◌≡◌, ◌&&◌, not, ℕ, IfOk, map};
 ghost use Rattle.dex_types.specs.Accounts.{accounts_of};
 ghost use Rattle.dex_types.specs.Rows.{row_of};
 ghost use Rattle.dex_script_facts.specs.Facts.{IsStart};
@@ -45,14 +45,11 @@ fn count(counts: &mut [usize], told: Option<u16>, others: &[Option<u16>])
     ensures { AreCounted (λ (place : ℕ). not (spec.is_told place others.entry.now) && spec.is_there place told)
         counts.old counts.new }
 {
-    match told {
-        Some(place) => {
-            let place_of = place as usize;
-            if !is_told(place, others) && place_of < counts.len() {
-                counts[place_of] += 1;
-            }
+    if let Some(place) = told {
+        let place_of = place as usize;
+        if !is_told(place, others) && place_of < counts.len() {
+            counts[place_of] += 1;
         }
-        None => {}
     }
 }
 
@@ -78,16 +75,6 @@ fn wallets_told(row: &Row, places: &RowPlaces) -> [Option<u16>; 4]
     ]
 }
 
-/// So many counts of nothing.
-fn no_counts(alloc: Global, count: usize) -> Result<Vec<usize>, NoMemory>
-    ensures { IfOk result (λ counts. counts.items ≡ replicate count 0) }
-{
-    match Vec::from_elem(alloc, 0, count) {
-        Ok(counts) => Ok(counts),
-        Err(_) => Err(NoMemory),
-    }
-}
-
 /// How many rows are on each market, and how many name each wallet.
 #[derive(Drop)]
 pub(crate) struct RowCounts {
@@ -109,8 +96,8 @@ pub(crate) fn row_counts(
     ensures wallets { IfOk result (λ counts. counts.wallets.items
         ≡ first.wallet_rooms (map row_of rows.now) (accounts_of start.now).wallets) }
 {
-    let mut markets = no_counts(alloc, start.markets.len())?;
-    let mut wallets = no_counts(alloc, start.wallets.len())?;
+    let mut markets = Vec::from_elem(alloc, 0, start.markets.len())?;
+    let mut wallets = Vec::from_elem(alloc, 0, start.wallets.len())?;
     for i in 0..rows.len() {
         let (row, at) = (&rows[i], &places[i]);
         count_each(&mut markets, &[Some(at.market)]);

@@ -1,6 +1,6 @@
 //! The cells with which a script starts.
 
-ghost use Rattle.std.specs.Prelude.{◌≡◌, ◌++◌, ◌∷◌, [], IfOk, List, OnOk, length, map};
+ghost use Rattle.std.specs.Prelude.{◌≡◌, IfOk, List, length, map};
 ghost use Rattle.std.specs.List.{All};
 ghost use Rattle.dex_types.specs.declared.account_bytes.MarketAccounts.{MarketAccounts as MarketAccountsOf};
 ghost use Rattle.dex_types.specs.declared.account_bytes.Named.{Named as NamedOf};
@@ -21,19 +21,9 @@ use crate::cells::Cells;
 use crate::counting::row_counts;
 use dex_cell::MarketCell;
 use dex_token::WalletRef;
-use dex_types::{Accounts, MarketAccounts, Named, NoMemory, Program, Row, RowPlaces};
+use dex_types::{Accounts, MarketAccounts, Named, NoMemory, Program, Row, RowPlaces, add};
 use dex_wallet::{Parcel, WalletCell};
 use std::alloc::Global;
-
-/// Adds an item behind the others.
-pub(crate) fn add<T: Drop>(items: &mut Vec<T>, item: T) -> Result<(), NoMemory>
-    ensures { OnOk result (items.new.items ≡ items.old.items ++ item ∷ []) }
-{
-    match items.push(item) {
-        Ok(()) => Ok(()),
-        Err(_) => Err(NoMemory),
-    }
-}
 
 /// The parcel that a token account's amount is. Where the accounts are conserved, the parcels of a mint are together its supply.
 fn parcel_in(bytes: &[u8]) -> Parcel

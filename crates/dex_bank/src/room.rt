@@ -1,6 +1,6 @@
 //! Room for what cells leave where they are closed.
 
-ghost use Rattle.std.specs.Prelude.{◌≡◌, ◌≤◌, [], IfOk, IfSome, vec_capacity};
+ghost use Rattle.std.specs.Prelude.{◌≡◌, ◌≤◌, [], IfOk, vec_capacity};
 
 use dex_report::{MarketJournal, WalletJournal};
 use dex_types::{MarketAccounts, Named, NoMemory};
@@ -14,14 +14,14 @@ pub(crate) struct OutcomeParts<A, J> {
     pub(crate) journals: Vec<J>,
 }
 
-/// Room for what so many cells leave, if there is memory for it.
-fn room_for<A: Drop, J: Drop>(alloc: Global, count: usize) -> Option<OutcomeParts<A, J>>
-    ensures accounts { IfSome result (λ room. (room.accounts.items ≡ []) × (count ≤ vec_capacity room.accounts)) }
-    ensures journals { IfSome result (λ room. (room.journals.items ≡ []) × (count ≤ vec_capacity room.journals)) }
+/// Room for what so many cells leave.
+fn room_for<A: Drop, J: Drop>(alloc: Global, count: usize) -> Result<OutcomeParts<A, J>, NoMemory>
+    ensures accounts { IfOk result (λ room. (room.accounts.items ≡ []) × (count ≤ vec_capacity room.accounts)) }
+    ensures journals { IfOk result (λ room. (room.journals.items ≡ []) × (count ≤ vec_capacity room.journals)) }
 {
-    let accounts = Vec::with_capacity(alloc, count).ok()?;
-    let journals = Vec::with_capacity(alloc, count).ok()?;
-    Some(OutcomeParts { accounts, journals })
+    let accounts = Vec::with_capacity(alloc, count)?;
+    let journals = Vec::with_capacity(alloc, count)?;
+    Ok(OutcomeParts { accounts, journals })
 }
 
 /// Room for what the cells of so many markets and wallets leave.
@@ -47,12 +47,8 @@ impl Room {
     pub fn reserve(alloc: Global, markets: usize, wallets: usize) -> Result<Room, NoMemory>
         ensures { IfOk result (λ room. (markets ≤ room.markets) × (wallets ≤ room.wallets)) }
     {
-        let Some(of_markets) = room_for(alloc, markets) else {
-            return Err(NoMemory);
-        };
-        let Some(of_wallets) = room_for(alloc, wallets) else {
-            return Err(NoMemory);
-        };
+        let of_markets = room_for(alloc, markets)?;
+        let of_wallets = room_for(alloc, wallets)?;
         Ok(Room {
             of_markets,
             of_wallets,

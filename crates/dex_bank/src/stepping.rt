@@ -10,7 +10,7 @@ ghost use Rattle.dex_act.specs.Wallets.{AreApart, ArePlacesAmong, Fits, IsRoleAt
 ghost use Rattle.dex_bank.specs.Cells.{AreCells, CanAct, CanActBoth, CanWait, world_of};
 ghost use Rattle.dex_bank.specs.Places.{StandsAt};
 ghost use Rattle.dex_bank.specs.Stepped.{HasActedOrWaited, HaveBothStepped};
-ghost use Rattle.dex_bank.specs.Stepping.{CanActOn, HasDone};
+ghost use Rattle.dex_bank.specs.Stepping.{CanActOn, HasDone, nothing_seen};
 
 use crate::cells::Cells;
 use crate::standing::Standing;
@@ -33,21 +33,13 @@ fn look(wallets: &[WalletCell], role: &Option<Address>, place: usize, seen: &mut
     }
 }
 
-/// What a row sees.
-fn seen_by(cells: &Cells, row: &Row, places: &WalletPlaces) -> Seen
-    requires { ArePlacesAmong cells.now.wallets (row_of row.now) places.now }
-    ensures seen { result ≡ world.seen_by (row_of row.entry.now) (world_of cells.now) }
-    ensures fits { All Fits (roles_of result) }
+/// Writes down what a row sees.
+fn see(cells: &Cells, row: &Row, places: &WalletPlaces, seen: &mut Seen)
+    requires places { ArePlacesAmong cells.now.wallets (row_of row.now) places.now }
+    requires nothing { seen.old ≡ nothing_seen cells.now }
+    ensures seen { seen.new ≡ world.seen_by (row_of row.entry.now) (world_of cells.now) }
+    ensures fits { All Fits (roles_of seen.new) }
 {
-    let mut seen = Seen {
-        coin: None,
-        pc: None,
-        discount: None,
-        referrer: None,
-        srm: cells.srm,
-        msrm: cells.msrm,
-        program: cells.program,
-    };
     look(&cells.wallets, &row.coin, places.coin, &mut seen.coin);
     look(&cells.wallets, &row.pc, places.pc, &mut seen.pc);
     look(
@@ -62,7 +54,6 @@ fn seen_by(cells: &Cells, row: &Row, places: &WalletPlaces) -> Seen
         places.referrer,
         &mut seen.referrer,
     );
-    seen
 }
 
 /// A row acts on its market's cell and on the wallets that it names, or is held back there.
@@ -93,7 +84,16 @@ pub(crate) fn act_or_wait(cells: &mut Cells, row: &Row, standing: &Standing, wai
     requires held { waits ≡ true → CanWait (row_of row.now) cells.old }
     ensures { HasActedOrWaited (row_of row.entry.now) waits result cells.old cells.new }
 {
-    let seen = seen_by(cells, row, &standing.wallets);
+    let mut seen = Seen {
+        coin: None,
+        pc: None,
+        discount: None,
+        referrer: None,
+        srm: cells.srm,
+        msrm: cells.msrm,
+        program: cells.program,
+    };
+    see(cells, row, &standing.wallets, &mut seen);
     do_on(
         &mut cells.markets[standing.market],
         &mut cells.wallets,
@@ -111,7 +111,16 @@ fn is_refused(cells: &Cells, row: &Row, standing: &Standing) -> bool
     ensures refused { result ≡ is_some (why_in (world_of cells.now) (row_of row.entry.now)) }
     ensures cells { AreCells cells.now }
 {
-    let seen = seen_by(cells, row, &standing.wallets);
+    let mut seen = Seen {
+        coin: None,
+        pc: None,
+        discount: None,
+        referrer: None,
+        srm: cells.srm,
+        msrm: cells.msrm,
+        program: cells.program,
+    };
+    see(cells, row, &standing.wallets, &mut seen);
     cells.markets[standing.market].decide(row, &seen).is_err()
 }
 

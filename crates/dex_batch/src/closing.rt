@@ -6,7 +6,7 @@ ghost use Rattle.dex_report.specs.Outcomes.{outcome_of};
 ghost use Rattle.dex_replay.specs.Replays.{IsReplayOf};
 ghost use Rattle.dex_script_facts.specs.Facts.{HasNoSwap, IsScript};
 ghost use Rattle.dex_team.specs.Closing.{HaveAllActed};
-ghost use Rattle.dex_team.specs.Packets.{AreTermsOf};
+ghost use Rattle.dex_stage.specs.Parts.{AreTermsOf};
 
 use dex_bank::Cells;
 use dex_cell::MarketCell;

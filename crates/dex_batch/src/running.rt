@@ -37,11 +37,7 @@ fn batched<J: Naming + Send + Sync, R: Threads + Wait + Sync, P: Pace + Sync>(
     requires single { HasNoSwap J.script.rows }
     ensures { IfOk result (λ outcome. IsReplayOf J.script (outcome_of outcome)) }
 {
-    let terms = Terms {
-        srm: script.start.srm,
-        msrm: script.start.msrm,
-        program: script.program,
-    };
+    let terms = Terms::of(&script);
     let market_addresses = addresses_of_markets(alloc, &script.start.markets)?;
     let wallet_addresses = addresses_of_wallets(alloc, &script.start.wallets)?;
     let (cells, rows, places) = Cells::of_script(alloc, script)?;

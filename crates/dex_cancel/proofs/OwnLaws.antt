@@ -8,14 +8,14 @@ use Rattle.dex_types.specs.declared.orders.Order.{Order}
 use Rattle.dex_types.specs.declared.terms.Side.{Side}
 use Rattle.dex_types.specs.declared.terms.Side.TheVariants.{Bid, Ask}
 use Rattle.dex_types.specs.Addresses.{is_same}
-use Rattle.dex_types.specs.Cancel.{RestingOrder, order_with, without_order, orders_of, all_orders_of, oldest, is_same_order, without_taken, at_most_one, on_side}
+use Rattle.dex_types.specs.Cancel.{RestingOrder, order_with, without_order, orders_of, all_orders_of, oldest, is_same_order, without_taken, at_most_one, on_side, taken_by}
 use Rattle.dex_types.specs.Posting.{PrecedesAll, InBookOrder}
 use Rattle.dex_types.specs.Side.{by_side, precedes}
 use Rattle.dex_types.specs.Tokens.{is_same_side}
 use Rattle.dex_laws.proofs.BestFirstLaws.{All-PrecedesAll}
 use Rattle.dex_laws.proofs.IdLaws.{precedes-apart}
 use Rattle.dex_sound.specs.Cancels.{AreApart}
-use Rattle.dex_sound.proofs.CancelledLaws.{AreApart-append, oldest-All, at_most_one-All}
+use Rattle.dex_sound.proofs.CancelledLaws.{AreApart-append, oldest-All, at_most_one-All, taken_by-All}
 use Rattle.dex_sound.proofs.WithoutLaws.{order_with-first, order_with-behind, found-All, found-id, found-induction}
 use Rattle.dex_cancel.specs.TakenOff.{DoRest, without_all}
 use Rattle.dex_cancel.proofs.WalkSteps.{on, orders_of-own, orders_of-other}
@@ -94,6 +94,12 @@ pub oldest-rests : (owner : Address) (client : ℕ) (bids asks : List Order) →
 oldest-rests owner client bids asks mine =
     at_most_one-All (λ (r : RestingOrder). order_with r.order.id (by_side r.side bids asks) ≡ Some r.order) (oldest client (all_orders_of owner bids asks))
     (λ found is. (oldest-All (IsMine owner bids asks) client (all_orders_of owner bids asks) mine found is).rests)
+
+pub taken-rests : (owner : Address) (client : ℕ) (bids asks : List Order) → All (IsMine owner bids asks) (all_orders_of owner bids asks)
+    → DoRest (at_most_one (taken_by client (all_orders_of owner bids asks))) bids asks
+taken-rests owner client bids asks mine =
+    at_most_one-All (λ (r : RestingOrder). order_with r.order.id (by_side r.side bids asks) ≡ Some r.order) (taken_by client (all_orders_of owner bids asks))
+    (λ found is. (taken_by-All (IsMine owner bids asks) client (all_orders_of owner bids asks) mine found is).rests)
 
 pub on_side-rests : (side : Side) (id : ℕ) (bids asks : List Order) → DoRest (on_side side (order_with id (by_side side bids asks))) bids asks
 on_side-rests side id bids asks = each (order_with id (by_side side bids asks)) refl

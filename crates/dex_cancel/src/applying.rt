@@ -1,7 +1,7 @@
 //! Taking orders off the sides, and appending their outs.
 
 ghost use Rattle.std.specs.Prelude.{◌≡◌, [], ◌∷◌, IsOk, length, take};
-ghost use Rattle.dex_types.specs.Cancel.{all_orders_of, at_most_one, cancelled, oldest, on_side, order_with, taken_by, taken_by_all};
+ghost use Rattle.dex_types.specs.Cancel.{all_orders_of, at_most_one, cancelled, oldest, on_side, order_with, taken_by_all};
 ghost use Rattle.dex_types.specs.Side.{by_side};
 ghost use Rattle.dex_ring.specs.Ring.{ring_of, room_of};
 ghost use Rattle.dex_accounts.specs.Keeps.{KeepsEvents, KeepsSide};
@@ -10,7 +10,7 @@ ghost use Rattle.dex_cancel.specs.Finding.{maybe_resting, resting};
 ghost use Rattle.dex_cancel.specs.TakenOff.{CanLeave, DoRest, HaveLeft, handed, queue_of, with_outs};
 ghost use Rattle.dex_cancel.specs.Parts.{AreOfSoundMarket, left_by, named_in};
 
-use crate::finding::{find_oldest, find_on};
+use crate::finding::{find_named, find_oldest, find_on};
 use crate::found::{Found, found_on};
 use crate::pruning::prune;
 use crate::taking::take_off;
@@ -128,37 +128,6 @@ fn cancel_oldest<B: SideBook, A: SideBook>(
     cancel_maybe(found, sizes, bids, asks, ring)
 }
 
-/// Takes the oldest order that the account has of a client id, if it has one and the id is not 0, and appends its out. It
-/// answers how many orders that is.
-fn cancel_named<B: SideBook, A: SideBook>(
-    client: u64,
-    account: Address,
-    sizes: Lots,
-    bids: &mut B,
-    asks: &mut A,
-    ring: &mut RingView<'_>,
-) -> u32
-    requires bids { B.holds bids.old }
-    requires asks { A.holds asks.old }
-    requires can { CanLeave (at_most_one (taken_by client
-        (all_orders_of account (B.orders bids.old) (A.orders asks.old))))
-        (handed sizes B.orders A.orders bids.old asks.old ring.old) }
-    ensures count { result ≡ length (at_most_one (taken_by client
-        (all_orders_of account (B.orders bids.old) (A.orders asks.old)))) }
-    ensures left { HaveLeft (at_most_one (taken_by client
-        (all_orders_of account (B.orders bids.old) (A.orders asks.old))))
-        (handed sizes B.orders A.orders bids.old asks.old ring.old)
-        (handed sizes B.orders A.orders bids.new asks.new ring.new) }
-    ensures bids { KeepsSide B.holds B.same_place B.side B.room bids.old bids.new }
-    ensures asks { KeepsSide A.holds A.same_place A.side A.room asks.old asks.new }
-    ensures place { ring.new.bytes.ghost_name ≡ ring.old.bytes.ghost_name }
-{
-    if client == 0 {
-        return 0;
-    }
-    cancel_oldest(client, account, sizes, bids, asks, ring)
-}
-
 /// Takes the account's oldest order of each of the client ids in order, and appends their outs. It passes over zeros, and
 /// over client ids without a resting order, and answers how many orders there were.
 fn cancel_listed<B: SideBook, A: SideBook>(
@@ -186,7 +155,8 @@ fn cancel_listed<B: SideBook, A: SideBook>(
 {
     let mut count = 0;
     for place in 0..usize::from(ids.count) {
-        count += cancel_named(ids.ids[place], account, sizes, bids, asks, ring);
+        let found = find_named(bids, asks, account, ids.ids[place]);
+        count += cancel_maybe(found, sizes, bids, asks, ring);
     }
     count
 }

@@ -2,7 +2,7 @@
 
 ghost use Rattle.std.specs.Prelude.{◌≡◌, ◌&&◌, ◌==◌};
 ghost use Rattle.dex_types.specs.Addresses as addresses;
-ghost use Rattle.dex_types.specs.Cancel.{all_orders_of, oldest, order_with, orders_of};
+ghost use Rattle.dex_types.specs.Cancel.{all_orders_of, oldest, order_with, orders_of, taken_by};
 ghost use Rattle.dex_types.specs.Side.{by_side};
 ghost use Rattle.dex_cancel.specs.Finding as finding;
 ghost use Rattle.dex_cancel.specs.Finding.{maybe_resting};
@@ -59,4 +59,21 @@ pub fn find_oldest<B: SideRead, A: SideRead>(
     let bid = oldest_on(bids, Side::Bid, account, client);
     let ask = oldest_on(asks, Side::Ask, account, client);
     older_of(bid, ask)
+}
+
+/// The order that one client id of a list takes: the same, where it is not 0.
+pub fn find_named<B: SideRead, A: SideRead>(
+    bids: &B,
+    asks: &A,
+    account: Address,
+    client: u64,
+) -> Option<Found>
+    requires bids { B.holds bids.now }
+    requires asks { A.holds asks.now }
+    ensures { maybe_resting result ≡ taken_by client (all_orders_of account (B.orders bids.now) (A.orders asks.now)) }
+{
+    if client == 0 {
+        return None;
+    }
+    find_oldest(bids, asks, account, client)
 }

@@ -1,112 +1,23 @@
 //! Taking orders off the sides, and appending their outs.
 
-ghost use Rattle.std.specs.Prelude.{◌≡◌, IsOk, length, take};
-ghost use Rattle.dex_types.specs.Cancel as cancel;
+ghost use Rattle.std.specs.Prelude.{◌≡◌, IsOk, length};
 ghost use Rattle.dex_orders.specs.OrdersAccount.{IsOpen};
 ghost use Rattle.dex_ring.specs.Ring.{ring_of, room_of};
 ghost use Rattle.dex_accounts.specs.Keeps.{KeepsEvents, KeepsSide};
 ghost use Rattle.dex_cancel.specs.Cancelling.{decided, named_by};
 ghost use Rattle.dex_cancel.specs.TakenOff.{CanLeave, handed, queue_of, with_outs};
 ghost use Rattle.dex_cancel.specs.Parts.{cancel_given, left_by, named_in};
-ghost use Rattle.dex_cancel_slots.specs.Cancels.{HaveLeftSo, taken_in};
+ghost use Rattle.dex_cancel_slots.specs.Cancels.{HaveLeftSo};
 ghost use Rattle.dex_cancel_slots.specs.Given.{IsGiven, slots_in};
 ghost use Rattle.dex_cancel_slots.specs.Slots.{DoSlotsName};
 
 use crate::finding::find_oldest;
-use crate::pruning::prune;
+use crate::pruning::prune_side;
 use dex_cancel::CancelWhat;
 use dex_cancel::steps::{cancel_by_id, cancel_maybe};
 use dex_orders::OrdersRef;
 use dex_ring::RingView;
-use dex_types::{Address, ClientIds, Lots, SideBook};
-
-/// Takes the account's oldest order of a client id, if it has one, and appends its out. It answers how many orders that
-/// is.
-fn cancel_oldest<B: SideBook, A: SideBook>(
-    client: u64,
-    account: Address,
-    orders: &OrdersRef<'_>,
-    sizes: Lots,
-    bids: &mut B,
-    asks: &mut A,
-    ring: &mut RingView<'_>,
-) -> u32
-    requires open { IsOpen orders.now.bytes.now }
-    requires bids { B.holds bids.old }
-    requires asks { A.holds asks.old }
-    requires names { DoSlotsName account (slots_in orders.now) (B.orders bids.old) (A.orders asks.old) }
-    requires can { let before = handed sizes B.orders A.orders bids.old asks.old ring.old in
-        CanLeave (named_in (cancel.ByClient client) account before) before }
-    ensures does { let before = handed sizes B.orders A.orders bids.old asks.old ring.old in
-        let after = handed sizes B.orders A.orders bids.new asks.new ring.new in
-        HaveLeftSo (named_in (cancel.ByClient client) account before) before after result }
-    ensures bids { KeepsSide B.holds B.same_place B.side B.room bids.old bids.new }
-    ensures asks { KeepsSide A.holds A.same_place A.side A.room asks.old asks.new }
-    ensures place { ring.new.bytes.ghost_name ≡ ring.old.bytes.ghost_name }
-{
-    let found = find_oldest(account, orders, bids, asks, client);
-    cancel_maybe(found, sizes, bids, asks, ring)
-}
-
-/// The same, where the client id is not 0. It takes none of the client id 0.
-fn cancel_named<B: SideBook, A: SideBook>(
-    client: u64,
-    account: Address,
-    orders: &OrdersRef<'_>,
-    sizes: Lots,
-    bids: &mut B,
-    asks: &mut A,
-    ring: &mut RingView<'_>,
-) -> u32
-    requires open { IsOpen orders.now.bytes.now }
-    requires bids { B.holds bids.old }
-    requires asks { A.holds asks.old }
-    requires names { DoSlotsName account (slots_in orders.now) (B.orders bids.old) (A.orders asks.old) }
-    requires can { let before = handed sizes B.orders A.orders bids.old asks.old ring.old in
-        CanLeave (taken_in client account before) before }
-    ensures does { let before = handed sizes B.orders A.orders bids.old asks.old ring.old in
-        let after = handed sizes B.orders A.orders bids.new asks.new ring.new in
-        HaveLeftSo (taken_in client account before) before after result }
-    ensures bids { KeepsSide B.holds B.same_place B.side B.room bids.old bids.new }
-    ensures asks { KeepsSide A.holds A.same_place A.side A.room asks.old asks.new }
-    ensures place { ring.new.bytes.ghost_name ≡ ring.old.bytes.ghost_name }
-{
-    if client == 0 {
-        return 0;
-    }
-    cancel_oldest(client, account, orders, sizes, bids, asks, ring)
-}
-
-/// Takes the account's oldest order of each of the client ids in order, and appends their outs. It passes over zeros,
-/// and over client ids without a resting order, and answers how many orders there were.
-fn cancel_listed<B: SideBook, A: SideBook>(
-    ids: &ClientIds,
-    account: Address,
-    orders: &OrdersRef<'_>,
-    sizes: Lots,
-    bids: &mut B,
-    asks: &mut A,
-    ring: &mut RingView<'_>,
-) -> u32
-    requires open { IsOpen orders.now.bytes.now }
-    requires bids { B.holds bids.old }
-    requires asks { A.holds asks.old }
-    requires names { DoSlotsName account (slots_in orders.now) (B.orders bids.old) (A.orders asks.old) }
-    requires can { let before = handed sizes B.orders A.orders bids.old asks.old ring.old in
-        CanLeave (named_in (cancel.ByClients (take ids.now.count ids.now.ids)) account before) before }
-    ensures does { let before = handed sizes B.orders A.orders bids.old asks.old ring.old in
-        let after = handed sizes B.orders A.orders bids.new asks.new ring.new in
-        HaveLeftSo (named_in (cancel.ByClients (take ids.now.count ids.now.ids)) account before) before after result }
-    ensures bids { KeepsSide B.holds B.same_place B.side B.room bids.old bids.new }
-    ensures asks { KeepsSide A.holds A.same_place A.side A.room asks.old asks.new }
-    ensures place { ring.new.bytes.ghost_name ≡ ring.old.bytes.ghost_name }
-{
-    let mut count = 0;
-    for place in 0..usize::from(ids.count) {
-        count += cancel_named(ids.ids[place], account, orders, sizes, bids, asks, ring);
-    }
-    count
-}
+use dex_types::{Address, Lots, Side, SideBook};
 
 /// Takes the orders that a cancel names, and appends their outs. It answers how many they were.
 fn cancel_all<B: SideBook, A: SideBook>(
@@ -134,12 +45,27 @@ fn cancel_all<B: SideBook, A: SideBook>(
     match what {
         CancelWhat::ById { side, id } => cancel_by_id(*side, *id, sizes, bids, asks, ring),
         CancelWhat::ByClient(client) => {
-            cancel_oldest(*client, account, orders, sizes, bids, asks, ring)
+            let found = find_oldest(account, orders, bids, asks, *client);
+            cancel_maybe(found, sizes, bids, asks, ring)
         }
         CancelWhat::ByClients(ids) => {
-            cancel_listed(ids, account, orders, sizes, bids, asks, ring)
+            let mut count = 0;
+            for place in 0..usize::from(ids.count) {
+                let client = ids.ids[place];
+                let found = if client == 0 {
+                    None
+                } else {
+                    find_oldest(account, orders, bids, asks, client)
+                };
+                count += cancel_maybe(found, sizes, bids, asks, ring);
+            }
+            count
         }
-        CancelWhat::Prune(limit) => prune(*limit, account, orders, sizes, bids, asks, ring),
+        CancelWhat::Prune(limit) => {
+            let limit = u32::from(*limit);
+            let taken = prune_side(Side::Bid, limit, account, orders, sizes, bids, ring);
+            taken + prune_side(Side::Ask, limit - taken, account, orders, sizes, asks, ring)
+        }
     }
 }
 

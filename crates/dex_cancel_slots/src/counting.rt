@@ -105,7 +105,8 @@ fn takes_one<B: SideRead, A: SideRead>(
     requires place { place < 8 }
     ensures { let client = slice_index ids.now place in
         let all = all_orders_of own.now.account (B.orders own.now.bids.now) (A.orders own.now.asks.now) in
-        result ≡ (not (client == 0) && nat_lt (count_among client (take place ids.now)) (count_of_client client all)) }
+        result ≡ (not (client == 0)
+        && nat_lt (count_among client (take place ids.now)) (count_of_client client all)) }
 {
     let client = ids[place];
     if client == 0 {

@@ -36,14 +36,12 @@ pub(crate) fn write_down(
     ensures reserved { vec_capacity entries.old ≤ vec_capacity entries.new }
 {
     let place = entries.len();
-    entries
-        .push(Entry {
-            lane: row.lane,
-            row: row.number,
-            reply,
-            moves: [None, None, None, None],
-        })
-        .unwrap();
+    entries.push_reserved(Entry {
+        lane: row.lane,
+        row: row.number,
+        reply,
+        moves: [None, None, None, None],
+    });
     let entry = &mut entries[place];
     put_moves(row, seen, amounts, &mut entry.moves);
     *calls = calls.and(

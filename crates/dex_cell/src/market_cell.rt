@@ -14,7 +14,7 @@ use dex_movements::Amounts;
 use dex_ring::RingRef;
 use dex_stamps::Kept;
 use dex_types::{Entry, MarketAccounts, NoMemory, Refusal, Reply, Row, Seen};
-use dex_wallet::Parcel;
+use dex_wallet::{Parcel, Share};
 use http_server::Log as CallLog;
 use std::alloc::Global;
 use std::marker::Model;
@@ -23,11 +23,12 @@ use std::marker::Model;
 ///
 /// The accounts are always accepted, and those of the sound market that stands at the end of the journal, which is one legal
 /// history of the market that the cell was made with. Where a cell is dropped its parcels are given up.
+#[derive(Drop)]
 pub struct MarketCell {
     start: Kept<MarketAccounts>,
     accounts: MarketAccounts,
-    coin: Parcel,
-    pc: Parcel,
+    coin: Share,
+    pc: Share,
     pending: PendingFills,
     calls: CallLog<Row, CallRecord>,
     entries: Vec<Entry>,
@@ -44,23 +45,6 @@ impl Model for MarketCell {
     ghost view = { cell_inside };
 
     ghost invariant = { IsKept };
-}
-
-impl Drop for MarketCell {
-    fn drop(self) {
-        let MarketCell {
-            start: _,
-            accounts: _,
-            coin,
-            pc,
-            pending: _,
-            calls: _,
-            entries: _,
-            room: _,
-        } = self;
-        coin.give_up();
-        pc.give_up();
-    }
 }
 
 /// The two sums of pending events.
@@ -100,27 +84,20 @@ impl MarketCell {
         requires pc { pc ≡ held_in accounts.pc_vault.items }
         ensures { IfOk result (λ cell. cell ≡ cells.new_cell (market_accounts_of accounts) room) }
     {
-        match Vec::with_capacity(alloc, room) {
-            Ok(entries) => {
-                let start = Kept::of(&accounts);
-                let pending = pending_in(&accounts.events);
-                Ok(MarketCell {
-                    start,
-                    accounts,
-                    coin,
-                    pc,
-                    pending,
-                    calls: CallLog::new(),
-                    entries,
-                    room,
-                })
-            }
-            Err(_) => {
-                coin.give_up();
-                pc.give_up();
-                Err(NoMemory)
-            }
-        }
+        let (coin, pc) = (Share { parcel: coin }, Share { parcel: pc });
+        let entries = Vec::with_capacity(alloc, room)?;
+        let start = Kept::of(&accounts);
+        let pending = pending_in(&accounts.events);
+        Ok(MarketCell {
+            start,
+            accounts,
+            coin,
+            pc,
+            pending,
+            calls: CallLog::new(),
+            entries,
+            room,
+        })
     }
 
     /// For how many further rows there is room.
@@ -209,7 +186,13 @@ impl MarketCell {
     {
         let amounts = amounts_of(plan);
         let reply = dex_step::apply(&mut self.accounts, row, seen, plan, &mut self.pending);
-        let payouts = pay(&mut self.coin, &mut self.pc, &amounts, coin, pc);
+        let payouts = pay(
+            &mut self.coin.parcel,
+            &mut self.pc.parcel,
+            &amounts,
+            coin,
+            pc,
+        );
         let MarketCell { calls, entries, .. } = self;
         write_down(calls, entries, row, seen, reply, &amounts);
         payouts
@@ -267,17 +250,10 @@ impl MarketCell {
         ensures cell { IsMarketCell self }
     {
         let MarketCell {
-            start: _,
             accounts,
-            coin,
-            pc,
-            pending: _,
-            calls: _,
             entries,
-            room: _,
+            ..
         } = self;
-        coin.give_up();
-        pc.give_up();
         (accounts, entries)
     }
 }

@@ -1,10 +1,11 @@
 -- What each call is given of a sound market's accounts.
-use Rattle.std.proofs.Common.{◌≡◌, ℕ, Bool, true, false, List, [], ◌∷◌, Option, Some, None, refl, sym, ap, ◌∙◌}
+use Rattle.std.proofs.Common.{◌≡◌, ℕ, Bool, true, false, List, [], ◌∷◌, Option, Some, None, Result, refl, sym, ap, ◌∙◌}
 use Rattle.std.specs.List.{All}
 use Rattle.std.specs.Prelude.{◌==◌, if◌then◌else◌}
 use Rattle.std.proofs.lemmas.List.Elements.{All-head, All-tail, All-nil, All-cons}
 use Rattle.dex_types.specs.declared.addresses.Address.{Address}
 use Rattle.dex_types.specs.declared.orders.Order.{Order}
+use Rattle.dex_types.specs.declared.refusals.Refusal.{Refusal}
 use Rattle.dex_types.specs.declared.rows.Seen.{Seen}
 use Rattle.dex_types.specs.declared.rows.WalletSeen.{WalletSeen}
 use Rattle.dex_types.specs.declared.terms.Side.TheVariants.{Bid, Ask}
@@ -28,8 +29,9 @@ use Rattle.dex_accounts.specs.Decoded.{AreSound, market_in}
 use Rattle.dex_accounts.specs.Parts.{AreOf, AreSoundParts, HasOpen, parts_of}
 use Rattle.dex_cancel_slots.specs.Given.{IsGiven, sides_by, sides_given}
 use Rattle.dex_history.specs.Journal.{Agree, Asked, Sees}
-use Rattle.dex_decide.specs.Named.{IsActing, account_by, named_in}
+use Rattle.dex_decide.specs.Named.{IsActing, account_by, named_in, party_by}
 use Rattle.dex_decide.proofs.NamedLaws.{is-named, none-first}
+use Rattle.dex_decide.proofs.Planning.{of-party}
 
 each-accepted : (market : Address) (accounts : List PlainAccount) → All (IsOnMarket market) accounts → All (λ (account : PlainAccount). IsOrders account.bytes) accounts
 each-accepted market [] on = All-nil _
@@ -65,6 +67,14 @@ module _ (accounts : PlainMarketAccounts) (sound : AreSound accounts) where
   -- the party that is named
   pub party-told : (named : List Address) → party_of named (market_in accounts).traders ≡ party_of named (traders_of accounts.orders)
   party-told named = ap (party_of named) (sym sound.stands.traders.stand)
+
+  -- what is answered of the account that acts is answered of the row
+  pub by-acting : {P : Type 0} (request : Request) (address : Address) (bytes : List ℕ) → IsActing request.named accounts.orders address bytes
+      → (W : Party → Option Refusal) (f : Option Party → P) (result : Result P Refusal)
+      → result ≡ answered (W (party_by address bytes)) (f (Some (party_by address bytes)))
+      → result ≡ answered (of_party W (party_of request.named (market_in accounts).traders)) (f (party_of request.named (market_in accounts).traders))
+  by-acting request address bytes acting W f result answers =
+      of-party W f (party_of request.named (market_in accounts).traders) (party_by address bytes) result (party-told request.named ∙ acting.party) answers
 
   -- the flags tell whether the market is disabled
   pub flags-told : ((market_words accounts.market).account_flags == 131) ≡ (market_in accounts).is_disabled

@@ -1,11 +1,10 @@
 //! Whether a row is refused, instruction by instruction. Each function reads only.
 
-ghost use Rattle.std.specs.Prelude.{◌≡◌, ◌==◌, MatchOption, Some, None};
+ghost use Rattle.std.specs.Prelude.{◌≡◌, ◌==◌, Some, None};
 ghost use Rattle.dex_types.specs.Cancel.{First};
 ghost use Rattle.dex_types.specs.Accounts.{market_accounts_of};
 ghost use Rattle.dex_types.specs.Reasons.{answered};
 ghost use Rattle.dex_types.specs.Why as reasons;
-ghost use Rattle.dex_orders.specs.OrdersAccount.{IsOpen};
 ghost use Rattle.dex_ring.specs.Ring.{IsEventQueue, ring_of, room_of};
 ghost use Rattle.dex_cancel.specs.Cancelling.{named_by};
 ghost use Rattle.dex_cancel.specs.declared.what.CancelWhat.TheVariants as cancels;
@@ -16,7 +15,6 @@ ghost use Rattle.dex_history.specs.Journal.{Sees, asked_of};
 ghost use Rattle.dex_types.specs.Rows.{row_of};
 ghost use Rattle.dex_plan.specs.declared.plan.Plan.TheVariants as plans;
 ghost use Rattle.dex_plan.specs.Given.{asked_by, market_of, party_on};
-ghost use Rattle.dex_decide.specs.Named.{IsActing, account_by, named_in, party_by};
 ghost use Rattle.dex_plan.specs.Plans as planning;
 
 use crate::named::{Acting, named_first, open_named};
@@ -62,16 +60,6 @@ pub fn decide_disable_row(accounts: &MarketAccounts, row: &Row) -> Result<Plan, 
     }
 }
 
-/// The account that the row names first, if it is one of the market's.
-fn account_named<'a>(accounts: &'a MarketAccounts, row: &Row) -> Option<Acting<'a>>
-    ensures { MatchOption result
-        (named_in row.entry.now.named.items (market_accounts_of accounts.now).orders ≡ None)
-        (λ acting. named_in row.entry.now.named.items (market_accounts_of accounts.now).orders
-        ≡ Some (account_by acting.address acting.bytes.now)) }
-{
-    named_first(&accounts.orders, &row.named)
-}
-
 /// Opening an account.
 #[inline(never)]
 pub fn decide_init_row(accounts: &MarketAccounts, row: &Row) -> Result<Plan, Refusal>
@@ -81,7 +69,7 @@ pub fn decide_init_row(accounts: &MarketAccounts, row: &Row) -> Result<Plan, Ref
     let market = MarketRef {
         bytes: &accounts.market,
     };
-    match account_named(accounts, row) {
+    match named_first(&accounts.orders, &row.named) {
         None => Err(disabled_or_none(market)),
         Some(acting) => match decide_init(&market, acting.bytes) {
             Ok(()) => Ok(Plan::Init),
@@ -109,7 +97,7 @@ pub fn decide_close_row(accounts: &MarketAccounts, row: &Row) -> Result<Plan, Re
     ensures { result ≡ answered (reasons.of_party (reasons.why_close (asked_by row.entry.now))
         (party_on (asked_by row.entry.now) (market_of accounts.now))) plans.Close }
 {
-    match account_named(accounts, row) {
+    match named_first(&accounts.orders, &row.named) {
         None => Err(Refusal::NoAccount),
         Some(acting) => match decide_close(acting.bytes, row.signer) {
             Ok(()) => Ok(Plan::Close),
@@ -119,20 +107,17 @@ pub fn decide_close_row(accounts: &MarketAccounts, row: &Row) -> Result<Plan, Re
 }
 
 /// Settling an open account.
-fn decide_settle_of(
-    accounts: &MarketAccounts,
-    row: &Row,
-    seen: &Seen,
-    acting: Acting<'_>,
-) -> Result<Plan, Refusal>
+#[inline(never)]
+pub fn decide_settle_row(accounts: &MarketAccounts, row: &Row, seen: &Seen) -> Result<Plan, Refusal>
     requires sound { AreSound (market_accounts_of accounts.now) }
     requires sees { Sees (asked_of (row_of row.now)) seen.now }
-    requires acting { IsActing row.now.named.items (market_accounts_of accounts.now).orders
-        acting.address acting.bytes.now }
-    ensures { result ≡ answered (reasons.why_settle (asked_by row.entry.now) seen.now (market_of accounts.now)
-        (party_by acting.entry.address acting.entry.bytes.now))
-        (planning.settle_plan seen.now (party_by acting.entry.address acting.entry.bytes.now)) }
+    ensures { result ≡ planning.answered_by
+        (reasons.why_settle (asked_by row.entry.now) seen.now (market_of accounts.now))
+        (planning.settle_plan seen.now) (party_on (asked_by row.entry.now) (market_of accounts.now)) }
 {
+    let Some(acting) = open_named(&accounts.orders, &row.named) else {
+        return Err(Refusal::NoAccount);
+    };
     let market = MarketRef {
         bytes: &accounts.market,
     };
@@ -142,21 +127,6 @@ fn decide_settle_of(
     match decide_settle(&market, &orders, row.signer, seen) {
         Ok(plan) => Ok(Plan::Settle(plan)),
         Err(why) => Err(why),
-    }
-}
-
-/// Settling.
-#[inline(never)]
-pub fn decide_settle_row(accounts: &MarketAccounts, row: &Row, seen: &Seen) -> Result<Plan, Refusal>
-    requires sound { AreSound (market_accounts_of accounts.now) }
-    requires sees { Sees (asked_of (row_of row.now)) seen.now }
-    ensures { result ≡ planning.answered_by
-        (reasons.why_settle (asked_by row.entry.now) seen.now (market_of accounts.now))
-        (planning.settle_plan seen.now) (party_on (asked_by row.entry.now) (market_of accounts.now)) }
-{
-    match open_named(&accounts.orders, &row.named) {
-        None => Err(Refusal::NoAccount),
-        Some(acting) => decide_settle_of(accounts, row, seen, acting),
     }
 }
 
@@ -204,28 +174,6 @@ fn decide_cancel_of(
 }
 
 /// Cancelling orders of an open account, as its trader.
-fn decide_cancel_by(
-    accounts: &MarketAccounts,
-    row: &Row,
-    acting: Acting<'_>,
-    what: CancelWhat,
-) -> Result<Plan, Refusal>
-    requires sound { AreSound (market_accounts_of accounts.now) }
-    requires acting { IsActing row.now.named.items (market_accounts_of accounts.now).orders
-        acting.address acting.bytes.now }
-    ensures { result ≡ answered (reasons.why_cancel (named_by what) (asked_by row.entry.now) (market_of accounts.now)
-        (party_by acting.entry.address acting.entry.bytes.now)) (plans.Cancel what) }
-{
-    let orders = OrdersRef {
-        bytes: acting.bytes,
-    };
-    match not_owner(orders.owner(), row.signer) {
-        Some(why) => Err(why),
-        None => decide_cancel_of(accounts, acting, what),
-    }
-}
-
-/// Cancelling orders.
 #[inline(never)]
 pub fn decide_cancel_row(
     accounts: &MarketAccounts,
@@ -237,32 +185,19 @@ pub fn decide_cancel_row(
         (reasons.why_cancel (named_by what) (asked_by row.entry.now) (market_of accounts.now))
         (party_on (asked_by row.entry.now) (market_of accounts.now))) (plans.Cancel what) }
 {
-    match open_named(&accounts.orders, &row.named) {
-        None => Err(Refusal::NoAccount),
-        Some(acting) => decide_cancel_by(accounts, row, acting, what),
+    let Some(acting) = open_named(&accounts.orders, &row.named) else {
+        return Err(Refusal::NoAccount);
+    };
+    let orders = OrdersRef {
+        bytes: acting.bytes,
+    };
+    match not_owner(orders.owner(), row.signer) {
+        Some(why) => Err(why),
+        None => decide_cancel_of(accounts, acting, what),
     }
 }
 
 /// Pruning an open account, as the market's authority.
-fn decide_prune_by(
-    accounts: &MarketAccounts,
-    row: &Row,
-    acting: Acting<'_>,
-    limit: u16,
-) -> Result<Plan, Refusal>
-    requires sound { AreSound (market_accounts_of accounts.now) }
-    requires acting { IsActing row.now.named.items (market_accounts_of accounts.now).orders
-        acting.address acting.bytes.now }
-    ensures { result ≡ answered (reasons.why_prune (First limit) (asked_by row.entry.now) (market_of accounts.now)
-        (party_by acting.entry.address acting.entry.bytes.now)) (plans.Cancel (cancels.Prune limit)) }
-{
-    match not_authority(accounts.authority, row.signer) {
-        Some(why) => Err(why),
-        None => decide_cancel_of(accounts, acting, CancelWhat::Prune(limit)),
-    }
-}
-
-/// Pruning an account.
 #[inline(never)]
 pub fn decide_prune_row(accounts: &MarketAccounts, row: &Row, limit: u16) -> Result<Plan, Refusal>
     requires { AreSound (market_accounts_of accounts.now) }
@@ -270,8 +205,11 @@ pub fn decide_prune_row(accounts: &MarketAccounts, row: &Row, limit: u16) -> Res
         (reasons.why_prune (First limit) (asked_by row.entry.now) (market_of accounts.now))
         (party_on (asked_by row.entry.now) (market_of accounts.now))) (plans.Cancel (cancels.Prune limit)) }
 {
-    match open_named(&accounts.orders, &row.named) {
-        None => Err(Refusal::NoAccount),
-        Some(acting) => decide_prune_by(accounts, row, acting, limit),
+    let Some(acting) = open_named(&accounts.orders, &row.named) else {
+        return Err(Refusal::NoAccount);
+    };
+    match not_authority(accounts.authority, row.signer) {
+        Some(why) => Err(why),
+        None => decide_cancel_of(accounts, acting, CancelWhat::Prune(limit)),
     }
 }

@@ -9,4 +9,4 @@ mod rows;
 mod taking;
 
 pub use dex_plan::{Deposit, Plan, what_is_decided_is_of_the_step};
-pub use rows::{decide, decide_into, order_taker, take_taker};
+pub use rows::{decide, decide_into, taker_of};

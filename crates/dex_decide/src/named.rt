@@ -1,6 +1,6 @@
 //! The open-orders account that a row names first.
 
-ghost use Rattle.std.specs.Prelude.{◌≡◌, ◌∷◌, [], List, MatchOption, None, Some, map};
+ghost use Rattle.std.specs.Prelude.{◌≡◌, MatchOption, None, Some, map};
 ghost use Rattle.std.specs.List.{All};
 ghost use Rattle.dex_types.specs.Accounts.{PlainAccount, orders_account_of};
 ghost use Rattle.dex_types.specs.declared.addresses.Address.{Address};
@@ -26,23 +26,9 @@ pub fn named_first<'a>(accounts: &'a [OrdersAccount], named: &[Address]) -> Opti
         (λ acting. named_in named.now (map orders_account_of accounts.now)
         ≡ Some (account_by acting.address acting.bytes.now)) }
 {
-    let address = first_of(named)?;
-    match find_bytes(accounts, address) {
-        None => None,
-        Some(bytes) => Some(Acting { address, bytes }),
-    }
-}
-
-/// The first of these addresses.
-fn first_of(named: &[Address]) -> Option<Address>
-    ensures { MatchOption result (named.now ≡ [])
-        (λ address. (others : List Address) × (named.now ≡ address ∷ others)) }
-{
-    if named.is_empty() {
-        None
-    } else {
-        Some(named[0])
-    }
+    let address = *named.first()?;
+    let bytes = find_bytes(accounts, address)?;
+    Some(Acting { address, bytes })
 }
 
 /// The account that is named first, where it is open.
@@ -53,24 +39,9 @@ pub fn open_named<'a>(accounts: &'a [OrdersAccount], named: &[Address]) -> Optio
 {
     match named_first(accounts, named) {
         None => None,
-        Some(acting) => only_open(accounts, named, acting),
-    }
-}
-
-/// The account that is named first, where it is open.
-fn only_open<'a>(
-    accounts: &[OrdersAccount],
-    named: &[Address],
-    acting: Acting<'a>,
-) -> Option<Acting<'a>>
-    requires accepted { All (λ (account : PlainAccount). IsOrders account.bytes) (map orders_account_of accounts.now) }
-    requires first { named_in named.now (map orders_account_of accounts.now)
-        ≡ Some (account_by acting.address acting.bytes.now) }
-    ensures { MatchOption result (party_of named.now (traders_of (map orders_account_of accounts.now)) ≡ None)
-        (λ acting. IsActing named.now (map orders_account_of accounts.now) acting.address acting.bytes.now) }
-{
-    match state_of(acting.bytes) {
-        OrdersState::Open => Some(acting),
-        OrdersState::Blank | OrdersState::Closed => None,
+        Some(acting) => match state_of(acting.bytes) {
+            OrdersState::Open => Some(acting),
+            OrdersState::Blank | OrdersState::Closed => None,
+        },
     }
 }

@@ -10,11 +10,12 @@ ghost use Rattle.dex_match.specs.OrderTerms.{order_of};
 ghost use Rattle.dex_orders.specs.OrdersAccount.{IsOpen, account_of};
 ghost use Rattle.dex_ring.specs.PendingFills.{pending_fills_of};
 ghost use Rattle.dex_accounts.specs.Decoded.{AreSound};
-ghost use Rattle.dex_plan.specs.Given.{asked_by, bytes_on, given_on, market_of, party_on};
+ghost use Rattle.dex_plan.specs.Given.{asked_by, bytes_on, given_on, market_of};
 ghost use Rattle.dex_decide.specs.Named.{IsActing, party_by};
-ghost use Rattle.dex_plan.specs.Plans.{answered_by, order_by, order_plan, order_planned};
+ghost use Rattle.dex_plan.specs.Plans.{order_answer, order_by, order_planned};
 
 use crate::named::{Acting, open_named};
+use crate::taking::is_disabled;
 use dex_market::{MarketRef, RequestRef};
 use dex_match::{Decided, Taker, decide_order_with_pending};
 use dex_meet::PendingFills;
@@ -214,10 +215,13 @@ pub fn decide_order_row(
 )
     requires sound { AreSound (market_accounts_of accounts.now) }
     requires pending { pending.now ≡ pending_fills_of (market_of accounts.now).events }
-    ensures { answer.new ≡ answered_by (reasons.why_order taker.id_side (order_by taker) (asked_by row.entry.now)
-        seen.now (market_of accounts.now)) (order_plan taker.id_side (order_by taker) (market_of accounts.now))
-        (party_on (asked_by row.entry.now) (market_of accounts.now)) }
+    ensures { answer.new ≡ order_answer taker.id_side (order_by taker) (asked_by row.entry.now) seen.now
+        (market_of accounts.now) }
 {
+    if let Some(why) = is_disabled(accounts) {
+        *answer = Err(why);
+        return;
+    }
     match open_named(&accounts.orders, &row.named) {
         None => *answer = Err(Refusal::NoAccount),
         Some(acting) => {

@@ -1,15 +1,15 @@
 //! Whether a row is refused, and what it is to do else.
 
-ghost use Rattle.std.specs.Prelude.{◌≡◌, ℕ};
+ghost use Rattle.std.specs.Prelude.{◌≡◌, IsSome, Some};
 ghost use Rattle.dex_types.specs.Accounts.{market_accounts_of};
 ghost use Rattle.dex_types.specs.Reasons as each;
 ghost use Rattle.dex_types.specs.Rows.{row_of};
-ghost use Rattle.dex_types.specs.Terms.{terms_order, terms_take};
 ghost use Rattle.dex_types.specs.Why as reasons;
 ghost use Rattle.dex_ring.specs.PendingFills.{pending_fills_of};
 ghost use Rattle.dex_accounts.specs.Decoded.{AreSound};
 ghost use Rattle.dex_history.specs.Journal.{Sees, asked_of};
-ghost use Rattle.dex_plan.specs.Given.{asked_by, market_of, party_on};
+ghost use Rattle.dex_plan.specs.Given.{asked_by, market_of};
+ghost use Rattle.dex_decide.specs.Takers.{taker_in};
 ghost use Rattle.dex_plan.specs.Plans as planning;
 
 use crate::deciding::{
@@ -17,95 +17,73 @@ use crate::deciding::{
     decide_settle_row, decide_sweep_row,
 };
 use crate::ordering::{decide_order_row, tier_seen};
-use crate::taking::{decide_take_row, is_disabled};
+use crate::taking::decide_take_row;
 use dex_cancel::CancelWhat;
 use dex_instruction::decode;
 use dex_match::Taker;
 use dex_meet::PendingFills;
 use dex_plan::Plan;
-use dex_types::{Ix, MarketAccounts, OrderType, Refusal, Row, Seen, SelfTrade, Side};
+use dex_types::{Ix, MarketAccounts, OrderType, Refusal, Row, Seen, SelfTrade};
 
-/// A new order.
-fn decide_new_order(
-    accounts: &MarketAccounts,
-    row: &Row,
-    seen: &Seen,
-    taker: Taker,
-    pending: &PendingFills,
-    answer: &mut Result<Plan, Refusal>,
-)
-    requires sound { AreSound (market_accounts_of accounts.now) }
-    requires pending { pending.now ≡ pending_fills_of (market_of accounts.now).events }
-    ensures { answer.new ≡ planning.order_answer taker.id_side (planning.order_by taker) (asked_by row.entry.now)
-        seen.now (market_of accounts.now) }
+/// The taker of a new order or of a take, as its row states it. Of an order the signer stands in the place of the
+/// account; a take has none, and no order that could rest.
+pub fn taker_of(row: &Row, seen: &Seen, ix: &Ix) -> Taker
+    requires { IsSome (taker_in ix.now (asked_by row.now) seen.now) }
+    ensures { taker_in ix.entry.now (asked_by row.entry.now) seen.now ≡ Some result }
 {
-    match is_disabled(accounts) {
-        Some(why) => *answer = Err(why),
-        None => decide_order_row(accounts, row, seen, taker, pending, answer),
-    }
-}
-
-/// A new order as its row states it; the signer stands in the place of its account.
-pub fn order_taker(
-    row: &Row,
-    seen: &Seen,
-    side: Side,
-    price: u64,
-    lots: u64,
-    lock: u64,
-    self_trade: SelfTrade,
-    order_type: OrderType,
-    client: u64,
-    limit: u16,
-    max_ts: Option<i64>,
-) -> Taker
-    ensures { result ≡ planning.taker_of side (terms_order (asked_by row.entry.now) seen.now price lots lock
-        self_trade order_type client limit max_ts row.entry.now.signer) }
-{
-    Taker {
-        id_side: side,
-        price,
-        lots,
-        lock,
-        self_trade,
-        order_type,
-        client,
-        limit,
-        tier: tier_seen(seen),
-        account: row.signer,
-        now: row.now,
-        max_ts,
-        program: seen.program,
-    }
-}
-
-/// A take as its row states it; the signer stands in the place of an account.
-pub fn take_taker(
-    row: &Row,
-    seen: &Seen,
-    side: Side,
-    price: u64,
-    lots: u64,
-    lock: u64,
-    limit: u16,
-) -> Taker
-    ensures { (min_lots min_pc : ℕ) → result ≡ planning.taker_of_take side (asked_by row.entry.now)
-        (terms_take seen.now price lots lock min_lots min_pc limit) }
-{
-    Taker {
-        id_side: side,
-        price,
-        lots,
-        lock,
-        self_trade: SelfTrade::Decrement,
-        order_type: OrderType::Ioc,
-        client: 0,
-        limit,
-        tier: tier_seen(seen),
-        account: row.signer,
-        now: row.now,
-        max_ts: None,
-        program: seen.program,
+    let tier = tier_seen(seen);
+    let account = row.signer;
+    let now = row.now;
+    let program = seen.program;
+    match *ix {
+        Ix::NewOrderV3 {
+            side: id_side,
+            limit_price: price,
+            max_coin_qty: lots,
+            max_native_pc_qty_including_fees: lock,
+            self_trade_behavior: self_trade,
+            order_type,
+            client_order_id: client,
+            limit,
+            max_ts,
+        } => Taker {
+            id_side,
+            price,
+            lots,
+            lock,
+            self_trade,
+            order_type,
+            client,
+            limit,
+            tier,
+            account,
+            now,
+            max_ts,
+            program,
+        },
+        Ix::SendTake {
+            side: id_side,
+            limit_price: price,
+            max_coin_qty: lots,
+            max_native_pc_qty_including_fees: lock,
+            limit,
+            ..
+        } => Taker {
+            id_side,
+            price,
+            lots,
+            lock,
+            self_trade: SelfTrade::Decrement,
+            order_type: OrderType::Ioc,
+            client: 0,
+            limit,
+            tier,
+            account,
+            now,
+            max_ts: None,
+            program,
+        },
+        _ => unreachable!(),
     }
 }
 
@@ -132,32 +110,9 @@ fn decide_instruction(
         Ix::SettleFunds => *answer = decide_settle_row(accounts, row, seen),
         Ix::DisableMarket => *answer = decide_disable_row(accounts, row),
         Ix::SweepFees => *answer = decide_sweep_row(accounts, row, seen),
-        Ix::NewOrderV3 {
-            side,
-            limit_price,
-            max_coin_qty,
-            max_native_pc_qty_including_fees,
-            self_trade_behavior,
-            order_type,
-            client_order_id,
-            limit,
-            max_ts,
-        } => {
-            let lock = max_native_pc_qty_including_fees;
-            let taker = order_taker(
-                row,
-                seen,
-                side,
-                limit_price,
-                max_coin_qty,
-                lock,
-                self_trade_behavior,
-                order_type,
-                client_order_id,
-                limit,
-                max_ts,
-            );
-            decide_new_order(accounts, row, seen, taker, pending, answer);
+        Ix::NewOrderV3 { .. } => {
+            let taker = taker_of(row, seen, &ix);
+            decide_order_row(accounts, row, seen, taker, pending, answer);
         }
         Ix::CancelOrderV2 { side, order_id } => {
             let what = CancelWhat::ById { side, id: order_id };
@@ -167,25 +122,12 @@ fn decide_instruction(
             *answer = decide_cancel_row(accounts, row, CancelWhat::ByClient(client_order_id));
         }
         Ix::SendTake {
-            side,
-            limit_price,
-            max_coin_qty,
-            max_native_pc_qty_including_fees,
-            min_coin_qty,
-            min_native_pc_qty,
-            limit,
+            min_coin_qty: min_lots,
+            min_native_pc_qty: min_pc,
+            ..
         } => {
-            let lock = max_native_pc_qty_including_fees;
-            let taker = take_taker(row, seen, side, limit_price, max_coin_qty, lock, limit);
-            *answer = decide_take_row(
-                accounts,
-                row,
-                seen,
-                taker,
-                min_coin_qty,
-                min_native_pc_qty,
-                pending,
-            );
+            let taker = taker_of(row, seen, &ix);
+            *answer = decide_take_row(accounts, row, seen, taker, min_lots, min_pc, pending);
         }
         Ix::CloseOpenOrders => *answer = decide_close_row(accounts, row),
         Ix::InitOpenOrders => *answer = decide_init_row(accounts, row),

@@ -98,7 +98,8 @@ base64_plain bytes h = all-both is_plain (encode_symbols table bytes) _ (symbols
 
 -- ---- addresses
 
-zeros : (bytes : List ℕ) → list_all (λ b. b == 0) bytes ≡ true → bytes ≡ replicate (length bytes) 0
+-- bytes that are all zero
+pub zeros : (bytes : List ℕ) → list_all (λ b. b == 0) bytes ≡ true → bytes ≡ replicate (length bytes) 0
 zeros [] h = refl
 zeros (b ∷ bytes) h =
     let parts = and_parts (b == 0) (list_all (λ b. b == 0) bytes) h in

@@ -2,6 +2,7 @@ pub mod TextLaws
 pub mod ReadingLaws
 pub mod AnswerLaws
 pub mod FieldLaws
+pub mod ZeroLaws
 pub mod EachRow
 pub mod PlainRows
 pub mod RowLaws

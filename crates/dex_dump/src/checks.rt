@@ -281,10 +281,15 @@ fn orders_others(market: Address, bytes: &[u8]) -> Option<AccountFault>
     }
 }
 
-fn is_blank(bytes: &[u8]) -> bool
+/// Whether all bytes are zero. It looks at each, also behind one that is not: so many can be looked at together.
+pub(crate) fn is_blank(bytes: &[u8]) -> bool
     ensures { result ≡ orders_faults.are_zeros bytes.now }
 {
-    bytes.iter().all(|byte| *byte == 0)
+    let mut all = true;
+    'bytes: for place in 0..bytes.len() {
+        all &= bytes[place] == 0;
+    }
+    all
 }
 
 /// The rules of a side's account, but for those of its slab.

@@ -1,6 +1,6 @@
 //! Writing a dump.
 
-ghost use Rattle.std.specs.Prelude.{◌≡◌, ◌≤◌, [], ◌∷◌, ◌++◌, IfOk, IfSome, OnOk, codes, length, map};
+ghost use Rattle.std.specs.Prelude.{◌≡◌, ◌≤◌, [], ◌∷◌, ◌++◌, IfOk, IfSome, OnOk, codes, length, map, replicate};
 ghost use Rattle.std.specs.List.{All, flat_map};
 ghost use Rattle.dex_types.specs.Accounts.{accounts_of, market_accounts_of, named_of, orders_account_of};
 ghost use Rattle.dex_types.specs.Text.{address_text};
@@ -10,6 +10,7 @@ ghost use Rattle.dex_dump.specs.Answers.{IsReadAs};
 ghost use Rattle.dex_dump.specs.DumpText.{account_row, account_rows, base64_text, behind_first, dump_text, first_row, line_text, lines_text};
 ghost use Rattle.dex_dump.specs.DumpText.{market_fields, market_row, market_rows, named_rows, orders_row};
 
+use crate::checks::is_blank;
 use base64::engine::general_purpose::STANDARD;
 use dex_types::{Accounts, Address, MarketAccounts, Named, NoMemory, OrdersAccount};
 use std::alloc::{AllocError, Global};
@@ -223,16 +224,27 @@ fn write_bytes(text: &mut Vec<u8>, bytes: &[u8]) -> Result<(), AllocError>
     Ok(())
 }
 
-/// Bytes in base64: what they give stands in this array first.
+/// Bytes in base64: what they give stands in this array first. A whole piece of zeros, as most of a market's accounts are at
+/// first, gives `A` alone.
 #[tactic(auto, unfolding(crate::specs::DumpText::base64_text))]
 fn write_piece(text: &mut Vec<u8>, symbols: &mut [u8; 1024], piece: &[u8]) -> Result<(), AllocError>
     requires { length piece.now ≤ 768 }
     ensures { OnOk result (text.new.items ≡ text.old.items ++ base64_text piece.now) }
 {
+    if piece.len() == 768 && is_blank(piece) {
+        return write_zeros(text);
+    }
     match STANDARD.encode_slice(piece, symbols) {
         Ok(length) => text.extend_from_slice(&symbols[..length]),
         Err(_) => unreachable!(),
     }
+}
+
+/// A whole piece of zeros in base64.
+fn write_zeros(text: &mut Vec<u8>) -> Result<(), AllocError>
+    ensures { OnOk result (text.new.items ≡ text.old.items ++ replicate 1024 65) }
+{
+    text.extend_from_slice(&[b'A'; 1024])
 }
 
 fn end_row(text: &mut Vec<u8>) -> Result<(), AllocError>

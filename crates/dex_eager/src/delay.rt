@@ -29,7 +29,8 @@ pub fn a_history_trades_as_one_that_pays_at_once()
         fills_of m calls ≡ eager_fills (eager_start m) (counted calls) }
     ensures takings { (m : Market) (calls : List Call) → IsSound m → IsLegal m calls →
         takings_of (market_after m calls) (moves_of m calls) ≡ (eager_end m calls).takings }
-    ensures worth { (m : Market) (calls : List Call) (owner : Address) (trader : Trader) → IsSound m → IsLegal m calls →
+    ensures worth { (m : Market) (calls : List Call) (owner : Address) (trader : Trader)
+        → IsSound m → IsLegal m calls →
         trader_at owner m.traders ≡ Some trader →
         worth_at owner (eager_end m calls).worths ≡ Some (worth_of owner (market_after m calls) (moves_of m calls)) }
     ensures no_account { (m : Market) (calls : List Call) (owner : Address) → IsSound m → IsLegal m calls →
@@ -61,7 +62,8 @@ pub fn delay_changes_no_trade()
         fills_of m first ≡ fills_of m second }
     ensures takings { (m : Market) (first second : List Call) → IsSound m → IsLegal m first → IsLegal m second
         → trades first ≡ trades second →
-        takings_of (market_after m first) (moves_of m first) ≡ takings_of (market_after m second) (moves_of m second) }
+        takings_of (market_after m first) (moves_of m first)
+        ≡ takings_of (market_after m second) (moves_of m second) }
     ensures worth { (m : Market) (first second : List Call) (owner : Address) (trader : Trader) → IsSound m
         → IsLegal m first → IsLegal m second →
         trades first ≡ trades second → trader_at owner m.traders ≡ Some trader →

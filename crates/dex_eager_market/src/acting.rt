@@ -18,7 +18,7 @@ use crate::cancelling::{cancel_client, cancel_clients, cancel_first, cancel_id};
 use crate::states::State;
 use crate::trading::{order_in, take_in};
 use dex_cancel::CancelWhat;
-use dex_decide::{order_taker, take_taker};
+use dex_decide::taker_of;
 use dex_match::Taker;
 use dex_types::{Address, Ix, Row, Seen, Side, is_same};
 
@@ -154,53 +154,14 @@ pub fn act(state: &mut State, ix: Ix, row: &Row, seen: &Seen)
         Ix::SettleFunds => {}
         Ix::DisableMarket => {}
         Ix::SweepFees => {}
-        Ix::NewOrderV3 {
-            side,
-            limit_price,
-            max_coin_qty,
-            max_native_pc_qty_including_fees,
-            self_trade_behavior,
-            order_type,
-            client_order_id,
-            limit,
-            max_ts,
-        } => {
-            let lock = max_native_pc_qty_including_fees;
-            let taker = order_taker(
-                row,
-                seen,
-                side,
-                limit_price,
-                max_coin_qty,
-                lock,
-                self_trade_behavior,
-                order_type,
-                client_order_id,
-                limit,
-                max_ts,
-            );
-            order_row(state, row, taker)
-        }
+        Ix::NewOrderV3 { .. } => order_row(state, row, taker_of(row, seen, &ix)),
         Ix::CancelOrderV2 { side, order_id } => {
             cancel_row(state, row, CancelWhat::ById { side, id: order_id })
         }
         Ix::CancelOrderByClientIdV2 { client_order_id } => {
             cancel_row(state, row, CancelWhat::ByClient(client_order_id))
         }
-        Ix::SendTake {
-            side,
-            limit_price,
-            max_coin_qty,
-            max_native_pc_qty_including_fees,
-            limit,
-            ..
-        } => {
-            let lock = max_native_pc_qty_including_fees;
-            take(
-                state,
-                take_taker(row, seen, side, limit_price, max_coin_qty, lock, limit),
-            )
-        }
+        Ix::SendTake { .. } => take(state, taker_of(row, seen, &ix)),
         Ix::CloseOpenOrders => {}
         Ix::InitOpenOrders => {}
         Ix::Prune { limit } => cancel_row(state, row, CancelWhat::Prune(limit)),

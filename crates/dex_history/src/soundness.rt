@@ -33,11 +33,13 @@ pub fn what_is_asked_keeps_a_market_sound()
 pub fn each_place_of_a_history_is_sound()
     ensures places { (m : Market) (calls : List Call) (count : ℕ) → IsSound m → IsLegal m calls
         → IsSound (market_after m (take count calls)) }
-    ensures end { (m : Market) (calls : List Call) → IsSound m → IsLegal m calls → IsSound (market_after m calls) }
+    ensures end { (m : Market) (calls : List Call) → IsSound m → IsLegal m calls
+        → IsSound (market_after m calls) }
 {}
 
 /// A row whose data decodes to a crank is never refused: it is answered how many events it consumed.
 pub fn a_crank_row_is_never_refused()
-    ensures { (row : PlainRow) (seen : Seen) (m : Market) (limit : ℕ) → decoded row.bytes ≡ Ok (ConsumeEvents limit) →
+    ensures { (row : PlainRow) (seen : Seen) (m : Market) (limit : ℕ)
+        → decoded row.bytes ≡ Ok (ConsumeEvents limit) →
         (row_step row seen m).reply ≡ Consumed (consumable limit row.named m.events) }
 {}

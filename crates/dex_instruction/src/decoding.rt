@@ -17,7 +17,8 @@ pub fn decode(bytes: &[u8]) -> Result<Ix, BadData>
     // What is decoded is spelled so, each byte of it.
     ensures spelled { IfOk result (λ ix. (bytes.now ≡ spelling ix) × (broken bytes.now ≡ None) × Fits ix) }
     // What is spelled so is decoded, where it breaks no rule.
-    ensures only { (ix : Ix) → Fits ix → bytes.now ≡ spelling ix → broken bytes.now ≡ None → result ≡ Ok ix }
+    ensures only { (ix : Ix) → Fits ix
+        → bytes.now ≡ spelling ix → broken bytes.now ≡ None → result ≡ Ok ix }
     // Which refusal it is.
     ensures refused { (fault : BadData) → (result ≡ Err fault) ↔ (broken bytes.now ≡ Some fault) }
     // The result as a function of the bytes.

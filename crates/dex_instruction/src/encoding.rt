@@ -58,8 +58,8 @@ fn put_market(
 /// Writes side, price and most quantities, with which an order and a take begin.
 fn put_terms(out: &mut [u8; 128], side: Side, price: u64, lots: u64, pc: u64) -> usize
     ensures end { result ≡ 33 }
-    ensures bytes { out.new ≡ written 5 (spelled ((4, side_code side) ∷ (8, price) ∷ (8, lots) ∷ (8, pc) ∷ []))
-        out.old }
+    ensures bytes { out.new
+        ≡ written 5 (spelled ((4, side_code side) ∷ (8, price) ∷ (8, lots) ∷ (8, pc) ∷ [])) out.old }
 {
     let at = put_u32(out, 5, side_code(side));
     let at = put_u64(out, at, price);

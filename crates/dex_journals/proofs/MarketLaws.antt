@@ -10,10 +10,11 @@ use Rattle.dex_types.specs.Addresses.{is_same}
 use Rattle.dex_types.specs.Rows.{PlainRow, row_of}
 use Rattle.dex_history.specs.Journal.{Call}
 use Rattle.dex_cell.specs.CellState.{HasActed, HasSpare, IsMarketCell, MarketCellState, call_on, held_made, held_on}
+use Rattle.dex_wallet.specs.CellState.{CellState}
 use Rattle.dex_script_facts.specs.PlainScript.{PlainScript}
 use Rattle.dex_fold.specs.RowsOf.{rows_of_market, rows_on}
 use Rattle.dex_stamps.specs.Stamped.{AreRising, items_of, stamped}
-use Rattle.dex_journals.specs.Journals.{BankMarketState, IsBankMarket, calls_by, market_calls, market_more}
+use Rattle.dex_journals.specs.Journals.{BankMarketState, IsBankMarket, MayAct, calls_by, market_calls, market_more}
 use Rattle.dex_journals.proofs.Counting.{fewer}
 use Rattle.dex_journals.proofs.StampedLists.{below-more, items_of-stamped, lanes-more, length-stamped, rising-more, stamped-more}
 
@@ -95,17 +96,11 @@ acted-adds row seen before after acted = record { calls = acted.calls; start = a
 pub held-adds : (row : Row) (seen : Seen) (before after : MarketCellState) → after ≡ held_on row seen before → AddsCall (held_made (row_of row) seen) before after
 held-adds row seen before after held = subst (AddsCall (held_made (row_of row) seen) before) (sym held) (record { calls = refl; start = refl; room = refl })
 
--- what an acting row needs of its market: its lane has a row left, and its stamp is above all others
-pub record MayAct (row : Row) (stamp : ℕ) (market : BankMarketState) : Type 0 where
-  pub lane : calls_by row.lane market.cell.calls
-      < length (rows_of_market row.lane market.cell.start.address market.script.rows)
-  pub above : market.last < stamp
-
 -- it has one call more, and what always holds of it holds again
-pub has-more : (market : BankMarketState) (row : Row) (cell : MarketCellState) (call : Call) (stamp last : ℕ) (stamps : List ℕ)
-    → IsBankMarket market → MayAct row stamp market → IsMarketCell cell → AddsCall call market.cell cell → call.asked.lane ≡ row.lane
+pub has-more : (seen : Seen) (wallets : List CellState) (market : BankMarketState) (row : Row) (cell : MarketCellState) (call : Call) (stamp last : ℕ) (stamps : List ℕ)
+    → IsBankMarket market → MayAct row seen stamp market wallets → IsMarketCell cell → AddsCall call market.cell cell → call.asked.lane ≡ row.lane
     → stamps ≡ market.stamps ++ stamp ∷ [] → last ≡ stamp → IsBankMarket (market_of cell market.script stamps last)
-has-more market row cell call stamp last stamps kept may is_cell adds lane_is stamped_is last_is =
+has-more seen wallets market row cell call stamp last stamps kept may is_cell adds lane_is stamped_is last_is =
     subst (λ (one : List ℕ). IsBankMarket (market_of cell market.script one last)) (sym stamped_is)
     (subst (λ (one : ℕ). IsBankMarket (market_of cell market.script (market.stamps ++ stamp ∷ []) one)) (sym last_is)
     (market-more market cell call stamp kept is_cell adds.calls adds.start adds.room

@@ -2,11 +2,13 @@
 use Rattle.std.specs.Prelude.{ℕ, ◌≡◌, ◌==◌, ◌≤◌, ◌<◌, List, [], ◌∷◌, ◌++◌, All, length}
 use Rattle.std.specs.List.{filter}
 use Rattle.dex_types.specs.declared.movements.WalletEntry.{WalletEntry}
+use Rattle.dex_types.specs.declared.rows.Row.{Row}
+use Rattle.dex_types.specs.declared.rows.Seen.{Seen}
 use Rattle.dex_types.specs.Accounts.{PlainAccount, PlainMarketAccounts}
 use Rattle.dex_history.specs.Journal.{Call}
-use Rattle.dex_cell.specs.CellState.{IsMarketCell, MarketCellState}
+use Rattle.dex_cell.specs.CellState.{IsFor, IsMarketCell, MarketCellState}
 use Rattle.dex_wallet.specs.CellState.{CellState, IsWalletCell}
-use Rattle.dex_act.specs.Wallets.{made_of}
+use Rattle.dex_act.specs.Wallets.{SeesCells, made_of}
 use Rattle.dex_script_facts.specs.PlainScript.{PlainScript}
 use Rattle.dex_fold.specs.RowsOf.{rows_naming, rows_of_market, rows_of_wallet, rows_on}
 use Rattle.dex_stamps.specs.Stamped.{AreRising, Stamped, stamped}
@@ -51,6 +53,15 @@ pub record IsBankMarket (market : BankMarketState) : Type 0 where
   pub room : market.cell.room ≡ rows_on market.cell.start.address market.script.rows
   pub lanes : (lane : ℕ)
       → calls_by lane market.cell.calls ≤ length (rows_of_market lane market.cell.start.address market.script.rows)
+
+-- a row may act on the market and on the wallets in hand under a stamp: it is one on the market, and sees these wallets; its lane has
+-- a row left, and the stamp is above all others
+pub record MayAct (row : Row) (seen : Seen) (stamp : ℕ) (market : BankMarketState) (wallets : List CellState) : Type 0 where
+  pub on : IsFor row seen market.cell
+  pub sees : SeesCells seen wallets
+  pub lane : calls_by row.lane market.cell.calls
+      < length (rows_of_market row.lane market.cell.start.address market.script.rows)
+  pub above : market.last < stamp
 
 -- ---- a wallet
 

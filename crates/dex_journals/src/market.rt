@@ -1,16 +1,14 @@
 //! A market that threads share.
 
-ghost use Rattle.std.specs.Prelude.{◌≡◌, ◌<◌, [], All, IfOk, length, map, max};
+ghost use Rattle.std.specs.Prelude.{◌≡◌, [], IfOk, max};
 ghost use Rattle.dex_types.specs.declared.refusals.Refusal.{Refusal};
 ghost use Rattle.dex_types.specs.declared.replies.Reply.TheVariants.{Done, Refused};
 ghost use Rattle.dex_types.specs.Rows.{row_of};
 ghost use Rattle.dex_types.specs.Transfers.{no_transfers};
-ghost use Rattle.dex_cell.specs.CellState.{CanHold, HasActed, IsFor, held_on, refused_on, step_on};
-ghost use Rattle.dex_wallet.specs.CellState.{IsWalletCell};
-ghost use Rattle.dex_act.specs.Wallets.{AreApart, SeesCells, made_of, states_acted, wallet_state_of};
-ghost use Rattle.dex_fold.specs.Fold.{wallet_acted};
-ghost use Rattle.dex_fold.specs.RowsOf.{rows_of_market, rows_on};
-ghost use Rattle.dex_journals.specs.Journals.{IsBankMarket, calls_by, market_more};
+ghost use Rattle.dex_cell.specs.CellState.{CanHold, HasActed, held_on, refused_on, step_on};
+ghost use Rattle.dex_act.specs.Acted.{HaveActed};
+ghost use Rattle.dex_fold.specs.RowsOf.{rows_on};
+ghost use Rattle.dex_journals.specs.Journals.{IsBankMarket, MayAct, market_more};
 
 use crate::items::{MarketStart, StampedCall};
 use dex_act::{act, hold, places_in};
@@ -75,15 +73,12 @@ impl BankMarket {
         ensures { IfOk result (λ market. market
             ≡ record { cell = cell; stamps = []; last = 0; script = script.value }) }
     {
-        match Box::new(alloc, cell) {
-            Ok(cell) => Ok(BankMarket {
-                cell,
-                stamps: StampLog::new(),
-                last: Stamp::first(),
-                script,
-            }),
-            Err(_) => Err(NoMemory),
-        }
+        Ok(BankMarket {
+            cell: Box::new(alloc, cell)?,
+            stamps: StampLog::new(),
+            last: Stamp::first(),
+            script,
+        })
     }
 
     /// Lends the cell for reading.
@@ -96,7 +91,8 @@ impl BankMarket {
 
     /// The later of a stamp and the last of the journal's.
     pub fn later(&self, stamp: &Stamp) -> Stamp
-        ensures { result.number ≡ max self.now.last stamp.now.number }
+        ensures later { result.number ≡ max self.now.last stamp.now.number }
+        ensures kept { IsBankMarket self.now }
     {
         self.last.later(stamp)
     }
@@ -110,21 +106,14 @@ impl BankMarket {
         seen: &Seen,
         stamp: &Stamp,
     ) -> Reply
-        requires row { IsFor row.now seen.now self.old.cell }
-        requires wallets { SeesCells seen.now wallets.old }
-        requires lane { calls_by row.now.lane self.old.cell.calls
-            < length (rows_of_market row.now.lane self.old.cell.start.address self.old.script.rows) }
-        requires stamp { self.old.last < stamp.now.number }
+        requires { MayAct row.now seen.now stamp.now.number self.old wallets.old }
         ensures reply { result ≡ (step_on row.entry.now seen.now self.old.cell).reply }
         ensures acted { HasActed row.entry.now seen.now self.old.cell self.new.cell }
         ensures refused { (why : Refusal) → result ≡ Refused why
             → self.new.cell ≡ refused_on row.entry.now seen.now self.old.cell }
         ensures stamped { self.new ≡ market_more self.old self.new.cell stamp.now.number }
-        ensures states { map wallet_state_of wallets.new
-            ≡ states_acted row.entry.now seen.now self.old.cell (map wallet_state_of wallets.old) }
-        ensures wallets { All IsWalletCell wallets.new }
-        ensures apart { AreApart wallets.new }
-        ensures made { map made_of wallets.new ≡ map made_of wallets.old }
+        ensures wallets { HaveActed (row_of row.entry.now) seen.now
+            (step_on row.entry.now seen.now self.old.cell).transfers wallets.old wallets.new }
         ensures kept { IsBankMarket self.new }
     {
         let places = places_in(wallets, row);
@@ -143,20 +132,12 @@ impl BankMarket {
         seen: &Seen,
         stamp: &Stamp,
     ) -> Reply
-        requires row { IsFor row.now seen.now self.old.cell }
+        requires may { MayAct row.now seen.now stamp.now.number self.old wallets.old }
         requires held { CanHold row.now seen.now self.old.cell }
-        requires wallets { SeesCells seen.now wallets.old }
-        requires lane { calls_by row.now.lane self.old.cell.calls
-            < length (rows_of_market row.now.lane self.old.cell.start.address self.old.script.rows) }
-        requires stamp { self.old.last < stamp.now.number }
         ensures reply { result ≡ Done }
         ensures held { self.new.cell ≡ held_on row.entry.now seen.now self.old.cell }
         ensures stamped { self.new ≡ market_more self.old self.new.cell stamp.now.number }
-        ensures states { map wallet_state_of wallets.new
-            ≡ map (wallet_acted (row_of row.entry.now) seen.now no_transfers) (map wallet_state_of wallets.old) }
-        ensures wallets { All IsWalletCell wallets.new }
-        ensures apart { AreApart wallets.new }
-        ensures made { map made_of wallets.new ≡ map made_of wallets.old }
+        ensures wallets { HaveActed (row_of row.entry.now) seen.now no_transfers wallets.old wallets.new }
         ensures kept { IsBankMarket self.new }
     {
         let places = places_in(wallets, row);

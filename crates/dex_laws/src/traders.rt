@@ -13,7 +13,8 @@ pub fn same_addresses_are_equal()
 /// A put changes the trader at its address, where there is one, and no other; addresses and their order stay.
 pub fn a_put_changes_one_trader()
     ensures here { (address : Address) (old trader : Trader) (traders : Traders) →
-        trader_at address traders ≡ Some old → trader_at address (put_trader address trader traders) ≡ Some trader }
+        trader_at address traders ≡ Some old
+        → trader_at address (put_trader address trader traders) ≡ Some trader }
     ensures elsewhere { (address other : Address) (trader : Trader) (traders : Traders) →
         other ≢ address → trader_at other (put_trader address trader traders) ≡ trader_at other traders }
     ensures addresses { (address : Address) (trader : Trader) (traders : Traders) →

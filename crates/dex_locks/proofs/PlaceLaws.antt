@@ -1,5 +1,5 @@
 -- Putting addresses in places keeps them from the front, by rising address.
-use Rattle.std.proofs.Common.{◌≡◌, ℕ, zero, suc, ◌+◌, ◌<◌, ◌≤◌, true, false, cond, List, [], ◌∷◌, length, get_or, Option, Some, None, refl, ap, ◌∙◌, arith}
+use Rattle.std.proofs.Common.{◌≡◌, ℕ, zero, suc, ◌+◌, ◌<◌, ◌≤◌, true, false, cond, List, [], ◌∷◌, length, get_or, set, Option, Some, None, refl, sym, ap, ◌∙◌, arith}
 use Rattle.dex_types.specs.declared.addresses.Address.{Address}
 use Rattle.dex_types.specs.Addresses.{is_same}
 use Rattle.dex_types.specs.Wallets.{is_lower, with_address, with_role}
@@ -106,19 +106,25 @@ stand-padded zero addresses = tt
 stand-padded (suc n) [] = free-padded n
 stand-padded (suc n) (address ∷ addresses) = stand-padded n addresses
 
--- four places, one by one
-pub four : (places : List (Option Address)) (d : Option Address) → length places ≡ 4
-    → places ≡ get_or places 0 d ∷ get_or places 1 d ∷ get_or places 2 d ∷ get_or places 3 d ∷ []
-four [] d whole = absurd (omega arith)
-four (a ∷ []) d whole = absurd (omega arith)
-four (a ∷ b ∷ []) d whole = absurd (omega arith)
-four (a ∷ b ∷ x ∷ []) d whole = absurd (omega arith)
-four (a ∷ b ∷ x ∷ y ∷ []) d whole = refl
-four (a ∷ b ∷ x ∷ y ∷ z ∷ more) d whole = absurd (omega arith)
-
 -- where there is no place, nothing is put
-pub put-none : (carry : Carry) → put carry [] ≡ []
+put-none : (carry : Carry) → put carry [] ≡ []
 unfolding put
 put-none Nothing = refl
 put-none (New address) = refl
 put-none (Moved address) = refl
+
+-- the four places, once one after the other is done
+pub put-four : (places : List (Option Address)) (first second third fourth left : Carry) (a b x y : Option Address) → length places ≡ 4
+    → ((others : List (Option Address)) → put first (get_or places 0 None ∷ others) ≡ a ∷ put second others)
+    → ((others : List (Option Address)) → put second (get_or (set places 0 a) 1 None ∷ others) ≡ b ∷ put third others)
+    → ((others : List (Option Address)) → put third (get_or (set (set places 0 a) 1 b) 2 None ∷ others) ≡ x ∷ put fourth others)
+    → ((others : List (Option Address)) → put fourth (get_or (set (set (set places 0 a) 1 b) 2 x) 3 None ∷ others) ≡ y ∷ put left others)
+    → set (set (set (set places 0 a) 1 b) 2 x) 3 y ≡ put first places
+put-four [] first second third fourth left a b x y whole one two three four = absurd (omega arith)
+put-four (p ∷ []) first second third fourth left a b x y whole one two three four = absurd (omega arith)
+put-four (p ∷ q ∷ []) first second third fourth left a b x y whole one two three four = absurd (omega arith)
+put-four (p ∷ q ∷ r ∷ []) first second third fourth left a b x y whole one two three four = absurd (omega arith)
+put-four (p ∷ q ∷ r ∷ s ∷ []) first second third fourth left a b x y whole one two three four =
+    let then : Option Address → List (Option Address) → List (Option Address) = λ o l. o ∷ l in
+    sym (one (q ∷ r ∷ s ∷ []) ∙ ap (then a) (two (r ∷ s ∷ []) ∙ ap (then b) (three (s ∷ []) ∙ ap (then x) (four [] ∙ ap (then y) (put-none left)))))
+put-four (p ∷ q ∷ r ∷ s ∷ z ∷ more) first second third fourth left a b x y whole one two three four = absurd (omega arith)

@@ -20,37 +20,15 @@ pub enum Carry {
 
 /// Puts the address of a role, where it names one, among those that stand in these places; what the last place gives up
 /// is lost.
-pub fn put_role(
-    first: &mut Option<Address>,
-    second: &mut Option<Address>,
-    third: &mut Option<Address>,
-    fourth: &mut Option<Address>,
-    role: &Option<Address>,
-)
-    ensures { first.new ∷ second.new ∷ third.new ∷ fourth.new ∷ []
-        ≡ put (carry_of role.entry.now) (first.old ∷ second.old ∷ third.old ∷ fourth.old ∷ []) }
+pub fn put_role(places: &mut [Option<Address>; 4], role: &Option<Address>)
+    ensures { places.new ≡ put (carry_of role.entry.now) places.old }
 {
-    match role {
-        Some(address) => put_address(first, second, third, fourth, *address),
-        None => {}
+    if let Some(address) = role {
+        let carry = put_new(&mut places[0], *address);
+        let carry = step(&mut places[1], carry);
+        let carry = step(&mut places[2], carry);
+        step(&mut places[3], carry);
     }
-}
-
-/// The same where a role names this address.
-fn put_address(
-    first: &mut Option<Address>,
-    second: &mut Option<Address>,
-    third: &mut Option<Address>,
-    fourth: &mut Option<Address>,
-    address: Address,
-)
-    ensures { first.new ∷ second.new ∷ third.new ∷ fourth.new ∷ []
-        ≡ put (Carry.New address) (first.old ∷ second.old ∷ third.old ∷ fourth.old ∷ []) }
-{
-    let carry = put_new(first, address);
-    let carry = step(second, carry);
-    let carry = step(third, carry);
-    step(fourth, carry);
 }
 
 /// Does what is to be done at one place, and tells what is left to be done from the next one on.

@@ -40,15 +40,12 @@ pub fn plan_wallets(
         (with_role pc.entry.now (with_role discount.entry.now (with_role referrer.entry.now []))) }
     ensures none_between { StandInFront result }
 {
-    let mut first = None;
-    let mut second = None;
-    let mut third = None;
-    let mut fourth = None;
-    put_role(&mut first, &mut second, &mut third, &mut fourth, referrer);
-    put_role(&mut first, &mut second, &mut third, &mut fourth, discount);
-    put_role(&mut first, &mut second, &mut third, &mut fourth, pc);
-    put_role(&mut first, &mut second, &mut third, &mut fourth, coin);
-    [first, second, third, fourth]
+    let mut places = [None; 4];
+    put_role(&mut places, referrer);
+    put_role(&mut places, discount);
+    put_role(&mut places, pc);
+    put_role(&mut places, coin);
+    places
 }
 
 /// Two addresses that are not one, the lower one first.

@@ -18,7 +18,8 @@ ghost use Rattle.dex_make.specs.Blanks.{with_blanks};
 pub fn parts_have_addresses_of_their_own()
     ensures apart { (market : Address) → length market.0 ≡ 32 → (part other : MarketPart) → part ≢ other
         → is_same (derived market part) (derived market other) ≡ false }
-    ensures own { (market : Address) → length market.0 ≡ 32 → slice_index market.0 31 ≡ 0 → (part : MarketPart)
+    ensures own { (market : Address)
+        → length market.0 ≡ 32 → slice_index market.0 31 ≡ 0 → (part : MarketPart)
         → is_same (derived market part) market ≡ false }
 {}
 

@@ -119,7 +119,8 @@ fn event_queue(alloc: Global, events: u32) -> Result<Vec<u8>, NoMemory>
     requires few { events ≤ 65535 }
     ensures bytes { IfOk result (λ bytes. bytes.items ≡ queue.blank_queue (queue.made_size events)) }
     ensures accepted { IfOk result (λ bytes. IsEventQueue bytes.items) }
-    ensures ring { IfOk result (λ bytes. ring_of bytes.items ≡ record { events = []; capacity = events; seq_num = 0 }) }
+    ensures ring { IfOk result (λ bytes. ring_of bytes.items
+        ≡ record { events = []; capacity = events; seq_num = 0 }) }
 {
     let mut bytes = zeros(alloc, dex_ring::made_size(events))?;
     dex_ring::blank(&mut bytes);

@@ -9,8 +9,6 @@ use std::alloc::Global;
 pub fn zeros(alloc: Global, size: usize) -> Result<Vec<u8>, NoMemory>
     ensures { IfOk result (λ bytes. bytes.items ≡ replicate size 0) }
 {
-    match vec![in alloc; 0; size] {
-        Ok(bytes) => Ok(bytes),
-        Err(_) => Err(NoMemory),
-    }
+    let bytes = vec![in alloc; 0; size]?;
+    Ok(bytes)
 }

@@ -31,7 +31,8 @@ use dex_types::{Refusal, Side, SideRead};
 /// The vaults with the deposit of an order of the side: a bid's is quote, an ask's base.
 fn vaults_after(market: &MarketRef<'_>, side: Side, deposit: u64) -> Vaults
     requires { IsMarket market.now.bytes.now }
-    ensures coin { result.coin ≡ vault_of book.Coin (market_words market.now.bytes.now) + book.by_side side 0 deposit }
+    ensures coin { result.coin
+        ≡ vault_of book.Coin (market_words market.now.bytes.now) + book.by_side side 0 deposit }
     ensures pc { result.pc ≡ vault_of book.Pc (market_words market.now.bytes.now) + book.by_side side deposit 0 }
     ensures coin_small { result.coin < 2 ^ 67 }
     ensures pc_small { result.pc < 2 ^ 67 }
@@ -65,8 +66,8 @@ fn refused_late(foreseen: &Foreseen, room: u32, balance: u64) -> Option<Refusal>
 fn refused_beyond(vaults: Vaults, pending: PendingFills) -> Option<Refusal>
     requires coin { vaults.coin + pending.coin < 2 ^ 128 }
     requires pc { vaults.pc + pending.pc < 2 ^ 128 }
-    ensures { result ≡ reasons.first_of (reasons.beyond vaults.coin pending.coin ∷ reasons.beyond vaults.pc pending.pc
-        ∷ []) }
+    ensures { result ≡ reasons.first_of (reasons.beyond vaults.coin pending.coin
+        ∷ reasons.beyond vaults.pc pending.pc ∷ []) }
 {
     beyond(vaults.coin, pending.coin).or(beyond(vaults.pc, pending.pc))
 }
@@ -127,9 +128,9 @@ fn decide_with<B: SideRead, A: SideRead>(
     taker: &Taker,
     balance: u64,
 ) -> Result<Decided, Refusal>
+    requires market { IsMarket market.now.bytes.now }
     requires own { B.holds own.now }
     requires opposite { A.holds opposite.now }
-    requires market { IsMarket market.now.bytes.now }
     requires requests { IsRequestQueue requests.now.bytes.now }
     requires events { IsEventQueue ring.now.bytes.now }
     requires account { IsOpen orders.now.bytes.now }

@@ -49,7 +49,8 @@ pub(crate) fn take_in(intake: Intake, market: &mut MarketView<'_>)
     requires can_take_in { applying.CanTakeIn intake (market_words market.old.bytes.now) }
     ensures place { market.new.bytes.ghost_name ≡ market.old.bytes.ghost_name }
     ensures bytes { market.new.bytes.now ≡ applying.bytes_with intake market.old.bytes.now }
-    ensures words { market_words market.new.bytes.now ≡ applying.words_with intake (market_words market.old.bytes.now) }
+    ensures words { market_words market.new.bytes.now
+        ≡ applying.words_with intake (market_words market.old.bytes.now) }
     ensures accepted { IsMarket market.new.bytes.now }
 {
     let funds = MarketFunds {

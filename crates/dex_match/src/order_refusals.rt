@@ -66,7 +66,8 @@ pub(crate) fn refused_early(
     requires account { IsOpen orders.now.bytes.now }
     ensures { result ≡ reasons.first_of (reasons.no_slot (account_of orders.now.bytes.now)
         ∷ reasons.ask_too_large taker.id_side sizes taker.lots
-        ∷ reasons.used_up (next_sequence requests.now.bytes.now) ∷ reasons.time_past taker.now taker.max_ts ∷ []) }
+        ∷ reasons.used_up (next_sequence requests.now.bytes.now)
+        ∷ reasons.time_past taker.now taker.max_ts ∷ []) }
 {
     no_slot(orders)
         .or(ask_too_large(taker.id_side, sizes, taker.lots))

@@ -60,7 +60,8 @@ fn is_abort(rule: SelfTrade) -> bool
 
 /// The id of the order, where it is the best one left and the taker has to abort at it.
 fn aborts_at(side: Side, taker: Terms, want: Want, order: Order) -> Option<u128>
-    ensures { (others : List Order) → result ≡ meeting.aborts_at side (taking taker) (demand want) (order ∷ others) }
+    ensures { (others : List Order)
+        → result ≡ meeting.aborts_at side (taking taker) (demand want) (order ∷ others) }
 {
     if reaches(side, taker, want, order)
         && is_own(taker.owner, order)

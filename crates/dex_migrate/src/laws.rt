@@ -26,7 +26,9 @@ pub fn migrated_accounts_have_the_same_findings()
 /// was.
 pub fn migrated_accounts_stand_for_the_market_with_other_capacities()
     ensures stands { (nodes events : ℕ) (old new : PlainMarketAccounts) (market : Market)
-        → IsMigrated nodes events old new → StandsFor old market → StandsFor new (with_capacities nodes events market) }
-    ensures sound { (nodes events : ℕ) (old : PlainMarketAccounts) (market : Market) → 1 ≤ nodes → Fits nodes events old
+        → IsMigrated nodes events old new → StandsFor old market
+        → StandsFor new (with_capacities nodes events market) }
+    ensures sound { (nodes events : ℕ) (old : PlainMarketAccounts) (market : Market)
+        → 1 ≤ nodes → Fits nodes events old
         → StandsFor old market → IsSound market → IsSound (with_capacities nodes events market) }
 {}

@@ -24,7 +24,8 @@ fn copy_orders(from: &SlabRef<'_>, to: &mut SlabView<'_>)
     ensures holds { IsSlab to.new.bytes.now }
     ensures side { to.new.side ≡ to.old.side }
     ensures room { room_in to.new.bytes.now ≡ room_in to.old.bytes.now }
-    ensures place { (to.new.bytes.ghost_name ≡ to.old.bytes.ghost_name) × KeepsFrame to.old.bytes.now to.new.bytes.now }
+    ensures place { (to.new.bytes.ghost_name ≡ to.old.bytes.ghost_name)
+        × KeepsFrame to.old.bytes.now to.new.bytes.now }
 {
     let mut next = from.best();
     'orders: while let Some(order) = next {

@@ -11,7 +11,8 @@ pub fn an_account_that_is_funded_has_the_funds()
         → account_of (funded bytes funds) ≡ with_funds funds (account_of bytes) }
     ensures market { (bytes : List ℕ) (funds : Funds) → IsOpen bytes → FundsFit funds
         → market_of (funded bytes funds) ≡ market_of bytes }
-    ensures accepted { (bytes : List ℕ) (funds : Funds) → IsOpen bytes → FundsFit funds → IsOpen (funded bytes funds) }
+    ensures accepted { (bytes : List ℕ) (funds : Funds) → IsOpen bytes → FundsFit funds
+        → IsOpen (funded bytes funds) }
 {}
 
 /// A slot that is freed holds no order, and nothing else of the account changes.

@@ -78,7 +78,8 @@ impl OrdersRef<'_> {
         ensures none { IsNone result ↔ (taken_slots (account_of self.now.bytes.now).slots ≡ 128) }
         ensures lowest { IfSome result (λ slot. slot ≡ free_slot (account_of self.now.bytes.now).slots) }
         ensures within { IfSome result (λ slot. slot < 128) }
-        ensures free { IfSome result (λ slot. slice_index_or (account_of self.now.bytes.now).slots slot None ≡ None) }
+        ensures free { IfSome result (λ slot. slice_index_or (account_of self.now.bytes.now).slots slot None
+            ≡ None) }
     {
         match get_u128(self.bytes, FREE_SLOT_BITS) {
             0 => None,

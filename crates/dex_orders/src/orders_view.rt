@@ -76,7 +76,8 @@ impl OrdersView<'_> {
         ensures none { IsNone result ↔ (taken_slots (account_of self.now.bytes.now).slots ≡ 128) }
         ensures lowest { IfSome result (λ slot. slot ≡ free_slot (account_of self.now.bytes.now).slots) }
         ensures within { IfSome result (λ slot. slot < 128) }
-        ensures free { IfSome result (λ slot. slice_index_or (account_of self.now.bytes.now).slots slot None ≡ None) }
+        ensures free { IfSome result (λ slot. slice_index_or (account_of self.now.bytes.now).slots slot None
+            ≡ None) }
     {
         self.as_ref().free_slot()
     }

@@ -120,7 +120,8 @@ pub fn with_side(bid_bits: u128, slot: u8, side: Side) -> u128
     requires { slot < 128 }
     ensures bits { result ≡ by_side side (with_bit bid_bits slot) (without_bit bid_bits slot) }
     ensures same { side_by_bit (is_set result slot) ≡ side }
-    ensures others { (other : ℕ) → other < 128 → other ≢ slot → is_set result other ≡ is_set bid_bits other }
+    ensures others { (other : ℕ) → other < 128 → other ≢ slot
+        → is_set result other ≡ is_set bid_bits other }
 {
     match side {
         Side::Bid => with_bit(bid_bits, slot),

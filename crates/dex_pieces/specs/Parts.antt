@@ -1,5 +1,6 @@
 -- What a part of a report says, and what it is to write it.
-use Rattle.std.specs.Prelude.{◌≡◌, ℕ, List, IfOk}
+use Rattle.std.specs.Prelude.{◌≡◌, ℕ, List, Vec, IfOk}
+use Rattle.std.specs.declared.alloc.Global.{Global}
 use Rattle.std.specs.List.{All, flat_map}
 use Rattle.dex_types.specs.Accounts.{market_accounts_of}
 use Rattle.dex_dump.specs.Accepted.{IsHeldMarket}
@@ -25,7 +26,11 @@ part_lines (Market journal) = market_lines (market_journal_of journal)
 part_lines (Wallets journals) = flat_map (λ journal. wallet_lines (wallet_journal_of journal)) journals.items
 part_lines (Rows market) = lines_text (market_rows (market_accounts_of market))
 
--- a part was written: the text is its lines, and its values fit
-pub record WritesPart (before after : Writing) : Type 0 where
-  pub fits : IfOk after.text (λ text. FitPart before.part)
-  pub text : IfOk after.text (λ text. text.items ≡ part_lines before.part)
+-- the parts of groups, in their order
+abbrev pub parts_in : List (Vec Part Global) → List Part
+parts_in groups = flat_map (λ (group : Vec Part Global). group.items) groups
+
+-- parts were written: the text is their lines, and their values fit
+pub record WritesParts (before after : Writing) : Type 0 where
+  pub fits : IfOk after.text (λ text. All FitPart before.parts.items)
+  pub text : IfOk after.text (λ text. text.items ≡ flat_map part_lines before.parts.items)

@@ -20,6 +20,36 @@ pub(crate) enum Part {
     Rows(MarketAccounts),
 }
 
+impl Part {
+    /// About how many bytes its text has.
+    pub(crate) fn weight(&self) -> usize {
+        match self {
+            Part::Text(bytes) => bytes.len(),
+            Part::Market(journal) => journal.entries.len().saturating_mul(96),
+            Part::Wallets(journals) => weight_of_wallets(journals),
+            Part::Rows(market) => weight_of_rows(market),
+        }
+    }
+}
+
+/// About how many bytes the text of these journals has.
+fn weight_of_wallets(journals: &[WalletJournal]) -> usize {
+    let mut weight: usize = 0;
+    'journals: for journal in journals {
+        weight = weight.saturating_add(journal.entries.len().saturating_mul(48));
+    }
+    weight
+}
+
+/// About how many bytes the text of a market's rows has: four characters for three bytes.
+fn weight_of_rows(market: &MarketAccounts) -> usize {
+    let mut bytes: usize = 0;
+    'buffers: for buffer in [&market.requests, &market.events, &market.bids, &market.asks] {
+        bytes = bytes.saturating_add(buffer.len());
+    }
+    bytes.saturating_add(bytes / 3)
+}
+
 impl Told for Part {
     ghost fits = { FitPart };
 

@@ -17,9 +17,9 @@ use std::alloc::{AllocError, Global};
 use std::marker::Sync;
 use std::thread::Threads;
 
-/// The report of an outcome of so many rows, in pieces that follow each other: each market's journal, the journals of all wallets
-/// and each market's accounts are written on threads of their own, and let go when they are written. All values that it tells fit:
-/// addresses 32 bytes, amounts of movements 64 bits, and numbers of replies 128.
+/// The report of an outcome of so many rows, in pieces that follow each other and are written on threads of their own: each market's
+/// journal, the journals of all wallets and each market's accounts, small ones together. They are let go when they are written. All
+/// values that it tells fit: addresses 32 bytes, amounts of movements 64 bits, and numbers of replies 128.
 pub fn report_pieces<R: Threads + Sync>(
     rt: &R,
     alloc: Global,

@@ -1,76 +1,132 @@
 //! Parts that are written side by side.
 
-ghost use Rattle.std.specs.Prelude.{◌≡◌, Ok, IfOk, ⊤, map};
+ghost use Rattle.std.specs.Prelude.{◌≡◌, ◌++◌, [], Ok, IfOk, OnOk, ⊤, map};
 ghost use Rattle.std.specs.List.{All, AllZip, flat_map};
-ghost use Rattle.dex_pieces.specs.Parts.{FitPart, WritesPart, part_lines};
+ghost use Rattle.dex_pieces.specs.Parts.{FitPart, WritesParts, part_lines, parts_in};
 
 use crate::part::Part;
 use dex_lanes::{Job, run_jobs};
-use dex_report::{LINE, Told};
+use dex_report::{LINE, take_each};
 use std::alloc::{AllocError, Global};
 use std::marker::Sync;
+use std::mem;
 use std::thread::Threads;
 
-/// A part, until it is written, and then its text.
+/// Parts that follow each other, until they are written, and then their text.
 #[derive(Drop)]
 pub(crate) struct Writing {
     alloc: Global,
-    part: Part,
+    parts: Vec<Part>,
     text: Result<Vec<u8>, AllocError>,
 }
 
 impl Job for Writing {
     ghost ready = { λ job. ⊤ };
 
-    ghost ran = { WritesPart };
+    ghost ran = { WritesParts };
 
     fn run(&mut self) {
-        self.text = text_of(self.alloc, &self.part);
-        self.part = Part::Text(Vec::new(self.alloc));
+        let parts = mem::replace(&mut self.parts, Vec::new(self.alloc));
+        self.text = text_of(self.alloc, parts);
     }
 }
 
-/// The text of a part.
-fn text_of(alloc: Global, part: &Part) -> Result<Vec<u8>, AllocError>
-    ensures fits { IfOk result (λ text. FitPart part.now) }
-    ensures text { IfOk result (λ text. text.items ≡ part_lines part.now) }
+/// The text of parts, each of which is let go when it is written.
+fn text_of(alloc: Global, parts: Vec<Part>) -> Result<Vec<u8>, AllocError>
+    ensures fits { IfOk result (λ text. All FitPart parts.items) }
+    ensures text { IfOk result (λ text. text.items ≡ flat_map part_lines parts.items) }
 {
     let mut text = Vec::new(alloc);
     let mut line = [0; LINE];
-    part.write(&mut text, &mut line)?;
+    take_each(&mut text, &mut line, parts)?;
     Ok(text)
 }
 
-/// The texts of parts, each written on a thread of its own, and let go when it is written.
+/// The texts of parts that follow each other, written by some threads, and each part let go when it is written.
 pub(crate) fn texts_of<R: Threads + Sync>(
     rt: &R,
     alloc: Global,
     parts: Vec<Part>,
 ) -> Result<Vec<Vec<u8>>, AllocError>
     ensures fits { IfOk result (λ texts. All FitPart parts.items) }
-    ensures text { IfOk result (λ texts. flat_map (λ text. text.items) texts.items ≡ flat_map part_lines parts.items) }
+    ensures text { IfOk result (λ texts. flat_map (λ text. text.items) texts.items
+        ≡ flat_map part_lines parts.items) }
 {
-    let mut jobs = jobs_of(alloc, parts)?;
+    let groups = groups_of(alloc, parts)?;
+    let mut jobs = jobs_of(alloc, groups)?;
     run_jobs(rt, &mut jobs);
     written_by(alloc, jobs)
 }
 
-/// A job for each part.
-fn jobs_of(alloc: Global, parts: Vec<Part>) -> Result<Vec<Writing>, AllocError>
-    ensures { IfOk result (λ jobs. map (λ job. job.part) jobs.items ≡ parts.items) }
+/// About how many bytes the text of all parts has.
+fn weight_of(parts: &[Part]) -> usize {
+    let mut weight: usize = 0;
+    'parts: for part in parts {
+        weight = weight.saturating_add(part.weight());
+    }
+    weight
+}
+
+/// For how many threads there is to be work, where no part is much larger than others.
+const SHARES: usize = 4;
+
+/// Whether a group of some weight is complete where a part of this weight comes next.
+fn is_complete(group: usize, part: usize, share: usize) -> bool {
+    LINE < group && share < group.saturating_add(part)
+}
+
+/// The parts in groups of those that follow each other. A thread costs as much time as some hundred lines, so small parts are
+/// written by the thread of a larger one.
+fn groups_of(alloc: Global, parts: Vec<Part>) -> Result<Vec<Vec<Part>>, AllocError>
+    ensures { IfOk result (λ groups. parts_in groups.items ≡ parts.items) }
 {
-    let mut jobs = Vec::with_capacity(alloc, parts.len())?;
+    let share = weight_of(&parts) / SHARES;
+    let mut groups = Vec::new(alloc);
+    let mut group = Vec::new(alloc);
+    let mut weight: usize = 0;
     for part in parts {
+        let more = part.weight();
+        if is_complete(weight, more, share) {
+            complete(alloc, &mut groups, &mut group)?;
+            weight = 0;
+        }
+        weight = weight.saturating_add(more);
+        group.push(part)?;
+    }
+    complete(alloc, &mut groups, &mut group)?;
+    Ok(groups)
+}
+
+/// Puts a group behind the others, and begins the next.
+fn complete(
+    alloc: Global,
+    groups: &mut Vec<Vec<Part>>,
+    group: &mut Vec<Part>,
+) -> Result<(), AllocError>
+    ensures groups { OnOk result (parts_in groups.new.items ≡ parts_in groups.old.items ++ group.old.items) }
+    ensures next { OnOk result (group.new.items ≡ []) }
+{
+    let whole = mem::replace(group, Vec::new(alloc));
+    groups.push(whole)?;
+    Ok(())
+}
+
+/// A job for each group.
+fn jobs_of(alloc: Global, groups: Vec<Vec<Part>>) -> Result<Vec<Writing>, AllocError>
+    ensures { IfOk result (λ jobs. map (λ job. job.parts) jobs.items ≡ groups.items) }
+{
+    let mut jobs = Vec::with_capacity(alloc, groups.len())?;
+    for parts in groups {
         jobs.push(Writing {
             alloc,
-            part,
+            parts,
             text: Err(AllocError),
         })?;
     }
     Ok(jobs)
 }
 
-/// What the jobs wrote, if each wrote its part.
+/// What the jobs wrote, if each wrote its parts.
 fn written_by(alloc: Global, jobs: Vec<Writing>) -> Result<Vec<Vec<u8>>, AllocError>
     ensures { IfOk result (λ texts. AllZip (λ job text. job.text ≡ Ok text) jobs.items texts.items) }
 {

@@ -9,7 +9,7 @@ use dex_answers::items_in;
 use dex_batch::run_batch;
 use dex_io::Pace;
 use dex_replay::laws::without_swaps_rows_act_one_by_one;
-use dex_script::read_script;
+use dex_script_pieces::read_script;
 use dex_types::NoMemory;
 use std::alloc::Global;
 use std::marker::Sync;
@@ -28,7 +28,7 @@ pub fn batch_answer<R: Threads + Wait + Sync, P: Pace + Sync>(
     requires { (1 ≤ workers) × (workers ≤ 16) }
     ensures { IfOk result (λ told. AnswersBatch bytes.now told.status (text_of told)) }
 {
-    match read_script(alloc, bytes, true) {
+    match read_script(rt, alloc, bytes, true, workers as usize) {
         Ok(script) => {
             let rows = items_in(&script.rows);
             let outcome = run_batch(rt, alloc, script, workers, pace)?;

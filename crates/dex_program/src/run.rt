@@ -9,12 +9,15 @@ use dex_answers::items_in;
 use dex_io::Pace;
 use dex_replay::laws::without_swaps_rows_act_one_by_one;
 use dex_run::run;
-use dex_script::read_script;
+use dex_script_pieces::read_script;
 use dex_types::NoMemory;
 use std::alloc::Global;
 use std::marker::Sync;
 use std::sync::Wait;
 use std::thread::Threads;
+
+/// How many threads read the rows of a script.
+const READERS: usize = 4;
 
 /// The report of what is left when the lanes of a script have run side by side, or why the bytes are no script. Each row is let
 /// in by the pace.
@@ -26,7 +29,7 @@ pub fn run_answer<R: Threads + Wait + Sync, P: Pace + Sync>(
 ) -> Result<StatusPieces, NoMemory>
     ensures { IfOk result (λ told. AnswersRun bytes.now told.status (text_of told)) }
 {
-    match read_script(alloc, bytes, false) {
+    match read_script(rt, alloc, bytes, false, READERS) {
         Ok(script) => {
             let rows = items_in(&script.rows);
             let outcome = run(rt, alloc, script, pace)?;

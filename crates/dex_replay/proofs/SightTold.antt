@@ -1,7 +1,7 @@
 -- What a call saw is what its entry tells.
-use Rattle.std.proofs.Common.{◌≡◌, ℕ, ◌≤◌, ◌⊎◌, inl, inr, ⊎_elim, Bool, true, false, ◌||◌, ltb, List, [], ◌∷◌, map, Option, Some, None, refl, sym, ap, ◌∙◌, subst}
+use Rattle.std.proofs.Common.{◌≡◌, ℕ, ◌≤◌, ◌⊎◌, inl, inr, ⊎_elim, Bool, true, false, ◌||◌, List, [], ◌∷◌, map, Option, Some, None, refl, sym, ap, ◌∙◌, subst}
 use Rattle.std.specs.List.{list_any}
-use Rattle.std.proofs.lemmas.Bool.{both_ways, cases_Bool, cond-false, cond-true, cond_both, false≢true, or_left, or_right}
+use Rattle.std.proofs.lemmas.Bool.{both_ways, cases_Bool, cond-false, cond-true, false≢true, or_left, or_right}
 use Rattle.std.proofs.lemmas.Option.{same_Some}
 use Rattle.dex_types.specs.declared.addresses.Address.{Address}
 use Rattle.dex_types.specs.declared.movements.Entry.{Entry}
@@ -14,7 +14,7 @@ use Rattle.dex_types.specs.Addresses.{is_same}
 use Rattle.dex_types.specs.Market.{Market}
 use Rattle.dex_types.specs.Rows.{PlainRow}
 use Rattle.dex_types.specs.Transfers.{Transfers}
-use Rattle.dex_types.specs.Wallets.{address_seen, balance_in, balance_seen, brought_to, movement_by, movement_of, seen_wallets, taken_from}
+use Rattle.dex_types.specs.Wallets.{address_seen, balance_in, balance_seen, brought_to, movement_of, seen_wallets, taken_from}
 use Rattle.dex_laws.proofs.TraderLaws.{is_same-refl, is_same-true}
 use Rattle.dex_history.specs.Journal.{Agree, Asked, Call, Sees, Stands, asked_of, front, step_of}
 use Rattle.dex_history.proofs.BalanceLaws.{agree-one, agree-one_back}
@@ -27,13 +27,9 @@ use Rattle.dex_script_facts.specs.PlainScript.{PlainScript}
 use Rattle.dex_replay.specs.Lawful.{IsSight, IsWalletSeen}
 use Rattle.dex_replay.specs.EntryCalls.{before_of, role_told, seen_told, wallet_told}
 use Rattle.dex_replay.proofs.Finding.{wallet-found}
+use Rattle.dex_replay.proofs.Sights.{before-movement}
 
 -- ---- the balance before, in movements
-
-before-movement : (address : Address) (before taken brought : ℕ) → (movement_by address before taken brought).before ≡ before
-before-movement address before taken brought =
-    cond_both (ltb 0 taken) _ _ (λ (move : Movement). move.before ≡ before) (λ some. refl)
-    (λ none. cond_both (ltb 0 brought) _ _ (λ (move : Movement). move.before ≡ before) (λ some. refl) (λ probe. refl))
 
 module _ (seen : Seen) (t : Transfers) (address : Address) where
   abbrev moved : Address → Movement
@@ -45,13 +41,11 @@ module _ (seen : Seen) (t : Transfers) (address : Address) where
   before-moved (first ∷ others) any =
       let wallet : is_same address (moved first).wallet ≡ is_same address first =
       ap (is_same address) (wallet-movement_by first (balance_seen seen first) (taken_from seen t first) (brought_to seen t first)) in
-      let before : (moved first).before ≡ balance_seen seen first =
-      before-movement first (balance_seen seen first) (taken_from seen t first) (brought_to seen t first) in
       let rest : ℕ = before_of address (map (movement_of seen t) others) in
       ⊎_elim
       (λ (same : is_same address first ≡ true).
       cond-true (is_same address (moved first).wallet) (moved first).before rest (wallet ∙ same)
-      ∙ before ∙ sym (ap (balance_seen seen) (is_same-true address first same)))
+      ∙ before-movement seen t first ∙ sym (ap (balance_seen seen) (is_same-true address first same)))
       (λ (apart : is_same address first ≡ false).
       cond-false (is_same address (moved first).wallet) (moved first).before rest (wallet ∙ apart)
       ∙ before-moved others (sym (ap (λ (b : Bool). b || list_any (is_same address) others) apart) ∙ any))

@@ -91,7 +91,7 @@ pub(crate) fn use_up(cells: Cells, rows: Vec<Row>, places: &[RowPlaces]) -> Cell
 }
 
 /// How many rows are let go before their memory is given back.
-const PIECE: usize = 2048;
+const PIECE: usize = 256;
 
 /// Lets the last rows go, so many of them.
 fn let_go(rows: &mut Vec<Row>, count: usize)

@@ -2,7 +2,6 @@
 //! and its clauses are the law.
 
 ghost use Rattle.std.specs.Prelude.{◌≡◌, Some};
-ghost use Rattle.std.specs.List.{Contains};
 ghost use Rattle.dex_types.specs.Accounts.{PlainMarketAccounts};
 ghost use Rattle.dex_types.specs.Market.{Market};
 ghost use Rattle.dex_types.specs.Rows.{PlainRow};

@@ -1,4 +1,5 @@
 pub mod Numbered
+pub mod MadeTexts
 pub mod Words
 pub mod Values
 pub mod Replies

@@ -21,8 +21,12 @@ market_line market =
 abbrev pub orders_line : MadeMarket → ℕ → List ℕ
 orders_line market k = line (codes "orders," ++ market_text market ++ codes "," ++ account_text market k)
 
--- two mints, the wallets of eight traders, two markets, the accounts on each, and the rows that open these
-abbrev pub setup_text : List ℕ
-setup_text =
+-- the accounts: two mints, the wallets of eight traders, two markets, and the accounts on each
+abbrev pub accounts_text : List ℕ
+accounts_text =
     line (codes "mint,base,6") ++ line (codes "mint,quote,6") ++ numbered wallet_lines 8 ++ market_line First ++ market_line Second
-    ++ numbered (orders_line First) 8 ++ numbered (orders_line Second) 8 ++ numbered (opening_line First) 8 ++ numbered (opening_line Second) 8
+    ++ numbered (orders_line First) 8 ++ numbered (orders_line Second) 8
+
+-- the accounts, and the rows that open those on markets
+abbrev pub setup_text : List ℕ
+setup_text = accounts_text ++ numbered (opening_line First) 8 ++ numbered (opening_line Second) 8

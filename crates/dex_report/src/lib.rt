@@ -18,4 +18,4 @@ pub use lines::{LINE, write_head};
 pub use made::make_script;
 pub use outcome::{MarketJournal, Outcome, WalletJournal};
 pub use report::{into_report_text, report_text};
-pub use told::{Told, write_each};
+pub use told::{Told, take_each, write_each};

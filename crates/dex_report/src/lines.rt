@@ -84,7 +84,11 @@ pub fn write_head(
 }
 
 /// Writes what stands in a line from a place on.
-fn push_from(text: &mut Vec<u8>, line: &[u8; LINE], start: usize) -> Result<(), AllocError>
+pub(crate) fn push_from(
+    text: &mut Vec<u8>,
+    line: &[u8; LINE],
+    start: usize,
+) -> Result<(), AllocError>
     requires { start ≤ 768 }
     ensures { OnOk result (text.new.items ≡ text.old.items ++ drop start line.now) }
 {
@@ -92,7 +96,7 @@ fn push_from(text: &mut Vec<u8>, line: &[u8; LINE], start: usize) -> Result<(), 
 }
 
 /// Puts the end of a line at the end of the array.
-fn put_end(line: &mut [u8; LINE]) -> usize
+pub(crate) fn put_end(line: &mut [u8; LINE]) -> usize
     ensures start { result ≡ 767 }
     ensures written { drop result line.new ≡ 10 ∷ [] }
 {
@@ -217,7 +221,7 @@ fn put_three(
 }
 
 /// Puts a word, a space and a number in front of a place.
-fn put_told(line: &mut [u8; LINE], word: &[u8], number: u64, end: usize) -> usize
+pub(crate) fn put_told(line: &mut [u8; LINE], word: &[u8], number: u64, end: usize) -> usize
     requires { (38 ≤ end) × (end ≤ 768) × (length word.now ≤ 13) }
     ensures start { (result ≤ end) × (end ≤ result + 38) }
     ensures written { drop result line.new ≡ word.now ++ (spaced (decimal number) ++ drop end line.old) }
@@ -236,7 +240,7 @@ fn push_refusal(text: &mut Vec<u8>, why: Refusal) -> Result<(), AllocError>
 }
 
 /// Puts a word in front of a place, and returns where it starts.
-fn put_word(line: &mut [u8; LINE], word: &[u8], end: usize) -> usize
+pub(crate) fn put_word(line: &mut [u8; LINE], word: &[u8], end: usize) -> usize
     requires { (length word.now ≤ end) × (end ≤ 768) }
     ensures start { result + length word.now ≡ end }
     ensures written { drop result line.new ≡ word.now ++ drop end line.old }
@@ -283,7 +287,7 @@ fn put_spaced(line: &mut [u8; LINE], word: &[u8], end: usize) -> usize
 }
 
 /// Puts a space and a number, and then another one, in front of a place.
-fn put_two(line: &mut [u8; LINE], first: u64, second: u64, end: usize) -> usize
+pub(crate) fn put_two(line: &mut [u8; LINE], first: u64, second: u64, end: usize) -> usize
     requires { (42 ≤ end) × (end ≤ 768) }
     ensures start { (result ≤ end) × (end ≤ result + 42) }
     ensures written { drop result line.new
@@ -294,7 +298,7 @@ fn put_two(line: &mut [u8; LINE], first: u64, second: u64, end: usize) -> usize
 }
 
 /// Puts a space and a number in front of a place, and returns where the space stands.
-fn put_number(line: &mut [u8; LINE], number: u64, end: usize) -> usize
+pub(crate) fn put_number(line: &mut [u8; LINE], number: u64, end: usize) -> usize
     requires { (21 ≤ end) × (end ≤ 768) }
     ensures start { (result ≤ end) × (end ≤ result + 21) }
     ensures written { drop result line.new ≡ spaced (decimal number) ++ drop end line.old }

@@ -9,7 +9,8 @@ ghost use Rattle.dex_report.specs.Made as scripts;
 ghost use Rattle.dex_report.specs.MadeRows as rows_of;
 ghost use Rattle.dex_report.specs.MadeSetup as setup;
 
-use crate::made_rows::{ConsumingLine, DrawnLine, MadeInstruction, MadeMarket, OpeningLine};
+use crate::lines::{LINE, push_from};
+use crate::made_rows::{MadeInstruction, MadeMarket, put_consuming, put_drawn, put_opening};
 use crate::made_setup::{MarketLine, OrdersLine, WalletLines};
 use dex_types::{NoMemory, OrderType, Side};
 use rand_core::utils::NextWord;
@@ -26,23 +27,29 @@ pub fn make_script(alloc: Global, number: u64, rows: u32) -> Result<Vec<u8>, NoM
     ensures { IfOk result (λ text. text.items ≡ scripts.made_text number rows) }
 {
     match script(alloc, number, rows) {
-        Ok(text) => Ok(text.into_bytes()),
+        Ok(text) => Ok(text),
         Err(_) => Err(NoMemory),
     }
 }
 
-fn script(alloc: Global, number: u64, rows: u32) -> Result<String, AllocError>
+fn script(alloc: Global, number: u64, rows: u32) -> Result<Vec<u8>, AllocError>
     requires { rows ≤ 20000 }
-    ensures { IfOk result (λ text. string_bytes text ≡ scripts.made_text number rows) }
+    ensures { IfOk result (λ text. text.items ≡ scripts.made_text number rows) }
 {
     let mut text = String::new(alloc);
     write_setup(&mut text)?;
-    write_rows(&mut text, number, rows)?;
+    let mut text = text.into_bytes();
+    text.reserve_exact((rows as usize + 16) * 64)?;
+    let mut line = [0; LINE];
+    write_openings(&mut text, &mut line, MadeMarket::First)?;
+    write_openings(&mut text, &mut line, MadeMarket::Second)?;
+    write_rows(&mut text, &mut line, number, rows)?;
     Ok(text)
 }
 
+/// The rows that make all accounts.
 fn write_setup(text: &mut String) -> Result<(), AllocError>
-    ensures { OnOk result (string_bytes text.new ≡ string_bytes text.old ++ setup.setup_text) }
+    ensures { OnOk result (string_bytes text.new ≡ string_bytes text.old ++ setup.accounts_text) }
 {
     write!(text, "mint,base,6\nmint,quote,6\n")?;
     write_wallets(text)?;
@@ -50,8 +57,6 @@ fn write_setup(text: &mut String) -> Result<(), AllocError>
     write!(text, "{}", MarketLine(MadeMarket::Second))?;
     write_accounts(text, MadeMarket::First)?;
     write_accounts(text, MadeMarket::Second)?;
-    write_openings(text, MadeMarket::First)?;
-    write_openings(text, MadeMarket::Second)?;
     Ok(())
 }
 
@@ -76,50 +81,57 @@ fn write_accounts(text: &mut String, market: MadeMarket) -> Result<(), AllocErro
 }
 
 /// The rows that open these accounts.
-fn write_openings(text: &mut String, market: MadeMarket) -> Result<(), AllocError>
-    ensures { OnOk result (string_bytes text.new ≡ string_bytes text.old ++ numbered (rows_of.opening_line market) 8) }
+fn write_openings(
+    text: &mut Vec<u8>,
+    line: &mut [u8; LINE],
+    market: MadeMarket,
+) -> Result<(), AllocError>
+    ensures { OnOk result (text.new.items ≡ text.old.items ++ numbered (rows_of.opening_line market) 8) }
 {
     'traders: for trader in 0..8u32 {
-        write!(text, "{}", OpeningLine { market, trader })?;
+        let start = put_opening(line, market, trader);
+        push_from(text, line, start)?;
     }
     Ok(())
 }
 
 /// The drawn rows.
-fn write_rows(text: &mut String, number: u64, rows: u32) -> Result<(), AllocError>
+fn write_rows(
+    text: &mut Vec<u8>,
+    line: &mut [u8; LINE],
+    number: u64,
+    rows: u32,
+) -> Result<(), AllocError>
     requires { rows ≤ 20000 }
-    ensures { OnOk result (string_bytes text.new ≡ string_bytes text.old ++ numbered (scripts.row_of number) rows) }
+    ensures { OnOk result (text.new.items ≡ text.old.items ++ numbered (scripts.row_of number) rows) }
 {
     let mut generator = generator_of(number);
     'rows: for i in 0..rows {
-        write_row(text, &mut generator, i)?;
+        write_row(text, line, &mut generator, i)?;
     }
     Ok(())
 }
 
 /// Row i.
 #[tactic(auto, unfolding(crate::specs::Made::row_text, crate::specs::Made::after_row))]
-fn write_row(text: &mut String, generator: &mut Lcg64Xsh32, i: u32) -> Result<(), AllocError>
+fn write_row(
+    text: &mut Vec<u8>,
+    line: &mut [u8; LINE],
+    generator: &mut Lcg64Xsh32,
+    i: u32,
+) -> Result<(), AllocError>
     requires { i < 20000 }
-    ensures text { OnOk result (string_bytes text.new ≡ string_bytes text.old ++ scripts.row_text i generator.old) }
+    ensures text { OnOk result (text.new.items ≡ text.old.items ++ scripts.row_text i generator.old) }
     ensures generator { generator.new ≡ scripts.after_row i generator.old }
 {
     let trader = i % 8;
     if i % 10 == 9 {
-        let market = MadeMarket::by(i / 10);
-        write!(text, "{}", ConsumingLine { market, trader })
+        let start = put_consuming(line, MadeMarket::by(i / 10), trader);
+        push_from(text, line, start)
     } else {
-        let market = MadeMarket::by(i / 8);
         let asked = draw_instruction(generator, i);
-        write!(
-            text,
-            "{}",
-            DrawnLine {
-                market,
-                trader,
-                asked
-            }
-        )
+        let start = put_drawn(line, MadeMarket::by(i / 8), trader, asked);
+        push_from(text, line, start)
     }
 }
 

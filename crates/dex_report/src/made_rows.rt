@@ -1,8 +1,11 @@
-//! The rows of made scripts.
+//! The instruction rows of made scripts, put together from their ends as the lines of journals are.
 
-ghost use Rattle.std.specs.Prelude.{◌≡◌, Some};
+ghost use Rattle.std.specs.Prelude.{◌≡◌, ◌+◌, ◌<◌, ◌≤◌, [], ◌∷◌, ◌++◌, Some, codes, drop, length};
+ghost use Rattle.std.specs.Fmt.{decimal};
+ghost use Rattle.dex_types.specs.Text.{spaced};
 ghost use Rattle.dex_report.specs.MadeRows as rows;
 
+use crate::lines::{LINE, put_end, put_number, put_told, put_two, put_word};
 use dex_types::{OrderType, Side};
 use std::fmt;
 
@@ -27,22 +30,33 @@ impl MadeMarket {
     }
 
     /// The letter of the market's open-orders accounts.
-    fn letter(self) -> &'static str
-        ensures { result.now ≡ rows.letter_text self }
+    fn letter(self) -> u8
+        ensures { rows.letter_text self ≡ result ∷ [] }
     {
         match self {
-            MadeMarket::First => "a",
-            MadeMarket::Second => "b",
+            MadeMarket::First => b'a',
+            MadeMarket::Second => b'b',
         }
     }
 
     /// The labels of all these accounts.
-    fn accounts(self) -> &'static str
-        ensures { result.now ≡ rows.accounts_text self }
+    fn accounts(self) -> &'static [u8]
+        ensures text { result.now ≡ rows.accounts_text self }
+        ensures length { length result.now ≡ 23 }
     {
         match self {
-            MadeMarket::First => "a0 a1 a2 a3 a4 a5 a6 a7",
-            MadeMarket::Second => "b0 b1 b2 b3 b4 b5 b6 b7",
+            MadeMarket::First => b"a0 a1 a2 a3 a4 a5 a6 a7",
+            MadeMarket::Second => b"b0 b1 b2 b3 b4 b5 b6 b7",
+        }
+    }
+
+    /// The digit of the market's label.
+    fn digit(self) -> u8
+        ensures { rows.market_text self ≡ 109 ∷ result ∷ [] }
+    {
+        match self {
+            MadeMarket::First => b'0',
+            MadeMarket::Second => b'1',
         }
     }
 }
@@ -75,142 +89,145 @@ pub enum MadeInstruction {
     Settle,
 }
 
-impl fmt::Display for MadeInstruction {
-    ghost output = { λ asked. Some (rows.asked_text asked) };
-
-    fn fmt<W: fmt::Write>(&self, f: &mut fmt::Formatter<W>) -> fmt::Result {
-        match self {
-            MadeInstruction::New {
-                side,
-                price,
-                lots,
-                pc,
-                order_type,
-                client,
-            } => {
-                let side = side_word(*side);
-                let order_type = type_word(*order_type);
-                write!(
-                    f,
-                    "new {side} {price} {lots} {pc} cancel {order_type} {client} 10"
-                )
-            }
-            MadeInstruction::Cancel { client } => write!(f, "cancelc {client}"),
-            MadeInstruction::Settle => write!(f, "settle"),
-        }
-    }
-}
-
-fn side_word(side: Side) -> &'static str
-    ensures { result.now ≡ rows.side_text side }
+/// The digit of a number below 10.
+fn digit(number: u32) -> u8
+    requires { number < 10 }
+    ensures { decimal number ≡ result ∷ [] }
 {
-    match side {
-        Side::Bid => "bid",
-        Side::Ask => "ask",
-    }
+    b'0' + number as u8
 }
 
-fn type_word(order_type: OrderType) -> &'static str
-    ensures { result.now ≡ rows.type_text order_type }
+/// Puts the row by which a trader opens the account on a market at the end of a line, and returns where it starts.
+#[tactic(auto, unfolding(crate::specs::MadeRows::account_text))]
+pub(crate) fn put_opening(line: &mut [u8; LINE], market: MadeMarket, trader: u32) -> usize
+    requires { trader < 8 }
+    ensures start { result ≤ 768 }
+    ensures written { drop result line.new ≡ rows.opening_line market trader }
 {
-    match order_type {
-        OrderType::Limit => "limit",
-        OrderType::Ioc => "ioc",
-        OrderType::PostOnly => "post",
-    }
+    let init = put_word(line, b",-,-,-,-,init\n", LINE);
+    let account = put_word(line, &[market.letter(), digit(trader)], init);
+    put_place(line, market, trader, account)
 }
 
-/// A trader's open-orders account on a market. It prints as its label.
-#[derive(Clone, Copy)]
-pub struct TraderAccount {
-    pub market: MadeMarket,
-    pub trader: u32,
-}
-
-impl fmt::Display for TraderAccount {
-    ghost output = { λ account. Some (rows.account_text account.market account.trader) };
-
-    #[tactic(auto, unfolding(crate::specs::MadeRows::account_text))]
-    fn fmt<W: fmt::Write>(&self, f: &mut fmt::Formatter<W>) -> fmt::Result {
-        let letter = self.market.letter();
-        let trader = self.trader;
-        write!(f, "{letter}{trader}")
-    }
-}
-
-/// Where a row acts: its lane, its market and its trader.
-#[derive(Clone, Copy)]
-struct RowPlace {
+/// Puts the row by which a trader asks for what was drawn at the end of a line, and returns where it starts.
+pub(crate) fn put_drawn(
+    line: &mut [u8; LINE],
     market: MadeMarket,
     trader: u32,
+    asked: MadeInstruction,
+) -> usize
+    requires { trader < 8 }
+    ensures start { result ≤ 768 }
+    ensures written { drop result line.new ≡ rows.drawn_line market trader asked }
+{
+    let end = put_end(line);
+    let asked = put_asked(line, asked, end);
+    let accounts = put_accounts(line, market, trader, asked);
+    put_place(line, market, trader, accounts)
 }
 
-impl fmt::Display for RowPlace {
-    ghost output = { λ place. Some (rows.row_place place.market place.trader) };
+/// Puts the row by which a trader consumes events for all accounts of a market at the end of a line, and returns where it
+/// starts.
+pub(crate) fn put_consuming(line: &mut [u8; LINE], market: MadeMarket, trader: u32) -> usize
+    requires { trader < 8 }
+    ensures start { result ≤ 768 }
+    ensures written { drop result line.new ≡ rows.consuming_line market trader }
+{
+    let consume = put_word(line, b",-,-,-,-,consume 1000\n", LINE);
+    let accounts = put_word(line, market.accounts(), consume);
+    put_place(line, market, trader, accounts)
+}
 
-    #[tactic(auto, unfolding(crate::specs::MadeRows::row_place))]
-    fn fmt<W: fmt::Write>(&self, f: &mut fmt::Formatter<W>) -> fmt::Result {
-        let RowPlace { market, trader } = *self;
-        let lane = trader % 4;
-        write!(f, "{lane},{market},u{trader}")
+/// Puts a row's first word, its lane, its market and its trader in front of a place.
+#[tactic(auto, unfolding(crate::specs::MadeRows::row_place))]
+fn put_place(line: &mut [u8; LINE], market: MadeMarket, trader: u32, end: usize) -> usize
+    requires room { (11 ≤ end) × (end ≤ 768) }
+    requires trader { trader < 8 }
+    ensures start { result + 11 ≡ end }
+    ensures written { drop result line.new
+        ≡ codes "do," ++ rows.row_place market trader ++ codes "," ++ drop end line.old }
+{
+    let lane = digit(trader % 4);
+    let market = market.digit();
+    let trader = digit(trader);
+    put_word(
+        line,
+        &[
+            b'd', b'o', b',', lane, b',', b'm', market, b',', b'u', trader, b',',
+        ],
+        end,
+    )
+}
+
+/// Puts a trader's account on a market and both wallets in front of a place, and that no other wallet is named.
+#[tactic(auto, unfolding(crate::specs::MadeRows::account_text))]
+fn put_accounts(line: &mut [u8; LINE], market: MadeMarket, trader: u32, end: usize) -> usize
+    requires room { (13 ≤ end) × (end ≤ 768) }
+    requires trader { trader < 8 }
+    ensures start { result + 13 ≡ end }
+    ensures written { drop result line.new ≡ rows.account_text market trader ++ codes ",c" ++ decimal trader
+        ++ codes ",q" ++ decimal trader ++ codes ",-,-," ++ drop end line.old }
+{
+    let market = market.letter();
+    let trader = digit(trader);
+    put_word(
+        line,
+        &[
+            market, trader, b',', b'c', trader, b',', b'q', trader, b',', b'-', b',', b'-', b',',
+        ],
+        end,
+    )
+}
+
+/// Puts what a row asks for in front of a place.
+fn put_asked(line: &mut [u8; LINE], asked: MadeInstruction, end: usize) -> usize
+    requires { (140 ≤ end) × (end ≤ 768) }
+    ensures start { (result ≤ end) × (end ≤ result + 140) }
+    ensures written { drop result line.new ≡ rows.asked_text asked ++ drop end line.old }
+{
+    match asked {
+        MadeInstruction::New {
+            side,
+            price,
+            lots,
+            pc,
+            order_type,
+            client,
+        } => {
+            let limit = put_word(line, b" 10", end);
+            let client = put_number(line, client as u64, limit);
+            let rules = put_rules(line, order_type, client);
+            let lots = put_two(line, lots as u64, pc as u64, rules);
+            let price = put_number(line, price as u64, lots);
+            put_side(line, side, price)
+        }
+        MadeInstruction::Cancel { client } => put_told(line, b"cancelc", client as u64, end),
+        MadeInstruction::Settle => put_word(line, b"settle", end),
     }
 }
 
-/// The row by which a trader opens the account on a market.
-#[derive(Clone, Copy)]
-pub struct OpeningLine {
-    pub market: MadeMarket,
-    pub trader: u32,
-}
-
-impl fmt::Display for OpeningLine {
-    ghost output = { λ l. Some (rows.opening_line l.market l.trader) };
-
-    fn fmt<W: fmt::Write>(&self, f: &mut fmt::Formatter<W>) -> fmt::Result {
-        let OpeningLine { market, trader } = *self;
-        let place = RowPlace { market, trader };
-        let account = TraderAccount { market, trader };
-        write!(f, "do,{place},{account},-,-,-,-,init\n")
+/// Puts the word of a new order and its side in front of a place.
+fn put_side(line: &mut [u8; LINE], side: Side, end: usize) -> usize
+    requires { (7 ≤ end) × (end ≤ 768) }
+    ensures start { result + 7 ≡ end }
+    ensures written { drop result line.new ≡ codes "new" ++ spaced (rows.side_text side) ++ drop end line.old }
+{
+    match side {
+        Side::Bid => put_word(line, b"new bid", end),
+        Side::Ask => put_word(line, b"new ask", end),
     }
 }
 
-/// The row by which a trader asks for what was drawn.
-#[derive(Clone, Copy)]
-pub struct DrawnLine {
-    pub market: MadeMarket,
-    pub trader: u32,
-    pub asked: MadeInstruction,
-}
-
-impl fmt::Display for DrawnLine {
-    ghost output = { λ l. Some (rows.drawn_line l.market l.trader l.asked) };
-
-    fn fmt<W: fmt::Write>(&self, f: &mut fmt::Formatter<W>) -> fmt::Result {
-        let DrawnLine {
-            market,
-            trader,
-            asked,
-        } = *self;
-        let place = RowPlace { market, trader };
-        let account = TraderAccount { market, trader };
-        write!(f, "do,{place},{account},c{trader},q{trader},-,-,{asked}\n")
-    }
-}
-
-/// The row by which a trader consumes events for all accounts of a market.
-#[derive(Clone, Copy)]
-pub struct ConsumingLine {
-    pub market: MadeMarket,
-    pub trader: u32,
-}
-
-impl fmt::Display for ConsumingLine {
-    ghost output = { λ l. Some (rows.consuming_line l.market l.trader) };
-
-    fn fmt<W: fmt::Write>(&self, f: &mut fmt::Formatter<W>) -> fmt::Result {
-        let ConsumingLine { market, trader } = *self;
-        let place = RowPlace { market, trader };
-        let accounts = market.accounts();
-        write!(f, "do,{place},{accounts},-,-,-,-,consume 1000\n")
+/// Puts what a new order does with own orders that it meets, and its type, in front of a place.
+fn put_rules(line: &mut [u8; LINE], order_type: OrderType, end: usize) -> usize
+    requires { (13 ≤ end) × (end ≤ 768) }
+    ensures start { (result ≤ end) × (end ≤ result + 13) }
+    ensures written { drop result line.new
+        ≡ codes " cancel" ++ spaced (rows.type_text order_type) ++ drop end line.old }
+{
+    match order_type {
+        OrderType::Limit => put_word(line, b" cancel limit", end),
+        OrderType::Ioc => put_word(line, b" cancel ioc", end),
+        OrderType::PostOnly => put_word(line, b" cancel post", end),
     }
 }

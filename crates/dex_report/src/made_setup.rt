@@ -3,7 +3,7 @@
 ghost use Rattle.std.specs.Prelude.{Some};
 ghost use Rattle.dex_report.specs.MadeSetup as setup;
 
-use crate::made_rows::{MadeMarket, TraderAccount};
+use crate::made_rows::MadeMarket;
 use std::fmt;
 
 /// The rows of a trader's two wallets.
@@ -46,9 +46,12 @@ pub struct OrdersLine {
 impl fmt::Display for OrdersLine {
     ghost output = { λ l. Some (setup.orders_line l.market l.trader) };
 
+    #[tactic(auto, unfolding(crate::specs::MadeRows::account_text))]
     fn fmt<W: fmt::Write>(&self, f: &mut fmt::Formatter<W>) -> fmt::Result {
         let OrdersLine { market, trader } = *self;
-        let account = TraderAccount { market, trader };
-        write!(f, "orders,{market},{account}\n")
+        match market {
+            MadeMarket::First => write!(f, "orders,m0,a{trader}\n"),
+            MadeMarket::Second => write!(f, "orders,m1,b{trader}\n"),
+        }
     }
 }

@@ -55,7 +55,7 @@ fn into_report(alloc: Global, outcome: Outcome, rows: u32) -> Result<Vec<u8>, Al
     ensures fits { IfOk result (λ text. FitOutcome (outcome_of outcome)) }
     ensures text { IfOk result (λ text. text.items ≡ texts.report_text (outcome_of outcome) rows) }
 {
-    let mut text = Vec::with_capacity(alloc, room_of(&outcome))?;
+    let mut text = Vec::with_capacity(alloc, first_room_of(&outcome))?;
     let mut line = [0; LINE];
     write_head(&mut text, b"report", None, rows as u64)?;
     take_each(&mut text, &mut line, outcome.markets)?;
@@ -63,6 +63,12 @@ fn into_report(alloc: Global, outcome: Outcome, rows: u32) -> Result<Vec<u8>, Al
     append_taken(&mut text, outcome.accounts)?;
     text.extend_from_slice(b"end\n")?;
     Ok(text)
+}
+
+/// Room for the first quarter. The text of a small report then begins where the buffers of rows were, which are let go by now, and
+/// comes to a place of its own when some journals are let go too. A large one grows without a copy.
+fn first_room_of(outcome: &Outcome) -> usize {
+    room_of(outcome) / 4
 }
 
 /// Room for nearly every report: what most lines of journals take, and the accounts in base64.

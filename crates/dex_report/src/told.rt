@@ -100,7 +100,7 @@ pub fn write_each<T: Told>(
 }
 
 /// Writes the lines of each, and lets it go.
-pub(crate) fn take_each<T: Told + Drop>(
+pub fn take_each<T: Told + Drop>(
     text: &mut Vec<u8>,
     line: &mut [u8; LINE],
     told: Vec<T>,

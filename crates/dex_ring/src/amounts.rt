@@ -9,7 +9,9 @@ ghost use Rattle.dex_ring.specs.Ring.{IsEventQueue, events_of, ring_of};
 
 /// Each native amount of a pending event is below 2^64, and so is each of an event that was appended.
 pub fn amounts_of_events_fit()
-    ensures pending { (bytes : List ℕ) → AreBytes bytes → IsEventQueue bytes → All AmountsFit (events_of bytes) }
-    ensures appended { (events : List QueuedEvent) (old : List ℕ) (new : List ℕ) → AreBytes new → IsEventQueue new
+    ensures pending { (bytes : List ℕ) → AreBytes bytes → IsEventQueue bytes
+        → All AmountsFit (events_of bytes) }
+    ensures appended { (events : List QueuedEvent) (old : List ℕ) (new : List ℕ)
+        → AreBytes new → IsEventQueue new
         → ring_of new ≡ appended events (ring_of old) → All AmountsFit events }
 {}

@@ -21,7 +21,8 @@ pub(crate) fn event_at(bytes: &[u8], number: u32) -> Event
     requires accepted { IsEventQueue bytes.now }
     requires number { number < length (ring_of bytes.now).events }
     ensures here { result ≡ event_at bytes.now number }
-    ensures event { (d : QueuedEvent) → result ≡ encoded_event (slice_index_or (ring_of bytes.now).events number d) }
+    ensures event { (d : QueuedEvent)
+        → result ≡ encoded_event (slice_index_or (ring_of bytes.now).events number d) }
     ensures queued { IsQueued result }
 {
     numbered_event(bytes, number as usize)

@@ -10,3 +10,4 @@ pub mod NumberLaws
 pub mod RowLaws
 pub mod AddressLaws
 mod Examples
+mod CutLaws

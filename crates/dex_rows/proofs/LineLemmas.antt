@@ -1,9 +1,9 @@
 -- A row that stands in a text without quotes, cut at its commas byte by byte.
-use Rattle.std.proofs.Common.{◌≡◌, ◌∙◌, ◌^◌, ◌+◌, ◌<◌, ◌≤◌, ◌++◌, ◌==◌, ◌∷◌, [], ℕ, List, All, Bor, Bool, true, false, length, length-append, take, drop, get_or, arith, refl, sym, ap, inl, inr, Fits, w64}
-use Rattle.std.proofs.lemmas.List.{at_drop_more, drop_more, get_or-map, get_or-take, length-map, length-take, take-append-le, take_all, take_more}
+use Rattle.std.proofs.Common.{◌≡◌, ◌∙◌, ◌+◌, ◌-◌, ◌<◌, ◌≤◌, ◌++◌, ◌==◌, ◌||◌, ◌∷◌, [], ℕ, zero, suc, List, All, Bor, Bool, true, false, length, length-append, take, drop, get_or, arith, refl, sym, ap, inl, inr}
+use Rattle.std.proofs.lemmas.List.{at_drop_more, drop_more, get_or-drop, get_or-map, get_or-take, length-map, length-take, take-append-le, take_all, take_more}
 use Rattle.std.proofs.lemmas.List.Elements.{All-append, All-cons, All-nil}
 use Rattle.std.proofs.lemmas.Bool.{cases_lt}
-use Rattle.dex_rows.specs.Lines.{AreCut, IsCut, KeepsField, behind_ends, cells_of, ends_row, texts}
+use Rattle.dex_rows.specs.Lines.{AreCut, IsCut, IsPassed, KeepsField, behind_ends, cells_of, ends_row, texts}
 use Rattle.dex_rows.specs.declared.lines.Line.{Line}
 use Rattle.dex_rows.proofs.SplitLemmas.{InPart, part_at, part_cut, part_end, part_more, part_start}
 
@@ -52,6 +52,51 @@ line_more text start at count fields below not other h = record {
   kept = h.kept;
 }
 
+-- some more bytes of a field
+line_passed : (text : List ℕ) (start at more count : ℕ) (fields : List (Bor (List ℕ))) → IsPassed text at (at + more) → InLine text start at count fields
+    → InLine text start (at + more) count fields
+line_passed text start at zero count fields passed h = let e : at + 0 ≡ at = omega arith in rw e h
+line_passed text start at (suc more) count fields passed h =
+    let before : IsPassed text at (at + more) = record {
+      order = omega arith;
+      within = omega (arith, passed.within);
+      comma = λ place low high. passed.comma place low (omega arith);
+      ends = λ place low high. passed.ends place low (omega arith);
+    } in
+    let next = line_more text start (at + more) count fields (omega (arith, passed.within)) (passed.ends (at + more) (omega arith) (omega arith))
+    (passed.comma (at + more) (omega arith) (omega arith)) (line_passed text start at more count fields before h) in
+    let e : at + more + 1 ≡ at + suc more = omega arith in
+    rw (sym e) next
+
+-- bytes that are passed
+pub line_far : (text : List ℕ) (start at to count : ℕ) (fields : List (Bor (List ℕ))) → IsPassed text at to → InLine text start at count fields → InLine text start to count fields
+line_far text start at to count fields passed h =
+    let e : at + (to - at) ≡ to = omega (arith, passed.order) in
+    let far = line_passed text start at (to - at) count fields (rw e passed) h in
+    rw e at far
+
+neither : (comma return feed : Bool) → ¬ ((comma || return || feed) ≡ true) → (comma ≡ false) × ((return || feed) ≡ false)
+neither false false false h = (refl, refl)
+neither false false true h = absurd (h refl)
+neither false true feed h = absurd (h refl)
+neither true return feed h = absurd (h refl)
+
+-- bytes none of which is a comma, a carriage return or a line feed
+pub passed_none : (text rest : List ℕ) (start more : ℕ) → rest ≡ drop start text → start + more ≤ length text
+    → ((k : ℕ) → 0 ≤ k → k < more → ¬ (((get_or rest k 0 == 44) || (get_or rest k 0 == 13) || (get_or rest k 0 == 10)) ≡ true)) → IsPassed text start (start + more)
+passed_none text rest start more behind within none =
+    let at : (place : ℕ) → start ≤ place → place < start + more → get_or rest (place - start) 0 ≡ get_or text place 0 =
+    λ place low high. ap (λ (r : List ℕ). get_or r (place - start) 0) behind ∙ get_or-drop start text (place - start) 0 ∙ ap (λ n. get_or text n 0) (omega arith) in
+    let none_at : (place : ℕ) → start ≤ place → place < start + more → (is_comma (get_or text place 0) ≡ false) × (ends_row (get_or text place 0) ≡ false) =
+    λ place low high. rw (sym (at place low high)) (neither (get_or rest (place - start) 0 == 44) (get_or rest (place - start) 0 == 13) (get_or rest (place - start) 0 == 10)
+    (none (place - start) (omega arith) (omega arith))) in
+    record {
+      order = omega arith;
+      within = within;
+      comma = λ place low high. (none_at place low high).0;
+      ends = λ place low high. (none_at place low high).1;
+    }
+
 -- one more field is kept, or is behind those that are
 kept_more : (fields after : List (Bor (List ℕ))) (count : ℕ) (field : List ℕ) (done : List (List ℕ)) → length fields ≡ 12 → count ≡ length done
     → texts (take count fields) ≡ take 12 done → KeepsField fields count field after → texts (take (count + 1) after) ≡ take 12 (done ++ field ∷ [])
@@ -84,10 +129,6 @@ line_end text start at count fields after size kept h =
       count = omega (arith, h.counted, length-append h.done (part_at text start at ∷ []), ap length cells);
       kept = kept_more fields after count (part_at text start at) h.done size h.counted h.kept kept ∙ sym (ap (take 12) cells);
     }
-
--- a place of a row is below the size of its text
-pub count_fits : (text : List ℕ) (start at count : ℕ) (fields : List (Bor (List ℕ))) → at ≤ length text → length text < 2 ^ 63 → InLine text start at count fields → Fits w64 (count + 1)
-count_fits text start at count fields within size h = omega (arith, h.few, h.part.order)
 
 -- a field that is kept
 pub field_kept : (line : Line) (place : ℕ) (d : Bor (List ℕ)) → IsCut line → place < length (cells_of line.bytes.now) → place < 12

@@ -1,6 +1,5 @@
 -- A text without quotes is read row by row where its line ends stand, and each row is cut at its commas.
 use Rattle.std.proofs.Common.{◌≡◌, ◌∙◌, ◌+◌, ◌<◌, ◌≤◌, ◌++◌, ◌==◌, ◌∷◌, [], ℕ, Bool, List, All, Option, Some, None, true, false, append_assoc, append-nil, length, take, drop, get_or, arith, refl, sym, ap, zero, suc}
-use Rattle.std.specs.Prelude.{⊤}
 use Rattle.std.specs.List.{onto_first}
 use Rattle.std.proofs.lemmas.Bool.Decides.{nat_tests}
 use Rattle.std.proofs.lemmas.List.{get_or-drop, get_or_default, length-drop, length-take, take-append-drop}
@@ -11,7 +10,7 @@ use Rattle.csv.specs.Reading.{default_config, is_bom, strip_bom}
 use Rattle.csv.specs.declared.parser.State.{State}
 use Rattle.csv.specs.declared.parser.State.TheVariants as st
 use Rattle.csv.specs.declared.parser.Terminator.TheVariants as term
-use Rattle.dex_rows.specs.Lines.{HasNoQuote, IsFront, behind_ends, cells_of, ends_row, rows_in}
+use Rattle.dex_rows.specs.Lines.{HasNoQuote, IsEnd, IsFront, behind_ends, cells_of, ends_row, rows_in}
 use Rattle.dex_rows.specs.Records.{rows_of}
 use Rattle.dex_rows.specs.RowReader.{rows_from}
 use Rattle.dex_rows.proofs.LineLemmas.{is_comma}
@@ -40,7 +39,7 @@ unfolding behind_ends
 behind_at c rest true e more = rw e (rows_skip c rest e ∙ more)
 behind_at c rest false e more = rw e refl
 
-rows_behind : (text : List ℕ) → rows_in text ≡ rows_in (behind_ends text)
+pub rows_behind : (text : List ℕ) → rows_in text ≡ rows_in (behind_ends text)
 unfolding behind_ends
 rows_behind [] = refl
 rows_behind (c ∷ rest) = behind_at c rest (ends_row c) refl (rows_behind rest)
@@ -82,11 +81,6 @@ onto_none (part ∷ parts) some = refl
 
 cells_some : (line : List ℕ) → onto [] (cells_of line) ≡ cells_of line
 cells_some line = onto_none (cells_of line) (omega (arith, length-slice_split is_comma line))
-
--- a text that begins with a line end, or is over
-abbrev IsEnd : List ℕ → Type 0
-IsEnd [] = ⊤
-IsEnd (c ∷ rest) = ends_row c ≡ true
 
 -- the record whose end a text begins with
 abbrev ended : List (List ℕ) → List ℕ → Option Read
@@ -148,7 +142,7 @@ unfolding behind_ends
 first_at c rest true e more = rw e more
 first_at c rest false e more = rw e (λ some. e)
 
-first_other : (text : List ℕ) → 0 < length (behind_ends text) → ends_row (get_or (behind_ends text) 0 0) ≡ false
+pub first_other : (text : List ℕ) → 0 < length (behind_ends text) → ends_row (get_or (behind_ends text) 0 0) ≡ false
 unfolding behind_ends
 first_other [] some = absurd (omega arith)
 first_other (c ∷ rest) some = first_at c rest (ends_row c) refl (first_other rest) some
@@ -177,7 +171,7 @@ unfolding next_record
 no_row text none = rows_behind text ∙ ap rows_in (empty (behind_ends text) none) ∙ rows_end st.StartRecord [] refl
 
 -- a row is not empty
-row_some : (text : List ℕ) (n : ℕ) → 0 < length text → ends_row (get_or text 0 0) ≡ false → IsFront text n → 0 < n
+pub row_some : (text : List ℕ) (n : ℕ) → 0 < length text → ends_row (get_or text 0 0) ≡ false → IsFront text n → 0 < n
 row_some text zero some other front = cc (other, front.ended some)
 row_some text (suc n) some other front = omega arith
 

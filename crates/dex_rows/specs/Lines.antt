@@ -1,5 +1,5 @@
 -- Rows of a text without quotes, as they stand in it.
-use Rattle.std.specs.Prelude.{ℕ, ◌+◌, ◌≡◌, ◌<◌, ◌≤◌, ◌==◌, ◌||◌, Bool, true, false, if◌then◌else◌, List, [], ◌∷◌, ◌++◌, All, Some, length, map, slice_index, take}
+use Rattle.std.specs.Prelude.{ℕ, ◌+◌, ◌≡◌, ◌<◌, ◌≤◌, ◌==◌, ◌||◌, Bool, true, false, if◌then◌else◌, List, [], ◌∷◌, ◌++◌, All, Some, get_or, length, map, slice_index, take}
 use Rattle.std.specs.Borrow.{Bor}
 use Rattle.std.specs.List.{slice_split}
 use Rattle.csv.specs.declared.parser.State.TheVariants as st
@@ -13,6 +13,11 @@ HasNoQuote text = All (λ byte. (byte == 34) ≡ false) text
 -- a byte ends a row: a carriage return or a line feed
 abbrev pub ends_row : ℕ → Bool
 ends_row byte = (byte == 13) || (byte == 10)
+
+-- a text that begins with a line end, or is over
+abbrev pub IsEnd : List ℕ → Type 0
+IsEnd [] = Unit {0}
+IsEnd (byte ∷ rest) = ends_row byte ≡ true
 
 -- what stands behind the line ends at the front of a text
 unfoldable pub behind_ends : List ℕ → List ℕ
@@ -45,6 +50,13 @@ pub record IsFront (text : List ℕ) (n : ℕ) : Type 0 where
   pub fits : n ≤ length text
   pub whole : All (λ byte. ends_row byte ≡ false) (take n text)
   pub ended : n < length text → ends_row (slice_index text n) ≡ true
+
+-- no byte from one place of a text up to another is a comma or ends a row
+pub record IsPassed (text : List ℕ) (from to : ℕ) : Type 0 where
+  pub order : from ≤ to
+  pub within : to ≤ length text
+  pub comma : (place : ℕ) → from ≤ place → place < to → (get_or text place 0 == 44) ≡ false
+  pub ends : (place : ℕ) → from ≤ place → place < to → ends_row (get_or text place 0) ≡ false
 
 -- a field is kept at this place, if it is one of the first twelve
 pub record KeepsField (fields : List (Bor (List ℕ))) (place : ℕ) (field : List ℕ) (after : List (Bor (List ℕ))) : Type 0 where

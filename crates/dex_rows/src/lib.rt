@@ -7,6 +7,7 @@ pub mod addresses;
 pub mod base64_words;
 pub(crate) mod lines;
 pub mod numbers;
+pub mod plain;
 pub mod printable;
 pub(crate) mod quoted;
 pub mod records;

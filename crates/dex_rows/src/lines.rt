@@ -2,7 +2,9 @@
 
 ghost use Rattle.std.specs.Prelude.{◌≡◌, ◌<◌, ◌≤◌, [], ◌∷◌, ◌++◌, drop, false, length, take, true};
 ghost use Rattle.csv.specs.Reading.{strip_bom};
-ghost use Rattle.dex_rows.specs.Lines.{AreCut, HasNoQuote, IsCut, IsFront, KeepsField, behind_ends, cells_of, ends_row, rows_in, texts};
+ghost use Rattle.dex_rows.specs.Lines.{AreCut, HasNoQuote, IsCut, IsFront, IsPassed, KeepsField, behind_ends, cells_of, ends_row, rows_in, texts};
+
+use memchr::memchr3;
 
 /// How many fields of a row are kept: more than any row of a script or a dump may have.
 pub(crate) const KEPT: usize = 12;
@@ -75,26 +77,45 @@ fn cut_at<'a>(text: &'a [u8], fields: &mut [&'a [u8]; KEPT]) -> Cut
 {
     let mut count = 0;
     let mut start = 0;
-    'bytes: for at in 0..text.len() {
+    let mut at = 0;
+    'bytes: while at < text.len() {
         let byte = text[at];
-        if byte <= b',' {
-            if byte == b',' {
-                keep(fields, count, &text[start..at]);
-                count += 1;
-                start = at + 1;
-            } else if ends_row(byte) {
-                keep(fields, count, &text[start..at]);
-                return Cut {
-                    length: at,
-                    count: count + 1,
-                };
-            }
+        if b',' < byte {
+            at += 1;
+        } else if byte == b',' {
+            keep(fields, count, &text[start..at]);
+            count += 1;
+            start = at + 1;
+            at = next_place(text, start, count);
+        } else if ends_row(byte) {
+            keep(fields, count, &text[start..at]);
+            return Cut {
+                length: at,
+                count: count + 1,
+            };
+        } else {
+            at += 1;
         }
     }
     keep(fields, count, &text[start..]);
     Cut {
         length: text.len(),
         count: count + 1,
+    }
+}
+
+// Where to look on behind a comma. The words of a `do` row are its tenth field, which is a long one: many bytes are looked at
+// together there.
+fn next_place(text: &[u8], start: usize, count: usize) -> usize
+    requires { start ≤ length text.now }
+    ensures { IsPassed text.now start result }
+{
+    if count != 9 {
+        return start;
+    }
+    match memchr3(b',', b'\r', b'\n', text.split_at(start).1) {
+        Some(place) => start + place,
+        None => text.len(),
     }
 }
 
@@ -110,7 +131,7 @@ fn keep<'a>(fields: &mut [&'a [u8]; KEPT], count: usize, field: &'a [u8])
 }
 
 // Whether a byte ends a row.
-fn ends_row(byte: u8) -> bool
+pub(crate) fn ends_row(byte: u8) -> bool
     ensures { result ≡ ends_row byte }
 {
     byte == b'\r' || byte == b'\n'

@@ -1,9 +1,10 @@
 //! The rows of a text, and the fields of a row.
 
-ghost use Rattle.std.specs.Prelude.{◌≡◌, ◌<◌, [], ◌∷◌, IfOk, OnErr, false, length, true};
+ghost use Rattle.std.specs.Prelude.{◌≡◌, ◌<◌, [], ◌∷◌, IfOk, IfSome, OnErr, false, length, true};
 ghost use Rattle.dex_rows.specs.Records.{field_at, rows_of};
 
 use crate::lines::{KEPT, Line, next_line, without_mark};
+use crate::plain::PlainRows;
 use crate::quoted::{self, QuotedRows};
 use csv::ByteRecord;
 use dex_types::NoMemory;
@@ -84,6 +85,25 @@ impl<'a> Rows<'a> {
             Some(_) => Source::Quoted(QuotedRows::new(alloc, text)),
         };
         Rows { source }
+    }
+
+    /// The rows of a text without a quote, to be read.
+    pub fn of_plain(plain: &PlainRows<'a>) -> Rows<'a>
+        ensures { result ≡ plain.now }
+    {
+        Rows {
+            source: Source::Plain(plain.bytes),
+        }
+    }
+
+    /// The rows that are left, as they stand, where the text has no quote.
+    pub fn plain(&self) -> Option<PlainRows<'a>>
+        ensures { IfSome result (λ plain. plain ≡ self.now) }
+    {
+        match &self.source {
+            Source::Plain(rest) => Some(PlainRows { bytes: *rest }),
+            Source::Quoted(_) => None,
+        }
     }
 
     /// Takes the next row, and answers whether there was one. After a want of memory there are no more rows.

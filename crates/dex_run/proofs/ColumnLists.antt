@@ -2,7 +2,8 @@
 use Rattle.std.proofs.Common.{◌≡◌, ℕ, zero, suc, ◌<◌, ◌≤◌, List, [], ◌∷◌, ◌++◌, length, get_or, set, reverse, map, Vec, vec_len, vec_capacity, refl, sym, ap, ◌∙◌, subst, arith, append_assoc, append-nil}
 use Rattle.dex_fold.proofs.Common.{All-cons, All-head, All-nil, All-tail, AllZip, AllZip-long}
 use Rattle.dex_replay.proofs.Common.{AllThree}
-use Rattle.dex_run.proofs.Common.{AreLonger, IsLonger}
+use Rattle.dex_run.proofs.Common.{AreLonger, GateView, IsLonger, PassView}
+use Rattle.dex_run.specs.Closing.{AreClosed}
 use Rattle.std.specs.List.{All}
 use Rattle.dex_fold.proofs.MappedLists.{AllZip-last, none-left}
 use Rattle.std.proofs.lemmas.List.{reverse-append}
@@ -221,3 +222,26 @@ columns-room count (b ∷ before) (a ∷ after) (item ∷ items) longer room =
     All-cons (λ column. count ≤ vec_capacity column) a after
     (omega (arith, All-head (λ column. count ≤ vec_capacity column) b before room, longer.0.reserved))
     (columns-room count before after items longer.1 (All-tail (λ column. count ≤ vec_capacity column) b before room))
+
+-- ---- what gates give for their columns
+
+-- a cell is that of a value which a gate gives for the passes of a column
+abbrev pub IsGiven : {V E O C Z : Type 0} → (GateView E O → List (PassView E O) → V → Type 0) → (V → Type 0) → (V → C) → GateView E O → Vec (PassView E O) Z → C → Type 0
+IsGiven {V} Given Kept cell gate column one = (value : V) × Given gate column.items value × Kept value × (one ≡ cell value)
+
+pub given-closed : {V E O C Z : Type 0} (Given : GateView E O → List (PassView E O) → V → Type 0) (Kept : V → Type 0) (cell : V → C) (gates : List (GateView E O))
+    (columns : List (Vec (PassView E O) Z)) (cells : List C) → AllThree (IsGiven Given Kept cell) gates columns cells → AreClosed Given Kept cell gates columns cells
+given-closed Given Kept cell [] [] [] all = record { values = []; given = tt; kept = All-nil Kept; are = refl }
+given-closed Given Kept cell [] [] (x ∷ cells) all = absurd all
+given-closed Given Kept cell [] (c ∷ columns) cells all = absurd all
+given-closed Given Kept cell (g ∷ gates) [] cells all = absurd all
+given-closed Given Kept cell (g ∷ gates) (c ∷ columns) [] all = absurd all
+given-closed Given Kept cell (g ∷ gates) (c ∷ columns) (x ∷ cells) all =
+    let value = all.0.0 in
+    let rest = given-closed Given Kept cell gates columns cells all.1 in
+    record {
+      values = value ∷ rest.values;
+      given = (all.0.1, rest.given);
+      kept = All-cons Kept value rest.values all.0.2 rest.kept;
+      are = ap (λ z. z ∷ cells) all.0.3 ∙ ap (λ zs. cell value ∷ zs) rest.are;
+    }

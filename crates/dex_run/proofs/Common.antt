@@ -9,6 +9,7 @@ pub use Rattle.dex_run.specs.Opened.{first_passes, fresh_pass, passes_of, seat_i
 pub use Rattle.dex_run.specs.LaneItems.{Begins, IsAlone, IsIndex, IsItemOf, IsRest, IsSwapAt, rows_before}
 pub use Rattle.dex_run.specs.Running.{AreRowsOf, CanRun, HasRun, IsJobOf}
 pub use Rattle.dex_run.specs.declared.lane.LaneJob.{LaneJob}
+pub use Rattle.dex_run.specs.declared.lane.Lanes.{Lanes}
 pub use Rattle.dex_turns.specs.Bank.{BankState, IsBank, IsMarketGate, IsWalletGate}
 pub use Rattle.dex_turns.specs.Seats.{IsDone, IsMarketPass, IsPass, IsSeat, IsSeatOf, IsWalletPass, SeatState}
 pub use Rattle.dex_turns.specs.Submitted.{AreNext, IsNext}

@@ -1,9 +1,8 @@
 -- The jobs of all lanes, and their seats.
-use Rattle.std.proofs.Common.{◌≡◌, ℕ, ◌+◌, ◌<◌, List, [], ◌∷◌, Vec, Global, get_or, length, map, sym, ap, ◌∙◌, subst, arith}
-use Rattle.dex_fold.proofs.Common.{All-cons, All-head, All-nil, All-tail, AllZip, Row, get_or-map, length-map, length-range_with_len, range_with_len}
-use Rattle.dex_run.proofs.Common.{BankState, CanRun, HasRun, IsDone, IsJobOf, IsSeatOf, LaneJob, SeatState}
+use Rattle.std.proofs.Common.{◌≡◌, ℕ, ◌+◌, ◌<◌, List, [], ◌∷◌, get_or, length, map, sym, ap, ◌∙◌, subst, arith}
+use Rattle.dex_fold.proofs.Common.{All-cons, All-head, All-nil, All-tail, AllZip, get_or-map, length-map, length-range_with_len, range_with_len}
+use Rattle.dex_run.proofs.Common.{BankState, CanRun, HasRun, IsDone, IsJobOf, IsSeatOf, LaneJob, Lanes, SeatState}
 use Rattle.std.specs.List.{All}
-use Rattle.dex_types.specs.declared.rows.RowPlaces.{RowPlaces}
 use Rattle.dex_fold.proofs.MappedLists.{zip-map}
 use Rattle.dex_run.proofs.ColumnLists.{All-second}
 use Rattle.std.proofs.lemmas.List.FromFn.{get_or-range_with_len}
@@ -11,37 +10,30 @@ use Rattle.std.proofs.lemmas.List.FromFn.{get_or-range_with_len}
 module _ {R P : Type 0} where
   -- a job may run
   abbrev pub IsReady : LaneJob R P → Type 0
-  IsReady job = CanRun job.bank.now job.rows.now job.places.now job.by_lane.now job.seat
+  IsReady job = CanRun job.lanes job.seat
 
-  module _ (bank : BankState) (rows : List Row) (places : List RowPlaces) (by_lane : List (Vec ℕ Global)) where
+  module _ (lanes : Lanes) where
     -- a job may run where its seat may
-    job-ready : (seat : SeatState) (job : LaneJob R P) → CanRun bank rows places by_lane seat → IsJobOf bank rows places by_lane seat job → IsReady job
-    job-ready seat job can is =
-        subst (λ (b : BankState). CanRun b job.rows.now job.places.now job.by_lane.now job.seat) (sym is.of_bank)
-        (subst (λ (r : List Row). CanRun bank r job.places.now job.by_lane.now job.seat) (sym is.rows_are)
-        (subst (λ (p : List RowPlaces). CanRun bank rows p job.by_lane.now job.seat) (sym is.places_are)
-        (subst (λ (l : List (Vec ℕ Global)). CanRun bank rows places l job.seat) (sym is.by_lane_is) (subst (CanRun bank rows places by_lane) (sym is.seat_is) can))))
-
-    pub jobs-ready : (seats : List SeatState) (jobs : List (LaneJob R P)) → All (CanRun bank rows places by_lane) seats
-        → AllZip (IsJobOf bank rows places by_lane) seats jobs → All IsReady jobs
+    pub jobs-ready : (seats : List SeatState) (jobs : List (LaneJob R P)) → All (CanRun lanes) seats → AllZip (IsJobOf lanes) seats jobs → All IsReady jobs
     jobs-ready [] [] can are = All-nil IsReady
     jobs-ready [] (job ∷ jobs) can are = absurd are
     jobs-ready (seat ∷ seats) [] can are = absurd are
     jobs-ready (seat ∷ seats) (job ∷ jobs) can are =
-        All-cons IsReady job jobs (job-ready seat job (All-head (CanRun bank rows places by_lane) seat seats can) are.0)
-        (jobs-ready seats jobs (All-tail (CanRun bank rows places by_lane) seat seats can) are.1)
+        All-cons IsReady job jobs
+        (subst (λ (l : Lanes). CanRun l job.seat) (sym are.0.lanes_are) (subst (CanRun lanes) (sym are.0.seat_is) (All-head (CanRun lanes) seat seats can)))
+        (jobs-ready seats jobs (All-tail (CanRun lanes) seat seats can) are.1)
 
     -- the seats of jobs that have run
-    pub jobs-ran : (seats : List SeatState) (before after : List (LaneJob R P)) → AllZip (IsJobOf bank rows places by_lane) seats before
-        → AllZip (λ (one other : LaneJob R P). HasRun one.bank.now one.seat other.seat) before after
-        → AllZip (HasRun bank) seats (map (λ (job : LaneJob R P). job.seat) after)
+    pub jobs-ran : (seats : List SeatState) (before after : List (LaneJob R P)) → AllZip (IsJobOf lanes) seats before
+        → AllZip (λ (one other : LaneJob R P). HasRun one.lanes.bank.now one.seat other.seat) before after
+        → AllZip (HasRun lanes.bank.now) seats (map (λ (job : LaneJob R P). job.seat) after)
     jobs-ran [] [] [] are ran = tt
     jobs-ran [] [] (job ∷ after) are ran = absurd ran
     jobs-ran [] (job ∷ before) after are ran = absurd are
     jobs-ran (seat ∷ seats) [] after are ran = absurd are
     jobs-ran (seat ∷ seats) (job ∷ before) [] are ran = absurd ran
     jobs-ran (seat ∷ seats) (job ∷ before) (done ∷ after) are ran = (
-      subst (λ (b : BankState). HasRun b seat done.seat) are.0.of_bank (subst (λ (s : SeatState). HasRun job.bank.now s done.seat) are.0.seat_is ran.0),
+      subst (λ (l : Lanes). HasRun l.bank.now seat done.seat) are.0.lanes_are (subst (λ (s : SeatState). HasRun job.lanes.bank.now s done.seat) are.0.seat_is ran.0),
       jobs-ran seats before after are.1 ran.1,
     )
 

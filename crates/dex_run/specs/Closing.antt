@@ -32,9 +32,8 @@ pub record ClosesAs (script : PlainScript) (seats : List SeatState) (outcome : P
 -- ---- room
 
 -- room for so many gates with so many passes each
-pub record HasGateRoom {P V C : Type 0} (gates lanes : ℕ) (room : GateRoom P V C) : Type 0 where
+pub record HasGateRoom {P C : Type 0} (gates lanes : ℕ) (room : GateRoom P C) : Type 0 where
   pub columns : AreEmpty gates lanes room.columns.items
-  pub values : IsRoom gates room.values
   pub cells : IsRoom gates room.cells
 
 -- room for so many markets and wallets with so many lanes

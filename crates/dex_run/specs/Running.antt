@@ -1,6 +1,5 @@
 -- What a lane's job needs, and what it leaves of its seat.
-use Rattle.std.specs.Prelude.{ℕ, ◌≡◌, ◌<◌, List, [], Vec, length, map}
-use Rattle.std.specs.declared.alloc.Global.{Global}
+use Rattle.std.specs.Prelude.{◌≡◌, ◌<◌, List, [], length, map}
 use Rattle.dex_types.specs.declared.rows.Row.{Row}
 use Rattle.dex_types.specs.declared.rows.RowPlaces.{RowPlaces}
 use Rattle.dex_types.specs.Rows.{row_of}
@@ -8,6 +7,7 @@ use Rattle.dex_script_facts.specs.Facts.{IsScript}
 use Rattle.dex_script_facts.specs.Places.{ArePlaced}
 use Rattle.dex_run.specs.LaneItems.{IsIndex}
 use Rattle.dex_run.specs.declared.lane.LaneJob.{LaneJob}
+use Rattle.dex_run.specs.declared.lane.Lanes.{Lanes}
 use Rattle.dex_turns.specs.Bank.{BankState}
 use Rattle.dex_turns.specs.Seats.{IsDone, IsSeatOf, SeatState}
 
@@ -19,13 +19,12 @@ pub record AreRowsOf (bank : BankState) (rows : List Row) (places : List RowPlac
 
 -- a seat of this bank of whose rows none has acted, all rows of its script with their places, and where the items of each lane
 -- begin
-pub record CanRun (bank : BankState) (rows : List Row) (places : List RowPlaces) (by_lane : List (Vec ℕ Global))
-    (seat : SeatState) : Type 0 where
-  pub are : AreRowsOf bank rows places
-  pub of_bank : IsSeatOf bank seat
+pub record CanRun (lanes : Lanes) (seat : SeatState) : Type 0 where
+  pub are : AreRowsOf lanes.bank.now lanes.rows.now lanes.places.now
+  pub of_bank : IsSeatOf lanes.bank.now seat
   pub fresh : seat.calls ≡ []
-  pub index : IsIndex rows by_lane
-  pub within : seat.lane < length by_lane
+  pub index : IsIndex lanes.rows.now lanes.by_lane.now
+  pub within : seat.lane < length lanes.by_lane.now
 
 -- the same seat of the bank, when all rows of its lane are done
 pub record HasRun (bank : BankState) (before after : SeatState) : Type 0 where
@@ -34,11 +33,7 @@ pub record HasRun (bank : BankState) (before after : SeatState) : Type 0 where
   pub script : after.script ≡ before.script
   pub done : IsDone after
 
--- the job is to do these rows at this seat of this bank
-pub record IsJobOf {R P : Type 0} (bank : BankState) (rows : List Row) (places : List RowPlaces)
-    (by_lane : List (Vec ℕ Global)) (seat : SeatState) (job : LaneJob R P) : Type 0 where
-  pub of_bank : job.bank.now ≡ bank
-  pub rows_are : job.rows.now ≡ rows
-  pub places_are : job.places.now ≡ places
-  pub by_lane_is : job.by_lane.now ≡ by_lane
+-- the job is to do the items of this seat's lane
+pub record IsJobOf {R P : Type 0} (lanes : Lanes) (seat : SeatState) (job : LaneJob R P) : Type 0 where
+  pub lanes_are : job.lanes ≡ lanes
   pub seat_is : job.seat ≡ seat

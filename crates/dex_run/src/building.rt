@@ -1,6 +1,6 @@
 //! The bank of a script, and a seat for each lane.
 
-ghost use Rattle.std.specs.Prelude.{◌≡◌, ◌<◌, ◌++◌, ◌∷◌, [], All, IfOk, OnOk, Some, map};
+ghost use Rattle.std.specs.Prelude.{◌≡◌, ◌<◌, [], All, IfOk, OnOk, Some, map};
 ghost use Rattle.std.specs.List.{AllZip, range_with_len};
 ghost use Rattle.dex_gate.specs.GateView.{GateView};
 ghost use Rattle.dex_gate.specs.PassView.{PassView, first_pass, next_pass};
@@ -15,18 +15,8 @@ use dex_gate::{Gate, Journaled, Pass};
 use dex_journals::{BankMarket, BankWallet};
 use dex_script_facts::Script;
 use dex_turns::{Bank, LaneSeat, Outline};
-use dex_types::NoMemory;
+use dex_types::{NoMemory, add};
 use std::alloc::Global;
-
-/// Adds an item behind the others.
-pub(crate) fn add<T: Drop>(items: &mut Vec<T>, item: T) -> Result<(), NoMemory>
-    ensures { OnOk result (items.new.items ≡ items.old.items ++ item ∷ []) }
-{
-    match items.push(item) {
-        Ok(()) => Ok(()),
-        Err(_) => Err(NoMemory),
-    }
-}
 
 // ---- gates
 

@@ -1,21 +1,20 @@
 //! All seats come back, and what the bank leaves.
 
 ghost use Rattle.std.specs.Prelude.{◌≡◌, List, All, IfErr, IfOk, IfSome, length, map, vec_len};
-ghost use Rattle.std.specs.List.{AllZip, range_with_len};
+ghost use Rattle.std.specs.List.{range_with_len};
 ghost use Rattle.dex_report.specs.Outcomes.{PlainOutcome, outcome_of};
 ghost use Rattle.dex_script_facts.specs.PlainScript.{PlainScript};
 ghost use Rattle.dex_replay.specs.Runs.{IsOneOrder, IsRunOf};
 ghost use Rattle.dex_turns.specs.Bank.{IsBank};
-ghost use Rattle.dex_run.specs.Closing.{AreClosed, ClosesAs, HasGateRoom, HasRoom};
+ghost use Rattle.dex_run.specs.Closing.{ClosesAs, HasGateRoom, HasRoom};
 ghost use Rattle.dex_run.specs.Closing.{MarketColumns, WalletColumns};
-ghost use Rattle.dex_run.specs.Columns.{AreEmpty, CanClose, IsClosed, IsRoom};
+ghost use Rattle.dex_run.specs.Columns.{AreEmpty};
 ghost use Rattle.dex_turns.specs.Seats.{IsDone, IsSeat, IsSeatOf, SeatState};
 
-use crate::columns::{append, closed_gates, columns_for, hand_out};
-use crate::of_cell::OfCell;
+use crate::columns::{closed_cells, columns_for, hand_out};
 use dex_bank::{Cells, Room};
 use dex_cell::MarketCell;
-use dex_gate::{Gate, Pass};
+use dex_gate::Pass;
 use dex_journals::{BankMarket, BankWallet};
 use dex_order::laws::what_lanes_leave_is_a_replay;
 use dex_replay::laws::what_one_order_leaves_is_a_run;
@@ -26,37 +25,27 @@ use std::alloc::Global;
 
 // ---- room
 
-/// Room for closing the gates of one kind: a column for the passes of each, their values, and the cells of these.
+/// Room for closing the gates of one kind: a column for the passes of each, and the cells that they give.
 #[derive(Drop)]
-struct GateRoom<P, V, C> {
+struct GateRoom<P, C> {
     columns: Vec<Vec<P>>,
-    values: Vec<V>,
     cells: Vec<C>,
 }
 
 /// Room for so many gates with so many passes each, if there is memory for it.
-fn gate_room<P: Drop, V: Drop, C: Drop>(
-    alloc: Global,
-    gates: usize,
-    lanes: usize,
-) -> Option<GateRoom<P, V, C>>
+fn gate_room<P: Drop, C: Drop>(alloc: Global, gates: usize, lanes: usize) -> Option<GateRoom<P, C>>
     ensures { IfSome result (HasGateRoom gates lanes) }
 {
     let columns = columns_for(alloc, gates, lanes)?;
-    let values = Vec::with_capacity(alloc, gates).ok()?;
     let cells = Vec::with_capacity(alloc, gates).ok()?;
-    Some(GateRoom {
-        columns,
-        values,
-        cells,
-    })
+    Some(GateRoom { columns, cells })
 }
 
 /// Room for closing a bank.
 #[derive(Drop)]
 struct ClosingRoom {
-    markets: GateRoom<Pass<BankMarket>, BankMarket, MarketCell>,
-    wallets: GateRoom<Pass<BankWallet>, BankWallet, WalletCell>,
+    markets: GateRoom<Pass<BankMarket>, MarketCell>,
+    wallets: GateRoom<Pass<BankWallet>, WalletCell>,
     left: Room,
 }
 
@@ -98,40 +87,6 @@ fn hand_out_all(
     }
 }
 
-// ---- the cells that the gates give
-
-/// The cells of values, written into the room for them.
-fn cells_of<V: OfCell + Drop>(values: Vec<V>, mut cells: Vec<V::Cell>) -> Vec<V::Cell>
-    requires { IsRoom (vec_len values) cells }
-    ensures cells { result.items ≡ map V.gives values.items }
-    ensures kept { All V.kept values.items }
-{
-    for value in values {
-        append(&mut cells, value.leave());
-    }
-    cells
-}
-
-/// The cells of the values that gates give.
-fn cells_given<V: OfCell + Drop>(
-    gates: Vec<Gate<V>>,
-    room: GateRoom<Pass<V>, V, V::Cell>,
-) -> Vec<V::Cell>
-    requires passes { AllZip (λ gate column. CanClose gate column.items) gates.items room.columns.items }
-    requires values { IsRoom (vec_len gates) room.values }
-    requires cells { IsRoom (vec_len gates) room.cells }
-    ensures { AreClosed (IsClosed V.entries V.lane V.origin) V.kept V.gives
-        gates.items room.columns.items result.items }
-{
-    let GateRoom {
-        columns,
-        values,
-        cells,
-    } = room;
-    let values = closed_gates(gates, columns, values);
-    cells_of(values, cells)
-}
-
 // ---- all of it
 
 /// What a bank leaves when these seats are back.
@@ -155,26 +110,20 @@ fn closed(bank: Bank, seats: Vec<LaneSeat>, room: ClosingRoom) -> Outcome
         markets: market_gates,
         wallets: wallet_gates,
     } = bank.into_parts();
-    let market_cells = cells_given(market_gates, markets);
-    let wallet_cells = cells_given(wallet_gates, wallets);
+    let market_cells = closed_cells(market_gates, markets.columns, markets.cells);
+    let wallet_cells = closed_cells(wallet_gates, wallets.columns, wallets.cells);
     Cells::of(mints, srm, msrm, market_cells, wallet_cells, program).close_into(left)
 }
 
 /// What lanes leave when their rows are done is what all items leave one after the other, in some order that keeps the order of
-/// each lane.
-fn what_closes_is_in_one_order()
-    ensures { (script : PlainScript) (seats : List SeatState) (outcome : PlainOutcome)
-        → ClosesAs script seats outcome → IsOneOrder script outcome }
-{
-    what_lanes_leave_is_a_replay();
-}
-
-/// So it is a run of their script.
+/// each lane; so it is a run of their script.
 fn what_closes_is_a_run()
-    ensures { (script : PlainScript) (seats : List SeatState) (outcome : PlainOutcome)
+    ensures one_order { (script : PlainScript) (seats : List SeatState) (outcome : PlainOutcome)
+        → ClosesAs script seats outcome → IsOneOrder script outcome }
+    ensures run { (script : PlainScript) (seats : List SeatState) (outcome : PlainOutcome)
         → ClosesAs script seats outcome → IsRunOf script outcome }
 {
-    what_closes_is_in_one_order();
+    what_lanes_leave_is_a_replay();
     what_one_order_leaves_is_a_run();
 }
 
@@ -194,7 +143,6 @@ pub fn close(
         → IsOneOrder bank.script (outcome_of outcome)) }
     ensures refused { IfErr result (λ back. (back.0 ≡ bank) × (back.1.items ≡ seats.items)) }
 {
-    what_closes_is_in_one_order();
     what_closes_is_a_run();
     let (markets, wallets) = bank.counts();
     match closing_room(alloc, markets, wallets, seats.len()) {

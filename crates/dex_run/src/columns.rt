@@ -1,11 +1,12 @@
 //! Passes by the gates that they are of.
 
-ghost use Rattle.std.specs.Prelude.{◌≡◌, ◌<◌, ◌≤◌, [], All, IfSome, length, vec_capacity, vec_len};
+ghost use Rattle.std.specs.Prelude.{◌<◌, ◌≤◌, All, IfSome, length, vec_capacity, vec_len};
 ghost use Rattle.std.specs.List.{AllZip};
-ghost use Rattle.dex_fold.specs.Lists.{AllThree};
-ghost use Rattle.dex_run.specs.Columns.{AreEmpty, AreLonger, CanClose, IsClosed, IsLonger};
+ghost use Rattle.dex_run.specs.Closing.{AreClosed};
+ghost use Rattle.dex_run.specs.Columns.{AreEmpty, AreLonger, CanClose, IsClosed, IsLonger, IsRoom};
 
-use dex_gate::{Gate, Journaled, Pass};
+use crate::of_cell::OfCell;
+use dex_gate::{Gate, Pass};
 use std::alloc::Global;
 
 /// Writes an item behind the others, where room for it is reserved.
@@ -40,24 +41,22 @@ pub(crate) fn hand_out<T: Drop>(items: Vec<T>, columns: &mut Vec<Vec<T>>)
     }
 }
 
-/// The values of gates, each for all its passes, written into the room for them.
-pub(crate) fn closed_gates<V: Journaled + Drop>(
+/// The cells of the values that gates give, each for all its passes, written into the room for them.
+pub(crate) fn closed_cells<V: OfCell + Drop>(
     mut gates: Vec<Gate<V>>,
     mut columns: Vec<Vec<Pass<V>>>,
-    mut values: Vec<V>,
-) -> Vec<V>
+    mut cells: Vec<V::Cell>,
+) -> Vec<V::Cell>
     requires passes { AllZip (λ gate column. CanClose gate column.items) gates.items columns.items }
-    requires empty { values.items ≡ [] }
-    requires room { vec_len gates ≤ vec_capacity values }
-    ensures { AllThree (λ gate column value. IsClosed V.entries V.lane V.origin gate column.items value)
-        gates.items columns.items result.items }
+    requires room { IsRoom (vec_len gates) cells }
+    ensures { AreClosed (IsClosed V.entries V.lane V.origin) V.kept V.gives gates.items columns.items result.items }
 {
     while let Some(gate) = gates.pop() {
         let Some(column) = columns.pop() else {
             unreachable!()
         };
-        append(&mut values, gate.close(column));
+        append(&mut cells, gate.close(column).leave());
     }
-    values.reverse();
-    values
+    cells.reverse();
+    cells
 }

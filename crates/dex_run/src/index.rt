@@ -6,10 +6,9 @@ ghost use Rattle.dex_script_facts.specs.PlainScript.{PlainScript};
 ghost use Rattle.dex_script_facts.specs.Facts.{AreRows};
 ghost use Rattle.dex_run.specs.LaneItems.{IsIndex};
 
-use crate::building::add;
 use crate::columns::columns_for;
 use dex_replay::is_swap;
-use dex_types::{NoMemory, Row};
+use dex_types::{NoMemory, Row, add};
 use std::alloc::Global;
 
 /// For each lane of a script the places at which its items begin, by one pass over the rows. Asks memory.

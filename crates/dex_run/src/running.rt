@@ -9,16 +9,15 @@ ghost use Rattle.dex_run.specs.Running.{CanRun, HasRun, IsJobOf};
 use crate::building::bank_over;
 use crate::closing::close;
 use crate::index::places_by_lane;
-use crate::lane::LaneJob;
+use crate::lane::{LaneJob, Lanes};
 use crate::stay::doors_for;
 use dex_bank::Cells;
-use dex_gate::Door;
 use dex_io::Pace;
 use dex_lanes::run_jobs;
 use dex_report::Outcome;
 use dex_script_facts::Script;
-use dex_turns::{Bank, LaneSeat, Outline};
-use dex_types::{NoMemory, Row, RowPlaces};
+use dex_turns::{LaneSeat, Outline};
+use dex_types::{NoMemory, add};
 use std::alloc::Global;
 use std::marker::Sync;
 use std::sync::Wait;
@@ -28,32 +27,21 @@ use std::thread::Threads;
 fn jobs_of<'a, R: Wait, P: Pace>(
     rt: &'a R,
     alloc: Global,
-    bank: &'a Bank,
-    doors: &'a [Door],
+    lanes: Lanes<'a>,
     seats: Vec<LaneSeat>,
-    rows: &'a [Row],
-    places: &'a [RowPlaces],
-    by_lane: &'a [Vec<usize>],
     pace: &'a P,
 ) -> Result<Vec<LaneJob<'a, R, P>>, NoMemory>
-    ensures { IfOk result (λ jobs. AllZip (IsJobOf bank.now rows.now places.now by_lane.now) seats.items jobs.items) }
+    ensures { IfOk result (λ jobs. AllZip (IsJobOf lanes.entry) seats.items jobs.items) }
 {
     let mut jobs = Vec::new(alloc);
     for seat in seats {
         let job = LaneJob {
             rt,
-            bank,
-            doors,
+            lanes,
             seat,
-            rows,
-            places,
-            by_lane,
             pace,
         };
-        match jobs.push(job) {
-            Ok(()) => {}
-            Err(_) => return Err(NoMemory),
-        }
+        add(&mut jobs, job)?;
     }
     Ok(jobs)
 }
@@ -67,16 +55,7 @@ fn seats_back<'a, R: Wait, P: Pace>(
     ensures { result.items ≡ map (λ job. job.seat) jobs.entry.items }
 {
     for job in jobs {
-        let LaneJob {
-            rt: _,
-            bank: _,
-            doors: _,
-            seat,
-            rows: _,
-            places: _,
-            by_lane: _,
-            pace: _,
-        } = job;
+        let LaneJob { seat, .. } = job;
         seats.push_reserved(seat);
     }
     seats
@@ -86,22 +65,15 @@ fn seats_back<'a, R: Wait, P: Pace>(
 fn run_all<R: Threads + Wait + Sync, P: Pace + Sync>(
     rt: &R,
     alloc: Global,
-    bank: &Bank,
+    lanes: Lanes<'_>,
     seats: Vec<LaneSeat>,
-    rows: &[Row],
-    places: &[RowPlaces],
-    by_lane: &[Vec<usize>],
     pace: &P,
 ) -> Result<Vec<LaneSeat>, NoMemory>
-    requires { All (CanRun bank.now rows.now places.now by_lane.now) seats.items }
-    ensures { IfOk result (λ after. AllZip (HasRun bank.now) seats.items after.items) }
+    requires { All (CanRun lanes) seats.items }
+    ensures { IfOk result (λ after. AllZip (HasRun lanes.entry.bank.now) seats.items after.items) }
 {
-    let Ok(room) = Vec::with_capacity(alloc, seats.len()) else {
-        return Err(NoMemory);
-    };
-    let (markets, _) = bank.counts();
-    let doors = doors_for(alloc, markets)?;
-    let mut jobs = jobs_of(rt, alloc, bank, &doors, seats, rows, places, by_lane, pace)?;
+    let room = Vec::with_capacity(alloc, seats.len())?;
+    let mut jobs = jobs_of(rt, alloc, lanes, seats, pace)?;
     run_jobs(rt, &mut jobs);
     Ok(seats_back(jobs, room))
 }
@@ -121,7 +93,16 @@ pub fn run<R: Threads + Wait + Sync, P: Pace + Sync>(
     let (cells, rows, places) = Cells::of_script(alloc, script)?;
     let by_lane = places_by_lane(alloc, outline.lanes(), &rows)?;
     let (bank, seats) = bank_over(alloc, outline, cells)?;
-    let seats = run_all(rt, alloc, &bank, seats, &rows, &places, &by_lane, pace)?;
+    let (markets, _) = bank.counts();
+    let doors = doors_for(alloc, markets)?;
+    let lanes = Lanes {
+        bank: &bank,
+        doors: &doors,
+        rows: &rows,
+        places: &places,
+        by_lane: &by_lane,
+    };
+    let seats = run_all(rt, alloc, lanes, seats, pace)?;
     match close(alloc, bank, seats) {
         Ok(outcome) => Ok(outcome),
         Err(_) => Err(NoMemory),

@@ -5,17 +5,27 @@
 //! out again. Meanwhile other such lanes sleep, and no turn of a market passes from one processor to another. Doors are taken by rising
 //! place, and between items, where a lane has no turn. So who waits at a door has but doors of lower places, and no lanes wait in a
 //! circle.
+//!
+//! The rows of one lane lie apart from each other, so the processor does not foresee which comes next, and each was waited for when its
+//! item acted. Therefore a lane weighs some rows together, which reads them side by side, just before their items act.
 
-use crate::building::add;
+use crate::lane::Lanes;
 use dex_gate::Door;
-use dex_types::{NoMemory, Row, RowPlaces};
+use dex_replay::is_swap;
+use dex_types::{NoMemory, Row, RowPlaces, add};
 use std::alloc::Global;
 use std::sync::Wait;
 
 /// How many items a lane may do before it lets others in.
-const MOST: usize = 256;
+const MOST: usize = 1024;
 /// Fewer items are not worth a door.
 const FEW: usize = 32;
+/// How many rows are weighed together at most.
+const TOGETHER: usize = 64;
+/// How heavy those before the last of them may be.
+const HEAVY: usize = 128;
+/// The second byte of data that asks for a crank.
+const CRANK: u8 = 3;
 
 /// One market, or two by rising place. Of one, both places are its own.
 #[derive(Clone, Copy)]
@@ -29,29 +39,16 @@ impl Markets {
     fn and(self, market: usize) -> Option<Markets> {
         let Markets { lower, higher } = self;
         if market == lower || market == higher {
-            Some(self)
-        } else if lower != higher {
-            None
-        } else if market < lower {
-            Some(Markets {
-                lower: market,
-                higher,
-            })
-        } else {
-            Some(Markets {
-                lower,
-                higher: market,
-            })
+            return Some(self);
         }
+        if lower != higher {
+            return None;
+        }
+        Some(Markets {
+            lower: lower.min(market),
+            higher: higher.max(market),
+        })
     }
-}
-
-/// The items of a lane: where each begins among all rows.
-#[derive(Clone, Copy)]
-pub(crate) struct Items<'a> {
-    pub(crate) rows: &'a [Row],
-    pub(crate) places: &'a [RowPlaces],
-    pub(crate) own: &'a [usize],
 }
 
 /// The market of the row at a place, and these, if they are no more than two.
@@ -66,17 +63,50 @@ fn with_row(places: &[RowPlaces], place: usize, before: Option<Markets>) -> Opti
     }
 }
 
-/// The markets of an item, and these, if they are no more than two.
-fn with_item(items: Items<'_>, item: usize, before: Option<Markets>) -> Option<Markets> {
-    let place = *items.own.get(item)?;
-    let next = place.wrapping_add(1);
-    let markets = with_row(items.places, place, before)?;
-    match (items.rows.get(place), items.rows.get(next)) {
-        (Some(row), Some(leg)) if row.number == leg.number => {
-            with_row(items.places, next, Some(markets))
-        }
-        _ => Some(markets),
+/// The markets of the item that begins at a place, and these, if they are no more than two.
+fn with_item(lanes: &Lanes<'_>, place: usize, before: Option<Markets>) -> Option<Markets> {
+    let markets = with_row(lanes.places, place, before)?;
+    if place < lanes.rows.len() && is_swap(lanes.rows, place) {
+        with_row(lanes.places, place.wrapping_add(1), Some(markets))
+    } else {
+        Some(markets)
     }
+}
+
+/// About how much a row touches: the accounts that it names, and what its data asks for.
+fn weight_of(row: &Row) -> usize {
+    let mut weight = row.named.len();
+    'roles: for role in [&row.coin, &row.pc, &row.discount, &row.referrer] {
+        if role.is_some() {
+            weight = weight.wrapping_add(1);
+        }
+    }
+    match row.bytes.get(1) {
+        Some(&CRANK) => weight.wrapping_add(8),
+        _ => weight.wrapping_add(1),
+    }
+}
+
+/// Weighs the rows with which the next items begin, and tells before which item to go on.
+fn weighed(rows: &[Row], own: &[usize], first: usize) -> usize {
+    let mut next = first;
+    let mut weight: usize = 0;
+    for _ in 0..TOGETHER {
+        let Some(row) = row_at(rows, own, next) else {
+            break;
+        };
+        if HEAVY < weight {
+            break;
+        }
+        weight = weight.wrapping_add(weight_of(row));
+        next = next.wrapping_add(1);
+    }
+    next
+}
+
+/// The row with which an item begins.
+fn row_at<'a>(rows: &'a [Row], own: &[usize], item: usize) -> Option<&'a Row> {
+    rows.get(*own.get(item)?)
 }
 
 /// A door for each market. Asks memory.
@@ -91,6 +121,7 @@ pub(crate) fn doors_for(alloc: Global, markets: usize) -> Result<Vec<Door>, NoMe
 /// Items of a lane up to one, and the markets behind whose doors they are done, if they are.
 #[derive(Drop)]
 pub(crate) struct Stay {
+    weighed: usize,
     until: usize,
     markets: Option<Markets>,
 }
@@ -99,40 +130,55 @@ impl Stay {
     /// No items yet.
     pub(crate) fn none() -> Stay {
         Stay {
+            weighed: 0,
             until: 0,
             markets: None,
         }
     }
 
-    /// The items from one on that act on two markets at most.
-    fn from(items: Items<'_>, first: usize) -> Stay {
+    /// The items from one on that act on two markets at most. These are the places at which a lane's items begin.
+    fn from(lanes: &Lanes<'_>, own: &[usize], first: usize) -> Stay {
         let mut until = first;
         let mut markets = None;
         for _ in 0..MOST {
-            match with_item(items, until, markets) {
-                Some(more) => markets = Some(more),
-                None => break,
-            }
+            let Some(place) = own.get(until) else {
+                break;
+            };
+            let Some(more) = with_item(lanes, *place, markets) else {
+                break;
+            };
+            markets = Some(more);
             until = until.wrapping_add(1);
         }
         if until.wrapping_sub(first) < FEW {
             markets = None;
         }
-        Stay { until, markets }
+        Stay {
+            weighed: first,
+            until,
+            markets,
+        }
     }
 
-    /// Before an item: comes in where a stay begins with it.
+    /// Before an item: comes in where a stay begins with it, and weighs rows where it is behind those that were weighed.
     pub(crate) fn before<R: Wait>(
         &mut self,
         rt: &R,
-        doors: &[Door],
-        items: Items<'_>,
+        lanes: &Lanes<'_>,
+        own: &[usize],
         item: usize,
     ) {
-        if item < self.until {
-            return;
+        if self.until <= item {
+            *self = Stay::from(lanes, own, item);
+            self.come_in(rt, lanes.doors);
         }
-        *self = Stay::from(items, item);
+        if self.weighed <= item {
+            self.weighed = weighed(lanes.rows, own, item);
+        }
+    }
+
+    /// Comes in at the doors of its markets.
+    fn come_in<R: Wait>(&self, rt: &R, doors: &[Door]) {
         if let Some(Markets { lower, higher }) = self.markets {
             come_in_at(rt, doors, lower);
             if higher != lower {

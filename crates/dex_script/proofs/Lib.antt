@@ -10,6 +10,7 @@ pub mod ItemRows
 pub mod LegLaws
 pub mod OrderLaws
 pub mod BatchLaws
+pub mod PieceLaws
 pub mod RowParts
 pub mod StatedLaws
 pub mod MadeMarkets

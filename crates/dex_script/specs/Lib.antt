@@ -3,6 +3,7 @@ pub mod Known
 pub mod Markets
 pub mod Mints
 pub mod Names
+pub mod Pieces
 pub mod Rows
 pub mod Scripts
 pub mod Telling

@@ -9,6 +9,7 @@ mod laws;
 mod markets;
 mod mints;
 mod names;
+mod pieces;
 mod reader;
 mod reading;
 mod setup;
@@ -22,4 +23,5 @@ pub use laws::{
     a_script_for_batches_is_one_for_every_command, a_script_starts_sound,
     a_script_without_swaps_is_one_for_batches, rows_of_a_script_are_in_order,
 };
-pub use reading::read_script;
+pub use reader::Reader;
+pub use reading::{ReadRows, read_first, read_rows, read_script, read_script_by};

@@ -24,10 +24,10 @@ use std::marker::Model;
 /// A script as far as its rows are read, the places of each row, and, from its first instruction row on, the names of its
 /// markets and wallets. A contract sees it as what the rows say.
 #[derive(Drop)]
-pub(crate) struct Reader {
-    draft: Draft,
-    places: Vec<RowPlaces>,
-    names: Option<Names>,
+pub struct Reader {
+    pub(crate) draft: Draft,
+    pub(crate) places: Vec<RowPlaces>,
+    pub(crate) names: Option<Names>,
 }
 
 impl Model for Reader {

@@ -1,6 +1,6 @@
 //! A script, from its bytes.
 
-ghost use Rattle.std.specs.Prelude.{◌≡◌, IfOk, false, true};
+ghost use Rattle.std.specs.Prelude.{◌≡◌, IfOk, OnOk, false, true, ⊤};
 ghost use Rattle.dex_types.specs.Accounts.{accounts_of};
 ghost use Rattle.dex_dump.specs.Accepted.{AreAccepted};
 ghost use Rattle.dex_dump.specs.Answers.{next_number};
@@ -8,8 +8,9 @@ ghost use Rattle.dex_statement.specs.Faults.{code_of, kind_number};
 ghost use Rattle.dex_rows.specs.Records.{rows_of};
 ghost use Rattle.dex_script_facts.specs.Facts.{HasNoSwap};
 ghost use Rattle.dex_script.specs.Rows.{with_row};
+ghost use Rattle.dex_script.specs.Pieces.{number_after};
 ghost use Rattle.dex_script.specs.Scripts.{begins_with_dump, draft_after, fault_in};
-ghost use Rattle.dex_script.specs.Telling.{TellsDraft, TellsLeft, TellsScript, TellsStart, TellsText};
+ghost use Rattle.dex_script.specs.Telling.{TellsDraft, TellsFront, TellsLeft, TellsScript, TellsStart, TellsText};
 
 use crate::draft::Draft;
 use crate::fault::ScriptError;
@@ -25,6 +26,42 @@ use dex_statement::{FaultKind, InstructionWords, RowError};
 use dex_types::NoMemory;
 use std::alloc::Global;
 
+/// How the rows of a script are read.
+pub trait ReadRows {
+    /// What a way to read needs.
+    ghost ready: { Self → Type 0 };
+
+    /// What is read behind the rows that are left, the first of which has this number, or the first faulty one.
+    fn read_rows(
+        &self,
+        alloc: Global,
+        reader: Reader,
+        number: u32,
+        rows: &mut Rows<'_>,
+    ) -> Result<Reader, ScriptError>
+        requires { ready self.now }
+        ensures { TellsDraft result (draft_after reader number rows.old) };
+}
+
+// Rows are read one after the other.
+#[derive(Drop)]
+struct InTurn;
+
+impl ReadRows for InTurn {
+    ghost ready = { λ how. ⊤ };
+
+    fn read_rows(
+        &self,
+        alloc: Global,
+        reader: Reader,
+        number: u32,
+        rows: &mut Rows<'_>,
+    ) -> Result<Reader, ScriptError> {
+        let mut number = number;
+        read_rows(alloc, reader, &mut number, rows)
+    }
+}
+
 /// The script that a text is: the accounts that its first rows make, or that the dump at its start holds, and its
 /// instruction rows. Else the first faulty row with the lowest of its faults, or the fault or the findings of the dump. In a
 /// script that is to act in batches a swap is a fault, so each of its rows acts by itself.
@@ -32,7 +69,21 @@ pub fn read_script(alloc: Global, bytes: &[u8], batch: bool) -> Result<Script, S
     ensures told { TellsScript result batch bytes.now }
     ensures apart { IfOk result (λ script. batch ≡ true → HasNoSwap script.rows) }
 {
-    match read_text(alloc, bytes, batch) {
+    read_script_by(alloc, bytes, batch, &InTurn)
+}
+
+/// The same, with rows read as the last argument does.
+pub fn read_script_by<H: ReadRows>(
+    alloc: Global,
+    bytes: &[u8],
+    batch: bool,
+    how: &H,
+) -> Result<Script, ScriptError>
+    requires { H.ready how.now }
+    ensures told { TellsScript result batch bytes.now }
+    ensures apart { IfOk result (λ script. batch ≡ true → HasNoSwap script.rows) }
+{
+    match read_text(alloc, bytes, batch, how) {
         Ok(reader) => {
             a_script_starts_sound();
             rows_of_a_script_are_in_order();
@@ -43,35 +94,55 @@ pub fn read_script(alloc: Global, bytes: &[u8], batch: bool) -> Result<Script, S
     }
 }
 
-fn read_text(alloc: Global, bytes: &[u8], batch: bool) -> Result<Reader, ScriptError>
+fn read_text<H: ReadRows>(
+    alloc: Global,
+    bytes: &[u8],
+    batch: bool,
+    how: &H,
+) -> Result<Reader, ScriptError>
+    requires { H.ready how.now }
     ensures { TellsText result batch bytes.now }
 {
     if begins_with_dump(alloc, bytes)? {
-        read_behind_dump(alloc, bytes, batch)
+        read_behind_dump(alloc, bytes, batch, how)
     } else {
-        read_from_nothing(alloc, bytes, batch)
+        read_from_nothing(alloc, bytes, batch, how)
     }
 }
 
-/// What a text that begins with no dump says.
-fn read_from_nothing(alloc: Global, bytes: &[u8], batch: bool) -> Result<Reader, ScriptError>
-    requires { begins_with_dump (rows_of bytes.now) ≡ false }
+/// What a text that begins with no dump says. It is not inlined, since the rows of a text take much of the stack.
+#[inline(never)]
+fn read_from_nothing<H: ReadRows>(
+    alloc: Global,
+    bytes: &[u8],
+    batch: bool,
+    how: &H,
+) -> Result<Reader, ScriptError>
+    requires begins { begins_with_dump (rows_of bytes.now) ≡ false }
+    requires ready { H.ready how.now }
     ensures { TellsText result batch bytes.now }
 {
     let mut rows = Rows::new(alloc, bytes);
-    read_rows(alloc, Reader::new(alloc, batch), 1, &mut rows)
+    how.read_rows(alloc, Reader::new(alloc, batch), 1, &mut rows)
 }
 
-/// What a text that begins with a dump says.
-fn read_behind_dump(alloc: Global, bytes: &[u8], batch: bool) -> Result<Reader, ScriptError>
-    requires { begins_with_dump (rows_of bytes.now) ≡ true }
+/// What a text that begins with a dump says. It is not inlined either.
+#[inline(never)]
+fn read_behind_dump<H: ReadRows>(
+    alloc: Global,
+    bytes: &[u8],
+    batch: bool,
+    how: &H,
+) -> Result<Reader, ScriptError>
+    requires begins { begins_with_dump (rows_of bytes.now) ≡ true }
+    requires ready { H.ready how.now }
     ensures { TellsText result batch bytes.now }
 {
     let mut rows = Rows::new(alloc, bytes);
     let dump = read_dump(alloc, &mut rows)?;
     let number = next_number(dump.count);
     let before = Draft::behind_dump(alloc, dump.accounts, batch)?;
-    read_rows(alloc, Reader::of(alloc, before), number, &mut rows)
+    how.read_rows(alloc, Reader::of(alloc, before), number, &mut rows)
 }
 
 /// The dump at the start, whose accounts have no findings.
@@ -101,20 +172,41 @@ fn begins_with_dump(alloc: Global, bytes: &[u8]) -> Result<bool, NoMemory>
     Ok(found && is_first_row(&row))
 }
 
-/// What is read behind the rows that are left, the first of which has this number, or the first faulty one.
-fn read_rows(
+/// What is read behind the rows that are left, the first of which has this number, or the first faulty one. Raises the
+/// number to that of the row behind them.
+pub fn read_rows(
     alloc: Global,
     mut reader: Reader,
-    mut number: u32,
+    number: &mut u32,
     rows: &mut Rows<'_>,
 ) -> Result<Reader, ScriptError>
-    ensures { TellsDraft result (draft_after reader number rows.old) }
+    ensures told { TellsDraft result (draft_after reader number.old rows.old) }
+    ensures number { OnOk result (number.new ≡ number_after number.old rows.old) }
 {
     let mut row = Fields::new();
     let mut words = InstructionWords::none(alloc);
     'rows: while rows.next_row(&mut row)? {
-        add_row(alloc, &mut reader, number, &row, &mut words)?;
-        number = next_number(number);
+        add_row(alloc, &mut reader, *number, &row, &mut words)?;
+        *number = next_number(*number);
+    }
+    Ok(reader)
+}
+
+/// What is read behind the rows up to the first instruction row, which is the last that is taken, or the first faulty one.
+/// The rows that are left are those behind it; where no instruction row stands among them, all are read.
+pub fn read_first(
+    alloc: Global,
+    mut reader: Reader,
+    number: &mut u32,
+    rows: &mut Rows<'_>,
+) -> Result<Reader, ScriptError>
+    ensures { TellsFront result number.new rows.new (draft_after reader number.old rows.old) }
+{
+    let mut row = Fields::new();
+    let mut words = InstructionWords::none(alloc);
+    'rows: while !reader.is_underway() && rows.next_row(&mut row)? {
+        add_row(alloc, &mut reader, *number, &row, &mut words)?;
+        *number = next_number(*number);
     }
     Ok(reader)
 }

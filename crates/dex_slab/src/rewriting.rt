@@ -37,7 +37,8 @@ pub(crate) fn insert_order(bytes: &mut [u8], order: Order, side: Side)
     requires room { count_of bytes.old < room_in bytes.old }
     ensures slab { IsSlab bytes.new }
     ensures orders { resting side bytes.new ≡ posted side order (resting side bytes.old) }
-    ensures bump { bump_of bytes.new ≡ bump_of bytes.old + (nodes_taken (count_of bytes.old) - free_len_of bytes.old) }
+    ensures bump { bump_of bytes.new
+        ≡ bump_of bytes.old + (nodes_taken (count_of bytes.old) - free_len_of bytes.old) }
     ensures freed { free_len_of bytes.new ≡ free_len_of bytes.old - nodes_taken (count_of bytes.old) }
     ensures frame { KeepsFrame bytes.old bytes.new }
 {

@@ -22,5 +22,6 @@ pub fn a_sum_is_too_large_where_the_bound_would_break()
         let after = would_leave request seen m in 2 ^ 64 ≤ vault token after + all_leaving token after.events
         → why request seen m ≢ None }
     ensures exactly { (request : Request) (seen : Seen) (m : Market) → IsSound m → HasPrice request.instruction →
-        IsRefusedForSum request seen m ↔ (BreaksBound (would_leave request seen m) × HasNoOtherReason request seen m) }
+        IsRefusedForSum request seen m
+        ↔ (BreaksBound (would_leave request seen m) × HasNoOtherReason request seen m) }
 {}

@@ -23,7 +23,8 @@ pub fn every_amount_fits_its_field()
 /// part leaves that below 2^64.
 pub fn every_pending_event_can_be_paid()
     ensures now { (m : Market) → IsSound m → All (CanBePaid m) m.events }
-    ensures later { (m : Market) (count : ℕ) → IsSound m → All (CanBePaid (after_crank count m)) (drop count m.events) }
+    ensures later { (m : Market) (count : ℕ) → IsSound m
+        → All (CanBePaid (after_crank count m)) (drop count m.events) }
 {}
 
 /// In a sound market what can be paid out is there: an account's free funds and its referrer part are in the vaults, that

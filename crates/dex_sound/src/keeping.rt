@@ -20,5 +20,6 @@ pub fn only_transfers_move_vaults()
 /// In a sound market the free funds of an account are part of its total.
 pub fn free_funds_are_part_of_the_total()
     ensures { (m : Market) (owner : Address) (account : Account) (token : Token) → IsSound m →
-        trader_at owner m.traders ≡ Some (Open account) → (balance token account).free ≤ (balance token account).total }
+        trader_at owner m.traders ≡ Some (Open account)
+        → (balance token account).free ≤ (balance token account).total }
 {}

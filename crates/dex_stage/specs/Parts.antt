@@ -12,7 +12,14 @@ use Rattle.dex_wallet.specs.CellState.{CellState, IsWalletCell}
 use Rattle.dex_fold.specs.Fold.{wallet_acted}
 use Rattle.dex_fold.specs.World.{World}
 use Rattle.dex_act.specs.Wallets.{made_of, wallet_state_of}
+use Rattle.dex_script_facts.specs.PlainScript.{PlainScript}
 use Rattle.dex_stage.specs.declared.parts.Terms.{Terms}
+
+-- the terms are a script's
+pub record AreTermsOf (script : PlainScript) (terms : Terms) : Type 0 where
+  pub srm : terms.srm ≡ script.start.srm
+  pub msrm : terms.msrm ≡ script.start.msrm
+  pub program : terms.program ≡ script.program
 
 -- the cells that stand in places, up to the first that is free
 abbrev pub cells_in : List (Option CellState) → List CellState

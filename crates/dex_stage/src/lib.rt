@@ -4,4 +4,4 @@
 pub mod laws;
 mod parts;
 
-pub use parts::{Parts, Terms, step_parts};
+pub use parts::{Parts, Terms, seen_by, step_parts};

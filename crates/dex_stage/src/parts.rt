@@ -6,10 +6,11 @@ ghost use Rattle.dex_types.specs.Rows.{row_of};
 ghost use Rattle.dex_cell.specs.CellState.{step_on};
 ghost use Rattle.dex_fold.specs.World as world;
 ghost use Rattle.dex_act.specs.Wallets.{Fits, roles_of, wallet_state_of};
-ghost use Rattle.dex_stage.specs.Parts.{CanStep, HasStepped, world_in_hand};
+ghost use Rattle.dex_stage.specs.Parts.{AreTermsOf, CanStep, HasStepped, world_in_hand};
 
 use dex_act::{act, places_in, wallet_at};
 use dex_cell::MarketCell;
+use dex_script_facts::Script;
 use dex_types::{Address, Program, Reply, Row, Seen, WalletSeen};
 use dex_wallet::WalletCell;
 
@@ -19,6 +20,19 @@ pub struct Terms {
     pub srm: Option<Address>,
     pub msrm: Option<Address>,
     pub program: Program,
+}
+
+impl Terms {
+    /// What the rows of a script see so.
+    pub fn of(script: &Script) -> Terms
+        ensures { AreTermsOf script.now result }
+    {
+        Terms {
+            srm: script.start.srm,
+            msrm: script.start.msrm,
+            program: script.program,
+        }
+    }
 }
 
 /// The cells that a row acts on: its market's, and those of the wallets that it names, by rising address.
@@ -40,7 +54,7 @@ fn role_at(hands: &[WalletCell], role: Option<Address>) -> Option<WalletSeen>
 }
 
 /// What a row sees of the wallets in hand.
-fn seen_by(hands: &[WalletCell], terms: Terms, row: &Row) -> Seen
+pub fn seen_by(hands: &[WalletCell], terms: Terms, row: &Row) -> Seen
     ensures seen { result ≡ world.seen_by (row_of row.entry.now) (world_in_hand terms hands.now) }
     ensures fits { All Fits (roles_of result) }
 {

@@ -19,14 +19,6 @@ use dex_ring::RingView;
 use dex_slab::SlabView;
 use dex_types::{Address, Lots, MarketAccounts, OrdersAccount, Reply, Side};
 
-/// The lot sizes of a market account.
-fn sizes_in(market: &[u8]) -> Lots
-    requires { IsMarket market.now }
-    ensures { result ≡ sizes_of (market_words market.now) }
-{
-    MarketRef { bytes: market }.sizes()
-}
-
 /// The bytes of the account of an address that is among these.
 fn bytes_of(accounts: &[OrdersAccount], address: Address) -> &[u8]
     requires { IsSome (bytes_at address (map orders_account_of accounts.now)) }
@@ -79,7 +71,10 @@ pub(crate) fn cancel_row(accounts: &mut MarketAccounts, owner: Address, what: &C
         HasStepped (market_accounts_of accounts.old) (market_accounts_of accounts.new) result
         (pending_fills_of m.events) (cancel_step (named_by what.entry.now) owner m) }
 {
-    let sizes = sizes_in(&accounts.market);
+    let market = MarketRef {
+        bytes: &accounts.market,
+    };
+    let sizes = market.sizes();
     let held = bytes_of(&accounts.orders, owner);
     let count = cancel_on_bytes(
         what,

@@ -1,13 +1,13 @@
 //! Events consumed, in place. It takes no memory.
 
 ghost use Rattle.dex_accounts.specs.Decoded.{AreSound, market_in};
-ghost use Rattle.dex_crank.specs.PaidBytes.{crank_bytes, paid_bytes};
+ghost use Rattle.dex_crank.specs.PaidBytes.{crank_bytes};
 ghost use Rattle.dex_crank.specs.Parts.{AreOfSoundMarket};
 ghost use Rattle.dex_ring.specs.PendingFills.{pending_fills_of};
 ghost use Rattle.dex_step.specs.Acting.{HasStepped};
 ghost use Rattle.dex_step.specs.ConsumeActs.{HasConsumed, consume_step};
-ghost use Rattle.dex_types.specs.Accounts.{market_accounts_of, orders_account_of};
-ghost use Rattle.std.specs.Prelude.{◌≡◌, map};
+ghost use Rattle.dex_types.specs.Accounts.{market_accounts_of};
+ghost use Rattle.std.specs.Prelude.{◌≡◌};
 
 use dex_crank::{Consumed, consume_with_pending};
 use dex_ring::{PendingFills, RingView};

@@ -1,6 +1,6 @@
 //! New orders, done in place. None takes memory.
 
-ghost use Rattle.std.specs.Prelude.{◌≡◌, map};
+ghost use Rattle.std.specs.Prelude.{map};
 ghost use Rattle.dex_accounts.specs.Decoded.{AreSound, market_in};
 ghost use Rattle.dex_step.specs.Acting.{CanTakeIn, HasStepped, HaveTakenIn};
 ghost use Rattle.dex_step.specs.OrderActs.{

@@ -1,6 +1,5 @@
 //! Takes, done in place. None takes memory.
 
-ghost use Rattle.std.specs.Prelude.{◌≡◌};
 ghost use Rattle.dex_accounts.specs.Decoded.{AreSound, market_in};
 ghost use Rattle.dex_step.specs.Acting.{CanExchange, HasStepped, HaveExchanged};
 ghost use Rattle.dex_step.specs.TakeActs.{CanTake, HasTaken, KeepsRest, take_bytes, take_bytes_of};

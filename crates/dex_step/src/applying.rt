@@ -5,7 +5,7 @@ ghost use Rattle.dex_plan.specs.Given.{asked_by, market_of};
 ghost use Rattle.dex_plan.specs.Plans.{decided};
 ghost use Rattle.dex_history.specs.Journal.{row_step};
 ghost use Rattle.dex_ring.specs.PendingFills.{pending_fills_of};
-ghost use Rattle.dex_step.specs.Acting.{HasStepped, KeepsAccounts};
+ghost use Rattle.dex_step.specs.Acting.{HasStepped};
 ghost use Rattle.dex_types.specs.Accounts.{market_accounts_of};
 ghost use Rattle.dex_types.specs.Rows.{row_of};
 ghost use Rattle.std.specs.Prelude.{◌≡◌, ◌<◌, ◌∷◌, List, Ok, length};
@@ -28,8 +28,11 @@ fn first_named(row: &Row) -> Address
     row.named[0]
 }
 
-/// Does what was decided of a row.
-fn do_plan(
+/// Does on a market's accounts what was decided of a row, and answers its reply. The accounts are then those of the
+/// market that the row's step leaves, which is sound; and `pending`, what pending makers' fills are still to take off
+/// totals, is what it is there. Addresses and the authority stay, and accounts that were accepted are accepted still.
+/// It is never refused.
+pub fn apply(
     accounts: &mut MarketAccounts,
     row: &Row,
     seen: &Seen,
@@ -62,28 +65,4 @@ fn do_plan(
         Plan::Close => close_row(accounts, first_named(row)),
         Plan::Init => init_row(accounts, first_named(row), row.signer),
     }
-}
-
-/// Does on a market's accounts what was decided of a row, and answers its reply. The accounts are then those of the
-/// market that the row's step leaves, which is sound; and `pending`, what pending makers' fills are still to take off
-/// totals, is what it is there. Addresses and the authority stay, and accounts that were accepted are accepted still.
-/// It is never refused.
-pub fn apply(
-    accounts: &mut MarketAccounts,
-    row: &Row,
-    seen: &Seen,
-    plan: &Plan,
-    pending: &mut PendingFills,
-) -> Reply
-    requires sound { AreSound (market_accounts_of accounts.old) }
-    requires decided { Ok plan.now ≡ decided (asked_by row.now) seen.now (market_of accounts.old) }
-    requires pending { pending.old ≡ pending_fills_of (market_of accounts.old).events }
-    ensures reply { result ≡ (row_step (row_of row.entry.now) seen.entry.now (market_of accounts.old)).reply }
-    ensures market { market_of accounts.new
-        ≡ (row_step (row_of row.entry.now) seen.entry.now (market_of accounts.old)).market }
-    ensures sound { AreSound (market_accounts_of accounts.new) }
-    ensures pending { pending.new ≡ pending_fills_of (market_of accounts.new).events }
-    ensures kept { KeepsAccounts (market_accounts_of accounts.old) (market_accounts_of accounts.new) }
-{
-    do_plan(accounts, row, seen, plan, pending)
 }

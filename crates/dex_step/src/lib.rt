@@ -7,8 +7,6 @@ mod acting_funds;
 mod acting_orders;
 mod acting_takes;
 mod applying;
-mod laws;
 mod vaults;
 
 pub use applying::apply;
-pub use laws::{what_is_decided_is_planned, what_is_left_is_the_steps};

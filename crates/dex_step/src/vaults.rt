@@ -1,6 +1,6 @@
 //! Native amounts brought into a vault and taken out of it, in place.
 
-ghost use Rattle.std.specs.Prelude.{◌≡◌, ◌+◌, ◌-◌, ◌<◌, ◌≤◌, ◌^◌};
+ghost use Rattle.std.specs.Prelude.{◌+◌, ◌-◌, ◌<◌, ◌≤◌, ◌^◌};
 ghost use Rattle.dex_step.specs.Acting.{Holds};
 ghost use Rattle.dex_token.specs.TokenAccount.{IsWallet, wallet_words};
 

@@ -48,7 +48,8 @@ fn amount_of(amount: Amount, view: OrdersRef<'_>) -> u64
 /// The amounts of all traders together.
 pub fn sum_amounts(accounts: &[OrdersAccount], amount: Amount) -> u128
     requires { AreOrders accounts.now }
-    ensures { result ≡ capped (total (λ (entry : Address × Trader). amount_of amount entry.1) (traders accounts.now)) }
+    ensures { result
+        ≡ capped (total (λ (entry : Address × Trader). amount_of amount entry.1) (traders accounts.now)) }
 {
     let mut sum: u128 = 0;
     for account in accounts {

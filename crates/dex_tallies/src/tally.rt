@@ -20,10 +20,8 @@ pub fn count(tally: &mut BTreeMap<u128, u32>, number: u128) -> Result<(), NoMemo
         ≡ times tally.old other + (if other == number then 1 else 0)) }
 {
     let more = times(tally, number) + 1;
-    match tally.insert(number, more) {
-        Ok(_) => Ok(()),
-        Err(_) => Err(NoMemory),
-    }
+    tally.insert(number, more)?;
+    Ok(())
 }
 
 /// Marks the number as met.
@@ -31,8 +29,6 @@ pub fn mark(tally: &mut BTreeMap<u128, u32>, number: u128) -> Result<(), NoMemor
     ensures { OnOk result ((other : ℕ) → times tally.new other
         ≡ (if other == number then 1 else times tally.old other)) }
 {
-    match tally.insert(number, 1) {
-        Ok(_) => Ok(()),
-        Err(_) => Err(NoMemory),
-    }
+    tally.insert(number, 1)?;
+    Ok(())
 }

@@ -23,12 +23,11 @@ use Rattle.dex_script_facts.proofs.Apart.{markets-distinct, wallets-distinct}
 use Rattle.dex_script_facts.proofs.PlacedLaws.{placed-at}
 use Rattle.dex_stage.proofs.Frames.{market-stays, wallet-stays}
 use Rattle.dex_stage.specs.Stages.{AreReady, IsMarketAt, IsRowAt, IsWalletAt, world_at}
-use Rattle.dex_team.specs.Lists.{AreLists, IsNext}
+use Rattle.dex_team.specs.Lists.{AreLists}
 use Rattle.dex_team.specs.Packets.{AreRowsOf, IsPacket}
 use Rattle.dex_script_facts.specs.Places.{IsPlace, market_addresses, wallet_addresses}
 use Rattle.dex_team.specs.Slots.{AreHomes, AreInHand, AreLent, AreWalletsAt, HomesState, IsHeld, IsLent, IsOut, IsWalletGone, KeepsOut, MarketFits, WalletFits, listed}
 use Rattle.dex_team.specs.declared.desk.Lists.{Lists}
-use Rattle.dex_team.specs.declared.desk.Next.{Next}
 use Rattle.dex_team.specs.declared.slots.Slot.{Slot}
 use Rattle.dex_team.proofs.PlacesOf.{elsewhere, market-here, markets-long, of-any, one-place, wallet-here, wallets-long}
 use Rattle.dex_team.proofs.Returning.{keeps-same, keeps_trans}
@@ -122,18 +121,13 @@ here-row script rows are count row is within = record {
       ∙ ap row_of (sym is);
 }
 
--- what the lists have at a place is the next row, with its places
-pub next-row : (script : PlainScript) (lists : Lists) → AreLists script lists → (count index : ℕ) → index ≡ count → count < length lists.rows.now → (row : Row) (places : RowPlaces)
-    → (next : Next) → next.row.now ≡ get_or lists.rows.now index row → next.places.now ≡ get_or lists.places.now index places → IsNext script count next
-next-row script lists are count index same within row places next row_is places_are =
+-- its places
+pub placed-next : (script : PlainScript) (lists : Lists) → AreLists script lists → (index : ℕ) → index < length lists.rows.now → (row : Row) (places : RowPlaces)
+    → IsPlaced script.start (row_of (get_or lists.rows.now index row)) (get_or lists.places.now index places)
+placed-next script lists are index within row places =
     let rows : List Row = lists.rows.now in
-    let here : next.row.now ≡ get_or rows count row = row_is ∙ ap (λ (n : ℕ). get_or rows n row) same in
-    record {
-      at = here-row script rows are.are_rows count next.row.now (here ∙ get_or_default rows count row next.row.now within) within;
-      placed = subst (λ (one : PlainRow). IsPlaced script.start one next.places.now) (get_or-map row_of rows count row (row_of row) within ∙ ap row_of (sym here))
-          (subst (IsPlaced script.start (get_or (map row_of rows) count (row_of row))) (sym (places_are ∙ ap (λ (n : ℕ). get_or lists.places.now n places) same))
-          (placed-at script.start (map row_of rows) lists.places.now are.are_placed count (row_of row) places (omega (arith, within, length-map rows row_of))));
-    }
+    subst (λ (one : PlainRow). IsPlaced script.start one (get_or lists.places.now index places)) (get_or-map row_of rows index row (row_of row) within)
+    (placed-at script.start (map row_of rows) lists.places.now are.are_placed index (row_of row) places (omega (arith, within, length-map rows row_of)))
 
 -- a row's market that was lent is taken up
 pub held : (script : PlainScript) (before after : HomesState) (address : Address) (place : ℕ) (market : MarketCellState) → IsPlace address (market_addresses script) place
@@ -249,6 +243,7 @@ module _ (script : PlainScript) (h : HomesState) (are : AreHomes script h) (mark
   pub sent : AreHomes script (record h { next = h.next + 1 })
   sent = record {
     facts = are.facts;
+    within = omega (arith, hand.ready.at.within);
     markets = record { long = are.markets.long; each = market-sent };
     wallets = record { long = are.wallets.long; each = wallet-sent };
   }

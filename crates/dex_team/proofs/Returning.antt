@@ -68,6 +68,7 @@ module _ (script : PlainScript) (h : HomesState) (are : AreHomes script h) where
 
     pub market-back : IsPut h.markets place (number + 1) cell slots → AreHomes script (record h { markets = slots })
     market-back put = record {
+      within = are.within;
       facts = are.facts;
       markets = put-fits (MarketFits script h.next) (length script.start.markets) h.markets slots place (number + 1) cell are.markets market-inside market-fits put;
       wallets = are.wallets;
@@ -108,6 +109,7 @@ module _ (script : PlainScript) (h : HomesState) (are : AreHomes script h) where
 
     pub wallet-back : IsPut h.wallets place (number + 1) cell slots → AreHomes script (record h { wallets = slots })
     wallet-back put = record {
+      within = are.within;
       facts = are.facts;
       markets = are.markets;
       wallets = put-fits (WalletFits script h.next) (length script.start.wallets) h.wallets slots place (number + 1) cell are.wallets wallet-inside wallet-fits put;

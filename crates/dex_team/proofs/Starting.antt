@@ -56,6 +56,7 @@ module _ (script : PlainScript) (markets : List MarketCellState) (wallets : List
       → AreHomes script (record { next = 0; markets = market_slots; wallets = wallet_slots })
   homes-first market_slots wallet_slots markets_are wallets_are = record {
     facts = are.facts;
+    within = omega arith;
     markets = subst (MarketsFit script 0) (sym markets_are) (record {
       long = length-map markets (home_slot {A = MarketCellState}) ∙ ap length are.opened_markets ∙ length-map script.start.markets (market_opened script.rows);
       each = λ place s within is.

@@ -11,11 +11,11 @@ use Rattle.dex_wallet.specs.CellState.{CellState}
 use Rattle.dex_fold.specs.World.{World, seen_by}
 use Rattle.dex_script_facts.specs.PlainScript.{PlainScript}
 use Rattle.dex_script_facts.specs.Facts.{IsScript}
-use Rattle.dex_stage.specs.Parts.{CanStep, HasStepped, world_in_hand}
+use Rattle.dex_stage.specs.Parts.{AreTermsOf, CanStep, HasStepped, world_in_hand}
 use Rattle.dex_stage.specs.Stages.{AreReady, IsRowAt, world_at, world_with}
 use Rattle.dex_stage.specs.declared.parts.Terms.{Terms}
 use Rattle.dex_stage.proofs.Actions.{ready-steps, same-sight, stepped-done}
-use Rattle.dex_team.specs.Packets.{AreAt, AreRowsOf, AreTermsOf}
+use Rattle.dex_team.specs.Packets.{AreAt, AreRowsOf}
 
 pub rows-long : (script : PlainScript) (rows : List Row) → AreRowsOf script rows → length rows ≡ length script.rows
 rows-long script rows are = sym (length-map rows row_of) ∙ ap (λ (list : List PlainRow). length list) are

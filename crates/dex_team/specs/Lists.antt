@@ -4,10 +4,11 @@ use Rattle.dex_types.specs.Rows.{row_of}
 use Rattle.dex_script_facts.specs.PlainScript.{PlainScript}
 use Rattle.dex_script_facts.specs.Facts.{IsScript}
 use Rattle.dex_script_facts.specs.Places.{ArePlaced, IsPlaced, market_addresses, wallet_addresses}
+use Rattle.dex_stage.specs.Parts.{AreTermsOf}
 use Rattle.dex_stage.specs.Stages.{IsRowAt}
 use Rattle.dex_team.specs.declared.desk.Lists.{Lists}
 use Rattle.dex_team.specs.declared.desk.Next.{Next}
-use Rattle.dex_team.specs.Packets.{AreRowsOf, AreTermsOf}
+use Rattle.dex_team.specs.Packets.{AreRowsOf}
 
 -- the lists are a script's: its rows, which are not too many, their places, what they see beside their wallets, and the addresses of
 -- its markets and wallets

@@ -7,7 +7,7 @@ use Rattle.dex_wallet.specs.CellState.{CellState}
 use Rattle.dex_script_facts.specs.PlainScript.{PlainScript}
 use Rattle.dex_script_facts.specs.Facts.{IsScript}
 use Rattle.dex_stage.specs.Stages.{AreDone, AreReady}
-use Rattle.dex_stage.specs.declared.parts.Terms.{Terms}
+use Rattle.dex_stage.specs.declared.parts.Parts.{Parts}
 
 -- a packet: the number of its row, whether this has acted, and the cells that it names
 pub record PacketState : Type 0 where
@@ -15,6 +15,15 @@ pub record PacketState : Type 0 where
   pub done : Bool
   pub market : MarketCellState
   pub wallets : List CellState
+
+-- the packet of the row of a number with these cells
+abbrev pub packet : ℕ → Bool → Parts → PacketState
+packet number done parts = record {
+  number = number;
+  done = done;
+  market = parts.market;
+  wallets = parts.wallets.items;
+}
 
 -- the cells are those that the row of this number names: before it acts, or after
 abbrev pub AreAt : PlainScript → ℕ → Bool → MarketCellState → List CellState → Type 0
@@ -29,9 +38,3 @@ pub record IsPacket (script : PlainScript) (packet : PacketState) : Type 0 where
 -- the buffers hold the script's rows
 abbrev pub AreRowsOf : PlainScript → List Row → Type 0
 AreRowsOf script rows = map row_of rows ≡ script.rows
-
--- what rows see beside their wallets
-pub record AreTermsOf (script : PlainScript) (terms : Terms) : Type 0 where
-  pub srm : terms.srm ≡ script.start.srm
-  pub msrm : terms.msrm ≡ script.start.msrm
-  pub program : terms.program ≡ script.program

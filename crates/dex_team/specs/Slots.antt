@@ -47,9 +47,13 @@ pub record HomesState : Type 0 where
   pub markets : List (Slot MarketCellState)
   pub wallets : List (Slot CellState)
 
+abbrev pub homes : ℕ → List (Slot MarketCellState) → List (Slot CellState) → HomesState
+homes next markets wallets = record { next = next; markets = markets; wallets = wallets }
+
 -- what always holds of them
 pub record AreHomes (script : PlainScript) (homes : HomesState) : Type 0 where
   pub facts : IsScript script
+  pub within : homes.next ≤ length script.rows
   pub markets : MarketsFit script homes.next homes.markets
   pub wallets : WalletsFit script homes.next homes.wallets
 

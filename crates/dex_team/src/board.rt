@@ -28,15 +28,9 @@ impl<T: Drop> Board<T> {
     pub(crate) fn new(alloc: Global, room: usize) -> Result<Board<T>, NoMemory>
         requires { 0 < room }
     {
-        let Ok(offered) = ArrayQueue::new(alloc, room) else {
-            return Err(NoMemory);
-        };
-        let Ok(done) = ArrayQueue::new(alloc, room) else {
-            return Err(NoMemory);
-        };
         Ok(Board {
-            offered,
-            done,
+            offered: ArrayQueue::new(alloc, room)?,
+            done: ArrayQueue::new(alloc, room)?,
             closed: AtomicU64::new(0),
             more: EventCount::new(),
             back: EventCount::new(),

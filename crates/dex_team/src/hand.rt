@@ -40,13 +40,9 @@ impl Hand {
     pub(crate) fn new(alloc: Global, market: MarketCell) -> Result<Hand, NoMemory>
         ensures { IfOk result (λ hand. hand ≡ market) }
     {
-        let Ok(wallets) = Vec::with_capacity(alloc, WALLETS) else {
-            return Err(NoMemory);
-        };
-        match Box::new(alloc, Parts { market, wallets }) {
-            Ok(parts) => Ok(Hand { parts }),
-            Err(_) => Err(NoMemory),
-        }
+        let wallets = Vec::with_capacity(alloc, WALLETS)?;
+        let parts = Box::new(alloc, Parts { market, wallets })?;
+        Ok(Hand { parts })
     }
 
     /// The cell that comes back from a row, with the buffer that its wallets left.
@@ -108,9 +104,7 @@ pub(crate) fn hands(alloc: Global, markets: Vec<MarketCell>) -> Result<Vec<Hand>
 {
     let mut hands = Vec::new(alloc);
     for market in markets {
-        let Ok(()) = hands.push(Hand::new(alloc, market)?) else {
-            return Err(NoMemory);
-        };
+        hands.push(Hand::new(alloc, market)?)?;
     }
     Ok(hands)
 }

@@ -1,8 +1,9 @@
 //! A row with its cells, on the way from the leader to a helper and back.
 
 ghost use Rattle.std.specs.Prelude.{◌≡◌, ◌+◌, ℕ, false, true};
+ghost use Rattle.dex_stage.specs.Parts.{AreTermsOf};
 ghost use Rattle.dex_stage.specs.Stages.{IsMarketAt};
-ghost use Rattle.dex_team.specs.Packets.{AreRowsOf, AreTermsOf, IsPacket};
+ghost use Rattle.dex_team.specs.Packets.{AreRowsOf, IsPacket, packet};
 ghost use Rattle.dex_team.specs.Slots.{AreWalletsAt};
 
 use dex_io::Pace;
@@ -42,41 +43,20 @@ pub struct Packet<J: Naming> {
 }
 
 impl<J: Naming> Model for Packet<J> {
-    ghost use Rattle.dex_team.specs.Packets.{IsPacket, PacketState};
+    ghost use Rattle.dex_team.specs.Packets.{IsPacket, PacketState, packet};
 
     ghost Value = { PacketState };
 
-    ghost view = { λ p. record {
-      number = p.label.number;
-      done = p.done;
-      market = p.parts.value.market;
-      wallets = p.parts.value.wallets.items;
-    } };
+    ghost view = { λ p. packet p.label.number p.done p.parts.value };
 
-    ghost invariant = { λ p. IsPacket J.script (record {
-      number = p.label.number;
-      done = p.done;
-      market = p.parts.value.market;
-      wallets = p.parts.value.wallets.items;
-    }) };
+    ghost invariant = { λ p. IsPacket J.script (packet p.label.number p.done p.parts.value) };
 }
 
 impl<J: Naming> Packet<J> {
     /// The cells of a row that is to act.
     pub(crate) fn new(label: Label, parts: Box<Parts>) -> Packet<J>
-        requires { IsPacket J.script (record {
-          number = label.number;
-          done = false;
-          market = parts.value.market;
-          wallets = parts.value.wallets.items;
-        }) }
-        ensures packet { result ≡ record {
-          number = label.number;
-          done = false;
-          market = parts.value.market;
-          wallets = parts.value.wallets.items;
-        } }
-        ensures kept { IsPacket J.script result }
+        requires { IsPacket J.script (packet label.number false parts.value) }
+        ensures { result ≡ packet label.number false parts.value }
     {
         Packet {
             label,
@@ -115,12 +95,7 @@ impl<J: Naming> Packet<J> {
         ensures market { (place : ℕ) × IsMarketAt J.script (self.number + 1) place result.1.value.market }
         ensures wallets { AreWalletsAt J.script (self.number + 1) result.1.value.wallets.items }
     {
-        let Packet {
-            label,
-            parts,
-            done: _,
-            of: _,
-        } = self;
+        let Packet { label, parts, .. } = self;
         (label, parts)
     }
 }

@@ -1,11 +1,11 @@
 //! The leader's slots.
 
-ghost use Rattle.std.specs.Prelude.{◌≡◌, ◌<◌, ◌++◌, ◌∷◌, [], Some, None, length, map, slice_index_or, slice_set};
-ghost use Rattle.std.specs.Prelude.{IfNone, IfOk, IfSome, IsTrue, OnOk};
+ghost use Rattle.std.specs.Prelude.{◌≡◌, ◌<◌, Some, None, length, map, slice_index_or, slice_set};
+ghost use Rattle.std.specs.Prelude.{IfNone, IfOk, IfSome, IsTrue};
 ghost use Rattle.dex_team.specs.Slots.{IsPut, home_slot};
 ghost use Rattle.dex_team.specs.declared.slots.Slot.{Slot as SlotOf};
 
-use dex_types::NoMemory;
+use dex_types::{NoMemory, add};
 use std::alloc::Global;
 
 /// Where a cell stands, or since which row it is out.
@@ -73,29 +73,14 @@ pub(crate) fn put<T: Drop>(slots: &mut Vec<Slot<T>>, place: usize, since: usize,
     put_at(slots, place, since, cell);
 }
 
-/// Adds an item behind the others.
-pub(crate) fn add<T: Drop>(items: &mut Vec<T>, item: T) -> Result<(), NoMemory>
-    ensures { OnOk result (items.new.items ≡ items.old.items ++ item ∷ []) }
-{
-    match items.push(item) {
-        Ok(()) => Ok(()),
-        Err(_) => Err(NoMemory),
-    }
-}
-
 /// A slot for each of these cells, with the cell.
 pub(crate) fn at_home<T: Drop>(alloc: Global, cells: Vec<T>) -> Result<Vec<Slot<T>>, NoMemory>
     ensures { IfOk result (λ slots. slots.items ≡ map home_slot cells.items) }
 {
     let mut slots = Vec::new(alloc);
     for cell in cells {
-        add(
-            &mut slots,
-            Slot {
-                cell: Some(cell),
-                since: 0,
-            },
-        )?;
+        let cell = Some(cell);
+        add(&mut slots, Slot { cell, since: 0 })?;
     }
     Ok(slots)
 }

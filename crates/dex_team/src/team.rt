@@ -6,14 +6,12 @@ ghost use Rattle.dex_team.specs.Lists.{AreLists};
 
 use crate::board::Board;
 use crate::desk::{Desk, Lists};
-use crate::homes::Homes;
-use crate::leading::lead;
+use crate::leader::Leader;
 use crate::packet::{Naming, Packet};
-use crate::slots::add;
 use dex_cell::MarketCell;
 use dex_io::Pace;
 use dex_lanes::{Job, run_jobs};
-use dex_types::NoMemory;
+use dex_types::{NoMemory, add};
 use dex_wallet::WalletCell;
 use std::alloc::Global;
 use std::marker::{Send, Sync};
@@ -23,21 +21,7 @@ use std::thread::{Threads, join};
 /// So many rows are offered at once, and as many wait to be taken back.
 const ROOM: usize = 16;
 
-/// Does what is offered, until the end.
-fn help<J: Naming, R: Wait, P: Pace>(desk: &Desk<'_, J, R, P>)
-    requires { AreLists J.script desk.now.lists }
-{
-    for _ in desk.rt.forever() {
-        let Some(mut packet) = desk.board.next(desk.rt) else {
-            return;
-        };
-        packet.work(desk.lists.rows, desk.lists.terms, desk.pace);
-        desk.board.hand_in(desk.rt, packet);
-    }
-    unreachable!()
-}
-
-/// A helper, as a job on a thread of its own.
+/// A helper, as a job on a thread of its own: it does what is offered, until the end.
 #[derive(Drop)]
 struct Helper<'a, J: Naming, R, P> {
     desk: &'a Desk<'a, J, R, P>,
@@ -49,7 +33,15 @@ impl<'a, J: Naming, R: Wait, P: Pace> Job for Helper<'a, J, R, P> {
     ghost ran = { λ _ _. ⊤ };
 
     fn run(&mut self) {
-        help(self.desk);
+        let desk = self.desk;
+        for _ in desk.rt.forever() {
+            let Some(mut packet) = desk.board.next(desk.rt) else {
+                return;
+            };
+            packet.work(desk.lists.rows, desk.lists.terms, desk.pace);
+            desk.board.hand_in(desk.rt, packet);
+        }
+        unreachable!()
     }
 }
 
@@ -83,14 +75,16 @@ fn all_help<'a, J: Naming + Send + Sync, R: Threads + Wait + Sync, P: Pace + Syn
 fn together<'a, J: Naming + Send + Sync, R: Threads + Wait + Sync, P: Pace + Sync>(
     alloc: Global,
     desk: &'a Desk<'a, J, R, P>,
-    homes: Homes<J>,
+    markets: Vec<MarketCell>,
+    wallets: Vec<WalletCell>,
 ) -> Result<(Vec<MarketCell>, Vec<WalletCell>), NoMemory>
     requires lists { AreLists J.script desk.now.lists }
-    requires start { homes.next ≡ 0 }
+    requires opened { AreOpened J.script markets.items wallets.items }
     ensures { IfOk result (λ cells. HaveAllActed J.script cells.0.items cells.1.items) }
 {
+    let leader = Leader::new(alloc, desk, markets, wallets)?;
     if desk.helpers == 0 {
-        return lead(alloc, desk, homes);
+        return leader.lead(alloc);
     }
     let jobs = helpers(alloc, desk)?;
     let (_, cells) = join(
@@ -99,10 +93,9 @@ fn together<'a, J: Naming + Send + Sync, R: Threads + Wait + Sync, P: Pace + Syn
             requires { All (λ job. AreLists J.script job.desk.now.lists) jobs.items }
         { all_help(desk.rt, jobs) },
         move || -> Result<(Vec<MarketCell>, Vec<WalletCell>), NoMemory>
-            requires { AreLists J.script desk.now.lists
-                × (homes.next ≡ 0) }
+            requires { leader.next ≡ 0 }
             ensures { IfOk result (λ cells. HaveAllActed J.script cells.0.items cells.1.items) }
-        { lead(alloc, desk, homes) },
+        { leader.lead(alloc) },
     );
     cells
 }
@@ -122,7 +115,6 @@ pub fn work_all<J: Naming + Send + Sync, R: Threads + Wait + Sync, P: Pace + Syn
     requires opened { AreOpened J.script markets.items wallets.items }
     ensures { IfOk result (λ cells. HaveAllActed J.script cells.0.items cells.1.items) }
 {
-    let homes = Homes::<J>::new(alloc, markets, wallets)?;
     let board = Board::<Packet<J>>::new(alloc, ROOM)?;
     let desk = Desk {
         rt,
@@ -131,5 +123,5 @@ pub fn work_all<J: Naming + Send + Sync, R: Threads + Wait + Sync, P: Pace + Syn
         pace,
         helpers,
     };
-    together(alloc, &desk, homes)
+    together(alloc, &desk, markets, wallets)
 }

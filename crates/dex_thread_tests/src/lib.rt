@@ -1,4 +1,4 @@
-//! Tests of threads: turns at a gate, jobs side by side, and the order in which a row takes its turns.
+//! Tests of threads: turns at a gate, jobs side by side, the order in which a row takes its turns, and scripts read in pieces.
 #![tactic(auto)]
 
 #[cfg(test)]
@@ -9,5 +9,7 @@ mod gate;
 mod jobs;
 #[cfg(test)]
 mod locks;
+#[cfg(test)]
+mod pieces;
 #[cfg(test)]
 mod turns;

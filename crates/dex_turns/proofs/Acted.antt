@@ -1,7 +1,7 @@
 -- A row that acts on its market and on the cells in hand, or is held back there, and what is told of it.
 use Rattle.std.proofs.Common.{◌≡◌, ℕ, ◌&&◌, ◌||◌, not, Bool, true, false, List, [], ◌∷◌, is_some, Option, Some, None, Result, Ok, Err, refl, sym, ap, ◌∙◌, subst}
 use Rattle.dex_fold.proofs.Common.{AllZip, Refusal, Row, decoded, false≢true, row_of, All-cons, All-nil, Call, Market, PlainMarketAccounts, PlainRow, Seen, Sees, Step, asked_of, idle-step, is_done, is_held, is_refusal, is_refused, is_take, request_of, row_step, row_wallets, seen_by, step-refused, why}
-use Rattle.dex_turns.proofs.Common.{AreAllOrNone, AreInHand, CellState, Fits, HasEntry, IsAsOthers, IsSight, MarketCellState, PlainScript, SeesCells, Stamped, roles_of, world_in}
+use Rattle.dex_turns.proofs.Common.{AreAllOrNone, AreInHand, CellState, Fits, HasEntry, IsAsOthers, IsSight, MarketCellState, PlainScript, SeesCells, Stamped, roles_of, world_with}
 use Rattle.std.specs.List.{All}
 use Rattle.dex_types.specs.declared.instructions.BadData.{BadData}
 use Rattle.dex_types.specs.declared.instructions.Ix.{Ix}
@@ -22,9 +22,9 @@ use Rattle.dex_turns.proofs.InHand.{HasHands, cells-named, have-entries, moves-e
 -- ---- what it sees of the cells in hand
 
 module _ (script : PlainScript) (row : PlainRow) (cells lent : List CellState) (seen : Seen) (hand : HasHands script row cells) (value : lent ≡ cells)
-    (seen_so : seen ≡ seen_by row (world_in script lent)) where
-  pub seen-is : seen ≡ seen_by row (world_in script cells)
-  seen-is = seen_so ∙ ap (λ (l : List CellState). seen_by row (world_in script l)) value
+    (seen_so : seen ≡ seen_by row (world_with script lent)) where
+  pub seen-is : seen ≡ seen_by row (world_with script cells)
+  seen-is = seen_so ∙ ap (λ (l : List CellState). seen_by row (world_with script l)) value
 
   pub sees-row : Sees (asked_of row) seen
   sees-row = subst (Sees (asked_of row)) (sym seen-is) (sees-asked script row cells hand)

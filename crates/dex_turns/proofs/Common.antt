@@ -23,6 +23,7 @@ pub use Rattle.dex_script_facts.specs.Facts.{IsRowOf, IsScript}
 pub use Rattle.dex_script_facts.specs.Known.{has_account}
 pub use Rattle.dex_script_facts.specs.Places.{IsPlace, market_addresses, wallet_addresses}
 pub use Rattle.dex_script_facts.specs.Sight.{IsSight, IsWalletSeen}
+pub use Rattle.dex_stage.specs.Stages.{world_with}
 pub use Rattle.dex_stamps.specs.Stamped.{Stamped, stamped}
 pub use Rattle.dex_token.proofs.AmountWrites.{wallet_words-with_amount}
 pub use Rattle.dex_token.specs.TokenAccount.{WalletWords, wallet_words}
@@ -30,5 +31,5 @@ pub use Rattle.dex_turns.specs.Bank.{BankState, IsBank, IsMarketGate, IsWalletGa
 pub use Rattle.dex_turns.specs.Inside.{call_made}
 pub use Rattle.dex_turns.specs.Seats.{IsMarketPass, IsPass, IsSeat, IsSeatOf, IsWalletPass, SeatState}
 pub use Rattle.dex_turns.specs.Submitted.{AreNext, HasCalled, HasSubmitted, HaveSubmitted, IsNext, Where}
-pub use Rattle.dex_turns.specs.Turns.{AreInHand, AreReady, HasCall, HasEntry, HasLeft, HaveGrown, IsReady, MayDraw, MayEnter, MayLeave, MayName, OneGrows, world_in}
+pub use Rattle.dex_turns.specs.Turns.{AreInHand, AreReady, HasCall, HasEntry, HasLeft, HaveGrown, IsReady, MayDraw, MayEnter, MayLeave, MayName, OneGrows}
 pub use Rattle.dex_wallet.specs.CellState.{CellState, IsWalletCell, balance_of}

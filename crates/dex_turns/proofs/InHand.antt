@@ -1,7 +1,7 @@
 -- The cells in hand, when they are those of all wallets that a row names: what it sees, and what it leaves.
 use Rattle.std.proofs.Common.{◌≡◌, ℕ, true, List, [], ◌∷◌, ◌++◌, length, map, Option, Some, None, refl, sym, ap, ◌∙◌, subst, arith}
 use Rattle.dex_fold.proofs.Common.{Address, All-cons, All-head, All-nil, All-tail, All-weaker, AllZip, Call, Movement, PlainAccount, PlainRow, Reply, Seen, Sees, Transfers, WalletSeen, WalletState, asked_of, cond-true, cond_both, entry_by, filter, is_same, is_same-refl, list_any, movement_of, names, or_left, or_right, places-movements, role_at, row_wallets, seen_by, wallet_acted, wallet_at, wallet_entry_by, wallet_moved}
-use Rattle.dex_turns.proofs.Common.{All-unmap, AreInHand, CellState, Fits, HasEntry, IsReady, IsSight, IsWalletCell, IsWalletSeen, MovesEach, PlainScript, SeesCells, Stamped, WalletWords, any-here, any-there, balance_of, entries_in, entry_made, is_among, made_of, roles_of, wallet_state_of, wallet_words, wallet_words-with_amount, world_in}
+use Rattle.dex_turns.proofs.Common.{All-unmap, AreInHand, CellState, Fits, HasEntry, IsReady, IsSight, IsWalletCell, IsWalletSeen, MovesEach, PlainScript, SeesCells, Stamped, WalletWords, any-here, any-there, balance_of, entries_in, entry_made, is_among, made_of, roles_of, wallet_state_of, wallet_words, wallet_words-with_amount, world_with}
 use Rattle.std.specs.List.{All, Any}
 use Rattle.std.proofs.lemmas.List.{append-nil}
 use Rattle.dex_history.proofs.WalletLaws.{movements-named}
@@ -105,12 +105,12 @@ cells-named script row cells hand =
 module _ (script : PlainScript) (row : PlainRow) (cells : List CellState) (hand : HasHands script row cells) where
   -- ---- what the row sees
 
-  pub sees-asked : Sees (asked_of row) (seen_by row (world_in script cells))
-  sees-asked = row-sees row (world_in script cells) cells refl hand.here
+  pub sees-asked : Sees (asked_of row) (seen_by row (world_with script cells))
+  sees-asked = row-sees row (world_with script cells) cells refl hand.here
 
-  pub sees-hand : All Fits (roles_of (seen_by row (world_in script cells))) → SeesCells (seen_by row (world_in script cells)) cells
+  pub sees-hand : All Fits (roles_of (seen_by row (world_with script cells))) → SeesCells (seen_by row (world_with script cells)) cells
   sees-hand fits =
-      sees-cells row (world_in script cells) cells refl (apart-cells cells hand.once)
+      sees-cells row (world_with script cells) cells refl (apart-cells cells hand.once)
       (All-weaker (IsUsable script row) IsWalletCell (λ cell ready. ready.kept) cells hand.usable) hand.here
       (All-weaker (IsUsable script row) (λ (cell : CellState). names row cell.address ≡ true → HasSpare cell) (λ cell ready. ready.spare) cells hand.usable) fits
 
@@ -120,7 +120,7 @@ module _ (script : PlainScript) (row : PlainRow) (cells : List CellState) (hand 
   role-sight None = tt
   role-sight (Some address) = at-sight script row address cells hand.usable
 
-  pub sight : IsSight script (seen_by row (world_in script cells))
+  pub sight : IsSight script (seen_by row (world_with script cells))
   sight = record {
     coin = role-sight row.coin;
     pc = role-sight row.pc;

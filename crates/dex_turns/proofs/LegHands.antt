@@ -1,7 +1,7 @@
 -- The cells in hand of two legs that share no wallet: what the second sees behind the first, and what both write.
 use Rattle.std.proofs.Common.{◌≡◌, ℕ, ◌<◌, ◌||◌, Bool, true, false, cond, List, [], ◌∷◌, ◌++◌, length, map, Option, Some, None, refl, sym, ap, ◌∙◌, subst, arith, ⊎_elim}
 use Rattle.dex_fold.proofs.Common.{Address, All-cons, All-head, All-nil, All-tail, AllZip, Call, Market, PlainRow, Seen, Sees, ShareNothing, Step, Transfers, WalletEntry, WalletState, act, acted, asked_of, cases_Bool, false≢true, is_same, list_any, movement_of, names, row_step, row_wallets, seen_by, wallet_acted, wallet_moved}
-use Rattle.dex_turns.proofs.Common.{CellState, HasEntry, IsWalletCell, PlainScript, Stamped, entries_in, made_of, wallet_state_of, world_in}
+use Rattle.dex_turns.proofs.Common.{CellState, HasEntry, IsWalletCell, PlainScript, Stamped, entries_in, made_of, wallet_state_of, world_with}
 use Rattle.std.specs.List.{All}
 use Rattle.std.proofs.lemmas.List.{append-nil}
 use Rattle.dex_fold.specs.World.{World, market_at}
@@ -27,32 +27,32 @@ module _ (first second : PlainRow) (share : ShareNothing first second) (waits : 
   done-share = record { markets = share.markets; wallets = share.wallets }
 
   -- the cells of a script with the market of the first leg, as a world
-  abbrev world_with : PlainScript → List CellState → World
-  world_with script cells = record (world_in script cells) { markets = record { market = m; entries = [] } ∷ [] }
+  abbrev world_after : PlainScript → List CellState → World
+  world_after script cells = record (world_with script cells) { markets = record { market = m; entries = [] } ∷ [] }
 
   abbrev with_wallets : PlainScript → List CellState → List WalletState → World
-  with_wallets script cells wallets = record (world_with script cells) { wallets = wallets }
+  with_wallets script cells wallets = record (world_after script cells) { wallets = wallets }
 
   -- acting leaves all else of a world as it is
   acted-else : (world : World) → seen_by second (record world { wallets = (acted done (Some m) world).wallets }) ≡ seen_by second (acted done (Some m) world)
   acted-else world = refl
 
-  pub seen-behind : (script : PlainScript) (cells after : List CellState) → seen ≡ seen_by first (world_in script cells) → is_same first.market m.listing.address ≡ true
+  pub seen-behind : (script : PlainScript) (cells after : List CellState) → seen ≡ seen_by first (world_with script cells) → is_same first.market m.listing.address ≡ true
       → map wallet_state_of after ≡ map (wallet_acted done seen moved) (map wallet_state_of cells)
-      → seen_by second (world_in script after) ≡ seen_by second (world_in script cells)
+      → seen_by second (world_with script after) ≡ seen_by second (world_with script cells)
   seen-behind script cells after seen_so on states =
       ap (λ (wallets : List WalletState). seen_by second (with_wallets script cells wallets))
       (states
       ∙ ap (λ (s : Seen). map (wallet_acted done s (row_step done s m).transfers) (map wallet_state_of cells)) seen_so)
-      ∙ acted-else (world_with script cells)
+      ∙ acted-else (world_after script cells)
       ∙ sym (ap (seen_by second) acts)
-      ∙ seen-far done second done-share (world_with script cells)
+      ∙ seen-far done second done-share (world_after script cells)
     where
-      found : market_at first.market (world_with script cells).markets ≡ Some m
+      found : market_at first.market (world_after script cells).markets ≡ Some m
       found = ap (λ (b : Bool). cond b (Some m) None) on
 
-      acts : act done (world_with script cells) ≡ acted done (Some m) (world_with script cells)
-      acts = ap (λ (at : Option Market). acted done at (world_with script cells)) found
+      acts : act done (world_after script cells) ≡ acted done (Some m) (world_after script cells)
+      acts = ap (λ (at : Option Market). acted done at (world_after script cells)) found
 
 -- ---- the cells behind the first leg
 

@@ -4,6 +4,7 @@ use Rattle.dex_turns.specs.declared.outline.Outline.TheInside as outline
 use Rattle.dex_script_facts.specs.PlainScript.{PlainScript}
 use Rattle.dex_script_facts.specs.Facts.{IsScript}
 use Rattle.dex_script_facts.specs.Places.{market_addresses, wallet_addresses}
+use Rattle.dex_stage.specs.Parts.{AreTermsOf}
 
 -- the script that the fields are of
 abbrev pub outlined : outline.Inside → PlainScript
@@ -13,8 +14,6 @@ outlined inside = inside.script.value
 pub record IsOutline (inside : outline.Inside) : Type 0 where
   pub script : IsScript inside.script.value
   pub lanes : inside.lanes ≡ inside.script.value.lanes
-  pub srm : inside.srm ≡ inside.script.value.start.srm
-  pub msrm : inside.msrm ≡ inside.script.value.start.msrm
-  pub program : inside.program ≡ inside.script.value.program
+  pub terms : AreTermsOf inside.script.value inside.terms
   pub markets : inside.markets.items ≡ market_addresses inside.script.value
   pub wallets : inside.wallets.items ≡ wallet_addresses inside.script.value

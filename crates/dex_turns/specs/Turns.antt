@@ -305,13 +305,3 @@ pub record MayCallBoth (first second : PlainRow) (markets : TwoMarkets) : Type 0
 -- the call of a row that acts on a market or is held back there
 abbrev pub made_by : Bool → PlainRow → Seen → Market → Call
 made_by waits row seen m = record (call_made (doing waits row) seen m) { asked = asked_of row }
-
--- the wallets in hand, as a world in which rows see
-abbrev pub world_in : PlainScript → List CellState → World
-world_in script cells = record {
-  markets = [];
-  wallets = map wallet_state_of cells;
-  srm = script.start.srm;
-  msrm = script.start.msrm;
-  program = script.program;
-}

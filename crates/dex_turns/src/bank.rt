@@ -86,20 +86,11 @@ impl Bank {
             markets,
             wallets,
         } = self;
-        let Outline {
-            lanes: _,
-            srm,
-            msrm,
-            program,
-            markets: _,
-            wallets: _,
-            script: _,
-        } = outline;
         BankParts {
             mints,
-            srm,
-            msrm,
-            program,
+            srm: outline.terms.srm,
+            msrm: outline.terms.msrm,
+            program: outline.terms.program,
             markets,
             wallets,
         }

@@ -7,7 +7,6 @@ mod bank;
 mod legs;
 mod outline;
 mod seat;
-mod seeing;
 mod stamped_record;
 mod submitting;
 mod turns;

@@ -9,19 +9,18 @@ ghost use Rattle.dex_script_facts.specs.Known.{has_market, is_known_role};
 ghost use Rattle.dex_script_facts.specs.Places.{IsPlaced, IsRolePlaced, market_place};
 
 use dex_script_facts::{Script, addresses_of_markets, addresses_of_wallets};
+use dex_stage::Terms;
 use dex_stamps::Kept;
-use dex_types::{Address, NoMemory, Program, Row, RowPlaces, is_same};
+use dex_types::{Address, NoMemory, Row, RowPlaces, is_same};
 use std::alloc::Global;
 use std::marker::Model;
 
-/// What a bank keeps of its script beside the cells: how many lanes it has, which mints are SRM and MSRM, its program, and the
-/// addresses of its markets and wallets.
+/// What a bank keeps of its script beside the cells: how many lanes it has, what its rows see beside their wallets, and the addresses of
+/// its markets and wallets.
 #[derive(Drop)]
 pub struct Outline {
     pub(crate) lanes: u32,
-    pub(crate) srm: Option<Address>,
-    pub(crate) msrm: Option<Address>,
-    pub(crate) program: Program,
+    pub(crate) terms: Terms,
     pub(crate) markets: Vec<Address>,
     pub(crate) wallets: Vec<Address>,
     pub(crate) script: Kept<Script>,
@@ -47,9 +46,7 @@ impl Outline {
         let wallets = addresses_of_wallets(alloc, &script.start.wallets)?;
         Ok(Outline {
             lanes: script.lanes,
-            srm: script.start.srm,
-            msrm: script.start.msrm,
-            program: script.program,
+            terms: Terms::of(script),
             markets,
             wallets,
             script: Kept::of(script),

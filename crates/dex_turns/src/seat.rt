@@ -53,14 +53,11 @@ impl LaneSeat {
         requires wallets { AllZip (IsWalletPass lane []) outline.now.start.wallets wallets.items }
         ensures { IfOk result (λ seat. seat ≡ fresh_seat lane outline.now markets.items wallets.items) }
     {
-        let Ok(hands) = Vec::with_capacity(alloc, 4) else {
-            return Err(NoMemory);
-        };
         Ok(LaneSeat {
             lane,
             markets,
             wallets,
-            hands,
+            hands: Vec::with_capacity(alloc, 4)?,
             calls: CallLog::new(),
             last: Stamp::first(),
             script: outline.kept(),
@@ -74,13 +71,9 @@ impl LaneSeat {
         ensures kept { IsSeat self }
     {
         let LaneSeat {
-            lane: _,
             markets,
             wallets,
-            hands: _,
-            calls: _,
-            last: _,
-            script: _,
+            ..
         } = self;
         (markets, wallets)
     }

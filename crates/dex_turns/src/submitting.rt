@@ -12,27 +12,28 @@ ghost use Rattle.dex_act.specs.Wallets.{Fits, roles_of};
 ghost use Rattle.dex_history.specs.Journal.{is_held};
 ghost use Rattle.dex_fold.specs.Lists.{AllThree};
 ghost use Rattle.dex_journals.specs.Lanes.{AreAllOrNone};
+ghost use Rattle.dex_stage.specs.Stages.{world_with};
 ghost use Rattle.dex_turns.specs.Bank.{IsBank};
 ghost use Rattle.dex_turns.specs.Inside.{call_made, written_of};
 ghost use Rattle.dex_turns.specs.Legs.{legs_written, one_made, two_made};
 ghost use Rattle.dex_turns.specs.Seats.{IsSeat, IsSeatOf};
 ghost use Rattle.dex_turns.specs.Submitted.{AreNext, HasCalled, HasSubmitted, HaveSubmitted, IsNext, LegMarketGrows};
 ghost use Rattle.dex_turns.specs.Turns.{AreInHand, AreLegsPlaced, AreReady, HasEntry, HaveGrown, IsTold, IsWritten};
-ghost use Rattle.dex_turns.specs.Turns.{HaveLegsTold, MayEnter, MayEnterAt, MayName, leg_wallets, world_in};
+ghost use Rattle.dex_turns.specs.Turns.{HaveLegsTold, MayEnter, MayEnterAt, MayName, leg_wallets};
 
 use crate::acts::Acts;
 use crate::alone::RowAlone;
 use crate::bank::Bank;
 use crate::legs::{SwapLegs, TwoMarkets, TwoRecords};
 use crate::seat::LaneSeat;
-use crate::seeing::role_at;
 use crate::stamped_record::StampedRecord;
-use crate::turns::{first_of, leave_wallet, put_in_hand, take_from_hand, take_market, take_wallet};
+use crate::turns::{first_of, leave_wallet, take_from_hand, take_market, take_wallet};
 use crate::two_turns::{TwoTurns, leave_at, take_two};
 use dex_gate::{Gate, Pass};
 use dex_io::Pace;
 use dex_journals::{BankMarket, BankWallet};
 use dex_locks::{by_address, plan_locks, plan_wallets};
+use dex_stage::seen_by;
 use dex_stamps::Stamp;
 use dex_types::{Address, Reply, Row, RowPlaces, Seen, is_same};
 use dex_wallet::WalletCell;
@@ -91,12 +92,7 @@ impl Bank {
             pace,
         );
         seat.calls = seat.calls.and(row, &made);
-        let StampedRecord {
-            seen: _,
-            entry: _,
-            reply,
-            stamp,
-        } = made;
+        let StampedRecord { reply, stamp, .. } = made;
         seat.last = stamp;
         reply
     }
@@ -167,13 +163,8 @@ impl Bank {
             second: two,
         } = made;
         seat.calls = seat.calls.and(first, &one).and(second, &two);
-        let StampedRecord {
-            seen: _,
-            entry: _,
-            reply,
-            stamp: last,
-        } = one;
-        seat.last = last;
+        let StampedRecord { reply, stamp, .. } = one;
+        seat.last = stamp;
         (reply, two.reply)
     }
 
@@ -258,16 +249,8 @@ impl Bank {
         let one = self.market_gate(place);
         let two = self.market_gate(next);
         let [lower, _] = by_address(first.market, second.market);
-        let turns = take_two(
-            rt,
-            one,
-            two,
-            markets,
-            place,
-            next,
-            is_same(lower, first.market),
-            last,
-        );
+        let in_order = is_same(lower, first.market);
+        let turns = take_two(rt, one, two, markets, place, next, in_order, last);
         let TwoTurns {
             markets: mut taken,
             first: away,
@@ -323,7 +306,7 @@ impl Bank {
                 let gate = self.wallet_gate(place);
                 let (cell, trail, away) = take_wallet(rt, gate, &mut passes[place]);
                 let later = trail.later(stamp);
-                put_in_hand(hands, cell);
+                hands.push_reserved(cell);
                 let rest = &others[1..];
                 let made = self.with_wallets(rt, rest, item, markets, passes, hands, &later);
                 let cell = take_from_hand(hands);
@@ -337,17 +320,9 @@ impl Bank {
 
     // What a row sees of the wallets in hand.
     pub(crate) fn seen_by(&self, hands: &[WalletCell], row: &Row) -> Seen
-        ensures seen { result ≡ world.seen_by (row_of row.entry.now) (world_in self.now.script hands.now) }
+        ensures seen { result ≡ world.seen_by (row_of row.entry.now) (world_with self.now.script hands.now) }
         ensures fits { All Fits (roles_of result) }
     {
-        Seen {
-            coin: role_at(hands, row.coin),
-            pc: role_at(hands, row.pc),
-            discount: role_at(hands, row.discount),
-            referrer: role_at(hands, row.referrer),
-            srm: self.outline.srm,
-            msrm: self.outline.msrm,
-            program: self.outline.program,
-        }
+        seen_by(hands, self.outline.terms, row)
     }
 }

@@ -3,7 +3,7 @@
 ghost use Rattle.std.specs.Prelude.{◌≡◌, ◌<◌, ◌≤◌, ◌++◌, ◌∷◌, [], Some, length, max, vec_capacity};
 ghost use Rattle.dex_gate.specs.declared.stage.Stage.TheVariants.{Idle, Out};
 ghost use Rattle.dex_gate.specs.History.{Extends, added, of_lane};
-ghost use Rattle.dex_journals.specs.Journals.{IsBankMarket, left_by, market_calls, wallet_entries};
+ghost use Rattle.dex_journals.specs.Journals.{left_by, market_calls, wallet_entries};
 ghost use Rattle.dex_turns.specs.Submitted.{Written};
 ghost use Rattle.dex_turns.specs.Turns.{HasLeft, IsMarketOut, IsOut, MayLeave, first_in};
 
@@ -48,17 +48,8 @@ pub(crate) fn take_market<R: Wait>(
     ensures stamp { result.2.number ≡ max result.0.last last.now.number }
 {
     let (market, away) = turn_at(rt, gate, pass).take();
-    let stamp = market_stamp(&market, last);
+    let stamp = market.later(last);
     (market, away, stamp)
-}
-
-/// The later of a stamp and a market's last.
-fn market_stamp(market: &BankMarket, last: &Stamp) -> Stamp
-    ensures later { result.number ≡ max market.now.last last.now.number }
-    ensures kept { IsBankMarket market.now }
-{
-    let _cell = market.cell();
-    market.later(last)
 }
 
 /// Waits for the turn of a wallet, and takes its cell out.
@@ -110,15 +101,6 @@ pub(crate) fn first_of(others: &[Option<Address>]) -> Option<Address>
     ensures { result ≡ first_in others.now }
 {
     if others.len() == 0 { None } else { others[0] }
-}
-
-/// Puts a cell behind those in hand, for which there is room.
-pub(crate) fn put_in_hand(hands: &mut Vec<WalletCell>, cell: WalletCell)
-    requires { length hands.old.items < vec_capacity hands.old }
-    ensures items { hands.new.items ≡ hands.old.items ++ cell ∷ [] }
-    ensures room { vec_capacity hands.old ≤ vec_capacity hands.new }
-{
-    hands.push(cell).unwrap();
 }
 
 /// Takes the last of the cells in hand.

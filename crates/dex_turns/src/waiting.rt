@@ -1,15 +1,13 @@
 //! A row on its market: it acts, or is held back.
 
-ghost use Rattle.std.specs.Prelude.{◌≡◌, ◌&&◌, ◌<◌, ◌≤◌, is_some, length, not, true, vec_capacity};
+ghost use Rattle.std.specs.Prelude.{◌≡◌, ◌&&◌, ◌≤◌, is_some, not, true, vec_capacity};
 ghost use Rattle.dex_types.specs.Rows.{row_of};
 ghost use Rattle.dex_types.specs.Why.{why};
 ghost use Rattle.dex_history.specs.Journal.{request_of, row_step};
 ghost use Rattle.dex_cell.specs.CellState.{CanHold, IsFor, market_at};
-ghost use Rattle.dex_act.specs.Wallets.{SeesCells};
-ghost use Rattle.dex_fold.specs.RowsOf.{rows_of_market};
 ghost use Rattle.dex_act.specs.Acted.{HaveActed};
 ghost use Rattle.dex_fold.specs.Items.{doing};
-ghost use Rattle.dex_journals.specs.Journals.{calls_by};
+ghost use Rattle.dex_journals.specs.Journals.{MayAct};
 ghost use Rattle.dex_turns.specs.Inside.{call_made};
 ghost use Rattle.dex_turns.specs.Turns.{HasCall, made_by};
 
@@ -43,12 +41,8 @@ fn act_or_hold(
     waits: bool,
     stamp: &Stamp,
 )
-    requires row { IsFor row.now seen.now market.old.cell }
+    requires may { MayAct row.now seen.now stamp.now.number market.old hands.old }
     requires held { waits ≡ true → CanHold row.now seen.now market.old.cell }
-    requires wallets { SeesCells seen.now hands.old }
-    requires lane { calls_by row.now.lane market.old.cell.calls
-        < length (rows_of_market row.now.lane market.old.cell.start.address market.old.script.rows) }
-    requires stamp { market.old.last < stamp.now.number }
     ensures market { HasCall (record {
       item = made_by waits (row_of row.entry.now) seen.now (market_at market.old.cell);
       stamp = stamp.now.number;
@@ -72,12 +66,8 @@ pub(crate) fn act_or_wait(
     waits: bool,
     stamp: Stamp,
 ) -> StampedRecord
-    requires row { IsFor row.now seen.now market.old.cell }
+    requires may { MayAct row.now seen.now stamp.number market.old hands.old.items }
     requires held { waits ≡ true → CanHold row.now seen.now market.old.cell }
-    requires wallets { SeesCells seen.now hands.old.items }
-    requires lane { calls_by row.now.lane market.old.cell.calls
-        < length (rows_of_market row.now.lane market.old.cell.start.address market.old.script.rows) }
-    requires stamp { market.old.last < stamp.number }
     ensures call { call_made (row.entry.now, result) ≡ record {
       item = made_by waits (row_of row.entry.now) seen.now (market_at market.old.cell);
       stamp = stamp.number;

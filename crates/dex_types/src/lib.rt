@@ -5,6 +5,7 @@
 #![tactic(auto)]
 
 mod account_bytes;
+mod adding;
 mod addresses;
 mod client_ids;
 mod faults;
@@ -20,6 +21,7 @@ mod terms;
 mod texts;
 
 pub use account_bytes::{Accounts, MarketAccounts, Named, OrdersAccount};
+pub use adding::add;
 pub use addresses::{Address, is_same};
 pub use client_ids::ClientIds;
 pub use faults::AccountFault;

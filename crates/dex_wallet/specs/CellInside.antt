@@ -20,7 +20,7 @@ cell_of address starting bytes share entries room = record {
 
 -- the cell that the fields stand for
 abbrev pub cell_inside : Inside → CellState
-cell_inside inside = cell_of inside.address inside.starting inside.bytes.items inside.share inside.entries.items inside.room
+cell_inside inside = cell_of inside.address inside.starting inside.bytes.items inside.share.parcel inside.entries.items inside.room
 
 -- what always holds of a wallet's cell holds of the fields, and the list of movements has its room reserved
 pub record IsKept (inside : Inside) : Type 0 where

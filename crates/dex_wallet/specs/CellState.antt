@@ -1,6 +1,7 @@
 -- What a wallet's cell keeps, and how a movement changes it.
 use Rattle.std.specs.Prelude.{◌≡◌, ℕ, ◌<◌, ◌≤◌, List, [], ◌∷◌, ◌++◌, length}
 use Rattle.dex_types.specs.declared.addresses.Address.{Address}
+use Rattle.dex_types.specs.declared.movements.MoveKind.{MoveKind}
 use Rattle.dex_types.specs.declared.movements.WalletEntry.{WalletEntry}
 use Rattle.dex_types.specs.declared.rows.WalletSeen.{WalletSeen}
 use Rattle.dex_types.specs.WalletJournal.{IsWalletLegal, balance_after, moved_balance}
@@ -48,6 +49,17 @@ seen_of cell = record {
 -- there is room for a movement more
 abbrev pub HasSpare : CellState → Type 0
 HasSpare cell = length cell.entries < cell.room
+
+-- a movement of this kind and amount, by a row of this number that the lane submits to the market
+abbrev pub movement : CellState → Address → ℕ → ℕ → MoveKind → ℕ → WalletEntry
+movement cell market lane row kind amount = record {
+  market = market;
+  lane = lane;
+  row = row;
+  kind = kind;
+  amount = amount;
+  before = balance_of cell.bytes;
+}
 
 -- the cell after a movement: it stands behind the others, and the token account and the parcel have the amount after it
 abbrev pub with_entry : CellState → WalletEntry → CellState

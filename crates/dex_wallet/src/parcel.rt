@@ -95,3 +95,16 @@ impl Parcel {
         let Parcel { mint: _, amount: _ } = self;
     }
 }
+
+/// A parcel that a cell keeps. It is given up where the cell is dropped.
+#[derive(Debug)]
+pub struct Share {
+    pub parcel: Parcel,
+}
+
+impl Drop for Share {
+    fn drop(self) {
+        let Share { parcel } = self;
+        parcel.give_up();
+    }
+}

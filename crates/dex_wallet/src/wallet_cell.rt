@@ -2,8 +2,8 @@
 
 ghost use Rattle.std.specs.Prelude.{◌≡◌, ◌+◌, ◌-◌, ◌<◌, ◌≤◌, ◌^◌, length, IfOk};
 
-use crate::account::{append, balance, set_balance};
-use crate::parcel::Parcel;
+use crate::account::{balance, set_balance};
+use crate::parcel::{Parcel, Share};
 use dex_token::WalletRef;
 use dex_types::{Address, MoveKind, NoMemory, WalletEntry, WalletSeen};
 use std::alloc::Global;
@@ -13,11 +13,11 @@ use std::marker::Model;
 ///
 /// The token account is always the one that the cell was made with, with the amount after all movements. Where a cell
 /// is dropped its parcel is given up.
-#[derive(Debug)]
+#[derive(Debug, Drop)]
 pub struct WalletCell {
     address: Address,
     bytes: Vec<u8>,
-    share: Parcel,
+    share: Share,
     starting: u64,
     entries: Vec<WalletEntry>,
     room: usize,
@@ -35,25 +35,11 @@ impl Model for WalletCell {
     ghost invariant = { IsKept };
 }
 
-impl Drop for WalletCell {
-    fn drop(self) {
-        let WalletCell {
-            address: _,
-            bytes: _,
-            share,
-            starting: _,
-            entries: _,
-            room: _,
-        } = self;
-        share.give_up();
-    }
-}
-
 impl WalletCell {
-    ghost use Rattle.dex_types.specs.WalletJournal.{CanMove};
     ghost use Rattle.dex_token.specs.TokenAccount.{IsWallet, wallet_words};
     ghost use Rattle.dex_wallet.specs.TokenAmount.{held_in};
-    ghost use Rattle.dex_wallet.specs.CellState.{HasSpare, IsWalletCell, balance_of, new_cell, seen_of, with_entry};
+    ghost use Rattle.dex_wallet.specs.CellState.{HasSpare, IsWalletCell, balance_of, movement, new_cell};
+    ghost use Rattle.dex_wallet.specs.CellState.{seen_of, with_entry};
 
     /// The cell of a token account and of the parcel that its amount is, with room for so many movements. Where there
     /// is no memory for them, both are given up.
@@ -68,23 +54,17 @@ impl WalletCell {
         requires share { share ≡ held_in bytes.items }
         ensures { IfOk result (λ cell. cell ≡ new_cell address bytes.items room) }
     {
-        match Vec::with_capacity(alloc, room) {
-            Ok(entries) => {
-                let starting = balance(&bytes);
-                Ok(WalletCell {
-                    address,
-                    bytes,
-                    share,
-                    starting,
-                    entries,
-                    room,
-                })
-            }
-            Err(_) => {
-                share.give_up();
-                Err(NoMemory)
-            }
-        }
+        let share = Share { parcel: share };
+        let entries = Vec::with_capacity(alloc, room)?;
+        let starting = balance(&bytes);
+        Ok(WalletCell {
+            address,
+            bytes,
+            share,
+            starting,
+            entries,
+            room,
+        })
     }
 
     /// The address of the token account.
@@ -133,30 +113,38 @@ impl WalletCell {
         &self.bytes
     }
 
-    /// A row of this number, which this lane submits to this market, looks at the balance.
-    pub fn probe(&mut self, market: Address, lane: u32, row: u32)
-        requires { HasSpare self.old }
-        ensures moved { self.new ≡ with_entry self.old (record {
-          market = market;
-          lane = lane;
-          row = row;
-          kind = MoveKind.Probe;
-          amount = 0;
-          before = balance_of self.old.bytes;
-        }) }
-        ensures bytes { self.new.bytes ≡ self.old.bytes }
-        ensures cell { IsWalletCell self.new }
+    /// A movement, by a row of this number that this lane submits to this market.
+    fn movement(
+        &self,
+        market: Address,
+        lane: u32,
+        row: u32,
+        kind: MoveKind,
+        amount: u64,
+    ) -> WalletEntry
+        ensures entry { result ≡ movement self.now market lane row kind amount }
+        ensures fits { balance_of self.now.bytes < 2 ^ 64 }
+        ensures cell { IsWalletCell self.now }
     {
-        let before = balance(&self.bytes);
-        let probe = WalletEntry {
+        WalletEntry {
             market,
             lane,
             row,
-            kind: MoveKind::Probe,
-            amount: 0,
-            before,
-        };
-        append(&mut self.entries, probe);
+            kind,
+            amount,
+            before: balance(&self.bytes),
+        }
+    }
+
+    /// A row of this number, which this lane submits to this market, looks at the balance.
+    pub fn probe(&mut self, market: Address, lane: u32, row: u32)
+        requires { HasSpare self.old }
+        ensures moved { self.new ≡ with_entry self.old (movement self.old market lane row MoveKind.Probe 0) }
+        ensures bytes { self.new.bytes ≡ self.old.bytes }
+        ensures cell { IsWalletCell self.new }
+    {
+        let probe = self.movement(market, lane, row, MoveKind::Probe, 0);
+        self.entries.push_reserved(probe);
     }
 
     /// A row of this number, which this lane submits to this market, takes an amount out, as a parcel.
@@ -165,30 +153,15 @@ impl WalletCell {
         requires some { 1 ≤ amount }
         requires funds { amount ≤ balance_of self.old.bytes }
         ensures parcel { result ≡ record { mint = (wallet_words self.old.bytes).mint; amount = amount } }
-        ensures moved { self.new ≡ with_entry self.old (record {
-          market = market;
-          lane = lane;
-          row = row;
-          kind = MoveKind.Debit;
-          amount = amount;
-          before = balance_of self.old.bytes;
-        }) }
+        ensures moved { self.new ≡ with_entry self.old (movement self.old market lane row MoveKind.Debit amount) }
         ensures words { wallet_words self.new.bytes
             ≡ record (wallet_words self.old.bytes) { amount = balance_of self.old.bytes - amount } }
         ensures cell { IsWalletCell self.new }
     {
-        let before = balance(&self.bytes);
-        let debit = WalletEntry {
-            market,
-            lane,
-            row,
-            kind: MoveKind::Debit,
-            amount,
-            before,
-        };
-        append(&mut self.entries, debit);
-        set_balance(&mut self.bytes, before - amount);
-        self.share.take(amount)
+        let debit = self.movement(market, lane, row, MoveKind::Debit, amount);
+        self.entries.push_reserved(debit);
+        set_balance(&mut self.bytes, debit.before - amount);
+        self.share.parcel.take(amount)
     }
 
     /// A row of this number, which this lane submits to this market, puts a parcel in.
@@ -197,31 +170,16 @@ impl WalletCell {
         requires mint { parcel.mint ≡ (wallet_words self.old.bytes).mint }
         requires some { 1 ≤ parcel.amount }
         requires fits { balance_of self.old.bytes + parcel.amount < 2 ^ 64 }
-        ensures moved { self.new ≡ with_entry self.old (record {
-          market = market;
-          lane = lane;
-          row = row;
-          kind = MoveKind.Credit;
-          amount = parcel.amount;
-          before = balance_of self.old.bytes;
-        }) }
+        ensures moved { self.new ≡ with_entry self.old (movement self.old market lane row MoveKind.Credit parcel.amount) }
         ensures words { wallet_words self.new.bytes
             ≡ record (wallet_words self.old.bytes) { amount = balance_of self.old.bytes + parcel.amount } }
         ensures cell { IsWalletCell self.new }
     {
-        let before = balance(&self.bytes);
         let amount = parcel.amount();
-        let credit = WalletEntry {
-            market,
-            lane,
-            row,
-            kind: MoveKind::Credit,
-            amount,
-            before,
-        };
-        append(&mut self.entries, credit);
-        set_balance(&mut self.bytes, before + amount);
-        self.share.put(parcel);
+        let credit = self.movement(market, lane, row, MoveKind::Credit, amount);
+        self.entries.push_reserved(credit);
+        set_balance(&mut self.bytes, credit.before + amount);
+        self.share.parcel.put(parcel);
     }
 
     /// The token account and the movements, as they are. The parcel is given up.
@@ -230,15 +188,7 @@ impl WalletCell {
         ensures entries { result.1.items ≡ self.entries }
         ensures cell { IsWalletCell self }
     {
-        let WalletCell {
-            address: _,
-            bytes,
-            share,
-            starting: _,
-            entries,
-            room: _,
-        } = self;
-        share.give_up();
+        let WalletCell { bytes, entries, .. } = self;
         (bytes, entries)
     }
 }

@@ -1,6 +1,6 @@
 //! Amounts of both tokens, summed for each account of a market.
 
-ghost use Rattle.std.specs.Prelude.{◌≡◌, ℕ, ◌+◌, [], ◌∷◌, ◌++◌, length, map, IfOk, OnOk};
+ghost use Rattle.std.specs.Prelude.{◌≡◌, length, map, IfOk};
 ghost use Rattle.dex_types.specs.declared.addresses.Address.{Address as AddressOf};
 ghost use Rattle.dex_worth.specs.Amounts as tally;
 
@@ -74,23 +74,13 @@ pub fn add(sums: &mut Vec<Amounts>, owners: &[Address], owner: Address, more: Am
     add_each(sums, owners, owner, more);
 }
 
-/// Puts a sum behind the others.
-pub fn push(sums: &mut Vec<Amounts>, sum: Amounts) -> Result<(), NoMemory>
-    ensures { OnOk result (sums.new.items ≡ sums.old.items ++ sum ∷ []) }
-{
-    match sums.push(sum) {
-        Ok(()) => Ok(()),
-        Err(_) => Err(NoMemory),
-    }
-}
-
 /// A sum of nothing for each of these owners.
 pub fn zeros(alloc: Global, owners: &[Address]) -> Result<Vec<Amounts>, NoMemory>
     ensures { IfOk result (λ all. all.items ≡ map (λ (owner : AddressOf). tally.none) owners.now) }
 {
     let mut all = Vec::new(alloc);
     for place in 0..owners.len() {
-        push(&mut all, NONE)?;
+        all.push(NONE)?;
     }
     Ok(all)
 }

@@ -19,7 +19,7 @@ ghost use Rattle.dex_worth.specs.declared.amounts.Amounts.{Amounts as AmountsOf}
 ghost use Rattle.dex_worth.specs.Amounts as tally;
 ghost use Rattle.dex_worth.specs.Holdings as holds;
 
-use crate::amounts::{Amounts, NONE, add, on_side, push};
+use crate::amounts::{Amounts, NONE, add, on_side};
 use dex_audit_rules::{Gathered, gather};
 use dex_crank::{Kind, kind_of};
 use dex_market::MarketRef;
@@ -77,7 +77,7 @@ fn all_free(
 {
     let mut all = Vec::new(alloc);
     for place in 0..owners.len() {
-        push(&mut all, free_of(accounts, owners[place]))?;
+        all.push(free_of(accounts, owners[place]))?;
     }
     Ok(all)
 }

@@ -33,9 +33,11 @@ pub fn an_entry_debits_what_its_row_deposits()
 /// The entries of a history tell what moved for each account.
 pub fn entries_tell_what_moved()
     ensures deposited { (token : Token) (owner : Address) (m : Market) (calls : List Call)
-        → IsSound m → IsLegal m calls → (moves_of m calls).deposited token owner ≡ total (told_in token owner) calls }
+        → IsSound m → IsLegal m calls
+        → (moves_of m calls).deposited token owner ≡ total (told_in token owner) calls }
     ensures settled { (token : Token) (owner : Address) (m : Market) (calls : List Call)
-        → IsSound m → IsLegal m calls → (moves_of m calls).settled token owner ≡ total (told_out token owner) calls }
+        → IsSound m → IsLegal m calls
+        → (moves_of m calls).settled token owner ≡ total (told_out token owner) calls }
 {}
 
 /// What a journal and the last accounts tell of worth is what a market has that pays at once.
@@ -56,7 +58,8 @@ pub fn a_table_tells_what_a_market_pays_at_once()
 /// Nothing is made or lost: of each token of a market, what all accounts are worth at the end of a history, what the market
 /// has taken, and what takes took away, is what stood in the vault at the start and what takes brought.
 pub fn nothing_is_made_or_lost()
-    ensures { (token : Token) (m : Market) (calls : List Call) → IsSound m → IsLegal m calls → AddUp token m calls }
+    ensures { (token : Token) (m : Market) (calls : List Call)
+        → IsSound m → IsLegal m calls → AddUp token m calls }
 {}
 
 /// However late cranks come, and in whatever order lanes act: where the journals of a market in two lawful outcomes tell the

@@ -75,10 +75,8 @@ fn push_row(table: &mut Vec<WorthRow>, row: WorthRow) -> Result<(), NoMemory>
     ensures { OnOk result (map shown.plain_row table.new.items
         ≡ map shown.plain_row table.old.items ++ shown.plain_row row ∷ []) }
 {
-    match table.push(row) {
-        Ok(()) => Ok(()),
-        Err(_) => Err(NoMemory),
-    }
+    table.push(row)?;
+    Ok(())
 }
 
 /// What a market's accounts hold, deposited and were paid, one by one.
@@ -121,16 +119,6 @@ fn add_rows(
     Ok(())
 }
 
-/// Puts an address behind the others.
-fn push_owner(owners: &mut Vec<Address>, owner: Address) -> Result<(), NoMemory>
-    ensures { OnOk result (owners.new.items ≡ owners.old.items ++ owner ∷ []) }
-{
-    match owners.push(owner) {
-        Ok(()) => Ok(()),
-        Err(_) => Err(NoMemory),
-    }
-}
-
 /// The addresses of a market's accounts, in declared order.
 fn owners_of(alloc: Global, accounts: &[OrdersAccount]) -> Result<Vec<Address>, NoMemory>
     ensures { IfOk result (λ owners. owners.items
@@ -138,7 +126,7 @@ fn owners_of(alloc: Global, accounts: &[OrdersAccount]) -> Result<Vec<Address>, 
 {
     let mut owners = Vec::new(alloc);
     for place in 0..accounts.len() {
-        push_owner(&mut owners, accounts[place].address)?;
+        owners.push(accounts[place].address)?;
     }
     Ok(owners)
 }

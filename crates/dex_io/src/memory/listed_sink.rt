@@ -57,7 +57,8 @@ impl Sink for MemSink {
     /// Fails at a listed call, and else writes as a sink with room does.
     fn write(&mut self, piece: &[u8]) -> Result<usize, Failed>
         ensures listed { Contains self.old.fails self.old.calls → IsErr result }
-        ensures others { ¬ Contains self.old.fails self.old.calls → Writes self.old.sink piece.now result self.new.sink }
+        ensures others { ¬ Contains self.old.fails self.old.calls
+            → Writes self.old.sink piece.now result self.new.sink }
         ensures err { OnErr result (self.new.sink
             ≡ record self.old.sink { faults = next_count self.old.sink.faults }) }
 

@@ -6,9 +6,14 @@ use Rattle.dex_cell.specs.CellState.{call_on, step_on}
 use Rattle.dex_act.proofs.Rowing.{have-acted, moves-of, probed-behind, probes-behind, seen-at}
 use Rattle.dex_act.proofs.rows.act.Goals as goal
 
-pub answer-requires-clause-places : goal.answer-requires-clause-places
-answer-requires-clause-places c =
-    seen-at c.args.row.now c.args.seen.now c.args.market.now c.args.wallets.now c.args.places.now c.requires.row c.requires.places
+pub answer-requires : goal.answer-requires
+answer-requires c = record {
+  row = c.requires.row;
+  market = c.requires.market;
+  spare = c.requires.spare;
+  wallets = c.requires.wallets;
+  places = seen-at c.args.row.now c.args.seen.now c.args.market.now c.args.wallets.now c.args.places.now c.requires.row c.requires.places;
+}
 
 pub probes-requires : goal.probes-requires
 probes-requires c =

@@ -11,7 +11,7 @@ gather-requires c =
 
 pub loop-at-preserved : goal.loop-at-preserved
 loop-at-preserved c =
-    gathered-more c.loop-at.all.items c.add_gathered.new.all.items (map market_accounts_of c.args.markets.now) c.loop-at.at
-    (market_accounts_of c.index-markets-at.result) c.in_ok-one.one (omega (arith, length-map c.args.markets.now market_accounts_of)) c.in_ok-add_gathered.ensures
+    gathered-more c.loop-at.all.items c.add.new.items.items (map market_accounts_of c.args.markets.now) c.loop-at.at
+    (market_accounts_of c.index-markets-at.result) c.in_ok-one.one (omega (arith, length-map c.args.markets.now market_accounts_of)) c.in_ok-add.ensures
     c.loop-at.invariant c.in_ok-one.ensures
     (here-map market_accounts_of c.args.markets.now c.loop-at.at c.index-markets-at.result (omega arith) c.index-markets-at.is)

@@ -11,7 +11,7 @@ loop-number-preserved c =
     let d : QueuedEvent = decoded_event c.at.result in
     let lt : c.loop-number.number < length events = omega (arith, c.len-number-end.ensures) in
     let event : decoded_event c.at.result ≡ get_or events c.loop-number.number d = decoded-at c.at.result (get_or events c.loop-number.number d) (c.at.ensures.event d) in
-    ap (map decoded_event) c.in_ok-add_event.ensures
+    ap (map decoded_event) c.in_ok-add.ensures
     ∙ map-append decoded_event c.loop-number.events.items (c.at.result ∷ [])
     ∙ ap (λ (l : List QueuedEvent). l ++ decoded_event c.at.result ∷ []) c.loop-number.invariant
     ∙ ap (λ (e : QueuedEvent). take c.loop-number.number events ++ e ∷ []) event

@@ -25,7 +25,7 @@ orders-preserved c =
     let next = ap (λ (o : Option Order). orders_from o all) c.in-Some.is ∙ step.0 ∙ ap (λ (o : Option Order). order ∷ orders_from o all) (sym c.after-next.ensures) in
     record {
       read =
-          ap (λ l. l ++ orders_from c.after-next.result all) c.in_ok-add_order.ensures
+          ap (λ l. l ++ orders_from c.after-next.result all) c.in_ok-add.ensures
           ∙ append_assoc c.orders.orders.items (order ∷ []) (orders_from c.after-next.result all)
           ∙ ap (λ l. c.orders.orders.items ++ l) (sym next) ∙ c.orders.invariant.read;
       reached = subst (λ (o : Option Order). IsReached o all) (sym c.after-next.ensures) step.1;

@@ -15,17 +15,17 @@ read-is c =
 
 pub decide-requires : goal.decide-requires
 decide-requires c =
-    subst (IsFor c.args.row.now c.seen_by-seen.result) (sym (read-is (goal.at.decide-requires c).After-index))
-    (can-act-on c.args.row.now c.seen_by-seen.result c.args.standing.now.market c.args.cells.now c.seen_by-seen.ensures.seen c.requires.places.market c.index.result.now
-    (subst AreCells c.cells.view_is c.cells.invariant) c.requires.row c.seen_by-seen.ensures.fits).for
+    subst (IsFor c.args.row.now c.see.new.seen) (sym (read-is (goal.at.decide-requires c).After-index))
+    (can-act-on c.args.row.now c.see.new.seen c.args.standing.now.market c.args.cells.now c.see.ensures.seen c.requires.places.market c.index.result.now
+    (subst AreCells c.cells.view_is c.cells.invariant) c.requires.row c.see.ensures.fits).for
 
 pub returns-clause-refused : goal.returns-clause-refused
 returns-clause-refused c =
     let row = row_of c.args.row.now in
-    let seen : Seen = c.seen_by-seen.result in
+    let seen : Seen = c.see.new.seen in
     c.is_err.ensures.value
     ∙ ap is_err c.decide.ensures
     ∙ answered-refused (why (request_of row) seen (market_at c.index.result.now)) _
     ∙ ap (λ (cell : MarketCellState). is_some (why (request_of row) seen (market_at cell))) (read-is (goal.at.returns-clause-refused c).After-index)
     ∙ ap (λ (found : Option Refusal). is_some found)
-    (refused-here c.args.row.now seen c.args.standing.now.market c.args.cells.now c.seen_by-seen.ensures.seen c.requires.places.market c.index.result.now)
+    (refused-here c.args.row.now seen c.args.standing.now.market c.args.cells.now c.see.ensures.seen c.requires.places.market c.index.result.now)

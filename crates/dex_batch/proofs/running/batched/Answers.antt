@@ -8,6 +8,7 @@ use Rattle.dex_types.specs.Rows.{row_of}
 use Rattle.dex_script_facts.specs.PlainScript.{PlainScript}
 use Rattle.dex_script_facts.specs.Facts.{IsScript}
 use Rattle.dex_script_facts.specs.Places.{ArePlaced, market_addresses, wallet_addresses}
+use Rattle.dex_stage.specs.Parts.{AreTermsOf}
 use Rattle.dex_batch.proofs.Endings.{rows-few}
 use Rattle.dex_batch.proofs.running.batched.Goals as goal
 
@@ -24,11 +25,7 @@ work_all-requires-clause-lists g c κs within =
       are_placed = subst (λ (list : List Row). ArePlaced script.start (map row_of list) c.deref-4.result.now) (sym c.deref-3.ensures.value)
           (subst (λ (list : List RowPlaces). ArePlaced script.start (map row_of rows) list) (sym c.deref-4.ensures.value)
           (subst (λ (s : PlainScript). ArePlaced s.start (map row_of rows) c.in_ok-cells.places.items) c.requires.is c.in_ok-cells.ensures.placed));
-      are_terms = record {
-        srm = ap (λ (s : PlainScript). s.start.srm) inside;
-        msrm = ap (λ (s : PlainScript). s.start.msrm) inside;
-        program = ap (λ (s : PlainScript). s.program) inside;
-      };
+      are_terms = subst (λ (s : PlainScript). AreTermsOf s c.of-terms.result) c.requires.is c.of-terms.ensures;
       market_list = c.deref-5.ensures.value
           ∙ c.in_ok-market_addresses.ensures
           ∙ ap (λ (list : List MarketAccounts). map (λ (one : PlainMarketAccounts). one.address) (map market_accounts_of list)) c.deref.ensures.value

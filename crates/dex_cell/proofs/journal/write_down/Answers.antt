@@ -1,4 +1,4 @@
-use Rattle.std.proofs.Common.{◌≡◌, ℕ, List, [], ◌∷◌, ◌++◌, length, set, get_or, Option, refl, ap, ◌∙◌}
+use Rattle.std.proofs.Common.{◌≡◌, ℕ, List, [], ◌∷◌, ◌++◌, length, set, get_or, Option, ap, ◌∙◌}
 use Rattle.std.proofs.Math.Seq.{get_or-append_seam, set-append_seam}
 use Rattle.dex_types.specs.declared.movements.Entry.{Entry}
 use Rattle.dex_types.specs.declared.movements.Movement.{Movement}
@@ -18,6 +18,6 @@ written old new place last read moves grown end is =
 pub returns-clause-entries : goal.returns-clause-entries
 returns-clause-entries c =
     let entry : List (Option Movement) → Entry = λ moves. record { lane = c.args.row.now.lane; row = c.args.row.now.number; reply = c.args.reply; moves = moves } in
-    written c.args.entries.now.items c.push.new.self.items c.len-place.result (entry (places [])) c.index_mut-entry.result.now c.put_moves.new.moves
-    (c.push.ensures.items ∙ rw c.unwrap.ensures refl) (c.len-place.ensures ∙ c.args.entries.now.ok.0) c.index_mut-entry.ensures.value
+    written c.args.entries.now.items c.push_reserved.new.self.items c.len-place.result (entry (places [])) c.index_mut-entry.result.now c.put_moves.new.moves
+    c.push_reserved.ensures.items (c.len-place.ensures ∙ c.args.entries.now.ok.0) c.index_mut-entry.ensures.value
     ∙ ap (λ (moves : List (Option Movement)). c.args.entries.now.items ++ entry moves ∷ []) c.put_moves.ensures

@@ -1,4 +1,4 @@
-use Rattle.std.proofs.Common.{sym, ap, ◌∙◌, Option}
+use Rattle.std.proofs.Common.{rules, sym, ap, ◌∙◌, Option}
 use Rattle.dex_types.specs.declared.refusals.Refusal.{Refusal}
 use Rattle.dex_types.specs.Accounts.{market_accounts_of}
 use Rattle.dex_types.specs.Reasons.{answered}
@@ -15,14 +15,14 @@ pub decide_close-requires : goal.decide_close-requires
 decide_close-requires c =
     let accounts = market_accounts_of c.args.accounts.now in
     accepted-named (asked_by c.args.row.now).named accounts.orders (account_by c.in-Some.acting.address c.in-Some.acting.bytes.now)
-    (all-accepted accounts c.requires) c.in-Some.ensures
+    (all-accepted accounts c.requires) (search rules)
 
 pub returns-in-None : goal.returns-in-None
 returns-in-None c =
     let accounts = market_accounts_of c.args.accounts.now in
     let request = asked_by c.args.row.now in
     no-party (why_close request) plans.Close (party_on request (market_of c.args.accounts.now))
-    (party-told accounts c.requires request.named ∙ no-account request.named accounts.orders c.in-None.ensures)
+    (party-told accounts c.requires request.named ∙ no-account request.named accounts.orders (search rules))
 
 pub returns-in-Ok : goal.returns-in-Ok
 returns-in-Ok c =
@@ -30,7 +30,7 @@ returns-in-Ok c =
     let request = asked_by c.args.row.now in
     let account = account_by c.in-Some.acting.address c.in-Some.acting.bytes.now in
     ok-planned (λ (u : Unit). plans.Close) (of_party (why_close request) (party_on request (market_of c.args.accounts.now))) tt tt
-    (sym c.in-Ok.is ∙ c.decide_close.ensures.answer ∙ ap (λ (r : Option Refusal). answered r tt) (close-told accounts c.requires request account c.in-Some.ensures))
+    (sym c.in-Ok.is ∙ c.decide_close.ensures.answer ∙ ap (λ (r : Option Refusal). answered r tt) (close-told accounts c.requires request account (search rules)))
 
 pub returns-in-Err : goal.returns-in-Err
 returns-in-Err c =
@@ -38,4 +38,4 @@ returns-in-Err c =
     let request = asked_by c.args.row.now in
     let account = account_by c.in-Some.acting.address c.in-Some.acting.bytes.now in
     err-planned (of_party (why_close request) (party_on request (market_of c.args.accounts.now))) tt plans.Close c.in-Err.why
-    (sym c.in-Err.is ∙ c.decide_close.ensures.answer ∙ ap (λ (r : Option Refusal). answered r tt) (close-told accounts c.requires request account c.in-Some.ensures))
+    (sym c.in-Err.is ∙ c.decide_close.ensures.answer ∙ ap (λ (r : Option Refusal). answered r tt) (close-told accounts c.requires request account (search rules)))

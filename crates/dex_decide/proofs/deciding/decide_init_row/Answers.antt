@@ -1,4 +1,4 @@
-use Rattle.std.proofs.Common.{Option, sym, ap, ◌∙◌}
+use Rattle.std.proofs.Common.{rules, Option, sym, ap, ◌∙◌}
 use Rattle.dex_types.specs.declared.refusals.Refusal.{Refusal}
 use Rattle.dex_types.specs.Accounts.{market_accounts_of}
 use Rattle.dex_types.specs.Reasons.{answered}
@@ -15,13 +15,13 @@ pub decide_init-requires-clause-account : goal.decide_init-requires-clause-accou
 decide_init-requires-clause-account c =
     let accounts = market_accounts_of c.args.accounts.now in
     accepted-named (asked_by c.args.row.now).named accounts.orders (account_by c.in-Some.acting.address c.in-Some.acting.bytes.now)
-    (all-accepted accounts c.requires) c.in-Some.ensures
+    (all-accepted accounts c.requires) (search rules)
 
 pub returns-in-None : goal.returns-in-None
 returns-in-None c =
     let request = asked_by c.args.row.now in
     given-planned (why_init request (market_of c.args.accounts.now)) plans.Init c.disabled_or_none.result
-    (c.disabled_or_none.ensures ∙ none-told (market_accounts_of c.args.accounts.now) c.requires request c.deref.result.now c.deref.ensures.value c.in-None.ensures)
+    (c.disabled_or_none.ensures ∙ none-told (market_accounts_of c.args.accounts.now) c.requires request c.deref.result.now c.deref.ensures.value (search rules))
 
 pub returns-in-Ok : goal.returns-in-Ok
 returns-in-Ok c =
@@ -30,7 +30,7 @@ returns-in-Ok c =
     ok-planned (λ (u : Unit). plans.Init) (why_init request (market_of c.args.accounts.now)) tt tt
     (sym c.in-Ok.is ∙ c.decide_init.ensures.answer
     ∙ ap (λ (r : Option Refusal). answered r tt)
-    (init-told (market_accounts_of c.args.accounts.now) c.requires request c.deref.result.now c.deref.ensures.value account c.in-Some.ensures))
+    (init-told (market_accounts_of c.args.accounts.now) c.requires request c.deref.result.now c.deref.ensures.value account (search rules)))
 
 pub returns-in-Err : goal.returns-in-Err
 returns-in-Err c =
@@ -39,4 +39,4 @@ returns-in-Err c =
     err-planned (why_init request (market_of c.args.accounts.now)) tt plans.Init c.in-Err.why
     (sym c.in-Err.is ∙ c.decide_init.ensures.answer
     ∙ ap (λ (r : Option Refusal). answered r tt)
-    (init-told (market_accounts_of c.args.accounts.now) c.requires request c.deref.result.now c.deref.ensures.value account c.in-Some.ensures))
+    (init-told (market_accounts_of c.args.accounts.now) c.requires request c.deref.result.now c.deref.ensures.value account (search rules)))

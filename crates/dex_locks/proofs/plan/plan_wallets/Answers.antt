@@ -1,10 +1,10 @@
-use Rattle.std.proofs.Common.{◌≡◌, [], ◌∷◌, ap, ◌∙◌, sym, subst}
+use Rattle.std.proofs.Common.{◌≡◌, [], ap, ◌∙◌, sym, subst}
 use Rattle.dex_types.specs.Wallets.{with_role}
 use Rattle.dex_locks.specs.Places.{StandInFront, carry_of, front, put}
 use Rattle.dex_locks.proofs.PlaceLaws.{front-padded, length-roles, padded, put-roles, stand-padded}
 use Rattle.dex_locks.proofs.plan.plan_wallets.Goals as goal
 
-planned : (c : goal.After-put_role-4) → (let places = c.put_role-4.new in places.first ∷ places.second ∷ places.third ∷ places.fourth ∷ [])
+planned : (c : goal.After-put_role-4) → c.put_role-4.new.places
     ≡ padded 4 (with_role c.args.coin.now (with_role c.args.pc.now (with_role c.args.discount.now (with_role c.args.referrer.now []))))
 planned c =
     c.put_role-4.ensures

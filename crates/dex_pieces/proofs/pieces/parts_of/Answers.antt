@@ -1,4 +1,4 @@
-use Rattle.std.proofs.Common.{◌≡◌, ◌∙◌, ◌++◌, [], All, Vec, Global, ℕ, List, None, ap, codes, refl, subst}
+use Rattle.std.proofs.Common.{◌≡◌, All, None, codes, refl, subst}
 use Rattle.dex_types.specs.Accounts.{accounts_of}
 use Rattle.dex_dump.proofs.WholeLaws.{whole-held}
 use Rattle.dex_report.specs.Report.{head_line}

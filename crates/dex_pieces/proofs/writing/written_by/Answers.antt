@@ -1,4 +1,4 @@
-use Rattle.std.proofs.Common.{◌≡◌, ◌∙◌, ◌++◌, [], ◌∷◌, Ok, Vec, Global, ℕ, List, subst, sym}
+use Rattle.std.proofs.Common.{◌≡◌, ◌∙◌, ◌++◌, [], ◌∷◌, Ok, Vec, Global, ℕ, subst, sym}
 use Rattle.std.specs.List.{AllZip}
 use Rattle.dex_pieces.specs.declared.writing.Writing.{Writing}
 use Rattle.dex_pieces.proofs.Joined.{zip-behind}

@@ -1,5 +1,4 @@
 use Rattle.std.proofs.Common.{◌≡◌, ◌∙◌, ◌+◌, ◌++◌, ℕ, ap, refl, add-one}
-use Rattle.std.specs.String.{string_bytes}
 use Rattle.dex_report.specs.Draws.{generator_of}
 use Rattle.dex_report.specs.Made.{after_row, generator_at, row_of, row_text}
 use Rattle.dex_report.proofs.Numbered.{numbered-more, numbered-none}
@@ -23,5 +22,5 @@ pub rows-preserved : goal.rows-preserved
 rows-preserved c = record {
   generator = c.in_ok-write_row.ensures.generator ∙ ap (after_row c.rows.i) c.rows.invariant.generator ∙ next-generator c.args.number c.rows.i;
   text = numbered-more (row_of c.args.number) _ _ _ c.rows.i c.rows.invariant.text
-      (c.in_ok-write_row.ensures.text ∙ ap (λ g. string_bytes c.rows.text ++ row_text c.rows.i g) c.rows.invariant.generator);
+      (c.in_ok-write_row.ensures.text ∙ ap (λ g. c.rows.text.items ++ row_text c.rows.i g) c.rows.invariant.generator);
 }

@@ -8,14 +8,14 @@ use Rattle.dex_run.proofs.ClosingLaws.{are-cells, cells-length, closes}
 use Rattle.dex_run.proofs.ClosingPasses.{markets-close, wallets-close}
 use Rattle.dex_run.proofs.closing.closed.Goals as goal
 
-pub cells_given-market_cells-requires-clause-passes : goal.cells_given-market_cells-requires-clause-passes
-cells_given-market_cells-requires-clause-passes c =
+pub closed_cells-market_cells-requires-clause-passes : goal.closed_cells-market_cells-requires-clause-passes
+closed_cells-market_cells-requires-clause-passes c =
     subst (λ (gates : List (GateView (Stamped Call) MarketOrigin)). AllZip (λ gate column. CanClose gate column.items) gates c.hand_out_all.new.markets.items)
     (sym c.into_parts-mints.ensures.parts.markets)
     (markets-close c.args.bank c.args.seats.items c.into_parts-mints.ensures.kept c.requires.lanes c.hand_out_all.new.markets.items c.hand_out_all.ensures.markets)
 
-pub cells_given-wallet_cells-requires-clause-passes : goal.cells_given-wallet_cells-requires-clause-passes
-cells_given-wallet_cells-requires-clause-passes c =
+pub closed_cells-wallet_cells-requires-clause-passes : goal.closed_cells-wallet_cells-requires-clause-passes
+closed_cells-wallet_cells-requires-clause-passes c =
     subst (λ (gates : List (GateView (Stamped WalletEntry) WalletOrigin)). AllZip (λ gate column. CanClose gate column.items) gates c.hand_out_all.new.wallets.items)
     (sym c.into_parts-mints.ensures.parts.wallets)
     (wallets-close c.args.bank c.args.seats.items c.into_parts-mints.ensures.kept c.requires.lanes c.hand_out_all.new.wallets.items c.hand_out_all.ensures.wallets)
@@ -24,17 +24,17 @@ pub of-requires : goal.of-requires
 of-requires c = record {
   cells = are-cells c.args.bank c.args.seats.items c.into_parts-mints.ensures.kept c.requires.lanes
       c.hand_out_all.new.markets.items c.hand_out_all.new.wallets.items (map named_of c.into_parts-mints.result.mints.items) c.into_parts-mints.result.srm c.into_parts-mints.result.msrm
-      c.cells_given-market_cells.result.items c.cells_given-wallet_cells.result.items c.into_parts-mints.result.program c.hand_out_all.ensures.wallets
-      (subst (λ (gates : List (GateView (Stamped Call) MarketOrigin)). AreMarketsClosed gates c.hand_out_all.new.markets.items c.cells_given-market_cells.result.items)
-      c.into_parts-mints.ensures.parts.markets c.cells_given-market_cells.ensures)
-      (subst (λ (gates : List (GateView (Stamped WalletEntry) WalletOrigin)). AreWalletsClosed gates c.hand_out_all.new.wallets.items c.cells_given-wallet_cells.result.items)
-      c.into_parts-mints.ensures.parts.wallets c.cells_given-wallet_cells.ensures);
+      c.closed_cells-market_cells.result.items c.closed_cells-wallet_cells.result.items c.into_parts-mints.result.program c.hand_out_all.ensures.wallets
+      (subst (λ (gates : List (GateView (Stamped Call) MarketOrigin)). AreMarketsClosed gates c.hand_out_all.new.markets.items c.closed_cells-market_cells.result.items)
+      c.into_parts-mints.ensures.parts.markets c.closed_cells-market_cells.ensures)
+      (subst (λ (gates : List (GateView (Stamped WalletEntry) WalletOrigin)). AreWalletsClosed gates c.hand_out_all.new.wallets.items c.closed_cells-wallet_cells.result.items)
+      c.into_parts-mints.ensures.parts.wallets c.closed_cells-wallet_cells.ensures);
 }
 
 pub close_into-requires : goal.close_into-requires
 close_into-requires c =
-    let markets = cells-length _ _ _ _ _ _ c.cells_given-market_cells.ensures in
-    let wallets = cells-length _ _ _ _ _ _ c.cells_given-wallet_cells.ensures in
+    let markets = cells-length _ _ _ _ _ _ c.closed_cells-market_cells.ensures in
+    let wallets = cells-length _ _ _ _ _ _ c.closed_cells-wallet_cells.ensures in
     record {
       room = (
         omega (arith, ap (λ (cells : CellsState). length cells.markets) c.of.ensures, markets, ap length c.into_parts-mints.ensures.parts.markets, c.requires.room.market_cells),
@@ -46,12 +46,12 @@ pub returns : goal.returns
 returns c done =
     closes c.args.bank c.args.seats.items c.into_parts-mints.ensures.kept c.requires.lanes
     c.hand_out_all.new.markets.items c.hand_out_all.new.wallets.items (map named_of c.into_parts-mints.result.mints.items) c.into_parts-mints.result.srm c.into_parts-mints.result.msrm
-    c.cells_given-market_cells.result.items c.cells_given-wallet_cells.result.items c.into_parts-mints.result.program (outcome_of c.close_into.result)
+    c.closed_cells-market_cells.result.items c.closed_cells-wallet_cells.result.items c.into_parts-mints.result.program (outcome_of c.close_into.result)
     c.hand_out_all.ensures.kept c.requires.seats done c.hand_out_all.ensures.markets c.hand_out_all.ensures.wallets
-    (subst (λ (gates : List (GateView (Stamped Call) MarketOrigin)). AreMarketsClosed gates c.hand_out_all.new.markets.items c.cells_given-market_cells.result.items)
-    c.into_parts-mints.ensures.parts.markets c.cells_given-market_cells.ensures)
-    (subst (λ (gates : List (GateView (Stamped WalletEntry) WalletOrigin)). AreWalletsClosed gates c.hand_out_all.new.wallets.items c.cells_given-wallet_cells.result.items)
-    c.into_parts-mints.ensures.parts.wallets c.cells_given-wallet_cells.ensures)
+    (subst (λ (gates : List (GateView (Stamped Call) MarketOrigin)). AreMarketsClosed gates c.hand_out_all.new.markets.items c.closed_cells-market_cells.result.items)
+    c.into_parts-mints.ensures.parts.markets c.closed_cells-market_cells.ensures)
+    (subst (λ (gates : List (GateView (Stamped WalletEntry) WalletOrigin)). AreWalletsClosed gates c.hand_out_all.new.wallets.items c.closed_cells-wallet_cells.result.items)
+    c.into_parts-mints.ensures.parts.wallets c.closed_cells-wallet_cells.ensures)
     c.into_parts-mints.ensures.parts.mints
     c.into_parts-mints.ensures.parts.srm
     c.into_parts-mints.ensures.parts.msrm

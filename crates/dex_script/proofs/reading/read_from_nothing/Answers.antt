@@ -8,11 +8,11 @@ use Rattle.dex_script.proofs.ScriptLaws.{answers-plain, tells}
 use Rattle.dex_script.proofs.reading.read_from_nothing.Goals as goal
 
 pub returns : goal.returns
-returns c =
+returns g c =
     let before = no_rows c.args.batch in
     let given : draft_after c.new.result 1 c.new-rows.result ≡ draft_after before 1 (rows_of c.args.bytes.now) =
     ap (λ (draft : PlainDraft). draft_after draft 1 c.new-rows.result) c.new.ensures
     ∙ ap (λ (rows : List Fields). draft_after before 1 rows) c.new-rows.ensures in
     tells c.args.batch c.args.bytes.now (draft_after before 1 (rows_of c.args.bytes.now))
-    (answers-plain c.args.batch c.args.bytes.now c.requires)
+    (answers-plain c.args.batch c.args.bytes.now c.requires.begins)
     c.read_rows.result (subst (TellsDraft c.read_rows.result) given c.read_rows.ensures)

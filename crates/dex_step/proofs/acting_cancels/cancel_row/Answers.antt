@@ -11,14 +11,14 @@ use Rattle.dex_step.proofs.acting_cancels.cancel_row.Goals as goal
 
 pub bytes_of-held-requires : goal.bytes_of-held-requires
 bytes_of-held-requires c =
-    let found = cancel-found (market_accounts_of c.args.accounts.now) (named_by c.args.what.now) c.args.owner c.sizes_in-sizes.result c.requires.sound c.requires.decided (search rules) in
+    let found = cancel-found (market_accounts_of c.args.accounts.now) (named_by c.args.what.now) c.args.owner c.sizes-sizes.result c.requires.sound c.requires.decided (search rules) in
     search (rules, found)
 
 pub cancel_on_bytes-count-requires : goal.cancel_on_bytes-count-requires
 cancel_on_bytes-count-requires c =
     let found : bytes_at c.args.owner (map orders_account_of c.args.accounts.now.orders.items) ≡ Some c.bytes_of-held.result.now =
     subst (λ (l : List OrdersAccount). bytes_at c.args.owner (map orders_account_of l) ≡ Some c.bytes_of-held.result.now) c.deref-2.ensures.value c.bytes_of-held.ensures in
-    let can = cancel-can (market_accounts_of c.args.accounts.now) (named_by c.args.what.now) c.args.owner c.sizes_in-sizes.result c.requires.sound c.requires.decided (search rules)
+    let can = cancel-can (market_accounts_of c.args.accounts.now) (named_by c.args.what.now) c.args.owner c.sizes-sizes.result c.requires.sound c.requires.decided (search rules)
     c.bytes_of-held.result.now found in
     search (rules, can)
 
@@ -26,7 +26,7 @@ pub returns : goal.returns
 returns c =
     let old = c.args.accounts.now in
     let did = c.cancel_on_bytes-count in
-    cancel-stepped (market_accounts_of old) (named_by c.args.what.now) c.args.owner c.sizes_in-sizes.result c.requires.sound c.requires.decided (search rules)
+    cancel-stepped (market_accounts_of old) (named_by c.args.what.now) c.args.owner c.sizes-sizes.result c.requires.sound c.requires.decided (search rules)
     _ c.cancel_on_bytes-count.result
     (cancelled-same _ _ _ _ _ _ _ c.cancel_on_bytes-count.ensures (search rules)
     (cancel-bytes-same _ _ _ _ _ _ _

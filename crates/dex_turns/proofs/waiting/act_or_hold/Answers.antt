@@ -36,7 +36,12 @@ returns-then-waits-clause-hands c =
     let m : Market = market_at c.args.market.now.cell in
     subst (λ (b : Bool). HaveActed (doing b row) c.args.seen.now (row_step (doing b row) c.args.seen.now m).transfers c.args.hands.now c.hold.new.wallets) (sym c.if-waits.true)
     (subst (λ (s : Step). HaveActed (doing true row) c.args.seen.now s.transfers c.args.hands.now c.hold.new.wallets) (sym (idle-step row c.args.seen.now m))
-    (record { states = c.hold.ensures.states; kept = c.hold.ensures.wallets; apart = c.hold.ensures.apart; made = c.hold.ensures.made }))
+    (record {
+      states = c.hold.ensures.wallets.states;
+      kept = c.hold.ensures.wallets.kept;
+      apart = c.hold.ensures.wallets.apart;
+      made = c.hold.ensures.wallets.made;
+    }))
 
 -- ---- done
 
@@ -58,4 +63,4 @@ returns-else-waits-clause-hands c =
     let row = row_of c.args.row.now in
     let m : Market = market_at c.args.market.now.cell in
     subst (λ (b : Bool). HaveActed (doing b row) c.args.seen.now (row_step (doing b row) c.args.seen.now m).transfers c.args.hands.now c.act.new.wallets) (sym c.if-waits.false)
-    (record { states = c.act.ensures.states; kept = c.act.ensures.wallets; apart = c.act.ensures.apart; made = c.act.ensures.made })
+    c.act.ensures.wallets

@@ -9,7 +9,6 @@ use Rattle.dex_history.specs.Balances.{mint_of}
 use Rattle.dex_history.specs.Journal.{Call, asked_of, is_refusal, request_of}
 use Rattle.dex_history.proofs.StepMoves.{row-moves}
 use Rattle.dex_movements.specs.Amounts.{CanMoveEach, transfers_of}
-use Rattle.dex_step.specs.Acting.{HasStepped}
 use Rattle.dex_wallet.specs.TokenAmount.{held_in}
 use Rattle.dex_cell.specs.CellInside.{call_of, cell_inside}
 use Rattle.dex_cell.specs.CellState.{HasSpare, HasTaken, IsFor, IsMarketCell, MarketCellState, answer_on, call_on, market_at, step_on}
@@ -28,14 +27,14 @@ moved-first c =
 
 pub pay-payouts-requires-clause-coin : goal.pay-payouts-requires-clause-coin
 pay-payouts-requires-clause-coin c =
-    subst (λ (t : Transfers). CanMoveShare c.self.inside.coin t.coin_out t.coin_in c.args.coin) (sym (moved-first c))
+    subst (λ (t : Transfers). CanMoveShare c.self.inside.coin.parcel t.coin_out t.coin_in c.args.coin) (sym (moved-first c))
     (coin-moves (cell_inside c.self.inside) c.args.row.now c.args.seen.now c.args.coin c.self.invariant.cell
     (subst (λ (cell : MarketCellState). c.args.coin ≡ paid_in Coin c.args.plan.now (market_at cell)) (sym c.self.view_is) c.requires.coin
     ∙ ap (λ (t : Transfers). parcel_of (mint_of Coin (market_at (cell_inside c.self.inside))) t.coin_in) (sym c.amounts_of-amounts.ensures ∙ moved-first c)))
 
 pub pay-payouts-requires-clause-pc : goal.pay-payouts-requires-clause-pc
 pay-payouts-requires-clause-pc c =
-    subst (λ (t : Transfers). CanMoveShare c.self.inside.pc (t.pc_out + t.referrer_out) t.pc_in c.args.pc) (sym (moved-first c))
+    subst (λ (t : Transfers). CanMoveShare c.self.inside.pc.parcel (t.pc_out + t.referrer_out) t.pc_in c.args.pc) (sym (moved-first c))
     (pc-moves (cell_inside c.self.inside) c.args.row.now c.args.seen.now c.args.pc c.self.invariant.cell
     (subst (λ (cell : MarketCellState). c.args.pc ≡ paid_in Pc c.args.plan.now (market_at cell)) (sym c.self.view_is) c.requires.pc
     ∙ ap (λ (t : Transfers). parcel_of (mint_of Pc (market_at (cell_inside c.self.inside))) t.pc_in) (sym c.amounts_of-amounts.ensures ∙ moved-first c)))
@@ -62,7 +61,7 @@ moved c =
 
 calls : (c : goal.After-write_down) → map call_of c.write_down.new.calls.items ≡ (before c).calls ++ call_on c.args.row.now c.args.seen.now (before c) ∷ []
 calls c =
-    calls-grow c.args.row.now c.args.seen.now c.apply-reply.result (stepped c).reply _ (stepped c).transfers c.apply-reply.ensures.reply (moved c)
+    calls-grow c.args.row.now c.args.seen.now c.apply-reply.result (stepped c).reply _ (stepped c).transfers c.apply-reply.ensures.reply_is (moved c)
     c.self.inside.calls.items c.write_down.new.calls.items c.write_down.ensures.calls
 
 -- the cell after it
@@ -76,42 +75,33 @@ after c = record (before c) {
 
 coin : (c : goal.After-write_down) → c.pay-payouts.new.coin ≡ held_in (market_accounts_of c.apply-reply.new.accounts).coin_vault
 coin c =
-    c.pay-payouts.ensures.coin ∙ ap (λ (t : Transfers). moved_share c.self.inside.coin t.coin_out t.coin_in) (moved c)
+    c.pay-payouts.ensures.coin ∙ ap (λ (t : Transfers). moved_share c.self.inside.coin.parcel t.coin_out t.coin_in) (moved c)
     ∙ coin-moved (before c) c.args.row.now c.args.seen.now (market_accounts_of c.apply-reply.new.accounts) c.self.invariant.cell c.apply-reply.ensures.sound c.apply-reply.ensures.market
 
 pc : (c : goal.After-write_down) → c.pay-payouts.new.pc ≡ held_in (market_accounts_of c.apply-reply.new.accounts).pc_vault
 pc c =
-    c.pay-payouts.ensures.pc ∙ ap (λ (t : Transfers). moved_share c.self.inside.pc (t.pc_out + t.referrer_out) t.pc_in) (moved c)
+    c.pay-payouts.ensures.pc ∙ ap (λ (t : Transfers). moved_share c.self.inside.pc.parcel (t.pc_out + t.referrer_out) t.pc_in) (moved c)
     ∙ pc-moved (before c) c.args.row.now c.args.seen.now (market_accounts_of c.apply-reply.new.accounts) c.self.invariant.cell c.apply-reply.ensures.sound c.apply-reply.ensures.market
-
-done : (c : goal.After-write_down) → HasStepped (market_accounts_of c.self.inside.accounts) (market_accounts_of c.apply-reply.new.accounts) c.apply-reply.result c.apply-reply.new.pending (stepped c)
-done c = record {
-  reply_is = c.apply-reply.ensures.reply;
-  market = c.apply-reply.ensures.market;
-  sound = c.apply-reply.ensures.sound;
-  pending_is = c.apply-reply.ensures.pending;
-  kept = c.apply-reply.ensures.kept;
-}
 
 kept : (c : goal.After-write_down) → IsMarketCell (after c)
 kept c =
     subst (λ (cs : List Call). IsMarketCell (record (after c) { calls = cs })) (sym (calls c))
     (called (before c) c.args.row.now c.args.seen.now (market_accounts_of c.apply-reply.new.accounts) c.apply-reply.result c.apply-reply.new.pending
-    c.pay-payouts.new.coin c.pay-payouts.new.pc c.self.invariant.cell (subst (IsFor c.args.row.now c.args.seen.now) (sym c.self.view_is) c.requires.row) (subst HasSpare (sym c.self.view_is) c.requires.spare) (done c) (coin c) (pc c))
+    c.pay-payouts.new.coin c.pay-payouts.new.pc c.self.invariant.cell (subst (IsFor c.args.row.now c.args.seen.now) (sym c.self.view_is) c.requires.row) (subst HasSpare (sym c.self.view_is) c.requires.spare) c.apply-reply.ensures (coin c) (pc c))
 
 pub invariant_of-self : goal.invariant_of-self
 invariant_of-self c = record {
   cell = kept c;
-  journal = entries-grow c.args.row.now c.args.seen.now c.apply-reply.result (stepped c).reply _ (stepped c).transfers c.apply-reply.ensures.reply (moved c)
+  journal = entries-grow c.args.row.now c.args.seen.now c.apply-reply.result (stepped c).reply _ (stepped c).transfers c.apply-reply.ensures.reply_is (moved c)
       c.self.inside.entries.items c.write_down.new.entries.items (before c).calls c.self.invariant.journal c.write_down.ensures.entries
       ∙ sym (ap (map (λ (call : Call). call.entry)) (calls c));
   reserved = omega (arith, c.write_down.ensures.reserved, c.self.invariant.reserved);
-  pending = c.apply-reply.ensures.pending;
+  pending = c.apply-reply.ensures.pending_is;
 }
 
 pub returns-clause-paid : goal.returns-clause-paid
 returns-clause-paid c =
-    c.pay-payouts.ensures.paid ∙ ap (λ (t : Transfers). paid_by c.self.inside.coin.mint c.self.inside.pc.mint t) (moved c)
+    c.pay-payouts.ensures.paid ∙ ap (λ (t : Transfers). paid_by c.self.inside.coin.parcel.mint c.self.inside.pc.parcel.mint t) (moved c)
     ∙ mints-are (before c) (stepped c).transfers c.self.invariant.cell
     ∙ ap (λ (cell : MarketCellState). paid_out (market_at cell) (step_on c.args.row.now c.args.seen.now cell).transfers) c.self.view_is
 

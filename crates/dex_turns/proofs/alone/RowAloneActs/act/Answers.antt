@@ -10,21 +10,20 @@ use Rattle.dex_turns.proofs.InHand.{has-hands}
 use Rattle.dex_turns.proofs.LegNames.{row-once}
 use Rattle.dex_turns.proofs.alone.RowAloneActs.act.Goals as goal
 
-pub act_or_wait-requires-clause-row : goal.act_or_wait-requires-clause-row
-act_or_wait-requires-clause-row g c =
+pub act_or_wait-requires-clause-may : goal.act_or_wait-requires-clause-may
+act_or_wait-requires-clause-may g c =
     let row = row_of c.args.self.now.row.now in
     let hand = has-hands c.args.bank.now.script row (row_wallets row) c.args.hands.now.items c.requires.hands (row-once row) (λ address named. named) in
     record {
-      market = c.requires.ready.on;
-      sees = sees-row c.args.bank.now.script row c.args.hands.now.items c.deref.result.now c.seen_by-seen.result hand c.deref.ensures.value c.seen_by-seen.ensures.seen;
+      on = record {
+        market = c.requires.ready.on;
+        sees = sees-row c.args.bank.now.script row c.args.hands.now.items c.deref.result.now c.seen_by-seen.result hand c.deref.ensures.value c.seen_by-seen.ensures.seen;
+      };
+      sees = sees-own c.args.bank.now.script row c.args.hands.now.items c.deref.result.now c.seen_by-seen.result hand c.deref.ensures.value c.seen_by-seen.ensures.seen
+          c.seen_by-seen.ensures.fits;
+      lane = c.requires.ready.lane;
+      above = omega (arith, c.requires.below, c.next.ensures);
     }
-
-pub act_or_wait-requires-clause-wallets : goal.act_or_wait-requires-clause-wallets
-act_or_wait-requires-clause-wallets g c =
-    let row = row_of c.args.self.now.row.now in
-    let hand = has-hands c.args.bank.now.script row (row_wallets row) c.args.hands.now.items c.requires.hands (row-once row) (λ address named. named) in
-    sees-own c.args.bank.now.script row c.args.hands.now.items c.deref.result.now c.seen_by-seen.result hand c.deref.ensures.value c.seen_by-seen.ensures.seen
-    c.seen_by-seen.ensures.fits
 
 pub returns-clause-did : goal.returns-clause-did
 returns-clause-did g c =

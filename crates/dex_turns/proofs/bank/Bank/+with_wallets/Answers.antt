@@ -56,8 +56,8 @@ take_wallet-cell-requires-clause-idle g t c =
     (subst (λ (l : List Address). AreReady c.args.self.now (g.A.Acts.lane c.args.item.now) l c.args.passes.now.items) (front-some c.args.others.now c.in-Some.address (sym c.first_of.ensures ∙ c.in-Some.is)) c.requires.passes)
     c.requires.bank c.place-place.result (wallet-placed c.args.self.now.script c.in-Some.address c.place-place.result (c.place-place.ensures c.args.self.now.script c.requires.placed)) (record { address = c.in-Some.address; bytes = [] }) c.index_mut.result.now
 
-pub put_in_hand-requires : goal.put_in_hand-requires
-put_in_hand-requires g t c =
+pub push_reserved-requires : goal.push_reserved-requires
+push_reserved-requires g t c =
     let long = rest-long c.args.others.now c.in-Some.address (sym c.first_of.ensures ∙ c.in-Some.is) in
     omega (arith, long, c.requires.room)
 
@@ -73,8 +73,8 @@ facts g t c =
 pub with_wallets-made-requires : goal.with_wallets-made-requires
 with_wallets-made-requires g t c κs within =
     let long = rest-long c.args.others.now c.in-Some.address (sym c.first_of.ensures ∙ c.in-Some.is) in
-    let hands_long : length c.put_in_hand.new.hands.items ≡ length c.args.hands.now.items + 1 =
-    ap length c.put_in_hand.ensures.items ∙ length-append c.args.hands.now.items (c.take_wallet-cell.result.0 ∷ []) in (
+    let hands_long : length c.push_reserved.new.self.items ≡ length c.args.hands.now.items + 1 =
+    ap length c.push_reserved.ensures.items ∙ length-append c.args.hands.now.items (c.take_wallet-cell.result.0 ∷ []) in (
       omega (arith, long),
       (
         within.0,
@@ -96,8 +96,8 @@ with_wallets-made-requires g t c κs within =
                         omega (arith, c.requires.below, c.later-later.ensures, le-max_right c.take_wallet-cell.result.1.last c.args.stamp.now.number),
                         (
                           subst (AreInHand c.args.self.now.script (g.A.Acts.named c.args.item.now) (front (rest_of c.args.others.now)))
-                              (sym (c.put_in_hand.ensures.items ∙ ap (λ (x : CellState). c.args.hands.now.items ++ x ∷ []) c.take_wallet-cell.ensures.cell)) (facts-hand (facts g t (goal.at.with_wallets-made-requires g t c).After-take_wallet-cell)),
-                          (facts-ready (facts g t (goal.at.with_wallets-made-requires g t c).After-take_wallet-cell), omega (arith, long, hands_long, c.requires.room, c.put_in_hand.ensures.room)),
+                              (sym (c.push_reserved.ensures.items ∙ ap (λ (x : CellState). c.args.hands.now.items ++ x ∷ []) c.take_wallet-cell.ensures.cell)) (facts-hand (facts g t (goal.at.with_wallets-made-requires g t c).After-take_wallet-cell)),
+                          (facts-ready (facts g t (goal.at.with_wallets-made-requires g t c).After-take_wallet-cell), omega (arith, long, hands_long, c.requires.room, c.push_reserved.ensures.capacity)),
                         ),
                       ),
                     ),
@@ -112,9 +112,9 @@ with_wallets-made-requires g t c κs within =
 
 pub take_from_hand-cell-requires : goal.take_from_hand-cell-requires
 take_from_hand-cell-requires g t c =
-    let hands_long : length c.put_in_hand.new.hands.items ≡ length c.args.hands.now.items + 1 =
-    ap length c.put_in_hand.ensures.items ∙ length-append c.args.hands.now.items (c.take_wallet-cell.result.0 ∷ []) in
-    omega (arith, hands_long, AllZip-long (HasEntry (g.A.Acts.written c.args.item.now c.with_wallets-made.result)) c.put_in_hand.new.hands.items c.with_wallets-made.new.hands.items c.with_wallets-made.ensures.hands)
+    let hands_long : length c.push_reserved.new.self.items ≡ length c.args.hands.now.items + 1 =
+    ap length c.push_reserved.ensures.items ∙ length-append c.args.hands.now.items (c.take_wallet-cell.result.0 ∷ []) in
+    omega (arith, hands_long, AllZip-long (HasEntry (g.A.Acts.written c.args.item.now c.with_wallets-made.result)) c.push_reserved.new.self.items c.with_wallets-made.new.hands.items c.with_wallets-made.ensures.hands)
 
 -- ---- behind them
 
@@ -128,8 +128,8 @@ index_mut-requires-in-Some g t c =
 pub leave_wallet-requires-clause-entry : goal.leave_wallet-requires-clause-entry
 leave_wallet-requires-clause-entry g t c =
     let entry = AllZip-last (HasEntry (g.A.Acts.written c.args.item.now c.with_wallets-made.result)) c.args.hands.now.items c.take_from_hand-cell.new.hands.items c.take_wallet-cell.result.0 c.take_from_hand-cell.result
-    (subst (λ (l : List CellState). AllZip (HasEntry (g.A.Acts.written c.args.item.now c.with_wallets-made.result)) l (c.take_from_hand-cell.new.hands.items ++ c.take_from_hand-cell.result ∷ [])) c.put_in_hand.ensures.items
-    (subst (AllZip (HasEntry (g.A.Acts.written c.args.item.now c.with_wallets-made.result)) c.put_in_hand.new.hands.items) c.take_from_hand-cell.ensures.items c.with_wallets-made.ensures.hands)) in (
+    (subst (λ (l : List CellState). AllZip (HasEntry (g.A.Acts.written c.args.item.now c.with_wallets-made.result)) l (c.take_from_hand-cell.new.hands.items ++ c.take_from_hand-cell.result ∷ [])) c.push_reserved.ensures.items
+    (subst (AllZip (HasEntry (g.A.Acts.written c.args.item.now c.with_wallets-made.result)) c.push_reserved.new.self.items) c.take_from_hand-cell.ensures.items c.with_wallets-made.ensures.hands)) in (
       g.A.Acts.written c.args.item.now c.with_wallets-made.result,
       sym c.stamp-own.ensures,
       facts-leave (facts g t (goal.at.leave_wallet-requires-clause-entry g t c).After-take_wallet-cell) (g.A.Acts.written c.args.item.now c.with_wallets-made.result) c.with_wallets-made.new.passes.items c.with_wallets-made.ensures.written.of_lane c.with_wallets-made.ensures.passes c.index_mut-in-Some.result.now c.index_mut-in-Some.ensures.value c.take_from_hand-cell.result
@@ -146,8 +146,8 @@ leave_wallet-requires-clause-away g t c =
 pub returns-in-Some-clause-passes : goal.returns-in-Some-clause-passes
 returns-in-Some-clause-passes g t c =
     let entry = AllZip-last (HasEntry (g.A.Acts.written c.args.item.now c.with_wallets-made.result)) c.args.hands.now.items c.take_from_hand-cell.new.hands.items c.take_wallet-cell.result.0 c.take_from_hand-cell.result
-    (subst (λ (l : List CellState). AllZip (HasEntry (g.A.Acts.written c.args.item.now c.with_wallets-made.result)) l (c.take_from_hand-cell.new.hands.items ++ c.take_from_hand-cell.result ∷ [])) c.put_in_hand.ensures.items
-    (subst (AllZip (HasEntry (g.A.Acts.written c.args.item.now c.with_wallets-made.result)) c.put_in_hand.new.hands.items) c.take_from_hand-cell.ensures.items c.with_wallets-made.ensures.hands)) in
+    (subst (λ (l : List CellState). AllZip (HasEntry (g.A.Acts.written c.args.item.now c.with_wallets-made.result)) l (c.take_from_hand-cell.new.hands.items ++ c.take_from_hand-cell.result ∷ [])) c.push_reserved.ensures.items
+    (subst (AllZip (HasEntry (g.A.Acts.written c.args.item.now c.with_wallets-made.result)) c.push_reserved.new.self.items) c.take_from_hand-cell.ensures.items c.with_wallets-made.ensures.hands)) in
     subst (λ (l : List Address). HaveGrown c.args.self.now l (g.A.Acts.written c.args.item.now c.with_wallets-made.result) c.args.passes.now.items
     (set c.with_wallets-made.new.passes.items c.place-place.result c.leave_wallet.new.pass)) (sym (front-some c.args.others.now c.in-Some.address (sym c.first_of.ensures ∙ c.in-Some.is)))
     (facts-grown (facts g t (goal.at.returns-in-Some-clause-passes g t c).After-take_wallet-cell) (g.A.Acts.written c.args.item.now c.with_wallets-made.result) c.with_wallets-made.new.passes.items c.with_wallets-made.ensures.written.of_lane c.with_wallets-made.ensures.passes c.index_mut-in-Some.result.now c.index_mut-in-Some.ensures.value c.leave_wallet.new.pass
@@ -159,8 +159,8 @@ returns-in-Some-clause-passes g t c =
 pub returns-in-Some-clause-hands : goal.returns-in-Some-clause-hands
 returns-in-Some-clause-hands g t c =
     (AllZip-last (HasEntry (g.A.Acts.written c.args.item.now c.with_wallets-made.result)) c.args.hands.now.items c.take_from_hand-cell.new.hands.items c.take_wallet-cell.result.0 c.take_from_hand-cell.result
-    (subst (λ (l : List CellState). AllZip (HasEntry (g.A.Acts.written c.args.item.now c.with_wallets-made.result)) l (c.take_from_hand-cell.new.hands.items ++ c.take_from_hand-cell.result ∷ [])) c.put_in_hand.ensures.items
-    (subst (AllZip (HasEntry (g.A.Acts.written c.args.item.now c.with_wallets-made.result)) c.put_in_hand.new.hands.items) c.take_from_hand-cell.ensures.items c.with_wallets-made.ensures.hands))).0
+    (subst (λ (l : List CellState). AllZip (HasEntry (g.A.Acts.written c.args.item.now c.with_wallets-made.result)) l (c.take_from_hand-cell.new.hands.items ++ c.take_from_hand-cell.result ∷ [])) c.push_reserved.ensures.items
+    (subst (AllZip (HasEntry (g.A.Acts.written c.args.item.now c.with_wallets-made.result)) c.push_reserved.new.self.items) c.take_from_hand-cell.ensures.items c.with_wallets-made.ensures.hands))).0
 
 -- ---- where no wallet is still to come
 

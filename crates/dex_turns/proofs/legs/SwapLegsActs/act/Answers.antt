@@ -1,4 +1,4 @@
-use Rattle.std.proofs.Common.{ℕ, Bool, ◌&&◌, not, List, refl, sym, ap, ◌∙◌, subst}
+use Rattle.std.proofs.Common.{ℕ, Bool, ◌&&◌, not, List, refl, sym, ap, ◌∙◌, subst, arith}
 use Rattle.dex_fold.proofs.Common.{AllZip, Call, Market, Seen, is_same, is_same-refl, row_of}
 use Rattle.dex_turns.proofs.Common.{CellState, HasEntry, Stamped, call_made}
 use Rattle.dex_cell.specs.CellState.{market_at}
@@ -38,15 +38,21 @@ is_refused-second_refused-requires g c =
 
 -- ---- the first acts or waits
 
-pub act_or_wait-one-requires-clause-row : goal.act_or_wait-one-requires-clause-row
-act_or_wait-one-requires-clause-row g c =
+pub act_or_wait-one-requires-clause-may : goal.act_or_wait-one-requires-clause-may
+act_or_wait-one-requires-clause-may g c =
     let first = row_of c.args.self.now.first.now in
     let second = row_of c.args.self.now.second.now in
     let legs = c.requires.ready.legs in
     let hand = has-hands c.args.bank.now.script first (leg_wallets first second) c.args.hands.now.items c.requires.hands (leg-once first second legs) (first-named first second legs) in
     record {
-      market = c.requires.ready.first_may.on;
-      sees = sees-row c.args.bank.now.script first c.args.hands.now.items c.deref.result.now c.seen_by-first_seen.result hand c.deref.ensures.value c.seen_by-first_seen.ensures.seen;
+      on = record {
+        market = c.requires.ready.first_may.on;
+        sees = sees-row c.args.bank.now.script first c.args.hands.now.items c.deref.result.now c.seen_by-first_seen.result hand c.deref.ensures.value c.seen_by-first_seen.ensures.seen;
+      };
+      sees = sees-own c.args.bank.now.script first c.args.hands.now.items c.deref.result.now c.seen_by-first_seen.result hand c.deref.ensures.value c.seen_by-first_seen.ensures.seen
+          c.seen_by-first_seen.ensures.fits;
+      lane = c.requires.ready.first_may.lane;
+      above = omega (arith, c.requires.below, c.next-one_stamp.ensures);
     }
 
 pub act_or_wait-one-requires-clause-held : goal.act_or_wait-one-requires-clause-held
@@ -55,27 +61,7 @@ act_or_wait-one-requires-clause-held g c =
     (leg-waits (row_of c.args.self.now.first.now) c.requires.ready.legs.first c.seen_by-first_seen.result (market_at c.args.markets.now.first.cell) c.waits.result
     c.is_refused-second_refused.result c.is_refused-first_refused.result c.waits.ensures c.is_refused-first_refused.ensures)
 
-pub act_or_wait-one-requires-clause-wallets : goal.act_or_wait-one-requires-clause-wallets
-act_or_wait-one-requires-clause-wallets g c =
-    let first = row_of c.args.self.now.first.now in
-    let second = row_of c.args.self.now.second.now in
-    let legs = c.requires.ready.legs in
-    let hand = has-hands c.args.bank.now.script first (leg_wallets first second) c.args.hands.now.items c.requires.hands (leg-once first second legs) (first-named first second legs) in
-    sees-own c.args.bank.now.script first c.args.hands.now.items c.deref.result.now c.seen_by-first_seen.result hand c.deref.ensures.value c.seen_by-first_seen.ensures.seen
-    c.seen_by-first_seen.ensures.fits
-
 -- ---- and then the second
-
-pub act_or_wait-two-requires-clause-row : goal.act_or_wait-two-requires-clause-row
-act_or_wait-two-requires-clause-row g c =
-    let first = row_of c.args.self.now.first.now in
-    let second = row_of c.args.self.now.second.now in
-    let legs = c.requires.ready.legs in
-    let hand = has-hands c.args.bank.now.script second (leg_wallets first second) c.args.hands.now.items c.requires.hands (leg-once first second legs) (second-named first second legs) in
-    record {
-      market = c.requires.ready.second_may.on;
-      sees = sees-row c.args.bank.now.script second c.args.hands.now.items c.deref-2.result.now c.seen_by-second_seen.result hand c.deref-2.ensures.value c.seen_by-second_seen.ensures.seen;
-    }
 
 pub act_or_wait-two-requires-clause-held : goal.act_or_wait-two-requires-clause-held
 act_or_wait-two-requires-clause-held g c =
@@ -84,8 +70,8 @@ act_or_wait-two-requires-clause-held g c =
     c.is_refused-first_refused.result c.is_refused-second_refused.result c.waits-2.ensures c.is_refused-second_refused.ensures)
 
 -- it sees behind the first what it saw before
-pub act_or_wait-two-requires-clause-wallets : goal.act_or_wait-two-requires-clause-wallets
-act_or_wait-two-requires-clause-wallets g c =
+pub act_or_wait-two-requires-clause-may : goal.act_or_wait-two-requires-clause-may
+act_or_wait-two-requires-clause-may g c =
     let script = c.args.bank.now.script in
     let first = row_of c.args.self.now.first.now in
     let second = row_of c.args.self.now.second.now in
@@ -96,13 +82,21 @@ act_or_wait-two-requires-clause-wallets g c =
     let other = has-hands script second (leg_wallets first second) cells c.requires.hands (leg-once first second legs) (second-named first second legs) in
     let m : Market = market_at c.args.markets.now.first.cell in
     let behind = hands-behind first second legs.apart c.waits.result c.seen_by-first_seen.result _ script cells mid c.act_or_wait-one.ensures.hands other in
-    sees-own script second mid mid c.seen_by-second_seen.result behind refl
-    (seen-is script second cells c.deref-2.result.now c.seen_by-second_seen.result other c.deref-2.ensures.value c.seen_by-second_seen.ensures.seen
-    ∙ sym (seen-behind first second legs.apart c.waits.result c.seen_by-first_seen.result m script cells mid
-    (seen-is script first cells c.deref.result.now c.seen_by-first_seen.result own c.deref.ensures.value c.seen_by-first_seen.ensures.seen)
-    (ap (is_same first.market) (listed c.args.markets.now.first.cell.accounts ∙ sym c.requires.ready.first_may.on) ∙ is_same-refl first.market)
-    c.act_or_wait-one.ensures.hands.states))
-    c.seen_by-second_seen.ensures.fits
+    record {
+      on = record {
+        market = c.requires.ready.second_may.on;
+        sees = sees-row script second cells c.deref-2.result.now c.seen_by-second_seen.result other c.deref-2.ensures.value c.seen_by-second_seen.ensures.seen;
+      };
+      sees = sees-own script second mid mid c.seen_by-second_seen.result behind refl
+          (seen-is script second cells c.deref-2.result.now c.seen_by-second_seen.result other c.deref-2.ensures.value c.seen_by-second_seen.ensures.seen
+          ∙ sym (seen-behind first second legs.apart c.waits.result c.seen_by-first_seen.result m script cells mid
+          (seen-is script first cells c.deref.result.now c.seen_by-first_seen.result own c.deref.ensures.value c.seen_by-first_seen.ensures.seen)
+          (ap (is_same first.market) (listed c.args.markets.now.first.cell.accounts ∙ sym c.requires.ready.first_may.on) ∙ is_same-refl first.market)
+          c.act_or_wait-one.ensures.hands.states))
+          c.seen_by-second_seen.ensures.fits;
+      lane = c.requires.ready.second_may.lane;
+      above = omega (arith, c.requires.below, c.next-two_stamp.ensures);
+    }
 
 -- ---- what they did
 

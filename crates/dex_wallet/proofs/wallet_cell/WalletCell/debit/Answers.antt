@@ -1,49 +1,31 @@
-use Rattle.std.proofs.Common.{◌≡◌, ℕ, ◌-◌, ◌<◌, ◌≤◌, ◌^◌, ap, sym, subst, ◌∙◌, arith}
+use Rattle.std.proofs.Common.{◌-◌, [], ◌∷◌, ◌++◌, refl, ap, sym, ◌∙◌, arith}
 use Rattle.dex_types.specs.declared.movements.MoveKind.TheVariants.{Debit}
 use Rattle.dex_types.specs.declared.movements.WalletEntry.{WalletEntry}
-use Rattle.dex_types.specs.WalletJournal.{CanMove, moved_balance}
-use Rattle.dex_token.specs.TokenAccount.{wallet_words, with_amount}
-use Rattle.dex_wallet.specs.CellState.{CellState, IsWalletCell, HasSpare, balance_of, with_entry}
-use Rattle.dex_wallet.specs.CellInside.{cell_of, cell_inside}
-use Rattle.dex_wallet.proofs.CellLaws.{IsWalletCell-with_entry, cell_of-moved, with_entry_from, words-with_entry}
+use Rattle.dex_token.specs.TokenAccount.{with_amount}
+use Rattle.dex_wallet.specs.CellState.{CellState, balance_of, movement}
+use Rattle.dex_wallet.proofs.CellLaws.{HasMoved, has-moved}
 use Rattle.dex_wallet.proofs.wallet_cell.WalletCell.debit.Goals as goal
+use Rattle.dex_wallet.proofs.wallet_cell.WalletCell.debit.Goals.{After-take}
 
--- the balance that was read
-read : (c : goal.After-take) → c.balance-before.result ≡ balance_of c.self.inside.bytes.items
-read c = c.balance-before.ensures.amount ∙ ap balance_of c.deref.ensures.value
+abbrev debit : After-take → WalletEntry
+debit c = movement c.args.self.now c.args.market c.args.lane c.args.row Debit c.args.amount
 
--- the movement that was written
-abbrev entry : goal.After-take → WalletEntry
-entry c = record { market = c.args.market; lane = c.args.lane; row = c.args.row; kind = Debit; amount = c.args.amount; before = c.balance-before.result }
-
--- the parts after it
-moved : (c : goal.After-take) → cell_of c.self.inside.address c.self.inside.starting c.set_balance.new.bytes.items c.take.new.self c.append.new.entries.items c.self.inside.room
-    ≡ with_entry (cell_inside c.self.inside) (entry c)
-moved c =
-    let written : c.set_balance.new.bytes.items ≡ with_amount c.self.inside.bytes.items (moved_balance Debit c.args.amount (balance_of c.self.inside.bytes.items)) =
-    c.set_balance.ensures ∙ ap (λ (b : ℕ). with_amount c.self.inside.bytes.items (b - c.args.amount)) (read c) in
-    cell_of-moved _ _ c.self.inside.bytes.items _ c.self.inside.share c.take.new.self c.self.inside.entries.items _ _ (entry c) written c.take.ensures.rest c.append.ensures.items
-
-possible : (c : goal.After-take) → CanMove Debit c.args.amount (balance_of c.self.inside.bytes.items)
-possible c = (c.requires.some, subst (λ (cell : CellState). c.args.amount ≤ balance_of cell.bytes) (sym c.self.view_is) c.requires.funds)
-
-fits : (c : goal.After-take) → balance_of c.self.inside.bytes.items < 2 ^ 64
-fits c = subst (λ (b : ℕ). b < 2 ^ 64) (read c) c.balance-before.ensures.fits
-
-kept : (c : goal.After-take) → IsWalletCell (cell_of c.self.inside.address c.self.inside.starting c.set_balance.new.bytes.items c.take.new.self c.append.new.entries.items c.self.inside.room)
-kept c =
-    subst IsWalletCell (sym (moved c)) (IsWalletCell-with_entry (cell_inside c.self.inside) (entry c) c.self.invariant.cell (fits c) (read c) (possible c) (subst HasSpare (sym c.self.view_is) c.requires.spare))
+did : (c : After-take) → HasMoved c.self.inside c.set_balance.new.bytes.items c.take.new.self c.push_reserved.new.self.items c.args.self.now (debit c)
+did c =
+    let told = c.movement-debit.ensures.entry in
+    has-moved c.self.inside c.args.self.now (debit c) _ _ _ c.movement-debit.ensures.cell c.movement-debit.ensures.fits c.self.view_is refl (c.requires.some, c.requires.funds) c.requires.spare
+    (c.set_balance.ensures ∙ ap (λ (e : WalletEntry). with_amount c.self.inside.bytes.items (e.before - c.args.amount)) told
+    ∙ ap (λ (cell : CellState). with_amount c.self.inside.bytes.items (balance_of cell.bytes - c.args.amount)) (sym c.self.view_is))
+    c.take.ensures.rest (c.push_reserved.ensures.items ∙ ap (λ (e : WalletEntry). c.self.inside.entries.items ++ e ∷ []) told)
 
 pub invariant_of-self : goal.invariant_of-self
-invariant_of-self c = record { cell = kept c; reserved = omega arith }
+invariant_of-self c = record { cell = (did c).kept; reserved = omega arith }
 
 pub returns-clause-moved : goal.returns-clause-moved
-returns-clause-moved c = moved c ∙ with_entry_from (cell_inside c.self.inside) c.args.self.now c.args.market c.args.lane c.args.row Debit c.args.amount c.balance-before.result (read c) c.self.view_is
+returns-clause-moved c = (did c).moved
 
 pub returns-clause-cell : goal.returns-clause-cell
-returns-clause-cell c = kept c
+returns-clause-cell c = (did c).kept
 
 pub returns-clause-words : goal.returns-clause-words
-returns-clause-words c =
-    subst (λ (cell : CellState). wallet_words c.set_balance.new.bytes.items ≡ record (wallet_words cell.bytes) { amount = moved_balance Debit c.args.amount (balance_of cell.bytes) }) c.self.view_is
-    (ap (λ (cell : CellState). wallet_words cell.bytes) (moved c) ∙ words-with_entry (cell_inside c.self.inside) (entry c) c.self.invariant.cell (fits c) (possible c))
+returns-clause-words c = (did c).words

@@ -1,0 +1,81 @@
+use Rattle.std.proofs.Common.{◌+◌, ◌∷◌, [], ◌∙◌, ap, arith, length, length-append, sym}
+use Rattle.dex_fold.proofs.Common.{Row}
+use Rattle.dex_replay.proofs.Common.{PlainScript}
+use Rattle.dex_run.proofs.LaneItems.{rest-behind}
+use Rattle.dex_run.proofs.LaneRows.{are-legs, begins-alone, higher-behind, lower-before, next-both, next-own, one-number, places-long, row-placed}
+use Rattle.dex_run.proofs.lane.Lanes.submit_item.Goals as goal
+
+pub is_swap-requires : goal.is_swap-requires
+is_swap-requires g c = c.requires.item.within
+
+-- ---- two legs
+
+pub bounds-rows-place : goal.bounds-rows-place
+bounds-rows-place g c = omega (arith, c.requires.item.within)
+
+pub bounds-places-place : goal.bounds-places-place
+bounds-places-place g c = omega (arith, c.requires.item.within, places-long c.args.self.now.bank.now c.args.self.now.rows.now c.args.self.now.places.now c.requires.rows)
+
+pub bounds-places-next : goal.bounds-places-next
+bounds-places-next g c =
+    omega (arith, (c.is_swap.ensures.yes c.if-is_swap.true c.index-rows-place.result).0, places-long c.args.self.now.bank.now c.args.self.now.rows.now c.args.self.now.places.now c.requires.rows)
+
+pub submit_two_at-requires-clause-legs : goal.submit_two_at-requires-clause-legs
+submit_two_at-requires-clause-legs g c =
+    let first = c.index-rows-place.result in
+    let second = c.index-rows-next.result in
+    let item = c.requires.item in
+    let swap = c.is_swap.ensures.yes c.if-is_swap.true in
+    next-both c.args.self.now.rows.now c.args.place first second c.args.seat.now (swap first).0 c.index-rows-place.is c.index-rows-next.is
+    (c.requires.rows.rows_are ∙ ap (λ (s : PlainScript). s.rows) (sym c.requires.bank.script)) (sym item.so_far)
+    (lower-before c.args.self.now.rows.now c.args.place first item.within c.index-rows-place.is item.begins)
+    (one-number c.args.self.now.rows.now c.args.place first second c.index-rows-place.is c.index-rows-next.is swap)
+    (are-legs c.args.self.now.bank.now.script c.args.self.now.rows.now c.requires.rows.rows_are c.requires.rows.is.rows c.args.place first second c.index-rows-place.is c.index-rows-next.is swap)
+    (ap (λ (r : Row). r.lane) c.index-rows-place.is ∙ item.own first)
+
+pub submit_two_at-requires-clause-first : goal.submit_two_at-requires-clause-first
+submit_two_at-requires-clause-first g c =
+    row-placed c.args.self.now.bank.now c.args.self.now.rows.now c.args.self.now.places.now c.requires.rows c.args.place c.index-rows-place.result _ c.requires.item.within c.index-rows-place.is
+
+pub submit_two_at-requires-clause-second : goal.submit_two_at-requires-clause-second
+submit_two_at-requires-clause-second g c =
+    row-placed c.args.self.now.bank.now c.args.self.now.rows.now c.args.self.now.places.now c.requires.rows (c.args.place + 1) c.index-rows-next.result _
+    (c.is_swap.ensures.yes c.if-is_swap.true c.index-rows-place.result).0 c.index-rows-next.is
+
+pub returns-then-is_swap-clause-rest : goal.returns-then-is_swap-clause-rest
+returns-then-is_swap-clause-rest g c = λ later rest.
+    let submitted = c.submit_two_at.ensures.submitted in
+    rest-behind c.args.self.now.rows.now c.args.seat.now c.submit_two_at.new.seat later (length c.args.seat.now.calls + 2) submitted.lane
+    (ap length submitted.calls ∙ length-append c.args.seat.now.calls (submitted.one ∷ submitted.two ∷ []))
+    (rest.1.1 (c.is_swap.ensures.yes c.if-is_swap.true))
+
+-- ---- a row alone
+
+pub bounds-rows-place-else-is_swap : goal.bounds-rows-place-else-is_swap
+bounds-rows-place-else-is_swap g c = omega (arith, c.requires.item.within)
+
+pub bounds-places-place-else-is_swap : goal.bounds-places-place-else-is_swap
+bounds-places-place-else-is_swap g c = omega (arith, c.requires.item.within, places-long c.args.self.now.bank.now c.args.self.now.rows.now c.args.self.now.places.now c.requires.rows)
+
+pub submit_at-requires-clause-row : goal.submit_at-requires-clause-row
+submit_at-requires-clause-row g c =
+    let row = c.index-rows-place-else-is_swap.result in
+    let at = c.index-rows-place-else-is_swap.is in
+    let item = c.requires.item in
+    next-own c.args.self.now.rows.now c.args.place row c.args.seat.now item.within at
+    (c.requires.rows.rows_are ∙ ap (λ (s : PlainScript). s.rows) (sym c.requires.bank.script)) (sym item.so_far)
+    (lower-before c.args.self.now.rows.now c.args.place row item.within at item.begins)
+    (higher-behind c.args.self.now.bank.now.script c.args.self.now.rows.now c.requires.rows.rows_are c.requires.rows.is.rows c.args.place row item.within at
+    (begins-alone c.args.self.now.bank.now.script c.args.self.now.rows.now c.requires.rows.rows_are c.requires.rows.is.rows c.args.place item.begins (c.is_swap.ensures.no c.if-is_swap.false)))
+    (ap (λ (r : Row). r.lane) at ∙ item.own row)
+
+pub submit_at-requires-clause-places : goal.submit_at-requires-clause-places
+submit_at-requires-clause-places g c =
+    row-placed c.args.self.now.bank.now c.args.self.now.rows.now c.args.self.now.places.now c.requires.rows c.args.place c.index-rows-place-else-is_swap.result _ c.requires.item.within
+    c.index-rows-place-else-is_swap.is
+
+pub returns-else-is_swap-clause-rest : goal.returns-else-is_swap-clause-rest
+returns-else-is_swap-clause-rest g c = λ later rest.
+    let submitted = c.submit_at.ensures.submitted in
+    rest-behind c.args.self.now.rows.now c.args.seat.now c.submit_at.new.seat later (length c.args.seat.now.calls + 1) submitted.lane
+    (ap length submitted.calls ∙ length-append c.args.seat.now.calls (submitted.call ∷ [])) (rest.1.0 (c.is_swap.ensures.no c.if-is_swap.false))

@@ -1,0 +1,335 @@
+-- Rows that are read behind the bare markets and wallets of a script, and added to it, are read behind the script.
+use Rattle.std.proofs.Common.{◌≡◌, ◌∙◌, ◌+◌, ◌-◌, ◌^◌, ◌≤◌, ◌==◌, ℕ, ℤ, Bool, true, false, not, nat_le, List, [], ◌∷◌, ◌++◌, Option, Some, None, Result, Ok, Err, ap, append_assoc, append-nil, arith, map, max, refl, subst, sym}
+use Rattle.std.proofs.lemmas.Bool.{lt-leb}
+use Rattle.std.proofs.lemmas.Iterator.Adapters.{position_from-zero}
+use Rattle.std.proofs.lemmas.List.{length-map}
+use Rattle.dex_types.specs.declared.addresses.Address.{Address}
+use Rattle.dex_types.specs.declared.rows.RowPlaces.{RowPlaces}
+use Rattle.dex_types.specs.Accounts.{PlainAccount, PlainAccounts, PlainMarketAccounts}
+use Rattle.dex_types.specs.Addresses.{is_same}
+use Rattle.dex_types.specs.Rows.{PlainRow}
+use Rattle.dex_dump.specs.Answers.{next_number}
+use Rattle.dex_statement.specs.declared.faults.FaultKind.{FaultKind}
+use Rattle.dex_statement.specs.declared.faults.FaultKind.TheVariants.{SetupRefused}
+use Rattle.dex_statement.specs.declared.faults.SetupCode.TheVariants as code
+use Rattle.dex_statement.specs.declared.statement.Statement.{Statement}
+use Rattle.dex_statement.specs.declared.statement.Statement.TheVariants as row
+use Rattle.dex_statement.specs.Faults.{◌>>=◌}
+use Rattle.dex_statement.specs.Stated.{PlainInstruction, PlainParties, PlainSwap}
+use Rattle.dex_statement.specs.Statements.{statement_of}
+use Rattle.dex_statement.specs.Words.{Fields}
+use Rattle.dex_script_facts.specs.Places.{ArePlaced, IsRolePlaced, wallet_place}
+use Rattle.dex_script.specs.Drafts.{PlainDraft}
+use Rattle.dex_script.specs.Names.{AreFew, IsReading, places_of, role_place}
+use Rattle.dex_script.specs.Pieces.{AreAlike, HaveSamePlaces, IsUnderway, bare, bare_market, bare_wallet, beside, joined, number_after}
+use Rattle.dex_script.specs.Rows.{IsSetup, exceeds_row, instruction_row, is_bad_swap, is_full, is_unknown, with_clock, with_instruction, with_item, with_known, with_legs, with_program, with_row, with_statement, with_swap, with_two}
+use Rattle.dex_script.specs.Scripts.{Refusal, draft_after, fault_in}
+use Rattle.dex_script.proofs.FaultLaws.{bind-ok, differ, ok-same, or-none, unless-ok}
+use Rattle.dex_script.proofs.ItemRows.{first_leg, instruction-row, second_leg, swap-row}
+use Rattle.dex_script.proofs.NameLaws.{known, position-map, unknown}
+use Rattle.dex_script.proofs.OrderLaws.{by-row, first-row, through}
+use Rattle.dex_script.proofs.RowParts.{market-row, mint-row, msrm-row, orders-row, srm-row, wallet-row}
+
+-- ---- what is known among the one accounts is known among the others
+
+module _ (one other : PlainAccounts) (same : HaveSamePlaces one other) where
+  role-same : (role : Option Address) → role_place (λ address. wallet_place address one.wallets) role ≡ role_place (λ address. wallet_place address other.wallets) role
+  role-same None = refl
+  role-same (Some address) = same.wallets address
+
+  places-same : (parties : PlainParties) → places_of one parties ≡ places_of other parties
+  places-same parties =
+      rw (same.markets parties.market, role-same parties.coin, role-same parties.pc, role-same parties.discount, role-same parties.referrer) refl
+
+  known-by : (parties : PlainParties) (found : Option RowPlaces) → places_of one parties ≡ found → is_unknown one parties ≡ false
+      → is_unknown other parties ≡ false
+  known-by parties None is not = absurd (differ (sym (unknown one parties is) ∙ not))
+  known-by parties (Some at) is not = known other parties at (sym (places-same parties) ∙ is)
+
+  pub known-there : (parties : PlainParties) → is_unknown one parties ≡ false → is_unknown other parties ≡ false
+  known-there parties = known-by parties (places_of one parties) refl
+
+-- ---- no setup row is without a fault behind an instruction row
+
+pub no-setup : (number : ℕ) (before after : PlainDraft) (statement : Statement) → IsUnderway before → IsSetup statement
+    → with_statement before number statement ≡ Ok after → ⊥
+unfolding with_program
+no-setup number before after (row.Program program) under setup is =
+    let next = record before { script = record before.script { program = program }; is_first = false } in
+    let first = (unless-ok (not before.is_first) (SetupRefused code.Program) (Ok next) after is).0 in
+    differ (sym (ap not under.first) ∙ first)
+no-setup number before after (row.Clock now) under setup is = absurd setup
+no-setup number before after (row.Mint address decimals) under setup is = differ (sym under.late ∙ (mint-row before after address decimals is).declares.early)
+no-setup number before after (row.Srm mint) under setup is = differ (sym under.late ∙ (srm-row before after mint is).1.early)
+no-setup number before after (row.Msrm mint) under setup is = differ (sym under.late ∙ (msrm-row before after mint is).1.early)
+no-setup number before after (row.Wallet address mint owner amount) under setup is =
+    differ (sym under.late ∙ (wallet-row before after address mint owner amount is).declares.early)
+no-setup number before after (row.Market words) under setup is = differ (sym under.late ∙ (market-row before after words is).declares.early)
+no-setup number before after (row.Orders market address) under setup is = differ (sym under.late ∙ (orders-row before after market address is).declares.early)
+no-setup number before after (row.Instruction words) under setup is = absurd setup
+no-setup number before after (row.Swap words) under setup is = absurd setup
+
+-- ---- rows without a fault
+
+instruction-ok : (number : ℕ) (draft : PlainDraft) (words : PlainInstruction) → is_unknown draft.script.start words.parties ≡ false
+    → is_full draft number ≡ false → exceeds_row words ≡ false
+    → with_instruction draft number words ≡ Ok (with_item draft (instruction_row number draft.clock words ∷ []) words.lane)
+unfolding with_instruction with_known
+instruction-ok number draft words a b c = rw (a, b, c) refl
+
+swap-ok : (number : ℕ) (draft : PlainDraft) (words : PlainSwap) → is_unknown draft.script.start (first_leg words).parties ≡ false
+    → is_unknown draft.script.start (second_leg words).parties ≡ false → is_full draft number ≡ false → exceeds_row (first_leg words) ≡ false
+    → exceeds_row (second_leg words) ≡ false → is_bad_swap (first_leg words) (second_leg words) ≡ false → draft.batch ≡ false
+    → with_swap draft number words
+    ≡ Ok (with_item draft (instruction_row number draft.clock (first_leg words) ∷ instruction_row number draft.clock (second_leg words) ∷ []) words.lane)
+unfolding with_two with_legs
+swap-ok number draft words a b c d e f g = rw (a, b, c, d, e, f, g) refl
+
+-- a script that is under way, and a piece so far
+module _ (draft : PlainDraft) (under : IsUnderway draft) where
+  -- the script with so many rows, lanes and items
+  abbrev built : ℤ → List PlainRow → ℕ → ℕ → Bool → Bool → PlainDraft
+  built clock rows lanes items first late = record draft {
+    script = record draft.script { rows = rows; lanes = lanes };
+    clock = clock;
+    items = items;
+    is_first = first;
+    is_late = late;
+  }
+
+  joined-item : (piece : PlainDraft) (rows : List PlainRow) (lane : ℕ)
+      → with_item (joined draft piece) rows lane ≡ joined draft (with_item piece rows lane)
+  joined-item piece rows lane =
+      let script = draft.script in
+      let more = piece.script in
+      let sum : draft.items + piece.items + 1 ≡ draft.items + (piece.items + 1) = omega arith in
+      ap (λ (rs : List PlainRow). built piece.clock rs (max (max script.lanes more.lanes) (lane + 1)) (draft.items + piece.items + 1) false true)
+      (append_assoc script.rows more.rows rows)
+      ∙ ap (λ (n : ℕ). built piece.clock (script.rows ++ (more.rows ++ rows)) n (draft.items + piece.items + 1) false true) (omega arith)
+      ∙ ap (λ (n : ℕ). built piece.clock (script.rows ++ (more.rows ++ rows)) (max script.lanes (max more.lanes (lane + 1))) n false true)
+      sum
+      ∙ ap (λ (b : Bool). built piece.clock (script.rows ++ (more.rows ++ rows)) (max script.lanes (max more.lanes (lane + 1))) (draft.items + (piece.items + 1)) b true)
+      (sym under.first)
+      ∙ ap (λ (b : Bool). built piece.clock (script.rows ++ (more.rows ++ rows)) (max script.lanes (max more.lanes (lane + 1))) (draft.items + (piece.items + 1)) draft.is_first b)
+      (sym under.late)
+
+  joined-clock : (piece : PlainDraft) (now : ℤ) → with_clock (joined draft piece) now ≡ joined draft (with_clock piece now)
+  joined-clock piece now =
+      ap (λ (b : Bool). built now (draft.script.rows ++ piece.script.rows) (max draft.script.lanes piece.script.lanes) (draft.items + piece.items) b draft.is_late)
+      (sym under.first)
+
+  -- nothing was read of a piece
+  joined-none : (piece : PlainDraft) → piece.script.rows ≡ [] → piece.script.lanes ≡ 0 → piece.items ≡ 0 → piece.clock ≡ draft.clock
+      → joined draft piece ≡ draft
+  joined-none piece rows lanes items clock =
+      rw (rows, lanes, items, clock)
+      (ap (λ (rs : List PlainRow). built draft.clock rs (max draft.script.lanes 0) (draft.items + 0) draft.is_first draft.is_late) (append-nil draft.script.rows)
+      ∙ ap (λ (n : ℕ). built draft.clock draft.script.rows n (draft.items + 0) draft.is_first draft.is_late) (omega arith)
+      ∙ ap (λ (n : ℕ). built draft.clock draft.script.rows draft.script.lanes n draft.is_first draft.is_late) (omega arith))
+
+-- ---- one more row of a piece
+
+-- it is read behind the script too, and the next is like it
+record Steps (draft : PlainDraft) (next : PlainDraft) (left : Result PlainDraft FaultKind) : Type 0 where
+  is : left ≡ Ok (joined draft next)
+  alike : AreAlike draft next
+
+module _ (draft piece : PlainDraft) (alike : AreAlike draft piece) (number : ℕ) (next : PlainDraft) where
+  room-there : is_full piece number ≡ false → draft.items + (piece.items + 1) ≤ 100000 → is_full (joined draft piece) number ≡ false
+  room-there free room =
+      let a = or-none (nat_le 100000 piece.items) (number == 2 ^ 32 - 1) free in
+      rw (lt-leb 100000 (draft.items + piece.items) (omega (arith, room)), a.1) refl
+
+  more-items : (rows : List PlainRow) (lane : ℕ) → with_item piece rows lane ≡ next → draft.items + next.items ≤ 100000
+      → draft.items + (piece.items + 1) ≤ 100000
+  more-items rows lane is room = subst (λ (d : PlainDraft). draft.items + d.items ≤ 100000) (sym is) room
+
+  by-item : (rows : List PlainRow) (lane : ℕ) (left : Result PlainDraft FaultKind) → with_item piece rows lane ≡ next
+      → left ≡ Ok (with_item (joined draft piece) rows lane) → Steps draft next left
+  by-item rows lane left is told =
+      subst (λ (d : PlainDraft). Steps draft d left) is
+      (record {
+        is = told ∙ ap (λ (d : PlainDraft). Ok d) (joined-item draft alike.draft_underway piece rows lane);
+        alike = record {
+          draft_underway = alike.draft_underway;
+          piece_underway = record { late = refl; first = refl };
+          batch = alike.batch;
+          places = alike.places;
+        };
+      })
+
+  there : (words : PlainInstruction) → is_unknown piece.script.start words.parties ≡ false → is_unknown draft.script.start words.parties ≡ false
+  there words = known-there piece.script.start draft.script.start alike.places words.parties
+
+  steps : (statement : Statement) → with_statement piece number statement ≡ Ok next → draft.items + next.items ≤ 100000
+      → Steps draft next (with_statement (joined draft piece) number statement)
+  steps (row.Clock now) is room =
+      subst (λ (d : PlainDraft). Steps draft d (Ok (with_clock (joined draft piece) now))) (ok-same (with_clock piece now) next is)
+      (record {
+        is = ap (λ (d : PlainDraft). Ok d) (joined-clock draft alike.draft_underway piece now);
+        alike = record {
+          draft_underway = alike.draft_underway;
+          piece_underway = record { late = alike.piece_underway.late; first = refl };
+          batch = alike.batch;
+          places = alike.places;
+        };
+      })
+  steps (row.Instruction words) is room =
+      let one = instruction-row number piece next words is in
+      by-item _ words.lane _ one.is
+      (instruction-ok number (joined draft piece) words (there words one.known) (room-there one.room (more-items _ words.lane one.is room)) one.within)
+  steps (row.Swap words) is room =
+      let two = swap-row number piece next words is in
+      by-item _ words.lane _ two.is
+      (swap-ok number (joined draft piece) words (there (first_leg words) two.first_known) (there (second_leg words) two.second_known)
+      (room-there two.room (more-items _ words.lane two.is room)) two.first_within two.second_within two.good (sym alike.batch ∙ two.apart))
+  steps setup is room = absurd (no-setup number piece next setup alike.piece_underway tt is)
+
+  row-steps : (fields : Fields) → with_row piece number fields ≡ Ok next → draft.items + next.items ≤ 100000
+      → Steps draft next (with_row (joined draft piece) number fields)
+  unfolding with_row
+  row-steps fields is room =
+      let a = bind-ok (statement_of fields) (with_statement piece number) next is in
+      subst (λ (r : Result Statement FaultKind). Steps draft next (r >>= with_statement (joined draft piece) number)) (sym a.1) (steps a.0 a.2 room)
+
+-- ---- all rows of a piece
+
+grows : (number : ℕ) (before last : PlainDraft) (rows : List Fields) → draft_after before number rows ≡ Ok last → before.items ≤ last.items
+grows number before last rows is =
+    (through (λ _ (d : PlainDraft). before.items ≤ d.items)
+    (λ n d after fields less one.
+    by-row n d after (λ kept. omega (arith, less, kept.items))
+    (λ words one. let e = ap (λ (x : PlainDraft). x.items) one.is in omega (arith, less, e))
+    (λ words two. let e = ap (λ (x : PlainDraft). x.items) two.is in omega (arith, less, e)) fields one)
+    number before last rows (omega arith) is).1
+
+pub rows-joined : (draft : PlainDraft) (number : ℕ) (piece last : PlainDraft) (rows : List Fields) → AreAlike draft piece
+    → draft_after piece number rows ≡ Ok last → draft.items + last.items ≤ 100000
+    → draft_after (joined draft piece) number rows ≡ Ok (joined draft last)
+rows-joined draft number piece last [] alike is room = ap (λ (d : PlainDraft). Ok (joined draft d)) (ok-same {E = Refusal} piece last is)
+rows-joined draft number piece last (fields ∷ rows) alike is room =
+    let a = first-row number piece last fields rows is in
+    let less = grows (next_number number) a.0 last rows a.2 in
+    let step = row-steps draft piece alike number a.0 fields a.1 (omega (arith, less, room)) in
+    ap (λ (r : Result PlainDraft FaultKind). fault_in number r >>= λ d. draft_after d (next_number number) rows) step.is
+    ∙ rows-joined draft (next_number number) a.0 last rows step.alike a.2 room
+
+-- markets and wallets stand at the same places without their accounts
+pub bare-same : (start : PlainAccounts) → HaveSamePlaces (bare start) start
+bare-same start = record {
+  markets = λ address.
+      let test : PlainMarketAccounts → Bool = λ market. is_same address market.address in
+      position_from-zero test (map bare_market start.markets) ∙ position-map test bare_market 0 start.markets ∙ sym (position_from-zero test start.markets);
+  wallets = λ address.
+      let test : PlainAccount → Bool = λ wallet. is_same address wallet.address in
+      position_from-zero test (map bare_wallet start.wallets) ∙ position-map test bare_wallet 0 start.wallets ∙ sym (position_from-zero test start.wallets);
+}
+
+-- rows that are read beside a script are read behind it, where their clock is right and there is room
+pub read-behind : (draft : PlainDraft) (clock : ℤ) (number : ℕ) (rows : List Fields) (piece : PlainDraft) → IsUnderway draft → clock ≡ draft.clock
+    → draft_after (beside draft clock) number rows ≡ Ok piece → draft.items + piece.items ≤ 100000
+    → draft_after draft number rows ≡ Ok (joined draft piece)
+read-behind draft clock number rows piece under same is room =
+    let none = beside draft clock in
+    ap (λ (d : PlainDraft). draft_after d number rows) (sym (joined-none draft under none refl refl refl same))
+    ∙ rows-joined draft number none piece rows
+    (record { draft_underway = under; piece_underway = record { late = refl; first = refl }; batch = refl; places = bare-same draft.script.start }) is room
+
+-- ---- what stays behind an instruction row
+
+-- neither setup rows nor one that chooses the program may follow, and a reader beside it is one beside the first
+pub record Stays (first draft : PlainDraft) : Type 0 where
+  pub under : IsUnderway draft
+  pub same : (clock : ℤ) → beside draft clock ≡ beside first clock
+
+module _ (first before after : PlainDraft) (stays : Stays first before) (number : ℕ) where
+  stays-item : (rows : List PlainRow) (lane : ℕ) → with_item before rows lane ≡ after → Stays first after
+  stays-item rows lane is = subst (Stays first) is (record { under = record { late = refl; first = refl }; same = λ clock. stays.same clock })
+
+  stays-statement : (statement : Statement) → with_statement before number statement ≡ Ok after → Stays first after
+  stays-statement (row.Clock now) is =
+      subst (Stays first) (ok-same (with_clock before now) after is)
+      (record { under = record { late = stays.under.late; first = refl }; same = λ clock. stays.same clock })
+  stays-statement (row.Instruction words) is = stays-item _ words.lane (instruction-row number before after words is).is
+  stays-statement (row.Swap words) is = stays-item _ words.lane (swap-row number before after words is).is
+  stays-statement setup is = absurd (no-setup number before after setup stays.under tt is)
+
+  stays-row : (fields : Fields) → with_row before number fields ≡ Ok after → Stays first after
+  unfolding with_row
+  stays-row fields is = let a = bind-ok (statement_of fields) (with_statement before number) after is in stays-statement a.0 a.2
+
+pub stays-behind : (first : PlainDraft) (number : ℕ) (last : PlainDraft) (rows : List Fields) → IsUnderway first → draft_after first number rows ≡ Ok last
+    → Stays first last
+stays-behind first number last rows under is =
+    (through (λ _ (d : PlainDraft). Stays first d) (λ n before after fields stays one. stays-row first before after stays n fields one) number first last rows
+    (record { under = under; same = λ clock. refl }) is).1
+
+pub stays-joined : (first draft piece : PlainDraft) → Stays first draft → Stays first (joined draft piece)
+stays-joined first draft piece stays = record { under = record { late = stays.under.late; first = stays.under.first }; same = λ clock. stays.same clock }
+
+-- ---- rows behind rows
+
+-- so are they behind one row more, or its fault
+abbrev AreBoth : ℕ → PlainDraft → List Fields → List Fields → Type 0
+AreBoth number draft rows more =
+    draft_after draft number (rows ++ more) ≡ (draft_after draft number rows >>= λ next. draft_after next (number_after number rows) more)
+
+both-behind : (number : ℕ) (rows more : List Fields) → ((next : PlainDraft) → AreBoth number next rows more) → (left : Result PlainDraft Refusal)
+    → (left >>= λ next. draft_after next number (rows ++ more))
+    ≡ ((left >>= λ next. draft_after next number rows) >>= λ next. draft_after next (number_after number rows) more)
+both-behind number rows more each (Ok next) = each next
+both-behind number rows more each (Err refusal) = refl
+
+pub after-both : (number : ℕ) (draft : PlainDraft) (rows more : List Fields)
+    → draft_after draft number (rows ++ more) ≡ (draft_after draft number rows >>= λ next. draft_after next (number_after number rows) more)
+after-both number draft [] more = refl
+after-both number draft (fields ∷ rows) more =
+    both-behind (next_number number) rows more (λ next. after-both (next_number number) next rows more) (fault_in number (with_row draft number fields))
+
+-- ---- what a reader knows of a piece, and of a script with it
+
+module _ (one other : PlainAccounts) (same : HaveSamePlaces one other) where
+  role-there : (role : Option Address) (place : ℕ) → IsRolePlaced one.wallets role place → IsRolePlaced other.wallets role place
+  role-there None place is = tt
+  role-there (Some address) place is = sym (same.wallets address) ∙ is
+
+  placed-there : (rows : List PlainRow) (places : List RowPlaces) → ArePlaced one rows places → ArePlaced other rows places
+  placed-there [] [] are = tt
+  placed-there [] (place ∷ places) are = absurd are
+  placed-there (row ∷ rows) [] are = absurd are
+  placed-there (row ∷ rows) (place ∷ places) (is, are) = (
+    record {
+      market = sym (same.markets row.market) ∙ is.market;
+      coin = role-there row.coin place.coin is.coin;
+      pc = role-there row.pc place.pc is.pc;
+      discount = role-there row.discount place.discount is.discount;
+      referrer = role-there row.referrer place.referrer is.referrer;
+    },
+    placed-there rows places are,
+  )
+
+placed-both : (start : PlainAccounts) (rows more : List PlainRow) (places others : List RowPlaces) → ArePlaced start rows places → ArePlaced start more others
+    → ArePlaced start (rows ++ more) (places ++ others)
+placed-both start [] more [] others are also = also
+placed-both start [] more (place ∷ places) others are also = absurd are
+placed-both start (row ∷ rows) more [] others are also = absurd are
+placed-both start (row ∷ rows) more (place ∷ places) others (is, are) also = (is, placed-both start rows more places others are also)
+
+pub joined-reading : (draft piece : PlainDraft) (places others : List RowPlaces) → AreAlike draft piece → IsReading draft places → IsReading piece others
+    → IsReading (joined draft piece) (places ++ others)
+joined-reading draft piece places others alike reading also = record {
+  placed = placed-both draft.script.start draft.script.rows piece.script.rows places others reading.placed
+      (placed-there piece.script.start draft.script.start alike.places piece.script.rows others also.placed);
+  quiet = λ early. absurd (differ (sym alike.draft_underway.late ∙ early));
+  few = reading.few;
+}
+
+pub beside-reading : (draft : PlainDraft) (clock : ℤ) → AreFew draft.script.start → IsReading (beside draft clock) []
+beside-reading draft clock few = record {
+  placed = tt;
+  quiet = λ early. refl;
+  few = record {
+    markets = omega (arith, few.markets, length-map draft.script.start.markets bare_market);
+    wallets = omega (arith, few.wallets, length-map draft.script.start.wallets bare_wallet);
+  };
+}

@@ -1,0 +1,82 @@
+-- Rows behind an instruction row, read in pieces.
+use Rattle.std.specs.Prelude.{◌≡◌, ℕ, ℤ, ◌+◌, true, false, List, [], ◌∷◌, ◌++◌, None, map, max}
+use Rattle.dex_types.specs.declared.addresses.Address.{Address}
+use Rattle.dex_types.specs.Accounts.{PlainAccount, PlainAccounts, PlainMarketAccounts}
+use Rattle.dex_statement.specs.Words.{Fields}
+use Rattle.dex_dump.specs.Answers.{next_number}
+use Rattle.dex_script_facts.specs.Places.{market_place, wallet_place}
+use Rattle.dex_script.specs.Drafts.{PlainDraft}
+
+-- the number of the row behind some, the first of which has this number
+abbrev pub number_after : ℕ → List Fields → ℕ
+number_after number [] = number
+number_after number (row ∷ rows) = number_after (next_number number) rows
+
+-- a wallet of which only the address is known
+abbrev pub bare_wallet : PlainAccount → PlainAccount
+bare_wallet wallet = record { address = wallet.address; bytes = [] }
+
+-- a market of which only the address and who signs for it are known
+abbrev pub bare_market : PlainMarketAccounts → PlainMarketAccounts
+bare_market market = record {
+  address = market.address;
+  authority = market.authority;
+  market = [];
+  coin_vault = [];
+  pc_vault = [];
+  requests = [];
+  events = [];
+  bids = [];
+  asks = [];
+  orders = [];
+}
+
+-- markets and wallets without accounts
+abbrev pub bare : PlainAccounts → PlainAccounts
+bare start = record {
+  mints = [];
+  srm = None;
+  msrm = None;
+  wallets = map bare_wallet start.wallets;
+  markets = map bare_market start.markets;
+}
+
+-- no row of a piece was read yet, which is of the same markets and wallets; its first rows have this clock
+abbrev pub beside : PlainDraft → ℤ → PlainDraft
+beside draft clock = record {
+  script = record { start = bare draft.script.start; rows = []; lanes = 0; program = draft.script.program };
+  taken = [];
+  clock = clock;
+  is_first = false;
+  is_late = true;
+  items = 0;
+  batch = draft.batch;
+}
+
+-- neither setup rows nor one that chooses the program may follow
+pub record IsUnderway (draft : PlainDraft) : Type 0 where
+  pub late : draft.is_late ≡ true
+  pub first : draft.is_first ≡ false
+
+-- markets and wallets of each address stand at the same places
+pub record HaveSamePlaces (one other : PlainAccounts) : Type 0 where
+  pub markets : (address : Address) → market_place address one.markets ≡ market_place address other.markets
+  pub wallets : (address : Address) → wallet_place address one.wallets ≡ wallet_place address other.wallets
+
+-- a script so far, and a piece of its rows further on
+pub record AreAlike (draft piece : PlainDraft) : Type 0 where
+  pub draft_underway : IsUnderway draft
+  pub piece_underway : IsUnderway piece
+  pub batch : piece.batch ≡ draft.batch
+  pub places : HaveSamePlaces piece.script.start draft.script.start
+
+-- the script with the rows of a piece behind its own
+abbrev pub joined : PlainDraft → PlainDraft → PlainDraft
+joined draft piece = record draft {
+  script = record draft.script {
+    rows = draft.script.rows ++ piece.script.rows;
+    lanes = max draft.script.lanes piece.script.lanes;
+  };
+  clock = piece.clock;
+  items = draft.items + piece.items;
+}

@@ -1,0 +1,136 @@
+//! Rows behind an instruction row, read in pieces: each beside the others, and then put together.
+
+ghost use Rattle.std.specs.Prelude.{◌≡◌, ◌≤◌, ◌+◌, ◌&&◌, IfOk, map, not, true};
+ghost use Rattle.dex_types.specs.Accounts.{market_accounts_of, named_of};
+ghost use Rattle.dex_script.specs.Pieces as spec;
+
+use crate::draft::{Draft, Start};
+use crate::mints::Mints;
+use crate::reader::Reader;
+use dex_types::{MarketAccounts, Named};
+use std::alloc::{AllocError, Global};
+
+/// How many instruction rows a script may have, where a swap is one.
+const MOST: u32 = 100_000;
+
+impl Reader {
+    /// Whether an instruction row was read, or any row behind a dump: neither setup rows nor one that chooses the program may
+    /// follow.
+    pub fn is_underway(&self) -> bool
+        ensures { result ≡ (self.now.is_late && not self.now.is_first) }
+    {
+        self.draft.is_late && !self.draft.is_first
+    }
+
+    /// The clock of the next instruction row.
+    pub fn clock(&self) -> i64
+        ensures { result ≡ self.now.clock }
+    {
+        self.draft.clock
+    }
+
+    /// A reader of rows further on, for the same markets and wallets, which has read none of them; their clock is this one.
+    pub fn beside(&self, alloc: Global, clock: i64) -> Result<Reader, AllocError>
+        ensures { IfOk result (λ piece. piece ≡ spec.beside self.now clock) }
+    {
+        let start = Start {
+            mints: Mints::new(alloc),
+            srm: None,
+            msrm: None,
+            wallets: bare_wallets(alloc, &self.draft.start.wallets)?,
+            markets: bare_markets(alloc, &self.draft.start.markets)?,
+        };
+        let draft = Draft {
+            start,
+            rows: Vec::new(alloc),
+            lanes: 0,
+            program: self.draft.program,
+            taken: Vec::new(alloc),
+            clock,
+            is_first: false,
+            is_late: true,
+            items: 0,
+            batch: self.draft.batch,
+        };
+        Ok(Reader {
+            draft,
+            places: Vec::new(alloc),
+            names: None,
+        })
+    }
+
+    /// Whether there is room for as many instruction rows as a piece has.
+    pub fn has_room(&self, piece: &Reader) -> bool
+        ensures { result ≡ true → self.now.items + piece.now.items ≤ 100000 }
+    {
+        piece.draft.items <= MOST && self.draft.items <= MOST - piece.draft.items
+    }
+
+    /// What is read with the rows of a piece behind, which name the same markets and wallets.
+    pub fn join(self, piece: Reader) -> Result<Reader, AllocError>
+        requires alike { spec.AreAlike self piece }
+        requires room { self.items + piece.items ≤ 100000 }
+        ensures { IfOk result (λ both. both ≡ spec.joined self piece) }
+    {
+        let mut draft = self.draft;
+        let mut places = self.places;
+        let mut more = piece.draft;
+        let mut others = piece.places;
+        draft.rows.append(&mut more.rows)?;
+        places.append(&mut others)?;
+        draft.lanes = draft.lanes.max(more.lanes);
+        draft.clock = more.clock;
+        draft.items += more.items;
+        Ok(Reader {
+            draft,
+            places,
+            names: self.names,
+        })
+    }
+}
+
+// Wallets of these addresses without bytes.
+fn bare_wallets(alloc: Global, wallets: &[Named]) -> Result<Vec<Named>, AllocError>
+    ensures { IfOk result (λ bare. map named_of bare.items ≡ map spec.bare_wallet (map named_of wallets.now)) }
+{
+    let mut bare = Vec::new(alloc);
+    for wallet in wallets {
+        bare.push(Named {
+            address: wallet.address,
+            bytes: Vec::new(alloc),
+        })?;
+    }
+    Ok(bare)
+}
+
+// Markets of these addresses without accounts.
+fn bare_markets(
+    alloc: Global,
+    markets: &[MarketAccounts],
+) -> Result<Vec<MarketAccounts>, AllocError>
+    ensures { IfOk result (λ bare. map market_accounts_of bare.items
+        ≡ map spec.bare_market (map market_accounts_of markets.now)) }
+{
+    let mut bare = Vec::new(alloc);
+    for market in markets {
+        bare.push(bare_market(alloc, market))?;
+    }
+    Ok(bare)
+}
+
+fn bare_market(alloc: Global, market: &MarketAccounts) -> MarketAccounts
+    ensures { market_accounts_of result ≡ spec.bare_market (market_accounts_of market.now) }
+{
+    MarketAccounts {
+        address: market.address,
+        authority: market.authority,
+        market: Vec::new(alloc),
+        coin_vault: Vec::new(alloc),
+        pc_vault: Vec::new(alloc),
+        requests: Vec::new(alloc),
+        events: Vec::new(alloc),
+        bids: Vec::new(alloc),
+        asks: Vec::new(alloc),
+        orders: Vec::new(alloc),
+    }
+}

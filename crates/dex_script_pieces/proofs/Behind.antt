@@ -1,0 +1,244 @@
+-- What is read behind pieces, one after the other.
+use Rattle.std.proofs.Common.{◌≡◌, ◌∙◌, ◌++◌, ◌+◌, ◌<◌, ◌≤◌, ℕ, ℤ, suc, List, [], ◌∷◌, Result, Ok, Err, IfOk, IsOkAnd, All, ap, append-nil, append_assoc, drop, drop-cons, get_or, length, refl, remove, slice_index_or, subst, sym, take}
+use Rattle.std.specs.List.{AllZip}
+use Rattle.std.proofs.lemmas.Grind.{flat_map-append}
+use Rattle.std.proofs.lemmas.List.{take-append-drop}
+use Rattle.std.proofs.lemmas.List.Elements.{All-cons, All-head, All-nil, All-tail}
+use Rattle.dex_types.specs.Accounts.{PlainAccounts}
+use Rattle.dex_dump.specs.Answers.{next_number}
+use Rattle.dex_statement.specs.Faults.{◌>>=◌}
+use Rattle.dex_statement.specs.Words.{Fields}
+use Rattle.dex_script_facts.specs.Places.{market_place, wallet_place}
+use Rattle.dex_script.specs.declared.fault.ScriptError.{ScriptError}
+use Rattle.dex_script.specs.declared.fault.ScriptError.TheVariants as script
+use Rattle.dex_script.specs.Drafts.{PlainDraft}
+use Rattle.dex_script.specs.Pieces.{AreAlike, IsUnderway, bare, beside, joined, number_after}
+use Rattle.dex_script.specs.Scripts.{Refusal, draft_after}
+use Rattle.dex_script.specs.Telling.{TellsDraft, TellsRefusal}
+use Rattle.dex_script.proofs.PieceLaws.{Stays, after-both, bare-same, read-behind, stays-behind}
+use Rattle.dex_script_pieces.specs.Pieces.{ArePieces, AreRead, HasRead, IsBeside, IsNext, ReadsPiece, rows_of}
+use Rattle.dex_script_pieces.specs.declared.piece.Piece.{Piece}
+
+-- ---- rows behind rows
+
+-- what all rows leave, where it is known what the first of them do
+pub behind-both : (draft : PlainDraft) (number : ℕ) (rows more : List Fields) (reader : PlainDraft) → draft_after draft number rows ≡ Ok reader
+    → draft_after draft number (rows ++ more) ≡ draft_after reader (number_after number rows) more
+behind-both draft number rows more reader is =
+    after-both number draft rows more ∙ ap (λ (r : Result PlainDraft Refusal). r >>= λ next. draft_after next (number_after number rows) more) is
+
+pub number-both : (number : ℕ) (rows more : List Fields) → number_after number (rows ++ more) ≡ number_after (number_after number rows) more
+number-both number [] more = refl
+number-both number (row ∷ rows) more = number-both (next_number number) rows more
+
+-- the first fault of some rows is that of these and others
+refused-more : (error : ScriptError) (meant : Result PlainDraft Refusal) (next : PlainDraft → Result PlainDraft Refusal) → TellsRefusal error meant
+    → TellsRefusal error (meant >>= next)
+refused-more (script.Row row kind code) meant next (fault, is, same, also) = (fault, ap (λ (r : Result PlainDraft Refusal). r >>= next) is, same, also)
+refused-more (script.Dump fault) meant next is = ap (λ (r : Result PlainDraft Refusal). r >>= next) is
+refused-more (script.Audit found) meant next is = ap (λ (r : Result PlainDraft Refusal). r >>= next) is
+refused-more script.NoMemory meant next is = tt
+
+pub refused-both : (error : ScriptError) (draft : PlainDraft) (number : ℕ) (rows more : List Fields) → TellsRefusal error (draft_after draft number rows)
+    → TellsRefusal error (draft_after draft number (rows ++ more))
+refused-both error draft number rows more told =
+    subst (TellsRefusal error) (sym (after-both number draft rows more))
+    (refused-more error (draft_after draft number rows) (λ next. draft_after next (number_after number rows) more) told)
+
+-- ---- a reader beside a script
+
+-- neither setup rows nor others about the program may follow on a reader beside another
+beside-underway : (draft : PlainDraft) (clock : ℤ) → IsUnderway (beside draft clock)
+beside-underway draft clock = record { late = refl; first = refl }
+
+pub stays-first : (draft : PlainDraft) → IsUnderway draft → Stays draft draft
+stays-first draft under = record { under = under; same = λ clock. refl }
+
+pub stays-more : (first before after : PlainDraft) (number : ℕ) (rows : List Fields) → Stays first before → draft_after before number rows ≡ Ok after
+    → Stays first after
+stays-more first before after number rows stays is =
+    let next = stays-behind before number after rows stays.under is in
+    record { under = next.under; same = λ clock. next.same clock ∙ stays.same clock }
+
+-- what was read beside a script is of the same markets and wallets
+pub alike-behind : (draft : PlainDraft) (clock : ℤ) (number : ℕ) (rows : List Fields) (piece : PlainDraft) → IsUnderway draft
+    → draft_after (beside draft clock) number rows ≡ Ok piece → AreAlike draft piece
+alike-behind draft clock number rows piece under is =
+    let stays = stays-behind (beside draft clock) number piece rows (beside-underway draft clock) is in
+    let start : bare piece.script.start ≡ bare (bare draft.script.start) = ap (λ (d : PlainDraft). d.script.start) (stays.same clock) in
+    record {
+      draft_underway = under;
+      piece_underway = stays.under;
+      batch = ap (λ (d : PlainDraft). d.batch) (stays.same clock);
+      places = record {
+        markets = λ address.
+            sym ((bare-same piece.script.start).markets address) ∙ ap (λ (s : PlainAccounts). market_place address s.markets) start
+            ∙ (bare-same (bare draft.script.start)).markets address ∙ (bare-same draft.script.start).markets address;
+        wallets = λ address.
+            sym ((bare-same piece.script.start).wallets address) ∙ ap (λ (s : PlainAccounts). wallet_place address s.wallets) start
+            ∙ (bare-same (bare draft.script.start)).wallets address ∙ (bare-same draft.script.start).wallets address;
+      };
+    }
+
+-- ---- pieces that were read
+
+-- what was read beside the first draft was read beside any behind it
+pub has-behind : (first draft : PlainDraft) (piece : Piece) → Stays first draft → HasRead first piece → HasRead draft piece
+has-behind first draft piece stays =
+    subst (λ (d : PlainDraft). IfOk piece.reader (λ (read : PlainDraft). (draft_after d piece.number piece.rows ≡ Ok read) × (piece.after ≡ number_after piece.number piece.rows)))
+    (sym (stays.same piece.clock))
+
+pub all-behind : (first draft : PlainDraft) (pieces : List Piece) → Stays first draft → All (HasRead first) pieces → All (HasRead draft) pieces
+all-behind first draft [] stays all = All-nil (HasRead draft)
+all-behind first draft (piece ∷ pieces) stays all =
+    All-cons (HasRead draft) piece pieces (has-behind first draft piece stays (All-head (HasRead first) piece pieces all))
+    (all-behind first draft pieces stays (All-tail (HasRead first) piece pieces all))
+
+told-ok : (reader : Result PlainDraft ScriptError) (meant : Result PlainDraft Refusal) (A : Type 0) → TellsDraft reader meant → IfOk reader (λ (read : PlainDraft). A)
+    → IfOk reader (λ (read : PlainDraft). (meant ≡ Ok read) × A)
+told-ok (Ok read) meant A told a = (told, a)
+told-ok (Err error) meant A told a = tt
+
+-- what a piece told when it was read, where it is known what its reader was before
+told-by : (reader : PlainDraft) (before after : Piece) → before.reader ≡ Ok reader → ReadsPiece before after
+    → TellsDraft after.reader (draft_after reader before.number before.rows)
+told-by reader before after is reads =
+    subst (λ (r : Result PlainDraft ScriptError). IfOk r (λ (from : PlainDraft). TellsDraft after.reader (draft_after from before.number before.rows))) is reads.told
+
+has-read : (draft : PlainDraft) (before after : Piece) → IsBeside draft before → ReadsPiece before after → HasRead draft after
+has-read draft before after is reads =
+    rw (reads.clock, reads.number, reads.rows)
+    (told-ok after.reader (draft_after (beside draft before.clock) before.number before.rows) (after.after ≡ number_after before.number before.rows)
+    (told-by (beside draft before.clock) before after is reads) reads.behind)
+
+others-read : (draft : PlainDraft) (before after : List Piece) → All (IsBeside draft) before → AllZip ReadsPiece before after
+    → All (HasRead draft) after × (rows_of after ≡ rows_of before)
+others-read draft [] [] are read = (All-nil (HasRead draft), refl)
+others-read draft [] (a ∷ after) are read = absurd read
+others-read draft (b ∷ before) [] are read = absurd read
+others-read draft (b ∷ before) (a ∷ after) are (first, read) =
+    let rest = others-read draft before after (All-tail (IsBeside draft) b before are) read in (
+      All-cons (HasRead draft) a after (has-read draft b a (All-head (IsBeside draft) b before are) first) rest.0,
+      ap (λ (rows : List Fields). rows ++ rows_of after) first.rows ∙ ap (λ (rows : List Fields). b.rows ++ rows) rest.1,
+    )
+
+-- what a piece has that was read without a fault
+pub read-of : (draft : PlainDraft) (piece : Piece) (read : PlainDraft) → HasRead draft piece → piece.reader ≡ Ok read
+    → (draft_after (beside draft piece.clock) piece.number piece.rows ≡ Ok read) × (piece.after ≡ number_after piece.number piece.rows)
+read-of draft piece read has is =
+    subst (λ (r : Result PlainDraft ScriptError). IfOk r (λ (read : PlainDraft). (draft_after (beside draft piece.clock) piece.number piece.rows ≡ Ok read)
+    × (piece.after ≡ number_after piece.number piece.rows))) is has
+
+-- its rows leave what it has behind a draft that it is next to
+pub next-read : (draft : PlainDraft) (number : ℕ) (piece : Piece) (read both : PlainDraft) → IsUnderway draft → HasRead draft piece → piece.reader ≡ Ok read
+    → IsNext draft number piece → both ≡ joined draft read → draft_after draft number piece.rows ≡ Ok both
+next-read draft number piece read both under has is (at, clock, room) joins =
+    subst (λ (n : ℕ). draft_after draft n piece.rows ≡ Ok both) at
+    (read-behind draft piece.clock piece.number piece.rows read under clock (read-of draft piece read has is).0
+    (subst (λ (r : Result PlainDraft ScriptError). IsOkAnd r (λ (x : PlainDraft). draft.items + x.items ≤ 100000)) is room)
+    ∙ ap (λ (d : PlainDraft). Ok d) (sym joins))
+
+-- pieces of rows were read
+pub pieces-read : (draft : PlainDraft) (number : ℕ) (rows : List Fields) (before after : List Piece) → ArePieces draft number rows before
+    → AllZip ReadsPiece before after → AreRead draft number rows after
+pieces-read draft number rows [] after are read = absurd are
+pieces-read draft number rows (b ∷ before) [] are read = absurd read
+pieces-read draft number rows (b ∷ before) (a ∷ after) (reader, at, all, others) (first, read) =
+    let rest = others-read draft before after others read in (
+      rw first.rows (subst (λ (n : ℕ). TellsDraft a.reader (draft_after draft n b.rows)) at (told-by draft b a reader first)),
+      rw first.rows (subst (λ (n : ℕ). IfOk a.reader (λ (read : PlainDraft). a.after ≡ number_after n b.rows)) at first.behind),
+      ap (λ (rows : List Fields). rows ++ rows_of after) first.rows ∙ ap (λ (rows : List Fields). b.rows ++ rows) rest.1 ∙ all,
+      rest.0,
+    )
+
+-- the first of them was taken out
+pub first-taken : (draft : PlainDraft) (number : ℕ) (rows : List Fields) (pieces rest : List Piece) (first : Piece) → AreRead draft number rows pieces
+    → first ≡ slice_index_or pieces 0 first → rest ≡ remove pieces 0 → AreRead draft number rows (first ∷ rest)
+first-taken draft number rows [] rest first are is left = absurd are
+first-taken draft number rows (piece ∷ pieces) rest first are is left =
+    subst (λ (p : Piece). AreRead draft number rows (p ∷ rest)) (sym is) (subst (λ (ps : List Piece). AreRead draft number rows (piece ∷ ps)) (sym left) are)
+
+-- ---- one piece more
+
+-- the rows of one piece more
+pub rows-more : (pieces : List Piece) (piece : Piece) → rows_of (pieces ++ piece ∷ []) ≡ rows_of pieces ++ piece.rows
+rows-more pieces piece =
+    flat_map-append (λ (p : Piece). p.rows) pieces (piece ∷ []) ∙ ap (λ (rows : List Fields). rows_of pieces ++ rows) (append-nil piece.rows)
+
+-- the pieces so far, the next, and those behind it
+pub parted : (pieces done : List Piece) (piece : Piece) → done ≡ take (length done) pieces → length done < length pieces → piece ≡ get_or pieces (length done) piece
+    → pieces ≡ done ++ (piece ∷ drop (suc (length done)) pieces)
+parted pieces done piece so_far more next =
+    sym (take-append-drop (length done) pieces)
+    ∙ ap (λ (ps : List Piece). ps ++ drop (length done) pieces) (sym so_far)
+    ∙ ap (λ (ps : List Piece). done ++ ps) (drop-cons pieces (length done) piece more ∙ ap (λ (p : Piece). p ∷ drop (suc (length done)) pieces) (sym next))
+
+pub rows-parted : (pieces done : List Piece) (piece : Piece) (behind : List Piece) → pieces ≡ done ++ (piece ∷ behind)
+    → rows_of pieces ≡ rows_of done ++ (piece.rows ++ rows_of behind)
+rows-parted pieces done piece behind is = ap rows_of is ∙ flat_map-append (λ (p : Piece). p.rows) done (piece ∷ behind)
+
+-- ---- what goes for all pieces
+
+module _ (first : PlainDraft) (number : ℕ) (pieces done : List Piece) (piece : Piece) (so_far : done ≡ take (length done) pieces)
+    (more : length done < length pieces) (next : piece ≡ get_or pieces (length done) piece) (before : PlainDraft) (at : ℕ)
+    (stays : Stays first before) (read : draft_after first number (rows_of done) ≡ Ok before) (is_at : at ≡ number_after number (rows_of done)) where
+  -- the next piece was read beside this draft too
+  pub piece-here : All (HasRead first) pieces → HasRead before piece
+  piece-here all = has-behind first before piece stays (subst (HasRead first) (sym next) (all (length done) piece more))
+
+  -- its rows behind those so far
+  piece-behind : draft_after first number (rows_of done ++ piece.rows) ≡ draft_after before at piece.rows
+  piece-behind =
+      behind-both first number (rows_of done) piece.rows before read ∙ ap (λ (n : ℕ). draft_after before n piece.rows) (sym is_at)
+
+  pub piece-read : (after : PlainDraft) → draft_after before at piece.rows ≡ Ok after → draft_after first number (rows_of (done ++ piece ∷ [])) ≡ Ok after
+  piece-read after is = ap (draft_after first number) (rows-more done piece) ∙ piece-behind ∙ is
+
+  pub piece-number : (behind : ℕ) → behind ≡ number_after at piece.rows → behind ≡ number_after number (rows_of (done ++ piece ∷ []))
+  piece-number behind is =
+      is ∙ ap (λ (n : ℕ). number_after n piece.rows) is_at ∙ sym (number-both number (rows_of done) piece.rows)
+      ∙ sym (ap (number_after number) (rows-more done piece))
+
+  -- the first fault of its rows is that of all
+  pub piece-refused : (error : ScriptError) → TellsRefusal error (draft_after before at piece.rows) → TellsRefusal error (draft_after first number (rows_of pieces))
+  piece-refused error told =
+      let behind = drop (suc (length done)) pieces in
+      let all : rows_of pieces ≡ (rows_of done ++ piece.rows) ++ rows_of behind =
+      rows-parted pieces done piece behind (parted pieces done piece so_far more next) ∙ sym (append_assoc (rows_of done) piece.rows (rows_of behind)) in
+      subst (λ (rows : List Fields). TellsRefusal error (draft_after first number rows)) (sym all)
+      (refused-both error first number (rows_of done ++ piece.rows) (rows_of behind) (subst (TellsRefusal error) (sym piece-behind) told))
+
+-- ---- the first piece and the others
+
+module _ (draft : PlainDraft) (number : ℕ) (rows : List Fields) (first : Piece) (others : List Piece) (under : IsUnderway draft)
+    (are : AreRead draft number rows (first ∷ others)) where
+  -- a fault of the first is that of all
+  pub first-refused : (error : ScriptError) → first.reader ≡ Err error → TellsRefusal error (draft_after draft number rows)
+  first-refused error is =
+      subst (λ (all : List Fields). TellsRefusal error (draft_after draft number all)) are.2
+      (refused-both error draft number first.rows (rows_of others)
+      (subst (λ (r : Result PlainDraft ScriptError). TellsDraft r (draft_after draft number first.rows)) is are.0))
+
+  module _ (reader : PlainDraft) (is : first.reader ≡ Ok reader) where
+    first-read : draft_after draft number first.rows ≡ Ok reader
+    first-read = subst (λ (r : Result PlainDraft ScriptError). TellsDraft r (draft_after draft number first.rows)) is are.0
+
+    first-stays : Stays draft reader
+    first-stays = stays-behind draft number reader first.rows under first-read
+
+    pub first-underway : IsUnderway reader
+    first-underway = first-stays.under
+
+    pub others-behind : All (HasRead reader) others
+    others-behind = all-behind draft reader others first-stays are.3
+
+    -- what the others leave behind the first is what all rows leave
+    pub all-told : (result : Result PlainDraft ScriptError) → TellsDraft result (draft_after reader first.after (rows_of others))
+        → TellsDraft result (draft_after draft number rows)
+    all-told result told =
+        let at : first.after ≡ number_after number first.rows =
+        subst (λ (r : Result PlainDraft ScriptError). IfOk r (λ (read : PlainDraft). first.after ≡ number_after number first.rows)) is are.1 in
+        let all : draft_after draft number rows ≡ draft_after reader first.after (rows_of others) =
+        ap (draft_after draft number) (sym are.2) ∙ behind-both draft number first.rows (rows_of others) reader first-read
+        ∙ ap (λ (n : ℕ). draft_after reader n (rows_of others)) (sym at) in
+        subst (TellsDraft result) (sym all) told

@@ -1,0 +1,49 @@
+-- Pieces of rows, and what is read of them.
+use Rattle.std.specs.Prelude.{◌≡◌, ℕ, List, [], ◌∷◌, ◌+◌, ◌≤◌, Ok, IfOk, IsOkAnd}
+use Rattle.std.specs.List.{All, flat_map}
+use Rattle.dex_statement.specs.Words.{Fields}
+use Rattle.dex_script.specs.Drafts.{PlainDraft}
+use Rattle.dex_script.specs.Pieces.{beside, number_after}
+use Rattle.dex_script.specs.Scripts.{draft_after}
+use Rattle.dex_script.specs.Telling.{TellsDraft}
+use Rattle.dex_script_pieces.specs.declared.piece.Piece.{Piece}
+
+-- the rows of pieces, one behind the other
+abbrev pub rows_of : List Piece → List Fields
+rows_of pieces = flat_map (λ (piece : Piece). piece.rows) pieces
+
+-- a piece was read: what its reader says now is what its rows leave behind what it said before
+pub record ReadsPiece (before after : Piece) : Type 0 where
+  pub rows : after.rows ≡ before.rows
+  pub number : after.number ≡ before.number
+  pub clock : after.clock ≡ before.clock
+  pub told : IfOk before.reader (λ reader. TellsDraft after.reader (draft_after reader before.number before.rows))
+  pub behind : IfOk after.reader (λ reader. after.after ≡ number_after before.number before.rows)
+
+-- a piece that is not read yet, of the markets and wallets of this draft
+abbrev pub IsBeside : PlainDraft → Piece → Type 0
+IsBeside draft piece = piece.reader ≡ Ok (beside draft piece.clock)
+
+-- the rows, the first of them of this number, as pieces that are not read yet: the draft reads the first itself
+abbrev pub ArePieces : PlainDraft → ℕ → List Fields → List Piece → Type 0
+ArePieces draft number rows [] = ⊥
+ArePieces draft number rows (first ∷ others) =
+    (first.reader ≡ Ok draft) × (first.number ≡ number) × (rows_of (first ∷ others) ≡ rows) × All (IsBeside draft) others
+
+-- where a piece was read without a fault, it has what its rows leave of a draft of the same markets and wallets
+abbrev pub HasRead : PlainDraft → Piece → Type 0
+HasRead draft piece =
+    IfOk piece.reader (λ read. (draft_after (beside draft piece.clock) piece.number piece.rows ≡ Ok read)
+    × (piece.after ≡ number_after piece.number piece.rows))
+
+-- a piece was read without a fault, and stands behind a draft and its rows, of which the next has this number
+abbrev pub IsNext : PlainDraft → ℕ → Piece → Type 0
+IsNext draft number piece =
+    (piece.number ≡ number) × (piece.clock ≡ draft.clock) × IsOkAnd piece.reader (λ read. draft.items + read.items ≤ 100000)
+
+-- the rows, the first of them of this number, as pieces that were read: the first behind the draft, the others beside it
+abbrev pub AreRead : PlainDraft → ℕ → List Fields → List Piece → Type 0
+AreRead draft number rows [] = ⊥
+AreRead draft number rows (first ∷ others) =
+    TellsDraft first.reader (draft_after draft number first.rows) × IfOk first.reader (λ read. first.after ≡ number_after number first.rows)
+    × (rows_of (first ∷ others) ≡ rows) × All (HasRead draft) others

@@ -1,0 +1,8 @@
+//! Scripts read by several threads, each some of the rows.
+#![tactic(auto)]
+
+mod guesses;
+mod piece;
+mod reading;
+
+pub use reading::read_script;

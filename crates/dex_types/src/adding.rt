@@ -1,0 +1,13 @@
+//! An item more in a list.
+
+ghost use Rattle.std.specs.Prelude.{◌≡◌, ◌++◌, ◌∷◌, [], OnOk};
+
+use crate::terms::NoMemory;
+
+/// Adds an item behind the others.
+pub fn add<T: Drop>(items: &mut Vec<T>, item: T) -> Result<(), NoMemory>
+    ensures { OnOk result (items.new.items ≡ items.old.items ++ item ∷ []) }
+{
+    items.push(item)?;
+    Ok(())
+}
