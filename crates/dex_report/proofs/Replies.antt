@@ -44,7 +44,7 @@ refusal_words (refusal.SumTooLarge a b) = codes "refused" ∷ codes "24" ∷ cod
 
 -- the words of a reply
 abbrev pub reply_words : Reply → List (List ℕ)
-reply_words (Ordered a b c d e f) = codes "ok" ∷ codes "order" ∷ decimal a ∷ decimal b ∷ decimal c ∷ decimal d ∷ decimal e ∷ decimal f ∷ []
+reply_words (Ordered b a c d e f) = codes "ok" ∷ codes "order" ∷ decimal a ∷ decimal b ∷ decimal c ∷ decimal d ∷ decimal e ∷ decimal f ∷ []
 reply_words (Took a b c) = codes "ok" ∷ codes "take" ∷ decimal a ∷ decimal b ∷ decimal c ∷ []
 reply_words (Cancelled a) = codes "ok" ∷ codes "cancelled" ∷ decimal a ∷ []
 reply_words (Consumed a) = codes "ok" ∷ codes "consumed" ∷ decimal a ∷ []
@@ -94,7 +94,7 @@ six-words p a b c d e f =
 
 -- a reply's text is its words
 pub reply-spaced : (reply : Reply) → spaced (reply_text reply) ≡ flat_map spaced (reply_words reply)
-reply-spaced (Ordered a b c d e f) = ap (λ (t : List ℕ). 32 ∷ t) (six-words (codes "ok order") (decimal a) (decimal b) (decimal c) (decimal d) (decimal e) (decimal f))
+reply-spaced (Ordered b a c d e f) = ap (λ (t : List ℕ). 32 ∷ t) (six-words (codes "ok order") (decimal a) (decimal b) (decimal c) (decimal d) (decimal e) (decimal f))
 reply-spaced (Took a b c) = simp (append_assoc, append-nil, spaced)
 reply-spaced (Cancelled a) = simp (append_assoc, append-nil, spaced)
 reply-spaced (Consumed a) = simp (append_assoc, append-nil, spaced)
@@ -178,7 +178,7 @@ at words place = slice_index_or words place []
 -- the reply that words tell
 pub reply_in : List (List ℕ) → Reply
 reply_in words =
-    if bytes_eq (at words 1) (codes "order") then Ordered (number_in (at words 2)) (number_in (at words 3)) (number_in (at words 4)) (number_in (at words 5)) (number_in (at words 6)) (number_in (at words 7))
+    if bytes_eq (at words 1) (codes "order") then Ordered (number_in (at words 3)) (number_in (at words 2)) (number_in (at words 4)) (number_in (at words 5)) (number_in (at words 6)) (number_in (at words 7))
     else (if bytes_eq (at words 1) (codes "take") then Took (number_in (at words 2)) (number_in (at words 3)) (number_in (at words 4))
     else (if bytes_eq (at words 1) (codes "cancelled") then Cancelled (number_in (at words 2))
     else (if bytes_eq (at words 1) (codes "consumed") then Consumed (number_in (at words 2))
