@@ -42,8 +42,8 @@ pub(crate) fn room_of(accounts: &Accounts) -> usize {
     room
 }
 
-/// The same, for the rows of a market.
-fn room_of_market(market: &MarketAccounts) -> usize {
+/// The same, in bytes, for the rows of a market. No clause says how much that is: text for which it is too little grows.
+pub fn room_of_market(market: &MarketAccounts) -> usize {
     let mut bytes: usize = 1024;
     'sides: for buffer in [&market.requests, &market.events, &market.bids, &market.asks] {
         bytes = bytes.saturating_add(buffer.len());
