@@ -1,8 +1,5 @@
 use Rattle.std.proofs.Common.{Result, Ok, Err, IfOk, subst}
-use Rattle.dex_report.specs.declared.outcome.Outcome.{Outcome}
 use Rattle.dex_report.specs.Outcomes.{outcome_of}
-use Rattle.dex_replay.specs.Replays.{IsReplayOf}
-use Rattle.dex_replay.specs.Runs.{IsRunOf}
 use Rattle.dex_script_facts.specs.Facts.{IsScript}
 use Rattle.dex_batch.proofs.running.run_batch.Goals as goal
 
@@ -14,6 +11,6 @@ pub returns-clause-run : goal.returns-clause-run
 returns-clause-run g c =
     let script = c.args.script in
     let is : IsScript script = subst IsScript c.script.view_is c.script.invariant.0 in
-    then-ok (λ (outcome : Outcome). IsReplayOf script (outcome_of outcome)) (λ (outcome : Outcome). IsRunOf script (outcome_of outcome)) c.batched.result
-    (λ outcome replay. c.what_one_order_leaves_is_a_run.ensures script (outcome_of outcome) is
-    (c.a_replay_is_in_one_order.ensures script (outcome_of outcome) is replay)) c.batched.ensures
+    then-ok _ _ c.batched.result
+    (λ left replay. c.what_one_order_leaves_is_a_run.ensures script (outcome_of left.0) is
+    (c.a_replay_is_in_one_order.ensures script (outcome_of left.0) is replay)) c.batched.ensures.outcome
