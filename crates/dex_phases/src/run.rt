@@ -5,7 +5,7 @@ use anyhow::Error;
 use dex_answers::items_in;
 use dex_io::NoPace;
 use dex_pieces::report_pieces;
-use dex_run::run;
+use dex_run::run_with_rows;
 use dex_script_pieces::read_script;
 use std::marker::Sync;
 use std::mem::drop;
@@ -23,7 +23,7 @@ pub struct Phases {
     pub reading: u128,
     /// From the script to the outcome: accounts to the bank, lanes side by side, what they leave.
     pub lanes: u128,
-    /// From the outcome to the pieces of the report, by several threads.
+    /// From the outcome to the pieces of the report, by several threads; rows are let go beside it.
     pub report: u128,
     /// The pieces are let go.
     pub dropping: u128,
@@ -51,9 +51,9 @@ pub fn round<R: Threads + Wait + Sync + Clock + AllocGlobal>(
     let script = read_script(rt, alloc, bytes, false, READERS)?;
     let count = items_in(&script.rows);
     let reading = watch.lap(rt)?;
-    let outcome = run(rt, alloc, script, &NoPace)?;
+    let (outcome, rows) = run_with_rows(rt, alloc, script, &NoPace)?;
     let lanes = watch.lap(rt)?;
-    let pieces = report_pieces(rt, alloc, outcome, count)?;
+    let pieces = report_pieces(rt, alloc, outcome, count, rows)?;
     let report = watch.lap(rt)?;
     drop(pieces);
     let dropping = watch.lap(rt)?;
