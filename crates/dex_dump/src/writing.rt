@@ -25,15 +25,16 @@ pub fn write_dump(alloc: Global, accounts: &Accounts) -> Result<Vec<u8>, NoMemor
     ensures read_back { IfOk result (λ text.
         AreAccepted (accounts_of accounts.now) → IsReadAs text.items (accounts_of accounts.now)) }
 {
-    let mut text = Vec::with_capacity(alloc, room_of(accounts))?;
+    let mut text = Vec::with_capacity(alloc, room_of_dump(accounts))?;
     match append_dump(&mut text, accounts) {
         Ok(()) => Ok(text),
         Err(_) => Err(NoMemory),
     }
 }
 
-/// Room for nearly every dump, so that its text need not grow: four characters for three bytes, and the words around them.
-pub(crate) fn room_of(accounts: &Accounts) -> usize {
+/// Room in bytes for nearly every dump of accounts, so that its text need not grow: four characters for three bytes, and the words
+/// around them. No clause says how much that is.
+pub fn room_of_dump(accounts: &Accounts) -> usize {
     let few = accounts.mints.len().saturating_add(accounts.wallets.len());
     let mut room = few.saturating_mul(320).saturating_add(1024);
     'markets: for market in &accounts.markets {
@@ -42,7 +43,7 @@ pub(crate) fn room_of(accounts: &Accounts) -> usize {
     room
 }
 
-/// The same, in bytes, for the rows of a market. No clause says how much that is: text for which it is too little grows.
+/// The same for the rows of a market.
 pub fn room_of_market(market: &MarketAccounts) -> usize {
     let mut bytes: usize = 1024;
     'sides: for buffer in [&market.requests, &market.events, &market.bids, &market.asks] {
