@@ -146,7 +146,7 @@ refusal-are_words (refusal.SumTooLarge a b) h = rw (is_word-decimal a h.0, is_wo
 
 -- they are words
 pub reply-are_words : (reply : Reply) → FitReply reply → list_all is_word (reply_words reply) ≡ true
-reply-are_words (Ordered a b c d e f) h = rw (is_word-decimal a h.0, is_word-decimal b h.1, is_word-decimal c h.2, is_word-decimal d h.3, is_word-decimal e h.4, is_word-decimal f h.5) refl
+reply-are_words (Ordered b a c d e f) h = rw (is_word-decimal a h.1, is_word-decimal b h.0, is_word-decimal c h.2, is_word-decimal d h.3, is_word-decimal e h.4, is_word-decimal f h.5) refl
 reply-are_words (Took a b c) h = rw (is_word-decimal a h.0, is_word-decimal b h.1, is_word-decimal c h.2) refl
 reply-are_words (Cancelled a) h = rw (is_word-decimal a h) refl
 reply-are_words (Consumed a) h = rw (is_word-decimal a h) refl
@@ -240,7 +240,7 @@ refusal-told (refusal.SumTooLarge a b) h = rw (number_in-decimal a h.0, number_i
 -- the words tell the reply
 pub reply-told : (reply : Reply) → FitReply reply → reply_in (reply_words reply) ≡ reply
 unfolding reply_in
-reply-told (Ordered a b c d e f) h = rw (number_in-decimal a h.0, number_in-decimal b h.1, number_in-decimal c h.2, number_in-decimal d h.3, number_in-decimal e h.4, number_in-decimal f h.5) refl
+reply-told (Ordered b a c d e f) h = rw (number_in-decimal a h.1, number_in-decimal b h.0, number_in-decimal c h.2, number_in-decimal d h.3, number_in-decimal e h.4, number_in-decimal f h.5) refl
 reply-told (Took a b c) h = rw (number_in-decimal a h.0, number_in-decimal b h.1, number_in-decimal c h.2) refl
 reply-told (Cancelled a) h = rw (number_in-decimal a h) refl
 reply-told (Consumed a) h = rw (number_in-decimal a h) refl
