@@ -105,10 +105,10 @@ pub(crate) fn use_up(cells: Cells, rows: Vec<Row>, places: Vec<RowPlaces>) -> Ce
     cells
 }
 
-/// How many items are let go before their memory is given back.
+/// How many rows, or places, are let go before their memory is given back.
 const PIECE: usize = 64;
 
-/// Lets the last items go, so many of them.
+/// Lets the last of a list go, so many of them.
 fn let_go<T: Drop>(items: &mut Vec<T>, count: usize)
     ensures { items.new.items ≡ take (length items.old.items - count) items.old.items }
 {
