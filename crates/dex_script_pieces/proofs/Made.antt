@@ -1,5 +1,5 @@
 -- Markets that were made.
-use Rattle.std.proofs.Common.{◌≡◌, ◌∙◌, List, [], ◌∷◌, Result, Ok, IfOk, ap, map, refl, subst, sym}
+use Rattle.std.proofs.Common.{◌≡◌, ◌∙◌, List, [], ◌∷◌, Result, Ok, Err, IfOk, ap, map, refl, subst, sym}
 use Rattle.std.specs.List.{AllZip}
 use Rattle.dex_types.specs.declared.terms.NoMemory.{NoMemory}
 use Rattle.dex_types.specs.Accounts.{PlainMarketAccounts}
