@@ -59,8 +59,8 @@ fn batched<J: Naming + Send + Sync, R: Threads + Wait + Sync, P: Pace + Sync>(
     Ok((outcome, rows))
 }
 
-/// What is left when all rows of a script have acted in their order, on so many threads: a row acts as soon as all rows before it that
-/// name its market or one of its wallets have acted; and the rows. The script's accounts themselves go into the outcome: none is copied.
+/// What is left when all rows of a script have acted in their order, on so many threads, and the rows. A row acts as soon as all rows
+/// before it that name its market or one of its wallets have acted. The script's accounts themselves go into the outcome: none is copied.
 pub fn run_batch_with_rows<R: Threads + Wait + Sync, P: Pace + Sync>(
     rt: &R,
     alloc: Global,

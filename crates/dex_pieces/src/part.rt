@@ -23,7 +23,7 @@ pub(crate) enum Part {
 }
 
 impl Part {
-    /// About how many bytes its text has, or would be written in the time that it takes to let it go.
+    /// About how many bytes its text has; of what is let go, how many could be written meanwhile.
     pub(crate) fn weight(&self) -> usize {
         match self {
             Part::Text(bytes) => bytes.len(),

@@ -53,7 +53,7 @@ fn pieces_of<R: Threads + Sync>(
     texts_of(rt, alloc, parts)
 }
 
-/// The parts of a report, in their order, behind what is spent: the largest part, in most cases, is begun first.
+/// The parts of a report, in their order, behind what is spent.
 fn parts_of(
     alloc: Global,
     outcome: Outcome,

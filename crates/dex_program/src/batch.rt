@@ -29,6 +29,7 @@ pub fn batch_answer<R: Threads + Wait + Sync, P: Pace + Sync>(
 {
     match read_script(rt, alloc, bytes, true, workers as usize) {
         Ok(script) => {
+            // What the script's type keeps of its rows, for the proof.
             let _ = &script.rows;
             let (outcome, rows) = run_batch_with_rows(rt, alloc, script, workers, pace)?;
             without_swaps_rows_act_one_by_one();

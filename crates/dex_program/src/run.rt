@@ -30,6 +30,7 @@ pub fn run_answer<R: Threads + Wait + Sync, P: Pace + Sync>(
 {
     match read_script(rt, alloc, bytes, false, READERS) {
         Ok(script) => {
+            // What the script's type keeps of its rows, for the proof.
             let _ = &script.rows;
             let (outcome, rows) = run_with_rows(rt, alloc, script, pace)?;
             without_swaps_rows_act_one_by_one();

@@ -71,6 +71,7 @@ pub fn act_all(cells: Cells, rows: &[Row], places: &[RowPlaces]) -> Cells
     let mut places = places;
     'item: while let Some((row, others)) = rows.split_first() {
         let at = &places[0];
+        // Where no row is behind, these are the row's own places.
         let at_behind = &places[others.len().min(1)];
         let count = act_item(&mut cells, row, others.first(), at, at_behind);
         rows = rows.split_at(count).1;
@@ -97,6 +98,7 @@ pub(crate) fn use_up(cells: Cells, rows: Vec<Row>, places: Vec<RowPlaces>) -> Ce
     'item: while let Some((row, others)) = rows.split_last() {
         let last = others.len();
         let at = &places[last];
+        // Where no row is behind, these are the row's own places.
         let at_behind = &places[last.saturating_sub(1)];
         let count = act_item(&mut cells, row, others.last(), at, at_behind);
         let_go(&mut rows, count);
@@ -108,7 +110,7 @@ pub(crate) fn use_up(cells: Cells, rows: Vec<Row>, places: Vec<RowPlaces>) -> Ce
 /// How many rows, or places, are let go before their memory is given back.
 const PIECE: usize = 64;
 
-/// Lets the last of a list go, so many of them.
+/// Lets so many of the last items of a list go.
 fn let_go<T: Drop>(items: &mut Vec<T>, count: usize)
     ensures { items.new.items ≡ take (length items.old.items - count) items.old.items }
 {

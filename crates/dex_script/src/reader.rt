@@ -73,7 +73,7 @@ impl Reader {
         self.draft.into_script(alloc, self.places)
     }
 
-    /// The same, with the accounts of its markets made.
+    /// This reader, with the accounts of its markets made.
     pub(crate) fn with_markets_by<H: ReadRows>(
         self,
         alloc: Global,

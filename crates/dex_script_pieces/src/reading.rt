@@ -58,6 +58,7 @@ impl<'a, R: Threads + Sync> ReadRows for InPieces<'a, R> {
         rows: &mut Rows<'_>,
     ) -> Result<Reader, ScriptError> {
         let mut number = number;
+        // Setup rows may follow: each is held against those before it.
         if !reader.is_underway() {
             return read_rows(alloc, reader, &mut number, rows);
         }
