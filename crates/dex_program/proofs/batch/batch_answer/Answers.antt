@@ -19,10 +19,10 @@ use Rattle.dex_program.proofs.batch.batch_answer.Goals as goal
 pub run_batch_with_rows-requires-clause-rows : goal.run_batch_with_rows-requires-clause-rows
 run_batch_with_rows-requires-clause-rows g c = λ κs lives. c.in-Ok.ensures.apart refl
 
-pub report_of-requires : goal.report_of-requires
-report_of-requires g c =
+pub report_of-requires-clause-few : goal.report_of-requires-clause-few
+report_of-requires-clause-few g c =
     let is : IsScript c.in-Ok.script = subst IsScript c.script.view_is c.script.invariant.0 in
-    subst (λ (rows : List PlainRow). length (items_of rows) ≤ 100000) (sym c.in_ok-outcome-in-Ok.ensures.rows) is.rows.few
+    λ κs lives. subst (λ (rows : List PlainRow). length (items_of rows) ≤ 100000) (sym c.in_ok-outcome-in-Ok.ensures.rows) is.rows.few
 
 pub returns-in_ok-outcome-in-Ok : goal.returns-in_ok-outcome-in-Ok
 returns-in_ok-outcome-in-Ok g c =

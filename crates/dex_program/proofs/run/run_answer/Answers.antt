@@ -16,10 +16,10 @@ use Rattle.dex_program.specs.Told.{text_of}
 use Rattle.dex_program.proofs.Pieces.{says-more}
 use Rattle.dex_program.proofs.run.run_answer.Goals as goal
 
-pub report_of-requires : goal.report_of-requires
-report_of-requires g c =
+pub report_of-requires-clause-few : goal.report_of-requires-clause-few
+report_of-requires-clause-few g c =
     let is : IsScript c.in-Ok.script = subst IsScript c.script.view_is c.script.invariant.0 in
-    subst (λ (rows : List PlainRow). length (items_of rows) ≤ 100000) (sym c.in_ok-outcome-in-Ok.ensures.rows) is.rows.few
+    λ κs lives. subst (λ (rows : List PlainRow). length (items_of rows) ≤ 100000) (sym c.in_ok-outcome-in-Ok.ensures.rows) is.rows.few
 
 pub returns-in_ok-outcome-in-Ok : goal.returns-in_ok-outcome-in-Ok
 returns-in_ok-outcome-in-Ok g c =
