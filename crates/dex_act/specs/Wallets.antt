@@ -17,7 +17,7 @@ use Rattle.dex_types.specs.Wallets.{address_seen, amount_at, movements}
 use Rattle.dex_history.specs.Journal.{front, places}
 use Rattle.dex_token.specs.TokenAccount.{wallet_words}
 use Rattle.dex_movements.specs.Amounts.{is_probe}
-use Rattle.dex_wallet.specs.CellState.{CellState, HasSpare, IsWalletCell, balance_of, new_cell, seen_of, with_entry}
+use Rattle.dex_wallet.specs.CellState.{CellState, HasSpare, IsWalletCell, balance_of, moved_by, new_cell, seen_of}
 use Rattle.dex_wallet.specs.TokenAmount.{TokenAmount}
 use Rattle.dex_cell.specs.CellState as market_cell
 use Rattle.dex_cell.specs.CellState.{IsFor, IsMarketCell, MarketCellState, step_on}
@@ -96,14 +96,7 @@ AtPlace place cells Holds = (default : CellState) → Holds (slice_index_or cell
 
 -- a cell after a row moved it
 abbrev pub cell_moved : PlainRow → MoveKind → ℕ → CellState → CellState
-cell_moved row kind amount cell = with_entry cell (record {
-  market = row.market;
-  lane = row.lane;
-  row = row.number;
-  kind = kind;
-  amount = amount;
-  before = balance_of cell.bytes;
-})
+cell_moved row kind amount cell = moved_by cell row.market row.lane row.number kind amount
 
 -- the same, where anything moves
 abbrev pub moved_some : PlainRow → MoveKind → ℕ → CellState → CellState

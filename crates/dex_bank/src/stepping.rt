@@ -33,6 +33,22 @@ fn look(wallets: &[WalletCell], role: &Option<Address>, place: usize, seen: &mut
     }
 }
 
+/// What a row sees that names no wallet.
+#[inline]
+fn nothing_seen(cells: &Cells) -> Seen
+    ensures { result ≡ nothing_seen cells.now }
+{
+    Seen {
+        coin: None,
+        pc: None,
+        discount: None,
+        referrer: None,
+        srm: cells.srm,
+        msrm: cells.msrm,
+        program: cells.program,
+    }
+}
+
 /// Writes down what a row sees.
 fn see(cells: &Cells, row: &Row, places: &WalletPlaces, seen: &mut Seen)
     requires places { ArePlacesAmong cells.now.wallets (row_of row.now) places.now }
@@ -84,15 +100,7 @@ pub(crate) fn act_or_wait(cells: &mut Cells, row: &Row, standing: &Standing, wai
     requires held { waits ≡ true → CanWait (row_of row.now) cells.old }
     ensures { HasActedOrWaited (row_of row.entry.now) waits result cells.old cells.new }
 {
-    let mut seen = Seen {
-        coin: None,
-        pc: None,
-        discount: None,
-        referrer: None,
-        srm: cells.srm,
-        msrm: cells.msrm,
-        program: cells.program,
-    };
+    let mut seen = nothing_seen(cells);
     see(cells, row, &standing.wallets, &mut seen);
     do_on(
         &mut cells.markets[standing.market],
@@ -111,15 +119,7 @@ fn is_refused(cells: &Cells, row: &Row, standing: &Standing) -> bool
     ensures refused { result ≡ is_some (why_in (world_of cells.now) (row_of row.entry.now)) }
     ensures cells { AreCells cells.now }
 {
-    let mut seen = Seen {
-        coin: None,
-        pc: None,
-        discount: None,
-        referrer: None,
-        srm: cells.srm,
-        msrm: cells.msrm,
-        program: cells.program,
-    };
+    let mut seen = nothing_seen(cells);
     see(cells, row, &standing.wallets, &mut seen);
     cells.markets[standing.market].decide(row, &seen).is_err()
 }

@@ -4,4 +4,4 @@
 mod closing;
 mod running;
 
-pub use running::run_batch;
+pub use running::{run_batch, run_batch_with_rows};

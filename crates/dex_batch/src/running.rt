@@ -1,6 +1,7 @@
 //! All rows of a script, in their order, on several threads.
 
-ghost use Rattle.std.specs.Prelude.{◌≡◌, ◌≤◌, IfOk};
+ghost use Rattle.std.specs.Prelude.{◌≡◌, ◌≤◌, IfOk, map};
+ghost use Rattle.dex_types.specs.Rows.{row_of};
 ghost use Rattle.dex_report.specs.Outcomes.{outcome_of};
 ghost use Rattle.dex_replay.specs.Replays.{IsReplayOf};
 ghost use Rattle.dex_replay.specs.Runs.{IsRunOf};
@@ -14,7 +15,7 @@ use dex_report::Outcome;
 use dex_script_facts::{Script, addresses_of_markets, addresses_of_wallets};
 use dex_stage::Terms;
 use dex_team::{Lists, Naming, work_all};
-use dex_types::NoMemory;
+use dex_types::{NoMemory, Row};
 use std::alloc::Global;
 use std::marker::{Brand, Send, Sync};
 use std::sync::Wait;
@@ -32,10 +33,11 @@ fn batched<J: Naming + Send + Sync, R: Threads + Wait + Sync, P: Pace + Sync>(
     script: Script,
     workers: u32,
     pace: &P,
-) -> Result<Outcome, NoMemory>
+) -> Result<(Outcome, Vec<Row>), NoMemory>
     requires is { script ≡ J.script }
     requires single { HasNoSwap J.script.rows }
-    ensures { IfOk result (λ outcome. IsReplayOf J.script (outcome_of outcome)) }
+    ensures outcome { IfOk result (λ left. IsReplayOf J.script (outcome_of left.0)) }
+    ensures rows { IfOk result (λ left. map row_of left.1.items ≡ J.script.rows) }
 {
     let terms = Terms::of(&script);
     let market_addresses = addresses_of_markets(alloc, &script.start.markets)?;
@@ -53,11 +55,32 @@ fn batched<J: Naming + Send + Sync, R: Threads + Wait + Sync, P: Pace + Sync>(
     let (markets, wallets) = work_all::<J, R, P>(
         rt, alloc, lists, markets, wallets, helpers, pace,
     )?;
-    left_by::<J>(alloc, mints, terms, markets, wallets)
+    let outcome = left_by::<J>(alloc, mints, terms, markets, wallets)?;
+    Ok((outcome, rows))
 }
 
-/// What is left when all rows of a script have acted in their order, on so many threads: a row acts as soon as all rows before it that
-/// name its market or one of its wallets have acted. The script's accounts themselves go into the outcome: none is copied.
+/// What is left when all rows of a script have acted in their order, on so many threads, and the rows. A row acts as soon as all rows
+/// before it that name its market or one of its wallets have acted. The script's accounts themselves go into the outcome: none is copied.
+pub fn run_batch_with_rows<R: Threads + Wait + Sync, P: Pace + Sync>(
+    rt: &R,
+    alloc: Global,
+    script: Script,
+    workers: u32,
+    pace: &P,
+) -> Result<(Outcome, Vec<Row>), NoMemory>
+    requires workers { (1 ≤ workers) × (workers ≤ 16) }
+    requires rows { HasNoSwap script.rows }
+    ensures outcome { IfOk result (λ left. IsReplayOf script (outcome_of left.0)) }
+    ensures run { IfOk result (λ left. IsRunOf script (outcome_of left.0)) }
+    ensures rows { IfOk result (λ left. map row_of left.1.items ≡ script.rows) }
+{
+    let _ = &script.rows;
+    a_replay_is_in_one_order();
+    what_one_order_leaves_is_a_run();
+    batched::<Brand, R, P>(rt, alloc, script, workers, pace)
+}
+
+/// The same without the rows.
 pub fn run_batch<R: Threads + Wait + Sync, P: Pace + Sync>(
     rt: &R,
     alloc: Global,
@@ -70,8 +93,6 @@ pub fn run_batch<R: Threads + Wait + Sync, P: Pace + Sync>(
     ensures outcome { IfOk result (λ outcome. IsReplayOf script (outcome_of outcome)) }
     ensures run { IfOk result (λ outcome. IsRunOf script (outcome_of outcome)) }
 {
-    let _ = &script.rows;
-    a_replay_is_in_one_order();
-    what_one_order_leaves_is_a_run();
-    batched::<Brand, R, P>(rt, alloc, script, workers, pace)
+    let (outcome, _) = run_batch_with_rows(rt, alloc, script, workers, pace)?;
+    Ok(outcome)
 }

@@ -49,7 +49,8 @@ pub fn decide_sweep_row(accounts: &MarketAccounts, row: &Row, seen: &Seen) -> Re
 #[inline(never)]
 pub fn decide_disable_row(accounts: &MarketAccounts, row: &Row) -> Result<Plan, Refusal>
     requires { AreSound (market_accounts_of accounts.now) }
-    ensures { result ≡ answered (reasons.why_disable (asked_by row.entry.now) (market_of accounts.now)) plans.Disable }
+    ensures { result ≡ answered (reasons.why_disable (asked_by row.entry.now) (market_of accounts.now))
+        plans.Disable }
 {
     let market = MarketRef {
         bytes: &accounts.market,

@@ -7,12 +7,13 @@ ghost use Rattle.dex_dump.specs.Accepted.{AreAccepted, HoldBytes};
 ghost use Rattle.dex_dump.specs.Answers.{AnswersDump, AnswersText, AreReadAs, IsReadAs, PlainDump};
 ghost use Rattle.dex_dump.specs.DumpText.{dump_rows, dump_text};
 
-/// One text is the dump of one exchange: accounts of bytes at addresses of 32 bytes that are written as one text are the
-/// same accounts, and where something stands behind two dumps, that is the same too.
+/// One text is the dump of one exchange: accounts of bytes at addresses of 32 bytes that are written as one text are
+/// the same accounts, and where something stands behind two dumps, that is the same too.
 pub fn one_text_is_of_one_exchange()
     ensures alone { (accounts others : PlainAccounts) → HoldBytes accounts → HoldBytes others
         → dump_text accounts ≡ dump_text others → accounts ≡ others }
-    ensures behind { (accounts others : PlainAccounts) (rest more : List ℕ) → HoldBytes accounts → HoldBytes others
+    ensures behind { (accounts others : PlainAccounts) (rest more : List ℕ)
+        → HoldBytes accounts → HoldBytes others
         → dump_text accounts ++ rest ≡ dump_text others ++ more → (accounts ≡ others) × (rest ≡ more) }
 {}
 

@@ -16,4 +16,6 @@ pub use laws::{
 };
 pub use reader::{DumpRead, read_dump, read_rows};
 pub use taking::{append_taken, into_dump};
-pub use writing::{append_dump, write_dump, write_front, write_market_rows};
+pub use writing::{
+    append_dump, room_of_dump, room_of_market, write_dump, write_front, write_market_rows,
+};

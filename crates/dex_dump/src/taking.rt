@@ -8,7 +8,7 @@ ghost use Rattle.dex_dump.specs.Accepted.{AreAccepted, HoldBytes, IsHeldMarket};
 ghost use Rattle.dex_dump.specs.Answers.{IsReadAs};
 ghost use Rattle.dex_dump.specs.DumpText.{dump_text, lines_text, market_rows};
 
-use crate::writing::{write_front, write_market_rows, write_word};
+use crate::writing::{room_of_dump, write_front, write_market_rows, write_word};
 use dex_types::{Accounts, MarketAccounts, NoMemory};
 use std::alloc::{AllocError, Global};
 
@@ -18,7 +18,7 @@ pub fn into_dump(alloc: Global, accounts: Accounts) -> Result<Vec<u8>, NoMemory>
     ensures read_back { IfOk result (λ text.
         AreAccepted (accounts_of accounts) → IsReadAs text.items (accounts_of accounts)) }
 {
-    let mut text = Vec::new(alloc);
+    let mut text = Vec::with_capacity(alloc, room_of_dump(&accounts))?;
     match append_taken(&mut text, accounts) {
         Ok(()) => Ok(text),
         Err(_) => Err(NoMemory),

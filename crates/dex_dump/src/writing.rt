@@ -25,11 +25,36 @@ pub fn write_dump(alloc: Global, accounts: &Accounts) -> Result<Vec<u8>, NoMemor
     ensures read_back { IfOk result (λ text.
         AreAccepted (accounts_of accounts.now) → IsReadAs text.items (accounts_of accounts.now)) }
 {
-    let mut text = Vec::new(alloc);
+    let mut text = Vec::with_capacity(alloc, room_of_dump(accounts))?;
     match append_dump(&mut text, accounts) {
         Ok(()) => Ok(text),
         Err(_) => Err(NoMemory),
     }
+}
+
+/// Room in bytes for nearly every dump of accounts, so that its text need not grow: four characters for three bytes, and the words
+/// around them. No clause says how much that is.
+pub fn room_of_dump(accounts: &Accounts) -> usize {
+    let few = accounts.mints.len().saturating_add(accounts.wallets.len());
+    let mut room = few.saturating_mul(320).saturating_add(1024);
+    'markets: for market in &accounts.markets {
+        room = room.saturating_add(room_of_market(market));
+    }
+    room
+}
+
+/// The same for the rows of a market.
+pub fn room_of_market(market: &MarketAccounts) -> usize {
+    let mut bytes: usize = 1024;
+    'sides: for buffer in [&market.requests, &market.events, &market.bids, &market.asks] {
+        bytes = bytes.saturating_add(buffer.len());
+    }
+    'orders: for account in &market.orders {
+        bytes = bytes
+            .saturating_add(account.bytes.len())
+            .saturating_add(128);
+    }
+    bytes.saturating_add(bytes / 3)
 }
 
 /// Writes the dump of all accounts behind a text. Where memory is wanting, a part of it may have been written. What was

@@ -48,9 +48,9 @@ call number signer named bytes seen reply = record {
 
 abbrev history : List Call
 history =
-    call 12 ann (amy ∷ []) ask_data (ask_sees 1000) (Ordered 922337203685477580800 0 0 0 0 4)
+    call 12 ann (amy ∷ []) ask_data (ask_sees 1000) (Ordered 0 922337203685477580800 0 0 0 4)
     ∷ call 13 bob [] buy_data buy_sees (Refused NoAccount)
-    ∷ call 14 bob (ben ∷ []) buy_data buy_sees (Ordered 1125251388496282648574 0 3 1500 4 0)
+    ∷ call 14 bob (ben ∷ []) buy_data buy_sees (Ordered 0 1125251388496282648574 3 1500 4 0)
     ∷ call 15 bob (amy ∷ ben ∷ []) crank_data nothing (Consumed 3)
     ∷ []
 

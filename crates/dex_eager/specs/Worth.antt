@@ -46,7 +46,7 @@ is_first owner (first ∷ others) = is_same owner first
 
 -- what a row with this answer took from a wallet for its account: the deposit of a new order. What a take pays is for no account
 abbrev pub deposit_in : Token → Reply → Transfers → ℕ
-deposit_in token (Ordered id slot lots pc fee rested) t = by_token token t.coin_in t.pc_in
+deposit_in token (Ordered slot id lots pc fee rested) t = by_token token t.coin_in t.pc_in
 deposit_in token reply t = 0
 
 -- what a row with this answer paid out to its account's person

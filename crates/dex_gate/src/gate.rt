@@ -33,7 +33,12 @@ impl<V: Journaled> Model for Gate<V> {
     ghost use Rattle.std.specs.Prelude.{◌<◌};
     ghost use Rattle.dex_gate.specs.Seats.{IsBoard};
 
-    ghost view = { λ g. record { table = g.table.shared.table_id; passes = g.table.shared.key.passes; origin = V.origin g.table.shared.key.value.value; opening = V.entries g.table.shared.key.value.value } };
+    ghost view = { λ g. record {
+      table = g.table.shared.table_id;
+      passes = g.table.shared.key.passes;
+      origin = V.origin g.table.shared.key.value.value;
+      opening = V.entries g.table.shared.key.value.value;
+    } };
 
     ghost invariant = { λ g. IsBoard g.table.shared.table_id × (0 < g.table.shared.key.passes) };
 }

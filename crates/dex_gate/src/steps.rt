@@ -63,7 +63,8 @@ pub(crate) fn pass_on<V: Journaled>(top: &Top<V>, seat: &mut Place<V>, value: V)
 /// The value that is in the slot of a table whose passes have all come back to one seat.
 pub(crate) fn take_out<V: Journaled>(table: Board<V>, seat: Place<V>) -> V
     requires table { IsBoard table.shared.table_id × (seat.table_id ≡ table.shared.table_id) }
-    requires all { (seat.me.0.stage ≡ Idle) × ((k : ℕ) → k < table.shared.key.passes → 0 < claims k seat.me.0) }
+    requires all { (seat.me.0.stage ≡ Idle)
+        × ((k : ℕ) → k < table.shared.key.passes → 0 < claims k seat.me.0) }
     ensures { IsEnd V.entries V.lane V.origin table.shared.key.value.value table.shared.key.passes seat.me.0.cards
         result }
 {

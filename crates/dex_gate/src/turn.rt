@@ -21,7 +21,12 @@ impl<V: Journaled> Model for Turn<V> {
 
     ghost Value = { TurnView V V.Entry V.Origin };
 
-    ghost view = { λ t. record { gate = t.pass.value.gate; number = t.pass.value.number; start = V.entries t.start.value; value = t.value } };
+    ghost view = { λ t. record {
+      gate = t.pass.value.gate;
+      number = t.pass.value.number;
+      start = V.entries t.start.value;
+      value = t.value;
+    } };
 }
 
 impl<V: Journaled> Turn<V> {
@@ -55,7 +60,11 @@ impl<V: Journaled> Model for Away<V> {
 
     ghost Value = { AwayView V.Entry V.Origin };
 
-    ghost view = { λ a. record { gate = a.pass.value.gate; number = a.pass.value.number; start = V.entries a.start.value } };
+    ghost view = { λ a. record {
+      gate = a.pass.value.gate;
+      number = a.pass.value.number;
+      start = V.entries a.start.value;
+    } };
 }
 
 impl<V: Journaled> Away<V> {

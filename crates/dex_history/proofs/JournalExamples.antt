@@ -47,7 +47,7 @@ ask_call = record {
     now = pos 0;
   });
   seen = ask_sees 1000;
-  entry = record { lane = 0; row = 12; reply = Ordered 922337203685477580800 0 0 0 0 4; moves = Some (debit (codes "ann_coin") 400 1000) ∷ None ∷ None ∷ None ∷ [] };
+  entry = record { lane = 0; row = 12; reply = Ordered 0 922337203685477580800 0 0 0 4; moves = Some (debit (codes "ann_coin") 400 1000) ∷ None ∷ None ∷ None ∷ [] };
 }
 
 abbrev buy_call : Call
@@ -66,7 +66,7 @@ buy_call = record {
     now = pos 0;
   });
   seen = buy_sees;
-  entry = record { lane = 1; row = 13; reply = Ordered 1125251388496282648574 0 3 1500 4 0; moves = Some (debit (codes "bob_usd") 2000 5000) ∷ None ∷ None ∷ None ∷ [] };
+  entry = record { lane = 1; row = 13; reply = Ordered 0 1125251388496282648574 3 1500 4 0; moves = Some (debit (codes "bob_usd") 2000 5000) ∷ None ∷ None ∷ None ∷ [] };
 }
 
 -- what a row sees of the only wallet that it names
@@ -134,7 +134,7 @@ apart less more h e = absurd (omega (arith, h, e))
 
 -- the lots that an entry says were filled
 abbrev filled_lots : Reply → ℕ
-filled_lots (Ordered id slot lots pc fee rested) = lots
+filled_lots (Ordered slot id lots pc fee rested) = lots
 filled_lots _ = 0
 
 -- the other way round they are none: there is no ask yet that bob's bid could have met

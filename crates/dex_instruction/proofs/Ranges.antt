@@ -1,11 +1,11 @@
 -- How large an instruction's fields can be.
-use Rattle.std.proofs.Common.{◌≡◌, ℕ, ℤ, ◌^◌, ◌<◌, ◌≤◌, ◌⊎◌, inl, inr, [], length, take, Option, Some, None, ap, arith}
+use Rattle.std.proofs.Common.{◌≡◌, ℕ, ℤ, ◌^◌, ◌<◌, ◌≤◌, ◌⊎◌, inl, inr, [], ◌∷◌, length, take, Option, Some, None, ap, arith}
 use Rattle.std.specs.Prelude.{IfSome, FitsSigned}
 use Rattle.std.specs.Int.{w64}
 use Rattle.std.proofs.Math.Facts.{Fits-lt-pow, Fits-of_z}
 use Rattle.std.proofs.lemmas.List.{length-take-le}
 use Rattle.dex_types.specs.declared.instructions.Ix.{Ix}
-use Rattle.dex_types.specs.declared.instructions.Ix.TheVariants.{SettleFunds, DisableMarket, SweepFees, NewOrderV3, CloseOpenOrders, InitOpenOrders, CancelOrdersByClientIds}
+use Rattle.dex_types.specs.declared.instructions.Ix.TheVariants.{MatchOrders, ConsumeEvents, Prune, SettleFunds, DisableMarket, SweepFees, NewOrderV3, CloseOpenOrders, InitOpenOrders, CancelOrdersByClientIds}
 use Rattle.dex_types.specs.declared.terms.OrderType.{OrderType}
 use Rattle.dex_types.specs.declared.terms.OrderType.TheVariants.{Limit, Ioc, PostOnly}
 use Rattle.dex_types.specs.declared.terms.SelfTrade.{SelfTrade}
@@ -55,6 +55,11 @@ no_fields ix h =
         ]
       ]
     ]
+
+-- the instructions whose one field is a limit
+pub limit_alone : (ix : Ix) (limit : ℕ) → (ix ≡ MatchOrders limit) ⊎ ((ix ≡ ConsumeEvents limit) ⊎ (ix ≡ Prune limit)) → fields_of ix ≡ (2, limit) ∷ []
+limit_alone ix limit h =
+    elim h [ inl e ↦ ap fields_of e | inr h ↦ elim h [ inl e ↦ ap fields_of e | inr e ↦ ap fields_of e ] ]
 
 -- no body has more than 64 bytes
 pub widths-fields_of-le : (ix : Ix) → Fits ix → widths (fields_of ix) ≤ 64

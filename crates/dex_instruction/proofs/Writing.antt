@@ -1,6 +1,7 @@
 -- Texts that are written one behind the other are one text.
 use Rattle.std.proofs.Common.{◌≡◌, ℕ, ◌+◌, ◌≤◌, List, [], ◌∷◌, ◌++◌, length, take, drop, sym, ap, ◌∙◌, arith, append_assoc, add-zero}
 use Rattle.std.proofs.lemmas.List.{length-append, append-nil, length-take-le, length-drop, drop-drop, drop_at, take_at, take-append-drop}
+use Rattle.byteorder.specs.Endian.{little_bytes}
 use Rattle.dex_instruction.specs.Numbers.{Field, number, spelled, widths}
 use Rattle.dex_instruction.specs.Writing.{written}
 use Rattle.dex_instruction.proofs.Bytes.{length-number}
@@ -72,15 +73,17 @@ unfolding written
 length-written place text bytes within =
     omega (arith, length-append (take place bytes) (text ++ drop (place + length text) bytes), length-append text (drop (place + length text) bytes), length-take-le place bytes (omega arith), length-drop (place + length text) bytes)
 
--- a text behind a number that was written
-pub behind_number : (place behind width x : ℕ) (fields : List Field) (before between after : List ℕ) → place ≤ length before → behind ≡ place + width
-    → between ≡ written place (number width x) before → after ≡ written behind (spelled fields) between → after ≡ written place (spelled ((width, x) ∷ fields)) before
-behind_number place behind width x fields before between after within e first second =
-    second ∙ ap (written behind (spelled fields)) first ∙ written-number place behind width x fields before within e
+-- fields behind a number whose bytes were written
+pub behind_number : (place behind width x : ℕ) (fields : List Field) (bytes before between after : List ℕ) → place ≤ length before → behind ≡ place + width
+    → bytes ≡ little_bytes width x → between ≡ written place bytes before → after ≡ written behind (spelled fields) between → after ≡ written place (spelled ((width, x) ∷ fields)) before
+unfolding number
+behind_number place behind width x fields bytes before between after within e is first second =
+    second ∙ ap (written behind (spelled fields)) (first ∙ ap (λ (text : List ℕ). written place text before) is) ∙ written-number place behind width x fields before within e
 
--- a number that was written last
-pub last_number : (place width x : ℕ) (before after : List ℕ) → after ≡ written place (number width x) before → after ≡ written place (spelled ((width, x) ∷ [])) before
-last_number place width x before after e = e ∙ written-last place width x before
+-- a number whose bytes were written last
+pub last_number : (place width x : ℕ) (bytes before after : List ℕ) → bytes ≡ little_bytes width x → after ≡ written place bytes before → after ≡ written place (spelled ((width, x) ∷ [])) before
+unfolding number
+last_number place width x bytes before after is e = e ∙ ap (λ (text : List ℕ). written place text before) is ∙ written-last place width x before
 
 -- fields behind fields that were written
 pub behind_fields : (place behind : ℕ) (front back : List Field) (before between after : List ℕ) → place ≤ length before → behind ≡ place + widths front

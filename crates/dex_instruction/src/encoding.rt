@@ -10,7 +10,7 @@ ghost use Rattle.dex_instruction.specs.Spelling.{tag_of, fields_of, id_fields, l
 ghost use Rattle.dex_instruction.specs.Writing.{written};
 
 use crate::codes::{order_type_code, self_trade_code, side_code, time_code};
-use crate::numbers::{put_u8, put_u16, put_u32, put_u64, put_u128};
+use crate::numbers::put;
 use dex_types::{ClientIds, Ix, OrderType, SelfTrade, Side};
 
 /// The instruction's tag.
@@ -48,11 +48,11 @@ fn put_market(
     ensures bytes { out.new ≡ written 5 (spelled ((8, coin_lot) ∷ (8, pc_lot) ∷ (2, fee_rate_bps) ∷ (8, nonce)
         ∷ (8, dust) ∷ [])) out.old }
 {
-    let at = put_u64(out, 5, coin_lot);
-    let at = put_u64(out, at, pc_lot);
-    let at = put_u16(out, at, fee_rate_bps);
-    let at = put_u64(out, at, nonce);
-    put_u64(out, at, dust)
+    let at = put(out, 5, coin_lot.to_le_bytes());
+    let at = put(out, at, pc_lot.to_le_bytes());
+    let at = put(out, at, fee_rate_bps.to_le_bytes());
+    let at = put(out, at, nonce.to_le_bytes());
+    put(out, at, dust.to_le_bytes())
 }
 
 /// Writes side, price and most quantities, with which an order and a take begin.
@@ -61,10 +61,10 @@ fn put_terms(out: &mut [u8; 128], side: Side, price: u64, lots: u64, pc: u64) ->
     ensures bytes { out.new
         ≡ written 5 (spelled ((4, side_code side) ∷ (8, price) ∷ (8, lots) ∷ (8, pc) ∷ [])) out.old }
 {
-    let at = put_u32(out, 5, side_code(side));
-    let at = put_u64(out, at, price);
-    let at = put_u64(out, at, lots);
-    put_u64(out, at, pc)
+    let at = put(out, 5, side_code(side).to_le_bytes());
+    let at = put(out, at, price.to_le_bytes());
+    let at = put(out, at, lots.to_le_bytes());
+    put(out, at, pc.to_le_bytes())
 }
 
 /// Writes the latest time, where there is one, behind the other fields of an order.
@@ -75,7 +75,7 @@ fn put_latest(out: &mut [u8; 128], latest: Option<i64>) -> usize
 {
     match latest {
         None => 51,
-        Some(time) => put_u64(out, 51, time_code(time)),
+        Some(time) => put(out, 51, time_code(time).to_le_bytes()),
     }
 }
 
@@ -93,10 +93,10 @@ fn put_order(
         ∷ (8, client) ∷ (2, limit) ∷ latest_fields latest)) out.old }
     ensures typed { IfSome latest (λ time. FitsSigned w64 time) }
 {
-    let at = put_u32(out, 33, self_trade_code(self_trade));
-    let at = put_u32(out, at, order_type_code(order_type));
-    let at = put_u64(out, at, client);
-    put_u16(out, at, limit);
+    let at = put(out, 33, self_trade_code(self_trade).to_le_bytes());
+    let at = put(out, at, order_type_code(order_type).to_le_bytes());
+    let at = put(out, at, client.to_le_bytes());
+    put(out, at, limit.to_le_bytes());
     put_latest(out, latest)
 }
 
@@ -105,9 +105,9 @@ fn put_take(out: &mut [u8; 128], least_lots: u64, least_pc: u64, limit: u16) -> 
     ensures end { result ≡ 51 }
     ensures bytes { out.new ≡ written 33 (spelled ((8, least_lots) ∷ (8, least_pc) ∷ (2, limit) ∷ [])) out.old }
 {
-    let at = put_u64(out, 33, least_lots);
-    let at = put_u64(out, at, least_pc);
-    put_u16(out, at, limit)
+    let at = put(out, 33, least_lots.to_le_bytes());
+    let at = put(out, at, least_pc.to_le_bytes());
+    put(out, at, limit.to_le_bytes())
 }
 
 /// Writes the fields of a cancel by id.
@@ -115,8 +115,8 @@ fn put_cancel(out: &mut [u8; 128], side: Side, order_id: u128) -> usize
     ensures end { result ≡ 25 }
     ensures bytes { out.new ≡ written 5 (spelled ((4, side_code side) ∷ (16, order_id) ∷ [])) out.old }
 {
-    let at = put_u32(out, 5, side_code(side));
-    put_u128(out, at, order_id)
+    let at = put(out, 5, side_code(side).to_le_bytes());
+    put(out, at, order_id.to_le_bytes())
 }
 
 /// Writes the client ids one after the other.
@@ -128,7 +128,7 @@ fn put_ids(out: &mut [u8; 128], ids: &ClientIds) -> usize
 {
     let mut at = 5;
     'ids: for i in 0..ids.count as usize {
-        at = put_u64(out, at, ids.ids[i]);
+        at = put(out, at, ids.ids[i].to_le_bytes());
     }
     at
 }
@@ -148,7 +148,7 @@ fn put_fields(ix: &Ix, out: &mut [u8; 128]) -> usize
             dust,
         } => put_market(out, coin_lot, pc_lot, fee_rate_bps, nonce, dust),
         Ix::MatchOrders { limit } | Ix::ConsumeEvents { limit } | Ix::Prune { limit } => {
-            put_u16(out, 5, limit)
+            put(out, 5, limit.to_le_bytes())
         }
         Ix::NewOrderV3 {
             side,
@@ -178,7 +178,11 @@ fn put_fields(ix: &Ix, out: &mut [u8; 128]) -> usize
             )
         }
         Ix::CancelOrderV2 { side, order_id } => put_cancel(out, side, order_id),
-        Ix::CancelOrderByClientIdV2 { client_order_id } => put_u64(out, 5, client_order_id),
+        Ix::CancelOrderByClientIdV2 { client_order_id } => put(
+            out,
+            5,
+            client_order_id.to_le_bytes(),
+        ),
         Ix::SendTake {
             side,
             limit_price,
@@ -215,7 +219,7 @@ pub fn encode(ix: &Ix, out: &mut [u8; 128]) -> usize
     // What was written decodes to the instruction again; where a field is 0 that must not be, that rule is the one that is broken.
     ensures decodes { decoded (take result out.new) ≡ (if has_zero ix.now then Err ZeroField else Ok ix.now) }
 {
-    put_u8(out, 0, 0);
-    put_u32(out, 1, tag_of(ix));
+    put(out, 0, [0]);
+    put(out, 1, tag_of(ix).to_le_bytes());
     put_fields(ix, out)
 }

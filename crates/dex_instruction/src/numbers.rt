@@ -1,7 +1,7 @@
 //! Numbers at a place of some bytes, the lowest byte first.
 
 ghost use Rattle.std.specs.Prelude.{◌≡◌, ◌+◌, ◌≤◌, length};
-ghost use Rattle.dex_instruction.specs.Numbers.{number, number_at};
+ghost use Rattle.dex_instruction.specs.Numbers.{number_at};
 ghost use Rattle.dex_instruction.specs.Writing.{written};
 
 use byteorder::{ByteOrder, LittleEndian};
@@ -46,63 +46,13 @@ pub(crate) fn u128_at(bytes: &[u8], at: usize) -> u128
     LittleEndian::read_u128(bytes.split_at(at).1)
 }
 
-/// Writes the piece from the place on, and answers the place behind it.
-fn put_piece(out: &mut [u8; 128], at: usize, piece: &[u8]) -> usize
-    requires { at + length piece.now ≤ 128 }
-    ensures end { result ≡ at + length piece.now }
-    ensures bytes { out.new ≡ written at piece.now out.old }
+/// Writes the bytes from the place on, and answers the place behind them.
+pub(crate) fn put<const N: usize>(out: &mut [u8; 128], at: usize, bytes: [u8; N]) -> usize
+    requires { at + N ≤ 128 }
+    ensures end { result ≡ at + N }
+    ensures bytes { out.new ≡ written at bytes.entry out.old }
 {
-    let end = at + piece.len();
-    out[at..end].copy_from_slice(piece);
+    let end = at + N;
+    out[at..end].copy_from_slice(&bytes);
     end
-}
-
-/// Writes the number from the place on, and answers the place behind it.
-#[tactic(auto, unfolding(crate::specs::Numbers::number))]
-pub(crate) fn put_u8(out: &mut [u8; 128], at: usize, x: u8) -> usize
-    requires { at + 1 ≤ 128 }
-    ensures end { result ≡ at + 1 }
-    ensures bytes { out.new ≡ written at (number 1 x) out.old }
-{
-    put_piece(out, at, &x.to_le_bytes())
-}
-
-/// Writes the number from the place on, and answers the place behind it.
-#[tactic(auto, unfolding(crate::specs::Numbers::number))]
-pub(crate) fn put_u16(out: &mut [u8; 128], at: usize, x: u16) -> usize
-    requires { at + 2 ≤ 128 }
-    ensures end { result ≡ at + 2 }
-    ensures bytes { out.new ≡ written at (number 2 x) out.old }
-{
-    put_piece(out, at, &x.to_le_bytes())
-}
-
-/// Writes the number from the place on, and answers the place behind it.
-#[tactic(auto, unfolding(crate::specs::Numbers::number))]
-pub(crate) fn put_u32(out: &mut [u8; 128], at: usize, x: u32) -> usize
-    requires { at + 4 ≤ 128 }
-    ensures end { result ≡ at + 4 }
-    ensures bytes { out.new ≡ written at (number 4 x) out.old }
-{
-    put_piece(out, at, &x.to_le_bytes())
-}
-
-/// Writes the number from the place on, and answers the place behind it.
-#[tactic(auto, unfolding(crate::specs::Numbers::number))]
-pub(crate) fn put_u64(out: &mut [u8; 128], at: usize, x: u64) -> usize
-    requires { at + 8 ≤ 128 }
-    ensures end { result ≡ at + 8 }
-    ensures bytes { out.new ≡ written at (number 8 x) out.old }
-{
-    put_piece(out, at, &x.to_le_bytes())
-}
-
-/// Writes the number from the place on, and answers the place behind it.
-#[tactic(auto, unfolding(crate::specs::Numbers::number))]
-pub(crate) fn put_u128(out: &mut [u8; 128], at: usize, x: u128) -> usize
-    requires { at + 16 ≤ 128 }
-    ensures end { result ≡ at + 16 }
-    ensures bytes { out.new ≡ written at (number 16 x) out.old }
-{
-    put_piece(out, at, &x.to_le_bytes())
 }

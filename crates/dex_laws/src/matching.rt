@@ -20,7 +20,8 @@ pub fn the_best_orders_are_met_first()
     ensures events { EachMeeting (λ side t w orders met.
         InBookOrder (opposite side) orders → IsBestFirst (opposite side) met.events) }
     ensures left { EachMeeting (λ side t w orders met. InBookOrder (opposite side) orders →
-        All (λ (e : QueuedEvent). All (λ (o : Order). ¬ ComesBefore (opposite side) o.id e.id) met.left) met.events) }
+        All (λ (e : QueuedEvent).
+        All (λ (o : Order). ¬ ComesBefore (opposite side) o.id e.id) met.left) met.events) }
 {}
 
 /// Each order that is met crosses the taker's limit price.

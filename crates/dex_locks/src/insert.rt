@@ -33,7 +33,8 @@ pub fn put_role(places: &mut [Option<Address>; 4], role: &Option<Address>)
 
 /// Does what is to be done at one place, and tells what is left to be done from the next one on.
 fn step(place: &mut Option<Address>, carry: Carry) -> Carry
-    ensures { (others : List (Option Address)) → put carry (place.old ∷ others) ≡ place.new ∷ put result others }
+    ensures { (others : List (Option Address))
+        → put carry (place.old ∷ others) ≡ place.new ∷ put result others }
 {
     match carry {
         Carry::Nothing => Carry::Nothing,

@@ -20,7 +20,7 @@ use dex_types::{Reply, SideBook};
 
 /// What the plan's order is answered.
 fn reply_by(plan: &OrderPlan) -> Reply
-    ensures { result ≡ replies.Ordered plan.now.id plan.now.slot plan.now.lots plan.now.pc plan.now.fee
+    ensures { result ≡ replies.Ordered plan.now.slot plan.now.id plan.now.lots plan.now.pc plan.now.fee
         plan.now.rested }
 {
     Reply::Ordered {

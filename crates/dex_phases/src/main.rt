@@ -1,9 +1,10 @@
-//! Times the phases of a run: `time replay` those of the script on standard input, `time bulk ROWS` those of a made script of so
-//! many rows. Without words it goes through them once, and prints what each gave, which is the same at each run.
+//! Times the phases of a run: `time replay` and `time run` those of the script on standard input, `time bulk ROWS` those of a made
+//! script of so many rows. Without words it goes through them once, and prints what each gave, which is the same at each run.
 #![tactic(auto)]
 
 mod bulk;
 mod replay;
+mod run;
 mod watch;
 
 use crate::bulk::Bulk;
@@ -16,6 +17,9 @@ use dex_report::into_report_text;
 use dex_script::read_script;
 use std::env;
 use std::io::Print;
+use std::marker::Sync;
+use std::sync::Wait;
+use std::thread::Threads;
 use std::time::{Clock, Instant};
 
 /// The most bytes that a script may have.
@@ -31,6 +35,8 @@ enum Task {
     Check,
     /// To time those of a replay.
     Replay,
+    /// To time those of lanes side by side.
+    Run,
     /// To time those of a made script of so many rows.
     Bulk(u32),
 }
@@ -42,6 +48,7 @@ fn main(rt: HostRuntime) -> Result<(), Error> {
     match task_of(&words)? {
         Task::Check => check(&rt),
         Task::Replay => time_replay(&rt),
+        Task::Run => time_run(&rt),
         Task::Bulk(rows) => time_bulk(&rt, rows),
     }
 }
@@ -51,13 +58,16 @@ fn task_of(words: &[&str]) -> Result<Task, Error> {
     match *words {
         [] => Ok(Task::Check),
         ["time", "replay"] => Ok(Task::Replay),
+        ["time", "run"] => Ok(Task::Run),
         ["time", "bulk", rows] => Ok(Task::Bulk(rows.parse()?)),
-        _ => bail!("usage: dex_phases, with no words, time replay or time bulk ROWS"),
+        _ => bail!("usage: dex_phases, with no words, time replay, time run or time bulk ROWS"),
     }
 }
 
-/// Goes once through the phases of a replay of standard input, and of a made script of 100 rows.
-fn check<R: Print + Input + Clock + AllocGlobal>(rt: &R) -> Result<(), Error> {
+/// Goes once through the phases of a replay and a run of standard input, and of a made script of 100 rows.
+fn check<R: Threads + Wait + Sync + Print + Input + Clock + AllocGlobal>(
+    rt: &R,
+) -> Result<(), Error> {
     let alloc = rt.alloc();
     let bytes = read_all(alloc, &mut StdSource::new(rt), INPUT_LIMIT)?;
     let Replayed {
@@ -71,6 +81,8 @@ fn check<R: Print + Input + Clock + AllocGlobal>(rt: &R) -> Result<(), Error> {
     let told = report.len();
     println!(rt; "{rows} rows in {lanes} lanes: a report of {told} bytes")?;
     println!(rt; "the report of replay: {}", report == whole)?;
+    let (_, told) = run::round(rt, &bytes)?;
+    println!(rt; "side by side: {told} rows")?;
     let Bulk {
         phases: _,
         script,
@@ -92,6 +104,23 @@ fn time_replay<R: Print + Input + Clock + AllocGlobal>(rt: &R) -> Result<(), Err
     println!(rt; "building {} {}", least.building, first.building)?;
     println!(rt; "rows {} {}", least.rows, first.rows)?;
     println!(rt; "closing {} {}", least.closing, first.closing)?;
+    println!(rt; "report {} {}", least.report, first.report)?;
+    println!(rt; "dropping {} {}", least.dropping, first.dropping)?;
+    Ok(())
+}
+
+/// Prints the times of the phases of a run of standard input, which is read once.
+fn time_run<R: Threads + Wait + Sync + Print + Input + Clock + AllocGlobal>(
+    rt: &R,
+) -> Result<(), Error> {
+    let start = Instant::now(rt)?;
+    let bytes = read_all(rt.alloc(), &mut StdSource::new(rt), INPUT_LIMIT)?;
+    let input = Instant::now(rt)?.duration_since(start).as_nanos();
+    let (first, least) = run::time_rounds(rt, &bytes)?;
+    println!(rt; "nanoseconds: the quickest of {ROUNDS} rounds, the first")?;
+    println!(rt; "input {input} {input}")?;
+    println!(rt; "reading {} {}", least.reading, first.reading)?;
+    println!(rt; "lanes {} {}", least.lanes, first.lanes)?;
     println!(rt; "report {} {}", least.report, first.report)?;
     println!(rt; "dropping {} {}", least.dropping, first.dropping)?;
     Ok(())

@@ -5,6 +5,7 @@ use Rattle.std.proofs.lemmas.Grind.{flat_map-append}
 use Rattle.std.proofs.lemmas.List.Folds.{flat_map-map}
 use Rattle.std.proofs.lemmas.List.Elements.{All-cons, All-head, All-map, All-nil, All-tail}
 use Rattle.dex_types.specs.declared.account_bytes.MarketAccounts.{MarketAccounts}
+use Rattle.dex_types.specs.declared.rows.Row.{Row}
 use Rattle.dex_types.specs.Accounts.{PlainAccounts, PlainMarketAccounts, market_accounts_of}
 use Rattle.dex_dump.specs.Accepted.{IsHeldMarket}
 use Rattle.dex_dump.specs.DumpText.{account_rows, dump_text, first_row, lines_text, market_rows}
@@ -17,7 +18,7 @@ use Rattle.dex_report.specs.Report.{market_lines, wallet_lines}
 use Rattle.dex_report.specs.Telling.{FitMarket, IsToldWallet}
 use Rattle.dex_pieces.specs.Parts.{FitPart, part_lines}
 use Rattle.dex_pieces.specs.declared.part.Part.{Part}
-use Rattle.dex_pieces.specs.declared.part.Part.TheVariants.{Text, Market, Wallets, Rows}
+use Rattle.dex_pieces.specs.declared.part.Part.TheVariants.{Text, Market, Wallets, Rows, Spent}
 
 -- the lines of some parts and of others
 both : (xs ys : List Part) (x y : List ℕ) → flat_map part_lines xs ≡ x → flat_map part_lines ys ≡ y → flat_map part_lines (xs ++ ys) ≡ x ++ y
@@ -60,9 +61,12 @@ dump-behind accounts =
     sym (append_assoc (opening ++ rows) (codes "enddump\n") (codes "end\n") ∙ append_assoc opening rows (codes "enddump\n" ++ codes "end\n"))
     ∙ ap (λ (t : List ℕ). t ++ codes "end\n") (whole-text accounts [])
 
-module _ (head opening end : Vec ℕ Global) (markets : List MarketJournal) (wallets : Vec WalletJournal Global) (rows : List MarketAccounts) where
+module _ (spent : Vec Row Global) (head opening end : Vec ℕ Global) (markets : List MarketJournal) (wallets : Vec WalletJournal Global) (rows : List MarketAccounts) where
+  abbrev up_to_head : List Part
+  up_to_head = (Spent spent ∷ []) ++ Text head ∷ []
+
   abbrev up_to_markets : List Part
-  up_to_markets = (Text head ∷ []) ++ map Market markets
+  up_to_markets = up_to_head ++ map Market markets
 
   abbrev up_to_wallets : List Part
   up_to_wallets = up_to_markets ++ Wallets wallets ∷ []
@@ -86,7 +90,7 @@ module _ (head opening end : Vec ℕ Global) (markets : List MarketJournal) (wal
       (both up_to_opening (map Rows rows) _ _
       (both up_to_wallets (Text opening ∷ []) _ _
       (both up_to_markets (Wallets wallets ∷ []) _ _
-      (both (Text head ∷ []) (map Market markets) _ _ (append-nil head.items)
+      (both up_to_head (map Market markets) _ _ (append-nil head.items)
       (flat_map-map part_lines Market markets ∙ sym (flat_map-map market_lines market_journal_of markets)))
       (append-nil _ ∙ sym (flat_map-map wallet_lines wallet_journal_of wallets.items)))
       (append-nil opening.items))
@@ -117,7 +121,7 @@ module _ (head opening end : Vec ℕ Global) (markets : List MarketJournal) (wal
   pub markets-fit : All FitPart parts → All FitMarket (map market_journal_of markets)
   markets-fit fit =
       let first = front FitPart up_to_markets _ (front FitPart up_to_wallets _ (front FitPart up_to_opening _ (front FitPart up_to_rows _ fit))) in
-      All-map FitMarket market_journal_of markets (mapped FitPart Market markets (behind FitPart (Text head ∷ []) _ first))
+      All-map FitMarket market_journal_of markets (mapped FitPart Market markets (behind FitPart up_to_head _ first))
 
   pub wallets-fit : All FitPart parts → All IsToldWallet (map wallet_journal_of wallets.items)
   wallets-fit fit =

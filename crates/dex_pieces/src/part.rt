@@ -2,9 +2,9 @@
 
 ghost use Rattle.dex_pieces.specs.Parts.{FitPart, part_lines};
 
-use dex_dump::write_market_rows;
+use dex_dump::{room_of_market, write_market_rows};
 use dex_report::{LINE, MarketJournal, Told, WalletJournal, write_each};
-use dex_types::MarketAccounts;
+use dex_types::{MarketAccounts, Row};
 use std::alloc::AllocError;
 
 /// What one thread writes.
@@ -18,16 +18,19 @@ pub(crate) enum Part {
     Wallets(Vec<WalletJournal>),
     /// The rows of a market's accounts.
     Rows(MarketAccounts),
+    /// The rows of a script, of which nothing is written: they are let go beside what is.
+    Spent(Vec<Row>),
 }
 
 impl Part {
-    /// About how many bytes its text has.
+    /// About how many bytes its text has; of what is let go, how many could be written meanwhile.
     pub(crate) fn weight(&self) -> usize {
         match self {
             Part::Text(bytes) => bytes.len(),
             Part::Market(journal) => journal.entries.len().saturating_mul(96),
             Part::Wallets(journals) => weight_of_wallets(journals),
-            Part::Rows(market) => weight_of_rows(market),
+            Part::Rows(market) => room_of_market(market),
+            Part::Spent(rows) => rows.len().saturating_mul(64),
         }
     }
 }
@@ -41,15 +44,6 @@ fn weight_of_wallets(journals: &[WalletJournal]) -> usize {
     weight
 }
 
-/// About how many bytes the text of a market's rows has: four characters for three bytes.
-fn weight_of_rows(market: &MarketAccounts) -> usize {
-    let mut bytes: usize = 0;
-    'buffers: for buffer in [&market.requests, &market.events, &market.bids, &market.asks] {
-        bytes = bytes.saturating_add(buffer.len());
-    }
-    bytes.saturating_add(bytes / 3)
-}
-
 impl Told for Part {
     ghost fits = { FitPart };
 
@@ -61,6 +55,7 @@ impl Told for Part {
             Part::Market(journal) => journal.write(text, line),
             Part::Wallets(journals) => write_each(text, line, journals),
             Part::Rows(market) => write_market_rows(text, market),
+            Part::Spent(_) => Ok(()),
         }
     }
 }

@@ -12,25 +12,27 @@ use crate::part::Part;
 use crate::writing::texts_of;
 use dex_dump::write_front;
 use dex_report::{MarketJournal, Outcome, write_head};
-use dex_types::{MarketAccounts, NoMemory};
+use dex_types::{MarketAccounts, NoMemory, Row};
 use std::alloc::{AllocError, Global};
 use std::marker::Sync;
 use std::thread::Threads;
 
 /// The report of an outcome of so many rows, in pieces that follow each other and are written on threads of their own: each market's
-/// journal, the journals of all wallets and each market's accounts, small ones together. They are let go when they are written. All
-/// values that it tells fit: addresses 32 bytes, amounts of movements 64 bits, and numbers of replies 128.
+/// journal, the journals of all wallets and each market's accounts, small ones together. They are let go when they are written, and
+/// what is spent beside them: rows, of which nothing is told. All values that it tells fit: addresses 32 bytes, amounts of movements 64
+/// bits, and numbers of replies 128.
 pub fn report_pieces<R: Threads + Sync>(
     rt: &R,
     alloc: Global,
     outcome: Outcome,
     rows: u32,
+    spent: Vec<Row>,
 ) -> Result<Vec<Vec<u8>>, NoMemory>
     ensures fits { IfOk result (λ pieces. FitOutcome (outcome_of outcome)) }
     ensures text { IfOk result (λ pieces.
         flat_map (λ piece. piece.items) pieces.items ≡ report_text (outcome_of outcome) rows) }
 {
-    match pieces_of(rt, alloc, outcome, rows) {
+    match pieces_of(rt, alloc, outcome, rows, spent) {
         Ok(pieces) => Ok(pieces),
         Err(_) => Err(NoMemory),
     }
@@ -41,17 +43,23 @@ fn pieces_of<R: Threads + Sync>(
     alloc: Global,
     outcome: Outcome,
     rows: u32,
+    spent: Vec<Row>,
 ) -> Result<Vec<Vec<u8>>, AllocError>
     ensures fits { IfOk result (λ pieces. FitOutcome (outcome_of outcome)) }
     ensures text { IfOk result (λ pieces.
         flat_map (λ piece. piece.items) pieces.items ≡ report_text (outcome_of outcome) rows) }
 {
-    let parts = parts_of(alloc, outcome, rows)?;
+    let parts = parts_of(alloc, outcome, rows, spent)?;
     texts_of(rt, alloc, parts)
 }
 
-/// The parts of a report, in their order.
-fn parts_of(alloc: Global, outcome: Outcome, rows: u32) -> Result<Vec<Part>, AllocError>
+/// The parts of a report, in their order, behind what is spent.
+fn parts_of(
+    alloc: Global,
+    outcome: Outcome,
+    rows: u32,
+    spent: Vec<Row>,
+) -> Result<Vec<Part>, AllocError>
     ensures fits { IfOk result (λ parts. All FitPart parts.items → FitOutcome (outcome_of outcome)) }
     ensures text { IfOk result (λ parts.
         flat_map part_lines parts.items ≡ report_text (outcome_of outcome) rows) }
@@ -68,6 +76,7 @@ fn parts_of(alloc: Global, outcome: Outcome, rows: u32) -> Result<Vec<Part>, All
     let mut end = Vec::new(alloc);
     end.extend_from_slice(b"enddump\nend\n")?;
     let mut parts = Vec::new(alloc);
+    parts.push(Part::Spent(spent))?;
     parts.push(Part::Text(head))?;
     add_markets(&mut parts, markets)?;
     parts.push(Part::Wallets(wallets))?;

@@ -5,8 +5,7 @@ ghost use Rattle.dex_plain.specs.LaneAnswers.{AnswersBatch};
 ghost use Rattle.dex_program.specs.Told.{text_of};
 
 use crate::told::{StatusPieces, refused, report_of};
-use dex_answers::items_in;
-use dex_batch::run_batch;
+use dex_batch::run_batch_with_rows;
 use dex_io::Pace;
 use dex_replay::laws::without_swaps_rows_act_one_by_one;
 use dex_script_pieces::read_script;
@@ -30,8 +29,9 @@ pub fn batch_answer<R: Threads + Wait + Sync, P: Pace + Sync>(
 {
     match read_script(rt, alloc, bytes, true, workers as usize) {
         Ok(script) => {
-            let rows = items_in(&script.rows);
-            let outcome = run_batch(rt, alloc, script, workers, pace)?;
+            // What the script's type keeps of its rows, for the proof.
+            let _ = &script.rows;
+            let (outcome, rows) = run_batch_with_rows(rt, alloc, script, workers, pace)?;
             without_swaps_rows_act_one_by_one();
             report_of(rt, alloc, outcome, rows)
         }

@@ -1,8 +1,11 @@
-//! The calls that only borrow a script come to what those come to that take it.
+//! Calls that the program does not make: those that only borrow a script come to what those come to that take it, and `run` and
+//! `run_batch` give what is left without the rows.
 
 use dex_bank::Cells;
+use dex_batch::run_batch;
+use dex_io::NoPace;
 use dex_report::{Outcome, into_report_text, report_text};
-use dex_run::{build, close};
+use dex_run::{build, close, run};
 use dex_script::{Script, read_script};
 use std::alloc::Global;
 use std::test::Fail;
@@ -69,5 +72,26 @@ fn a_bank_is_built(rt: HostRuntime) -> Result<(), Fail> {
         into_report_text(alloc, outcome, 0)?,
         wanted(alloc, script)?
     );
+    Ok(())
+}
+
+#[test]
+fn lanes_run_and_give_no_rows(rt: HostRuntime) -> Result<(), Fail> {
+    let alloc = rt.alloc();
+    let outcome = run(&rt, alloc, script(alloc)?, &NoPace)?;
+    let text = into_report_text(alloc, outcome, 3)?;
+    assert!(rt; text.starts_with(b"report 3\nmarket m 3\n"));
+    Ok(())
+}
+
+#[test]
+fn a_batch_runs_and_gives_no_rows(rt: HostRuntime) -> Result<(), Fail> {
+    let alloc = rt.alloc();
+    let Ok(script) = read_script(alloc, SCRIPT, true) else {
+        return Err(Fail::new("no script"));
+    };
+    let outcome = run_batch(&rt, alloc, script, 2, &NoPace)?;
+    let text = into_report_text(alloc, outcome, 3)?;
+    assert!(rt; text.starts_with(b"report 3\nmarket m 3\n"));
     Ok(())
 }

@@ -5,10 +5,9 @@ ghost use Rattle.dex_plain.specs.LaneAnswers.{AnswersRun};
 ghost use Rattle.dex_program.specs.Told.{text_of};
 
 use crate::told::{StatusPieces, refused, report_of};
-use dex_answers::items_in;
 use dex_io::Pace;
 use dex_replay::laws::without_swaps_rows_act_one_by_one;
-use dex_run::run;
+use dex_run::run_with_rows;
 use dex_script_pieces::read_script;
 use dex_types::NoMemory;
 use std::alloc::Global;
@@ -31,8 +30,9 @@ pub fn run_answer<R: Threads + Wait + Sync, P: Pace + Sync>(
 {
     match read_script(rt, alloc, bytes, false, READERS) {
         Ok(script) => {
-            let rows = items_in(&script.rows);
-            let outcome = run(rt, alloc, script, pace)?;
+            // What the script's type keeps of its rows, for the proof.
+            let _ = &script.rows;
+            let (outcome, rows) = run_with_rows(rt, alloc, script, pace)?;
             without_swaps_rows_act_one_by_one();
             report_of(rt, alloc, outcome, rows)
         }

@@ -1,10 +1,10 @@
 -- A script's items act one after the other, until none of its rows is left.
-use Rattle.std.proofs.Common.{◌≡◌, ℕ, suc, ◌+◌, ◌-◌, ◌<◌, ◌≤◌, true, false, eqb, List, [], ◌∷◌, ◌++◌, Option, None, Some, drop, get_or, is_some, length, map, option_copied, option_map, refl, reverse, slice_get, sym, ap, ◌∙◌, subst, arith, take, ⊎_elim}
+use Rattle.std.proofs.Common.{◌≡◌, ℕ, zero, suc, ◌+◌, ◌-◌, ◌<◌, ◌≤◌, min, true, false, eqb, List, [], ◌∷◌, ◌++◌, Option, None, Some, drop, get_or, is_some, length, map, option_copied, option_map, refl, reverse, slice_get, sym, ap, ◌∙◌, subst, arith, take, ⊎_elim}
 use Rattle.dex_fold.proofs.Common.{All-cons, All-head, All-nil, All-tail, All-weaker, AllPairs, AllZip-long, PlainRow, Row, World, act, act_item, alone, cases_Bool, false≢true, flat_map, flat_map-append, fold_items, length-map, members, ne_eqb, row_of, why_in}
 use Rattle.dex_replay.proofs.Common.{AreCells, AreLegs, CanAct, CellsState, IsRowOf, IsScript, PlainScript, opened, opened_of, start_world, world_of}
 use Rattle.std.specs.List.{All}
 use Rattle.std.specs.Borrow.{Bor}
-use Rattle.std.proofs.lemmas.List.{append-nil, append_assoc, drop-map, get_or-reverse, length-drop, length-reverse, reverse-append, take-append-drop}
+use Rattle.std.proofs.lemmas.List.{append-nil, append_assoc, drop-map, get_or-reverse, get_or_default, get_or_past, length-drop, length-reverse, reverse-append, take-append-drop}
 use Rattle.std.proofs.lemmas.Option.{slice_get-get_or, slice_get-map}
 use Rattle.std.proofs.Math.Seq.{drop-append_seam}
 use Rattle.dex_fold.specs.Items.{Item, items_of, pair_of}
@@ -93,10 +93,10 @@ placed-behind : (cells : CellsState) (row : PlainRow) (rows : List PlainRow) (pl
 placed-behind cells row rows [] are = absurd are
 placed-behind cells row rows (first ∷ places) are = are.1
 
-pub row-stands : (script : PlainScript) (row : PlainRow) (behind : Option PlainRow) (others : List PlainRow) (places : List RowPlaces) (cells : CellsState)
-    → IsNext script row behind others places cells → (d : RowPlaces) → (0 < length places) × ArePlacesIn cells row (get_or places 0 d)
-row-stands script row behind others [] cells next d = absurd next.left.placed
-row-stands script row behind others (first ∷ places) cells next d = (omega arith, next.left.placed.0)
+pub row-stands : (script : PlainScript) (row : PlainRow) (behind : Option PlainRow) (others : List PlainRow) (places : List RowPlaces) (at at_behind : RowPlaces)
+    (cells : CellsState) → IsNext script row behind others places at at_behind cells → ArePlacesIn cells row at
+row-stands script row behind others [] at at_behind cells next = absurd next.left.placed
+row-stands script row behind others (first ∷ places) at at_behind cells next = subst (ArePlacesIn cells row) next.stands next.left.placed.0
 
 -- ---- one item more
 
@@ -166,8 +166,8 @@ module _ (script : PlainScript) (is : IsScript script) (left : List PlainRow) (p
     }
 
 -- a row alone
-module _ (script : PlainScript) (is : IsScript script) (row : PlainRow) (behind : Option PlainRow) (others : List PlainRow) (places : List RowPlaces) (cells : CellsState)
-    (next : IsNext script row behind others places cells) (other : (second : PlainRow) → behind ≡ Some second → row.number ≡ second.number → ⊥) where
+module _ (script : PlainScript) (is : IsScript script) (row : PlainRow) (behind : Option PlainRow) (others : List PlainRow) (places : List RowPlaces)
+    (at at_behind : RowPlaces) (cells : CellsState) (next : IsNext script row behind others places at at_behind cells) (other : (second : PlainRow) → behind ≡ Some second → row.number ≡ second.number → ⊥) where
   alone-split : items_of (row ∷ others) ≡ alone row ∷ items_of others
   alone-split = grouped-apart number_of row others (alone-apart row others next.left.rising (λ second at. other second (next.front ∙ at)))
 
@@ -187,7 +187,8 @@ module _ (script : PlainScript) (is : IsScript script) (row : PlainRow) (behind 
 
 -- two legs
 module _ (script : PlainScript) (is : IsScript script) (row : Row) (behind : Option (Bor Row)) (after_it : Bor Row) (others : List PlainRow) (places : List RowPlaces)
-    (cells : CellsState) (at : behind ≡ Some after_it) (next : IsNext script (row_of row) (option_map row_of (option_copied behind)) others places cells)
+    (at at_behind : RowPlaces) (cells : CellsState) (is_behind : behind ≡ Some after_it)
+    (next : IsNext script (row_of row) (option_map row_of (option_copied behind)) others places at at_behind cells)
     (same : after_it.now.number ≡ row.number) where
   abbrev first : PlainRow
   first = row_of row
@@ -196,7 +197,7 @@ module _ (script : PlainScript) (is : IsScript script) (row : Row) (behind : Opt
   second = row_of after_it.now
 
   behind-it : (rest : List PlainRow) × (others ≡ second ∷ rest)
-  behind-it = told others (sym (ap (λ (b : Option (Bor Row)). option_map row_of (option_copied b)) at) ∙ next.front)
+  behind-it = told others (sym (ap (λ (b : Option (Bor Row)). option_map row_of (option_copied b)) is_behind) ∙ next.front)
     where
       told : (some : List PlainRow) → Some second ≡ slice_get some 0 → (rest : List PlainRow) × (some ≡ second ∷ rest)
       told [] is = absurd (cc)
@@ -251,13 +252,14 @@ module _ (script : PlainScript) (is : IsScript script) (row : Row) (behind : Opt
       placed-two [] are = absurd are
       placed-two (one ∷ some) are = placed-behind cells second rest some are.1
 
-  pub legs-stand : (d : RowPlaces) → (1 < length places) × ArePlacesIn cells first (get_or places 0 d) × ArePlacesIn cells second (get_or places 1 d)
-  legs-stand d = told places so.placed
+  pub legs-stand : ArePlacesIn cells first at × ArePlacesIn cells second at_behind
+  legs-stand = told places so.placed next.stands next.stands_behind
     where
-      told : (some : List RowPlaces) → ArePlacedIn cells left some → (1 < length some) × ArePlacesIn cells first (get_or some 0 d) × ArePlacesIn cells second (get_or some 1 d)
-      told [] are = absurd are
-      told (one ∷ []) are = absurd are.1
-      told (one ∷ other ∷ some) are = (omega arith, are.0, are.1.0)
+      told : (some : List RowPlaces) → ArePlacedIn cells left some → get_or some 0 at ≡ at → get_or some 1 at_behind ≡ at_behind
+          → ArePlacesIn cells first at × ArePlacesIn cells second at_behind
+      told [] are one two = absurd are
+      told (only ∷ []) are one two = absurd are.1
+      told (this ∷ other ∷ some) are one two = (subst (ArePlacesIn cells first) one are.0, subst (ArePlacesIn cells second) two are.1.0)
 
 -- ---- the rows of buffers
 
@@ -275,22 +277,36 @@ pub alone-none : (row : Row) (behind : Option (Bor Row)) → ((second : Bor Row)
 alone-none row None none found at same = absurd (cc)
 alone-none row (Some second) none found at same = none second refl
 
-pub is-next : (script : PlainScript) (row : Row) (behind : Option Row) (others all : List Row) (places : List RowPlaces) (cells : CellsState)
-    → all ≡ row ∷ others → behind ≡ slice_get others 0 → AreLeft script (map row_of all) places cells
-    → IsNext script (row_of row) (option_map row_of behind) (map row_of others) places cells
-is-next script row behind others all places cells is front left = record {
+pub is-next : (script : PlainScript) (row : Row) (behind : Option Row) (others all : List Row) (places : List RowPlaces) (at at_behind : RowPlaces) (cells : CellsState)
+    → all ≡ row ∷ others → behind ≡ slice_get others 0 → get_or places 0 at ≡ at → get_or places 1 at_behind ≡ at_behind
+    → AreLeft script (map row_of all) places cells
+    → IsNext script (row_of row) (option_map row_of behind) (map row_of others) places at at_behind cells
+is-next script row behind others all places at at_behind cells is front one two left = record {
   left = subst (λ (some : List Row). AreLeft script (map row_of some) places cells) is left;
   front = ap (option_map row_of) front ∙ sym (slice_get-map row_of others 0);
+  stands = one;
+  stands_behind = two;
 }
 
+-- there are as many places as rows
+pub so-many : (script : PlainScript) (all : List Row) (places : List RowPlaces) (cells : CellsState) → AreLeft script (map row_of all) places cells
+    → length places ≡ length all
+so-many script all places cells left = AllZip-long (ArePlacesIn cells) (map row_of all) places left.placed ∙ length-map all row_of
+
+-- a row and the others behind it have as many places
+pub as-many : (places : List RowPlaces) (all others : List Row) (row : Row) → length places ≡ length all → all ≡ row ∷ others → length places ≡ suc (length others)
+as-many places all others row same is = omega (arith, same, ap (λ (some : List Row). length some) is)
+
 -- what is left behind the item that acted
-pub behind-item : (script : PlainScript) (row : Row) (behind : Option Row) (others all : List Row) (places : List RowPlaces) (count : ℕ) (cells after : CellsState)
-    → IsScript script → all ≡ row ∷ others → behind ≡ slice_get others 0 → AreLeft script (map row_of all) places cells
-    → ((one : PlainScript) (rows : List PlainRow) → IsScript one → IsNext one (row_of row) (option_map row_of behind) rows places cells
-    → HaveActed one (row_of row ∷ rows) places count after)
+pub behind-item : (script : PlainScript) (row : Row) (behind : Option Row) (others all : List Row) (places : List RowPlaces) (at at_behind : RowPlaces) (count : ℕ)
+    (cells after : CellsState)
+    → IsScript script → all ≡ row ∷ others → behind ≡ slice_get others 0 → get_or places 0 at ≡ at → get_or places 1 at_behind ≡ at_behind
+    → AreLeft script (map row_of all) places cells
+    → ((one : PlainScript) (rows : List PlainRow) (some : List RowPlaces) → IsScript one → IsNext one (row_of row) (option_map row_of behind) rows some at at_behind cells
+    → HaveActed one (row_of row ∷ rows) some count after)
     → (0 < count) × (count ≤ length all) × (count ≤ length places) × AreLeft script (map row_of (drop count all)) (drop count places) after
-behind-item script row behind others all places count cells after is rows front left acts =
-    let acted = acts script (map row_of others) is (is-next script row behind others all places cells rows front left) in
+behind-item script row behind others all places at at_behind count cells after is rows front one two left acts =
+    let acted = acts script (map row_of others) places is (is-next script row behind others all places at at_behind cells rows front one two left) in
     let long = AllZip-long (ArePlacesIn cells) (map row_of all) places left.placed in
     let same : map row_of all ≡ row_of row ∷ map row_of others = ap (map row_of) rows in
     let within : count ≤ length all = omega (arith, acted.within, ap (λ (some : List PlainRow). length some) same, length-map all row_of) in (
@@ -309,10 +325,29 @@ last-first (row ∷ others) =
     ∙ ap (λ (one : Row). Some one) (ap (λ (n : ℕ). get_or rows n row) (omega arith) ∙ sym (get_or-reverse rows 0 row (omega arith)))
     ∙ sym (slice_get-get_or (reverse rows) 0 row (omega (arith, length-reverse rows)))
 
-pub reverse-take : (rows : List Row) (count : ℕ) → count ≤ length rows → reverse (take (length rows - count) rows) ≡ drop count (reverse rows)
+pub reverse-take : {X : Type 0} (rows : List X) (count : ℕ) → count ≤ length rows → reverse (take (length rows - count) rows) ≡ drop count (reverse rows)
 reverse-take rows count within =
     let n = length rows - count in
     let whole : reverse (drop n rows) ++ reverse (take n rows) ≡ reverse rows = sym (reverse-append (take n rows) (drop n rows)) ∙ ap reverse (take-append-drop n rows) in
     sym (drop-append_seam (reverse (drop n rows)) (reverse (take n rows)))
     ∙ ap (λ (k : ℕ). drop k (reverse (drop n rows) ++ reverse (take n rows))) (omega (arith, length-reverse (drop n rows), length-drop n rows, within))
     ∙ ap (drop count) whole
+
+-- ---- the places of a row and of the one behind it
+
+pub stands-second : (places : List RowPlaces) (others place : ℕ) (d : RowPlaces) → length places ≡ suc others → place ≡ min others 1
+    → get_or places 1 (get_or places place d) ≡ get_or places place d
+stands-second places zero place d long is = get_or_past places 1 (get_or places place d) (omega (arith, long))
+stands-second places (suc others) place d long is =
+    ap (λ (n : ℕ). get_or places n (get_or places place d)) (omega (arith, is)) ∙ get_or_default places place (get_or places place d) d (omega (arith, long, is))
+
+-- from the last to the first
+pub stands-last : (places : List RowPlaces) (others : ℕ) (at : RowPlaces) → length places ≡ suc others → at ≡ get_or places others at → get_or (reverse places) 0 at ≡ at
+stands-last places others at long is =
+    get_or-reverse places 0 at (omega (arith, long)) ∙ ap (λ (place : ℕ). get_or places place at) (omega (arith, long)) ∙ sym is
+
+pub stands-before : (places : List RowPlaces) (others : ℕ) (at : RowPlaces) → length places ≡ suc others → at ≡ get_or places (others - 1) at
+    → get_or (reverse places) 1 at ≡ at
+stands-before places zero at long is = get_or_past (reverse places) 1 at (omega (arith, long, length-reverse places))
+stands-before places (suc others) at long is =
+    get_or-reverse places 1 at (omega (arith, long)) ∙ ap (λ (place : ℕ). get_or places place at) (omega (arith, long)) ∙ sym is

@@ -1,5 +1,5 @@
 -- Items that act one after the other, until no row is left.
-use Rattle.std.specs.Prelude.{◌≡◌, ℕ, ◌<◌, ◌≤◌, List, ◌∷◌, ◌++◌, All, Option, drop, length, slice_get}
+use Rattle.std.specs.Prelude.{◌≡◌, ℕ, ◌<◌, ◌≤◌, List, ◌∷◌, ◌++◌, All, Option, drop, get_or, length, slice_get}
 use Rattle.std.specs.List.{AllPairs, flat_map}
 use Rattle.dex_types.specs.declared.rows.RowPlaces.{RowPlaces}
 use Rattle.dex_types.specs.Rows.{PlainRow}
@@ -29,11 +29,13 @@ pub record AreLeft (script : PlainScript) (left : List PlainRow) (places : List 
   pub addresses : All (λ (cell : MarketCellState). cell.accounts.address ≡ cell.start.address) cells.markets
   pub acted : world_of cells ≡ fold_items done (start_world script)
 
--- a row is left, and behind it others, with this one in front if there is any
-pub record IsNext (script : PlainScript) (row : PlainRow) (behind : Option PlainRow) (others : List PlainRow) (places : List RowPlaces)
+-- a row is left, and behind it others, with this one in front if there is any; it stands at the first of these places, and the one behind it at the second
+pub record IsNext (script : PlainScript) (row : PlainRow) (behind : Option PlainRow) (others : List PlainRow) (places : List RowPlaces) (at at_behind : RowPlaces)
     (cells : CellsState) : Type 0 where
   pub left : AreLeft script (row ∷ others) places cells
   pub front : behind ≡ slice_get others 0
+  pub stands : get_or places 0 at ≡ at
+  pub stands_behind : get_or places 1 at_behind ≡ at_behind
 
 -- so many of these rows were an item, and it has acted
 pub record HaveActed (script : PlainScript) (rows : List PlainRow) (places : List RowPlaces) (count : ℕ) (cells : CellsState) : Type 0 where

@@ -3,6 +3,7 @@
 ghost use Rattle.std.specs.Prelude.{◌≡◌, ◌∷◌, ◌+◌, ◌-◌, ◌<◌, List, length, map, take, true, false};
 ghost use Rattle.std.specs.Prelude.{option_copied, option_map, slice_index_or};
 ghost use Rattle.dex_types.specs.declared.rows.Row.{Row as PlainBuffer};
+ghost use Rattle.dex_types.specs.declared.rows.RowPlaces.{RowPlaces as RowPlacesOf};
 ghost use Rattle.dex_types.specs.Rows.{PlainRow, row_of};
 ghost use Rattle.dex_fold.specs.Items.{items_of};
 ghost use Rattle.dex_bank.specs.Cells.{opened_of, world_of};
@@ -27,23 +28,30 @@ pub fn is_swap(rows: &[Row], place: usize) -> bool
     rows.len() - place > 1 && rows[place].number == rows[place + 1].number
 }
 
-/// The item that begins with a row acts: the row, or, where the one behind it has its number, both as the legs of a swap. Says how many
-/// rows these are.
-fn act_item(cells: &mut Cells, row: &Row, behind: Option<&Row>, places: &[RowPlaces]) -> usize
-    requires next { (script : PlainScript) × IsScript script × (others : List PlainRow)
-        × IsNext script (row_of row.now) (option_map row_of (option_copied behind)) others places.now cells.old }
-    ensures acted { (script : PlainScript) (others : List PlainRow) → IsScript script
-        → IsNext script (row_of row.entry.now) (option_map row_of (option_copied behind.entry)) others
-        places.entry.now cells.old
-        → HaveActed script (row_of row.entry.now ∷ others) places.entry.now result cells.new }
+/// The item that begins with a row acts: the row, or, where the one behind it has its number, both as the legs of a swap. The row stands
+/// among the cells at the places `at`, and the one behind it at `at_behind`. Says how many rows these are.
+fn act_item(
+    cells: &mut Cells,
+    row: &Row,
+    behind: Option<&Row>,
+    at: &RowPlaces,
+    at_behind: &RowPlaces,
+) -> usize
+    requires next { (script : PlainScript) × IsScript script × (others : List PlainRow) × (places : List RowPlacesOf)
+        × IsNext script (row_of row.now) (option_map row_of (option_copied behind)) others places at.now at_behind.now
+        cells.old }
+    ensures acted { (script : PlainScript) (others : List PlainRow) (places : List RowPlacesOf) → IsScript script
+        → IsNext script (row_of row.entry.now) (option_map row_of (option_copied behind.entry)) others places
+        at.entry.now at_behind.entry.now cells.old
+        → HaveActed script (row_of row.entry.now ∷ others) places result cells.new }
 {
     if let Some(second) = behind {
         if second.number == row.number {
-            cells.step_two_at(row, second, &places[0], &places[1]);
+            cells.step_two_at(row, second, at, at_behind);
             return 2;
         }
     }
-    cells.step_at(row, &places[0]);
+    cells.step_at(row, at);
     1
 }
 
@@ -54,26 +62,30 @@ pub fn act_all(cells: Cells, rows: &[Row], places: &[RowPlaces]) -> Cells
         × (map row_of rows.now ≡ script.rows) }
     requires places { ArePlacedIn cells (map row_of rows.now) places.now }
     ensures acted { (script : PlainScript) → IsScript script → cells ≡ opened script
-        → map row_of rows.entry.now ≡ script.rows → world_of result ≡ world_after script (items_of script.rows) }
+        → map row_of rows.entry.now ≡ script.rows
+        → world_of result ≡ world_after script (items_of script.rows) }
     ensures kept { opened_of result ≡ opened_of cells }
 {
     let mut cells = cells;
     let mut rows = rows;
     let mut places = places;
     'item: while let Some((row, others)) = rows.split_first() {
-        let count = act_item(&mut cells, row, others.first(), places);
+        let at = &places[0];
+        // Where no row is behind, these are the row's own places.
+        let at_behind = &places[others.len().min(1)];
+        let count = act_item(&mut cells, row, others.first(), at, at_behind);
         rows = rows.split_at(count).1;
         places = places.split_at(count).1;
     }
     cells
 }
 
-/// The same with the rows given up. Each is let go when its item has acted, and their memory is given back piece by piece, since
-/// journals grow meanwhile. For that the rows stand from the last to the first.
-pub(crate) fn use_up(cells: Cells, rows: Vec<Row>, places: &[RowPlaces]) -> Cells
+/// The same with the rows and their places given up. Each is let go when its item has acted, and their memory is given back piece by
+/// piece, since journals grow meanwhile. For that they stand from the last to the first.
+pub(crate) fn use_up(cells: Cells, rows: Vec<Row>, places: Vec<RowPlaces>) -> Cells
     requires script { (script : PlainScript) × IsScript script × (cells ≡ opened script)
         × (map row_of rows.items ≡ script.rows) }
-    requires places { ArePlacedIn cells (map row_of rows.items) places.now }
+    requires places { ArePlacedIn cells (map row_of rows.items) places.items }
     ensures acted { (script : PlainScript) → IsScript script → cells ≡ opened script
         → map row_of rows.items ≡ script.rows → world_of result ≡ world_after script (items_of script.rows) }
     ensures kept { opened_of result ≡ opened_of cells }
@@ -81,25 +93,30 @@ pub(crate) fn use_up(cells: Cells, rows: Vec<Row>, places: &[RowPlaces]) -> Cell
     let mut cells = cells;
     let mut rows = rows;
     let mut places = places;
+    places.reverse();
     rows.reverse();
     'item: while let Some((row, others)) = rows.split_last() {
-        let count = act_item(&mut cells, row, others.last(), places);
+        let last = others.len();
+        let at = &places[last];
+        // Where no row is behind, these are the row's own places.
+        let at_behind = &places[last.saturating_sub(1)];
+        let count = act_item(&mut cells, row, others.last(), at, at_behind);
         let_go(&mut rows, count);
-        places = places.split_at(count).1;
+        let_go(&mut places, count);
     }
     cells
 }
 
-/// How many rows are let go before their memory is given back.
-const PIECE: usize = 256;
+/// How many rows, or places, are let go before their memory is given back.
+const PIECE: usize = 64;
 
-/// Lets the last rows go, so many of them.
-fn let_go(rows: &mut Vec<Row>, count: usize)
-    ensures { rows.new.items ≡ take (length rows.old.items - count) rows.old.items }
+/// Lets so many of the last items of a list go.
+fn let_go<T: Drop>(items: &mut Vec<T>, count: usize)
+    ensures { items.new.items ≡ take (length items.old.items - count) items.old.items }
 {
-    let left = rows.len().saturating_sub(count);
-    rows.truncate(left);
-    if PIECE < rows.capacity() - left {
-        rows.shrink_to_fit();
+    let left = items.len().saturating_sub(count);
+    items.truncate(left);
+    if PIECE < items.capacity() - left {
+        items.shrink_to_fit();
     }
 }

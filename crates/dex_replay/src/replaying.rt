@@ -34,7 +34,7 @@ pub fn replay(alloc: Global, script: Script) -> Result<Outcome, NoMemory>
     ensures run { IfOk result (λ outcome. IsRunOf script (outcome_of outcome)) }
 {
     let (cells, rows, places) = Cells::of_script(alloc, script)?;
-    match use_up(cells, rows, &places).close(alloc) {
+    match use_up(cells, rows, places).close(alloc) {
         Ok(outcome) => Ok(outcome),
         Err(_) => Err(NoMemory),
     }

@@ -44,7 +44,7 @@ refusal_words (refusal.SumTooLarge a b) = codes "refused" ∷ codes "24" ∷ cod
 
 -- the words of a reply
 abbrev pub reply_words : Reply → List (List ℕ)
-reply_words (Ordered a b c d e f) = codes "ok" ∷ codes "order" ∷ decimal a ∷ decimal b ∷ decimal c ∷ decimal d ∷ decimal e ∷ decimal f ∷ []
+reply_words (Ordered b a c d e f) = codes "ok" ∷ codes "order" ∷ decimal a ∷ decimal b ∷ decimal c ∷ decimal d ∷ decimal e ∷ decimal f ∷ []
 reply_words (Took a b c) = codes "ok" ∷ codes "take" ∷ decimal a ∷ decimal b ∷ decimal c ∷ []
 reply_words (Cancelled a) = codes "ok" ∷ codes "cancelled" ∷ decimal a ∷ []
 reply_words (Consumed a) = codes "ok" ∷ codes "consumed" ∷ decimal a ∷ []
@@ -94,7 +94,7 @@ six-words p a b c d e f =
 
 -- a reply's text is its words
 pub reply-spaced : (reply : Reply) → spaced (reply_text reply) ≡ flat_map spaced (reply_words reply)
-reply-spaced (Ordered a b c d e f) = ap (λ (t : List ℕ). 32 ∷ t) (six-words (codes "ok order") (decimal a) (decimal b) (decimal c) (decimal d) (decimal e) (decimal f))
+reply-spaced (Ordered b a c d e f) = ap (λ (t : List ℕ). 32 ∷ t) (six-words (codes "ok order") (decimal a) (decimal b) (decimal c) (decimal d) (decimal e) (decimal f))
 reply-spaced (Took a b c) = simp (append_assoc, append-nil, spaced)
 reply-spaced (Cancelled a) = simp (append_assoc, append-nil, spaced)
 reply-spaced (Consumed a) = simp (append_assoc, append-nil, spaced)
@@ -146,7 +146,7 @@ refusal-are_words (refusal.SumTooLarge a b) h = rw (is_word-decimal a h.0, is_wo
 
 -- they are words
 pub reply-are_words : (reply : Reply) → FitReply reply → list_all is_word (reply_words reply) ≡ true
-reply-are_words (Ordered a b c d e f) h = rw (is_word-decimal a h.0, is_word-decimal b h.1, is_word-decimal c h.2, is_word-decimal d h.3, is_word-decimal e h.4, is_word-decimal f h.5) refl
+reply-are_words (Ordered b a c d e f) h = rw (is_word-decimal a h.1, is_word-decimal b h.0, is_word-decimal c h.2, is_word-decimal d h.3, is_word-decimal e h.4, is_word-decimal f h.5) refl
 reply-are_words (Took a b c) h = rw (is_word-decimal a h.0, is_word-decimal b h.1, is_word-decimal c h.2) refl
 reply-are_words (Cancelled a) h = rw (is_word-decimal a h) refl
 reply-are_words (Consumed a) h = rw (is_word-decimal a h) refl
@@ -178,7 +178,7 @@ at words place = slice_index_or words place []
 -- the reply that words tell
 pub reply_in : List (List ℕ) → Reply
 reply_in words =
-    if bytes_eq (at words 1) (codes "order") then Ordered (number_in (at words 2)) (number_in (at words 3)) (number_in (at words 4)) (number_in (at words 5)) (number_in (at words 6)) (number_in (at words 7))
+    if bytes_eq (at words 1) (codes "order") then Ordered (number_in (at words 3)) (number_in (at words 2)) (number_in (at words 4)) (number_in (at words 5)) (number_in (at words 6)) (number_in (at words 7))
     else (if bytes_eq (at words 1) (codes "take") then Took (number_in (at words 2)) (number_in (at words 3)) (number_in (at words 4))
     else (if bytes_eq (at words 1) (codes "cancelled") then Cancelled (number_in (at words 2))
     else (if bytes_eq (at words 1) (codes "consumed") then Consumed (number_in (at words 2))
@@ -240,7 +240,7 @@ refusal-told (refusal.SumTooLarge a b) h = rw (number_in-decimal a h.0, number_i
 -- the words tell the reply
 pub reply-told : (reply : Reply) → FitReply reply → reply_in (reply_words reply) ≡ reply
 unfolding reply_in
-reply-told (Ordered a b c d e f) h = rw (number_in-decimal a h.0, number_in-decimal b h.1, number_in-decimal c h.2, number_in-decimal d h.3, number_in-decimal e h.4, number_in-decimal f h.5) refl
+reply-told (Ordered b a c d e f) h = rw (number_in-decimal a h.1, number_in-decimal b h.0, number_in-decimal c h.2, number_in-decimal d h.3, number_in-decimal e h.4, number_in-decimal f h.5) refl
 reply-told (Took a b c) h = rw (number_in-decimal a h.0, number_in-decimal b h.1, number_in-decimal c h.2) refl
 reply-told (Cancelled a) h = rw (number_in-decimal a h) refl
 reply-told (Consumed a) h = rw (number_in-decimal a h) refl

@@ -8,8 +8,8 @@ ghost use Rattle.dex_report.specs.Telling.{FitOutcome};
 use crate::lines::{LINE, write_head};
 use crate::outcome::Outcome;
 use crate::told::{take_each, write_each};
-use dex_dump::{append_dump, append_taken};
-use dex_types::{MarketAccounts, NoMemory};
+use dex_dump::{append_dump, append_taken, room_of_dump};
+use dex_types::NoMemory;
 use std::alloc::{AllocError, Global};
 
 /// The report of an outcome of so many rows, in one buffer: the number of rows, each market's journal, each wallet's,
@@ -71,38 +71,16 @@ fn first_room_of(outcome: &Outcome) -> usize {
     room_of(outcome) / 4
 }
 
-/// Room for nearly every report: what most lines of journals take, and the accounts in base64.
+/// Room for nearly every report: what most lines of journals take, and the dump.
 fn room_of(outcome: &Outcome) -> usize {
-    let mut room: usize = 4096;
+    let mut room = room_of_dump(&outcome.accounts);
     'markets: for journal in &outcome.markets {
         room = room.saturating_add(journal.entries.len().saturating_mul(96));
     }
     'wallets: for journal in &outcome.wallets {
         room = room
             .saturating_add(journal.entries.len().saturating_mul(48))
-            .saturating_add(512);
-    }
-    'accounts: for accounts in &outcome.accounts.markets {
-        room = room.saturating_add(room_of_market(accounts));
+            .saturating_add(192);
     }
     room
-}
-
-/// Room for the rows of a market's accounts: four characters for three bytes, and the words around them.
-fn room_of_market(accounts: &MarketAccounts) -> usize {
-    let mut bytes: usize = 1024;
-    'sides: for buffer in [
-        &accounts.requests,
-        &accounts.events,
-        &accounts.bids,
-        &accounts.asks,
-    ] {
-        bytes = bytes.saturating_add(buffer.len());
-    }
-    'orders: for account in &accounts.orders {
-        bytes = bytes
-            .saturating_add(account.bytes.len())
-            .saturating_add(128);
-    }
-    bytes.saturating_add(bytes / 3)
 }

@@ -3,6 +3,7 @@
 ghost use Rattle.std.specs.Prelude.{◌≡◌, ◌<◌, ◌≤◌, [], ◌∷◌, ◌++◌, drop, false, length, take, true};
 ghost use Rattle.csv.specs.Reading.{strip_bom};
 ghost use Rattle.dex_rows.specs.Lines.{AreCut, HasNoQuote, IsCut, IsFront, IsPassed, KeepsField, behind_ends, cells_of, ends_row, rows_in, texts};
+ghost use Rattle.dex_rows.specs.Records.{field_at};
 
 use memchr::memchr3;
 
@@ -128,6 +129,18 @@ fn keep<'a>(fields: &mut [&'a [u8]; KEPT], count: usize, field: &'a [u8])
     if count < KEPT {
         fields[count] = field;
     }
+}
+
+/// The bytes of the field at a place of a line, counted from 0, if it is one of the first twelve; no bytes behind the last.
+pub(crate) fn field<'r>(line: &'r Line<'_>, place: usize) -> &'r [u8]
+    requires few { place < 12 }
+    requires cut { IsCut line.now }
+    ensures { result.now ≡ field_at (cells_of line.now.bytes.now) place }
+{
+    if line.count <= place {
+        return &[];
+    }
+    line.fields[place]
 }
 
 // Whether a byte ends a row.

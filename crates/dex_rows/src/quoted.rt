@@ -1,8 +1,8 @@
 //! Rows of a text with quotes, read by `csv`.
 
-ghost use Rattle.std.specs.Prelude.{◌≡◌, ◌<◌, [], ◌∷◌, IfOk, IsSomeAnd, IsTrue, OnErr, false, length, slice_index_or, true};
+ghost use Rattle.std.specs.Prelude.{◌≡◌, [], ◌∷◌, IfOk, IsSomeAnd, IsTrue, OnErr, false, true};
 ghost use Rattle.csv.specs.Records.{fields_of};
-ghost use Rattle.dex_rows.specs.Records.{rows_of};
+ghost use Rattle.dex_rows.specs.Records.{field_at, rows_of};
 ghost use Rattle.dex_rows.specs.RowReader.{GivesRows, rows_left};
 
 use csv::{ByteRecord, Reader, ReaderBuilder};
@@ -82,10 +82,12 @@ fn read_row(reader: &mut Reader<&[u8]>, row: &mut ByteRecord) -> Result<bool, No
     Ok(found)
 }
 
-/// The bytes of the field at a place of a record, counted from 0.
+/// The bytes of the field at a place of a record, counted from 0; no bytes behind the last.
 pub(crate) fn field(record: &ByteRecord, place: usize) -> &[u8]
-    requires { place < length (fields_of record.now) }
-    ensures { result.now ≡ slice_index_or (fields_of record.now) place [] }
+    ensures { result.now ≡ field_at (fields_of record.now) place }
 {
+    if record.len() <= place {
+        return &[];
+    }
     record.get(place).unwrap()
 }

@@ -3,7 +3,7 @@
 ghost use Rattle.std.specs.Prelude.{◌≡◌, ◌<◌, [], ◌∷◌, IfOk, IfSome, OnErr, false, length, true};
 ghost use Rattle.dex_rows.specs.Records.{field_at, rows_of};
 
-use crate::lines::{KEPT, Line, next_line, without_mark};
+use crate::lines::{self, KEPT, Line, next_line, without_mark};
 use crate::plain::PlainRows;
 use crate::quoted::{self, QuotedRows};
 use csv::ByteRecord;
@@ -137,11 +137,8 @@ pub fn field_at<'r>(row: &'r Fields<'_>, place: usize) -> &'r [u8]
     requires { place < 12 }
     ensures { result.now ≡ field_at row.now place }
 {
-    if field_count(row) <= place {
-        return &[];
-    }
     match &row.quoted {
-        None => row.line.fields[place],
+        None => lines::field(&row.line, place),
         Some(record) => quoted::field(record, place),
     }
 }

@@ -4,7 +4,7 @@ use Rattle.dex_fold.proofs.Common.{PlainRow, Row, eq-eqb, ne_eqb, row_of, rows_o
 use Rattle.dex_replay.proofs.Common.{AreRows, PlainScript}
 use Rattle.std.specs.List.{All}
 use Rattle.dex_fold.proofs.MappedLists.{same-get}
-use Rattle.dex_run.proofs.Common.{Begins, IsAlone, IsDone, IsIndex, IsItemOf, IsRest, IsSwapAt, SeatState, rows_before}
+use Rattle.dex_run.proofs.Common.{Begins, IsAlone, IsDone, IsIndex, IsItemOf, IsRest, IsRestAt, IsSwapAt, SeatState, rows_before}
 use Rattle.dex_run.proofs.LaneRows.{are-legs, rows_of_lane-append}
 use Rattle.std.proofs.Math.ListN.{drop_of_length-le}
 use Rattle.std.proofs.lemmas.Bool.{cases_eq}
@@ -116,10 +116,6 @@ module _ (rows : List Row) (place : ℕ) (row : Row) (within : place < length ro
       ∙ before-other lane rows place row within at other)
 
 -- ---- a lane's items, one after the other
-
--- the items of a seat's lane from one place of its list on
-abbrev pub IsRestAt : List Row → SeatState → List ℕ → Type 0
-IsRestAt rows seat own = IsRest seat.lane rows (length seat.calls) own
 
 -- all are still to come where no row has acted
 pub rest-first : (rows : List Row) (by_lane : List (Vec ℕ Global)) (seat : SeatState) (lane : ℕ) (own : Vec ℕ Global) → IsIndex rows by_lane → seat.lane < length by_lane

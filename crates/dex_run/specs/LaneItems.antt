@@ -4,6 +4,7 @@ use Rattle.std.specs.declared.alloc.Global.{Global}
 use Rattle.dex_types.specs.declared.rows.Row.{Row}
 use Rattle.dex_types.specs.Rows.{row_of}
 use Rattle.dex_fold.specs.Items.{rows_of_lane}
+use Rattle.dex_turns.specs.Seats.{SeatState}
 
 -- with the row at a place an item begins: the rows before it have lower numbers
 abbrev pub Begins : List Row → ℕ → Type 0
@@ -41,6 +42,10 @@ IsRest lane rows done (place ∷ later) =
     IsItemOf lane rows done place
     × ((IsAlone rows place → IsRest lane rows (done + 1) later)
     × (IsSwapAt rows place → IsRest lane rows (done + 2) later))
+
+-- the items at these places, and no others, are still to come of a seat's lane
+abbrev pub IsRestAt : List Row → SeatState → List ℕ → Type 0
+IsRestAt rows seat later = IsRest seat.lane rows (length seat.calls) later
 
 -- for each lane the places at which its items begin
 abbrev pub IsIndex : List Row → List (Vec ℕ Global) → Type 0

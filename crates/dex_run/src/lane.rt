@@ -1,7 +1,7 @@
 //! The items of one lane.
 
 ghost use Rattle.std.specs.Prelude.{ℕ, ◌≡◌, ◌∷◌, List, length};
-ghost use Rattle.dex_run.specs.LaneItems.{IsItemOf, IsRest};
+ghost use Rattle.dex_run.specs.LaneItems.{IsItemOf, IsRestAt};
 ghost use Rattle.dex_run.specs.Running.{AreRowsOf, CanRun, HasRun};
 ghost use Rattle.dex_turns.specs.Seats.{IsSeatOf};
 
@@ -33,8 +33,8 @@ impl<'a> Lanes<'a> {
         requires item { IsItemOf seat.old.lane self.now.rows.now (length seat.old.calls) place }
         ensures bank { IsSeatOf self.now.bank.now seat.new }
         ensures lane { seat.new.lane ≡ seat.old.lane }
-        ensures rest { (later : List ℕ) → IsRest seat.old.lane self.now.rows.now (length seat.old.calls) (place ∷ later)
-            → IsRest seat.new.lane self.now.rows.now (length seat.new.calls) later }
+        ensures rest { (later : List ℕ) → IsRestAt self.now.rows.now seat.old (place ∷ later)
+            → IsRestAt self.now.rows.now seat.new later }
     {
         let bank = self.bank;
         let rows = self.rows;

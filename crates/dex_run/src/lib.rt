@@ -12,4 +12,4 @@ mod stay;
 
 pub use building::build;
 pub use closing::close;
-pub use running::run;
+pub use running::{run, run_with_rows};

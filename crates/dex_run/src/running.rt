@@ -2,6 +2,7 @@
 
 ghost use Rattle.std.specs.Prelude.{◌≡◌, ◌<◌, ◌≤◌, [], All, IfOk, map, vec_capacity, vec_len};
 ghost use Rattle.std.specs.List.{AllZip};
+ghost use Rattle.dex_types.specs.Rows.{row_of};
 ghost use Rattle.dex_report.specs.Outcomes.{outcome_of};
 ghost use Rattle.dex_replay.specs.Runs.{IsOneOrder, IsRunOf};
 ghost use Rattle.dex_run.specs.Running.{CanRun, HasRun, IsJobOf};
@@ -17,7 +18,7 @@ use dex_lanes::run_jobs;
 use dex_report::Outcome;
 use dex_script_facts::Script;
 use dex_turns::{LaneSeat, Outline};
-use dex_types::{NoMemory, add};
+use dex_types::{NoMemory, Row, add};
 use std::alloc::Global;
 use std::marker::Sync;
 use std::sync::Wait;
@@ -78,16 +79,17 @@ fn run_all<R: Threads + Wait + Sync, P: Pace + Sync>(
     Ok(seats_back(jobs, room))
 }
 
-/// Lets the lanes of a script act side by side, each on a thread of its own where one can be made, and gives what is left.
-/// The script's accounts themselves go into the outcome: none is copied.
-pub fn run<R: Threads + Wait + Sync, P: Pace + Sync>(
+/// Lets the lanes of a script act side by side, each on a thread of its own where one can be made, and gives what is left, and the
+/// rows. The script's accounts themselves go into the outcome: none is copied.
+pub fn run_with_rows<R: Threads + Wait + Sync, P: Pace + Sync>(
     rt: &R,
     alloc: Global,
     script: Script,
     pace: &P,
-) -> Result<Outcome, NoMemory>
-    ensures run { IfOk result (λ outcome. IsRunOf script (outcome_of outcome)) }
-    ensures one_order { IfOk result (λ outcome. IsOneOrder script (outcome_of outcome)) }
+) -> Result<(Outcome, Vec<Row>), NoMemory>
+    ensures run { IfOk result (λ left. IsRunOf script (outcome_of left.0)) }
+    ensures one_order { IfOk result (λ left. IsOneOrder script (outcome_of left.0)) }
+    ensures rows { IfOk result (λ left. map row_of left.1.items ≡ script.rows) }
 {
     let outline = Outline::of(alloc, &script)?;
     let (cells, rows, places) = Cells::of_script(alloc, script)?;
@@ -104,7 +106,21 @@ pub fn run<R: Threads + Wait + Sync, P: Pace + Sync>(
     };
     let seats = run_all(rt, alloc, lanes, seats, pace)?;
     match close(alloc, bank, seats) {
-        Ok(outcome) => Ok(outcome),
+        Ok(outcome) => Ok((outcome, rows)),
         Err(_) => Err(NoMemory),
     }
+}
+
+/// The same without the rows.
+pub fn run<R: Threads + Wait + Sync, P: Pace + Sync>(
+    rt: &R,
+    alloc: Global,
+    script: Script,
+    pace: &P,
+) -> Result<Outcome, NoMemory>
+    ensures run { IfOk result (λ outcome. IsRunOf script (outcome_of outcome)) }
+    ensures one_order { IfOk result (λ outcome. IsOneOrder script (outcome_of outcome)) }
+{
+    let (outcome, _) = run_with_rows(rt, alloc, script, pace)?;
+    Ok(outcome)
 }

@@ -1,24 +1,20 @@
 -- The first market of an address, by its place among the markets.
 use Rattle.std.proofs.Common.{◌≡◌, ◌<◌, ◌∙◌, ◌∷◌, [], ◌++◌, ℕ, Bool, if◌then◌else◌, List, Some, None, Result, Ok, Err, OnOk, ap, arith, get_or, length, map, refl, set, subst, sym}
 use Rattle.std.specs.List.{position}
-use Rattle.std.proofs.lemmas.List.{get_or-map, length-map, map-append}
+use Rattle.std.proofs.lemmas.List.{get_or-map, length-map, map-id}
 use Rattle.dex_market.specs.MarketAccount.{IsMarket}
 use Rattle.dex_script.specs.Markets.{AreMarkets}
 use Rattle.dex_types.specs.declared.account_bytes.MarketAccounts.{MarketAccounts}
-use Rattle.dex_types.specs.declared.account_bytes.OrdersAccount.{OrdersAccount}
 use Rattle.dex_types.specs.declared.addresses.Address.{Address}
-use Rattle.dex_types.specs.Accounts.{PlainAccount, PlainMarketAccounts, market_accounts_of, orders_account_of}
+use Rattle.dex_types.specs.Accounts.{PlainAccount, PlainMarketAccounts, market_accounts_of}
 use Rattle.dex_types.specs.Addresses.{is_same}
 use Rattle.dex_dump.specs.Reading.{with_orders}
 use Rattle.dex_script_facts.specs.Firsts.{with_first}
 use Rattle.dex_script.proofs.FirstLaws.{changed-at, changed-none, first-at, first-none, is-first, none-passes}
 use Rattle.dex_script.specs.Known.{orders_at}
 
-abbrev has : Address → PlainMarketAccounts → Bool
+abbrev pub has : Address → PlainMarketAccounts → Bool
 has address market = is_same address market.address
-
-abbrev pub is_here : Address → MarketAccounts → Bool
-is_here address market = is_same address market.address
 
 -- a market with one more open-orders account
 abbrev with_one : PlainAccount → PlainMarketAccounts → PlainMarketAccounts
@@ -31,41 +27,39 @@ with_orders-first address account (market ∷ markets) =
     ap (λ (rest : List PlainMarketAccounts). if is_same address market.address then with_one account market ∷ markets else market ∷ rest)
     (with_orders-first address account markets)
 
-pub orders-found : (address : Address) (markets : List MarketAccounts) (place : ℕ) (d : MarketAccounts)
-    → position (is_here address) markets ≡ Some place
-    → orders_at address (map market_accounts_of markets) ≡ Some (length (market_accounts_of (get_or markets place d)).orders)
+pub orders-found : (address : Address) (markets : List PlainMarketAccounts) (place : ℕ) (d : PlainMarketAccounts)
+    → position (has address) markets ≡ Some place
+    → orders_at address markets ≡ Some (length (get_or markets place d).orders)
 orders-found address markets place d here =
-    let first = is-first (is_here address) markets place d here in
-    first-at (has address) (λ (market : PlainMarketAccounts). length market.orders) market_accounts_of markets place d
+    let first = is-first (has address) markets place d here in
+    ap (orders_at address) (sym (map-id markets))
+    ∙ first-at (has address) (λ (market : PlainMarketAccounts). length market.orders) (λ market. market) markets place d
     first.within first.passes first.others
 
-pub no-orders : (address : Address) (markets : List MarketAccounts) → position (is_here address) markets ≡ None
-    → orders_at address (map market_accounts_of markets) ≡ None
+pub no-orders : (address : Address) (markets : List PlainMarketAccounts) → position (has address) markets ≡ None → orders_at address markets ≡ None
 no-orders address markets none =
-    first-none (has address) (λ (market : PlainMarketAccounts). length market.orders) market_accounts_of markets
-    (none-passes (is_here address) markets none)
+    ap (orders_at address) (sym (map-id markets))
+    ∙ first-none (has address) (λ (market : PlainMarketAccounts). length market.orders) (λ market. market) markets
+    (none-passes (has address) markets none)
 
-pub orders-added : (address : Address) (account : OrdersAccount) (markets : List MarketAccounts) (place : ℕ) (d changed : MarketAccounts)
-    → position (is_here address) markets ≡ Some place
-    → changed ≡ record (get_or markets place d) { orders = changed.orders }
-    → changed.orders.items ≡ (get_or markets place d).orders.items ++ account ∷ []
-    → map market_accounts_of (set markets place changed) ≡ with_orders address (orders_account_of account) (map market_accounts_of markets)
-orders-added address account markets place d changed here only grown =
-    let first = is-first (is_here address) markets place d here in
-    let market = get_or markets place d in
-    let all : map orders_account_of changed.orders.items ≡ map orders_account_of market.orders.items ++ orders_account_of account ∷ [] =
-    ap (map orders_account_of) grown ∙ map-append orders_account_of market.orders.items (account ∷ []) in
-    let plain : market_accounts_of changed ≡ with_one (orders_account_of account) (market_accounts_of market) =
-    ap market_accounts_of only ∙ ap (λ (os : List PlainAccount). record (market_accounts_of market) { orders = os }) all in
-    changed-at (has address) (with_one (orders_account_of account)) market_accounts_of markets place d changed
-    first.within first.passes first.others plain
-    ∙ with_orders-first address (orders_account_of account) (map market_accounts_of markets)
+pub orders-added : (address : Address) (account : PlainAccount) (markets : List PlainMarketAccounts) (place : ℕ) (d changed : PlainMarketAccounts)
+    → position (has address) markets ≡ Some place
+    → changed ≡ record (get_or markets place d) { orders = (get_or markets place d).orders ++ account ∷ [] }
+    → set markets place changed ≡ with_orders address account markets
+orders-added address account markets place d changed here grown =
+    let first = is-first (has address) markets place d here in
+    sym (map-id (set markets place changed))
+    ∙ changed-at (has address) (with_one account) (λ market. market) markets place d changed first.within first.passes first.others grown
+    ∙ ap (with_first (has address) (with_one account)) (map-id markets)
+    ∙ with_orders-first address account markets
 
-pub no-orders-added : (address : Address) (account : PlainAccount) (markets : List MarketAccounts) → position (is_here address) markets ≡ None
-    → map market_accounts_of markets ≡ with_orders address account (map market_accounts_of markets)
+pub no-orders-added : (address : Address) (account : PlainAccount) (markets : List PlainMarketAccounts) → position (has address) markets ≡ None
+    → markets ≡ with_orders address account markets
 no-orders-added address account markets none =
-    changed-none (has address) (with_one account) market_accounts_of markets (none-passes (is_here address) markets none)
-    ∙ with_orders-first address account (map market_accounts_of markets)
+    sym (map-id markets)
+    ∙ changed-none (has address) (with_one account) (λ market. market) markets (none-passes (has address) markets none)
+    ∙ ap (with_first (has address) (with_one account)) (map-id markets)
+    ∙ with_orders-first address account markets
 
 -- what holds where a call is Ok
 pub on-ok : {A E p q : Type 0} (r : Result A E) → (p → q) → OnOk r p → OnOk r q

@@ -6,30 +6,20 @@ use Rattle.dex_statement.specs.Words.{Fields}
 use Rattle.dex_dump.specs.Answers.{next_number}
 use Rattle.dex_script_facts.specs.Places.{market_place, wallet_place}
 use Rattle.dex_script.specs.Drafts.{PlainDraft}
+use Rattle.dex_script.specs.Markets.{no_accounts_of}
 
 -- the number of the row behind some, the first of which has this number
 abbrev pub number_after : ℕ → List Fields → ℕ
 number_after number [] = number
 number_after number (row ∷ rows) = number_after (next_number number) rows
 
--- a wallet of which only the address is known
+-- a wallet of which only the address is left
 abbrev pub bare_wallet : PlainAccount → PlainAccount
 bare_wallet wallet = record { address = wallet.address; bytes = [] }
 
--- a market of which only the address and who signs for it are known
+-- a market of which only the address and who signs for it are left
 abbrev pub bare_market : PlainMarketAccounts → PlainMarketAccounts
-bare_market market = record {
-  address = market.address;
-  authority = market.authority;
-  market = [];
-  coin_vault = [];
-  pc_vault = [];
-  requests = [];
-  events = [];
-  bids = [];
-  asks = [];
-  orders = [];
-}
+bare_market market = no_accounts_of market.address market.authority
 
 -- markets and wallets without accounts
 abbrev pub bare : PlainAccounts → PlainAccounts

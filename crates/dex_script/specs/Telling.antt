@@ -5,7 +5,7 @@ use Rattle.dex_dump.specs.declared.reader.DumpRead.{DumpRead}
 use Rattle.dex_dump.specs.Answers.{AnswersDump, PlainDump}
 use Rattle.dex_dump.specs.Telling.{plain_dump}
 use Rattle.dex_statement.specs.Words.{Fields}
-use Rattle.dex_types.specs.Accounts.{PlainAccounts, accounts_of, market_accounts_of, named_of}
+use Rattle.dex_types.specs.Accounts.{PlainAccounts, accounts_of, named_of}
 use Rattle.dex_types.specs.Rows.{row_of}
 use Rattle.dex_statement.specs.declared.faults.FaultKind.{FaultKind}
 use Rattle.dex_statement.specs.Faults.{code_of, kind_number}
@@ -25,7 +25,7 @@ start_of start = record {
   srm = start.srm;
   msrm = start.msrm;
   wallets = map named_of start.wallets.items;
-  markets = map market_accounts_of start.markets.items;
+  markets = start.markets.items;
 }
 
 -- the script so far

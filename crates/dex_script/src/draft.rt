@@ -9,10 +9,12 @@ ghost use Rattle.dex_script_facts.specs.Places.{ArePlaced};
 ghost use Rattle.dex_script.specs.Drafts as spec;
 ghost use Rattle.dex_script.specs.Telling.{draft_of, start_of};
 
+use crate::market::DeclaredMarket;
+use crate::markets::{all_accounts, declared};
 use crate::mints::Mints;
 use crate::taken::taken_addresses;
 use dex_script_facts::Script;
-use dex_types::{Accounts, Address, MarketAccounts, Named, NoMemory, Program, Row, RowPlaces};
+use dex_types::{Accounts, Address, Named, NoMemory, Program, Row, RowPlaces};
 use std::alloc::Global;
 
 /// The accounts with which a script starts, as far as they are declared.
@@ -22,7 +24,7 @@ pub(crate) struct Start {
     pub(crate) srm: Option<Address>,
     pub(crate) msrm: Option<Address>,
     pub(crate) wallets: Vec<Named>,
-    pub(crate) markets: Vec<MarketAccounts>,
+    pub(crate) markets: Vec<DeclaredMarket>,
 }
 
 /// A script as far as its rows are read, with what the next rows are held against.
@@ -81,13 +83,14 @@ impl Draft {
         ensures { IfOk result (λ draft. draft_of draft ≡ spec.behind_dump batch (accounts_of accounts)) }
     {
         let taken = taken_addresses(alloc, &accounts)?;
+        let markets = declared(alloc, accounts.markets)?;
         Ok(Draft {
             start: Start {
                 mints: Mints::of(accounts.mints),
                 srm: accounts.srm,
                 msrm: accounts.msrm,
                 wallets: accounts.wallets,
-                markets: accounts.markets,
+                markets,
             },
             rows: Vec::new(alloc),
             lanes: 1,
@@ -102,23 +105,35 @@ impl Draft {
     }
 
     /// What was read, as a script, with the places of each row.
-    pub(crate) fn into_script(self, places: Vec<RowPlaces>) -> Script
+    pub(crate) fn into_script(
+        self,
+        alloc: Global,
+        places: Vec<RowPlaces>,
+    ) -> Result<Script, NoMemory>
         requires script { IsScript (draft_of self).script }
         requires placed { ArePlaced (start_of self.start) (map row_of self.rows.items) places.items }
-        ensures { result ≡ (draft_of self).script }
+        ensures { IfOk result (λ script. script ≡ (draft_of self).script) }
     {
-        Script {
+        let Start {
+            mints,
+            srm,
+            msrm,
+            wallets,
+            markets,
+        } = self.start;
+        let markets = all_accounts(alloc, markets)?;
+        Ok(Script {
             start: Accounts {
-                mints: self.start.mints.into_accounts(),
-                srm: self.start.srm,
-                msrm: self.start.msrm,
-                wallets: self.start.wallets,
-                markets: self.start.markets,
+                mints: mints.into_accounts(),
+                srm,
+                msrm,
+                wallets,
+                markets,
             },
             rows: self.rows,
             places,
             lanes: self.lanes,
             program: self.program,
-        }
+        })
     }
 }

@@ -1,6 +1,6 @@
 //! Markets that rows declare.
 
-ghost use Rattle.std.specs.Prelude.{◌≡◌, ◌<◌, [], ◌∷◌, ◌++◌, OnOk, IfOk, IfSome, false, length, map};
+ghost use Rattle.std.specs.Prelude.{◌≡◌, ◌<◌, OnOk, IfOk, IfSome, false, length, map};
 ghost use Rattle.std.specs.List.{position};
 ghost use Rattle.dex_types.specs.Accounts.{market_accounts_of, orders_account_of};
 ghost use Rattle.dex_types.specs.Addresses.{is_same};
@@ -10,54 +10,88 @@ ghost use Rattle.dex_make.specs.MarketSet.{IsMarketSet};
 ghost use Rattle.dex_script.specs.Known.{orders_at};
 ghost use Rattle.dex_script.specs.Rows as spec;
 
+use crate::market::DeclaredMarket;
 use dex_instruction::decode;
 use dex_make::MarketSet;
 use dex_statement::{FaultKind, MarketWords, SetupCode};
 use dex_types::{Address, Ix, MarketAccounts, NoMemory, OrdersAccount, is_same};
+use std::alloc::Global;
 
 /// The place of the first market of an address.
-fn place_of(address: Address, markets: &[MarketAccounts]) -> Option<usize>
+fn place_of(address: Address, markets: &[DeclaredMarket]) -> Option<usize>
     ensures within { IfSome result (λ place. place < length markets.now) }
     ensures place { result ≡ position (λ market. is_same address market.address) markets.now }
 {
     markets
         .iter()
-        .position(|market| is_same(address, market.address))
+        .position(|market| is_same(address, market.address()))
 }
 
 /// How many open-orders accounts the first market of an address has.
-pub(crate) fn orders_at(address: Address, markets: &[MarketAccounts]) -> Option<usize>
-    ensures { result ≡ orders_at address (map market_accounts_of markets.now) }
+pub(crate) fn orders_at(address: Address, markets: &[DeclaredMarket]) -> Option<usize>
+    ensures { result ≡ orders_at address markets.now }
 {
     match place_of(address, markets) {
-        Some(place) => Some(markets[place].orders.len()),
+        Some(place) => Some(markets[place].count_orders()),
         None => None,
     }
 }
 
 /// One more open-orders account of the first market of an address.
 pub(crate) fn add_orders(
-    markets: &mut [MarketAccounts],
+    markets: &mut [DeclaredMarket],
     address: Address,
     account: OrdersAccount,
 ) -> Result<(), NoMemory>
-    ensures { OnOk result (map market_accounts_of markets.new
-        ≡ with_orders address (orders_account_of account) (map market_accounts_of markets.old)) }
+    ensures { OnOk result (markets.new ≡ with_orders address (orders_account_of account) markets.old) }
 {
     if let Some(place) = place_of(address, markets) {
         let market = &mut markets[place];
-        return add_account(&mut market.orders, account);
+        return market.add_orders(account);
     }
     Ok(())
 }
 
-fn add_account(orders: &mut Vec<OrdersAccount>, account: OrdersAccount) -> Result<(), NoMemory>
-    ensures { OnOk result (orders.new.items ≡ orders.old.items ++ (account ∷ [])) }
+/// The markets of these accounts.
+pub(crate) fn declared(
+    alloc: Global,
+    markets: Vec<MarketAccounts>,
+) -> Result<Vec<DeclaredMarket>, NoMemory>
+    ensures { IfOk result (λ declared. declared.items ≡ map market_accounts_of markets.items) }
 {
-    match orders.push(account) {
-        Ok(()) => Ok(()),
-        Err(_) => Err(NoMemory),
+    let mut declared = Vec::with_capacity(alloc, markets.len())?;
+    for accounts in markets {
+        declared.push(DeclaredMarket::of(accounts))?;
     }
+    Ok(declared)
+}
+
+/// The same markets, made one after the other.
+pub fn make_markets(
+    alloc: Global,
+    markets: Vec<DeclaredMarket>,
+) -> Result<Vec<DeclaredMarket>, NoMemory>
+    ensures { IfOk result (λ made. made.items ≡ markets.items) }
+{
+    let mut made = Vec::with_capacity(alloc, markets.len())?;
+    for market in markets {
+        made.push(market.made(alloc)?)?;
+    }
+    Ok(made)
+}
+
+/// The accounts of these markets.
+pub(crate) fn all_accounts(
+    alloc: Global,
+    markets: Vec<DeclaredMarket>,
+) -> Result<Vec<MarketAccounts>, NoMemory>
+    ensures { IfOk result (λ accounts. map market_accounts_of accounts.items ≡ markets.items) }
+{
+    let mut accounts = Vec::with_capacity(alloc, markets.len())?;
+    for market in markets {
+        accounts.push(market.into_accounts(alloc)?)?;
+    }
+    Ok(accounts)
 }
 
 /// Whether a market row passes a limit: 65,536 nodes a side, 65,535 events, 256 bytes of data.

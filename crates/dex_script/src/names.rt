@@ -3,15 +3,16 @@
 ghost use Rattle.std.specs.Prelude.{◌≡◌, ◌≤◌, cond, IfOk, OnOk, Some, length, map};
 ghost use Rattle.std.specs.HashMap as hash;
 ghost use Rattle.dex_types.specs.declared.addresses.Address.{Address};
-ghost use Rattle.dex_types.specs.Accounts.{market_accounts_of, named_of};
+ghost use Rattle.dex_types.specs.Accounts.{named_of};
 ghost use Rattle.dex_types.specs.Addresses.{is_same};
 ghost use Rattle.dex_script_facts.specs.Places.{market_place, wallet_place};
 ghost use Rattle.dex_script.specs.Names as spec;
 ghost use Rattle.dex_script.specs.Telling.{start_of};
 
 use crate::draft::Start;
+use crate::market::DeclaredMarket;
 use dex_statement::Parties;
-use dex_types::{Address, MarketAccounts, Named, NoMemory, RowPlaces};
+use dex_types::{Address, Named, NoMemory, RowPlaces};
 use std::alloc::Global;
 use std::collections::HashMap;
 
@@ -93,15 +94,15 @@ fn wallet_places(alloc: Global, wallets: &[Named]) -> Result<HashMap<Address, u1
 /// The places of these markets, from the last to the first.
 fn market_places(
     alloc: Global,
-    markets: &[MarketAccounts],
+    markets: &[DeclaredMarket],
 ) -> Result<HashMap<Address, u16>, NoMemory>
     requires { length markets.now ≤ 16 }
     ensures { IfOk result (λ places. (address : Address)
-        → hash.get is_same places address ≡ market_place address (map market_accounts_of markets.now)) }
+        → hash.get is_same places address ≡ market_place address markets.now) }
 {
     let mut places = HashMap::new(alloc);
     for place in (0..markets.len()).rev() {
-        put(&mut places, markets[place].address, place as u16)?;
+        put(&mut places, markets[place].address(), place as u16)?;
     }
     Ok(places)
 }

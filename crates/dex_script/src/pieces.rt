@@ -1,13 +1,14 @@
 //! Rows behind an instruction row, read in pieces: each beside the others, and then put together.
 
 ghost use Rattle.std.specs.Prelude.{◌≡◌, ◌≤◌, ◌+◌, ◌&&◌, IfOk, map, not, true};
-ghost use Rattle.dex_types.specs.Accounts.{market_accounts_of, named_of};
+ghost use Rattle.dex_types.specs.Accounts.{named_of};
 ghost use Rattle.dex_script.specs.Pieces as spec;
 
 use crate::draft::{Draft, Start};
+use crate::market::DeclaredMarket;
 use crate::mints::Mints;
 use crate::reader::Reader;
-use dex_types::{MarketAccounts, Named};
+use dex_types::Named;
 use std::alloc::{AllocError, Global};
 
 /// How many instruction rows a script may have, where a swap is one.
@@ -103,34 +104,16 @@ fn bare_wallets(alloc: Global, wallets: &[Named]) -> Result<Vec<Named>, AllocErr
     Ok(bare)
 }
 
-// Markets of these addresses without accounts.
+// These markets without accounts.
 fn bare_markets(
     alloc: Global,
-    markets: &[MarketAccounts],
-) -> Result<Vec<MarketAccounts>, AllocError>
-    ensures { IfOk result (λ bare. map market_accounts_of bare.items
-        ≡ map spec.bare_market (map market_accounts_of markets.now)) }
+    markets: &[DeclaredMarket],
+) -> Result<Vec<DeclaredMarket>, AllocError>
+    ensures { IfOk result (λ bare. bare.items ≡ map spec.bare_market markets.now) }
 {
     let mut bare = Vec::new(alloc);
     for market in markets {
-        bare.push(bare_market(alloc, market))?;
+        bare.push(market.bare(alloc))?;
     }
     Ok(bare)
-}
-
-fn bare_market(alloc: Global, market: &MarketAccounts) -> MarketAccounts
-    ensures { market_accounts_of result ≡ spec.bare_market (market_accounts_of market.now) }
-{
-    MarketAccounts {
-        address: market.address,
-        authority: market.authority,
-        market: Vec::new(alloc),
-        coin_vault: Vec::new(alloc),
-        pc_vault: Vec::new(alloc),
-        requests: Vec::new(alloc),
-        events: Vec::new(alloc),
-        bids: Vec::new(alloc),
-        asks: Vec::new(alloc),
-        orders: Vec::new(alloc),
-    }
 }

@@ -11,6 +11,7 @@ ghost use Rattle.dex_script.specs.Telling.{draft_of};
 
 use crate::draft::Draft;
 use crate::names::Names;
+use crate::reading::ReadRows;
 use dex_rows::records::Fields;
 use dex_script_facts::Script;
 use dex_statement::{
@@ -65,11 +66,30 @@ impl Reader {
     }
 
     /// What was read, as a script.
-    pub(crate) fn into_script(self) -> Script
+    pub(crate) fn into_script(self, alloc: Global) -> Result<Script, NoMemory>
         requires { IsScript self.script }
-        ensures { result ≡ self.script }
+        ensures { IfOk result (λ script. script ≡ self.script) }
     {
-        self.draft.into_script(self.places)
+        self.draft.into_script(alloc, self.places)
+    }
+
+    /// This reader, with the accounts of its markets made.
+    pub(crate) fn with_markets_by<H: ReadRows>(
+        self,
+        alloc: Global,
+        how: &H,
+    ) -> Result<Reader, NoMemory>
+        requires { H.ready how.now }
+        ensures { IfOk result (λ made. made ≡ self) }
+    {
+        let mut draft = self.draft;
+        let markets = std::mem::replace(&mut draft.start.markets, Vec::new(alloc));
+        draft.start.markets = how.make_markets(alloc, markets)?;
+        Ok(Reader {
+            draft,
+            places: self.places,
+            names: self.names,
+        })
     }
 
     /// Adds what the row of this number states. Behind a fault, what is left does not matter. The words are a buffer for

@@ -17,6 +17,8 @@ use crate::fault::ScriptError;
 use crate::laws::{
     a_script_for_batches_has_no_swap, a_script_starts_sound, rows_of_a_script_are_in_order,
 };
+use crate::market::DeclaredMarket;
+use crate::markets::make_markets;
 use crate::reader::Reader;
 use dex_audit::audit;
 use dex_dump::{DumpError, DumpRead, is_first_row};
@@ -26,7 +28,7 @@ use dex_statement::{FaultKind, InstructionWords, RowError};
 use dex_types::NoMemory;
 use std::alloc::Global;
 
-/// How the rows of a script are read.
+/// How the rows of a script are read, and its markets made.
 pub trait ReadRows {
     /// What a way to read needs.
     ghost ready: { Self → Type 0 };
@@ -41,9 +43,18 @@ pub trait ReadRows {
     ) -> Result<Reader, ScriptError>
         requires { ready self.now }
         ensures { TellsDraft result (draft_after reader number rows.old) };
+
+    /// The same markets, with their accounts made.
+    fn make_markets(
+        &self,
+        alloc: Global,
+        markets: Vec<DeclaredMarket>,
+    ) -> Result<Vec<DeclaredMarket>, NoMemory>
+        requires { ready self.now }
+        ensures { IfOk result (λ made. made.items ≡ markets.items) };
 }
 
-// Rows are read one after the other.
+// Rows are read one after the other, and so are markets made.
 #[derive(Drop)]
 struct InTurn;
 
@@ -60,6 +71,14 @@ impl ReadRows for InTurn {
         let mut number = number;
         read_rows(alloc, reader, &mut number, rows)
     }
+
+    fn make_markets(
+        &self,
+        alloc: Global,
+        markets: Vec<DeclaredMarket>,
+    ) -> Result<Vec<DeclaredMarket>, NoMemory> {
+        make_markets(alloc, markets)
+    }
 }
 
 /// The script that a text is: the accounts that its first rows make, or that the dump at its start holds, and its
@@ -72,7 +91,7 @@ pub fn read_script(alloc: Global, bytes: &[u8], batch: bool) -> Result<Script, S
     read_script_by(alloc, bytes, batch, &InTurn)
 }
 
-/// The same, with rows read as the last argument does.
+/// The same, with rows read and markets made as the last argument does.
 pub fn read_script_by<H: ReadRows>(
     alloc: Global,
     bytes: &[u8],
@@ -88,7 +107,8 @@ pub fn read_script_by<H: ReadRows>(
             a_script_starts_sound();
             rows_of_a_script_are_in_order();
             a_script_for_batches_has_no_swap();
-            Ok(reader.into_script())
+            let script = reader.into_script(alloc)?;
+            Ok(script)
         }
         Err(error) => Err(error),
     }
@@ -123,7 +143,7 @@ fn read_from_nothing<H: ReadRows>(
     ensures { TellsText result batch bytes.now }
 {
     let mut rows = Rows::new(alloc, bytes);
-    how.read_rows(alloc, Reader::new(alloc, batch), 1, &mut rows)
+    read_all(alloc, Reader::new(alloc, batch), 1, &mut rows, how)
 }
 
 /// What a text that begins with a dump says. It is not inlined either.
@@ -142,7 +162,29 @@ fn read_behind_dump<H: ReadRows>(
     let dump = read_dump(alloc, &mut rows)?;
     let number = next_number(dump.count);
     let before = Draft::behind_dump(alloc, dump.accounts, batch)?;
-    how.read_rows(alloc, Reader::of(alloc, before), number, &mut rows)
+    read_all(alloc, Reader::of(alloc, before), number, &mut rows, how)
+}
+
+/// What is read behind the rows that are left, the first of which has this number, or the first faulty one. The markets are made
+/// behind the first instruction row, and the rows behind that are read as the last argument does.
+fn read_all<H: ReadRows>(
+    alloc: Global,
+    reader: Reader,
+    number: u32,
+    rows: &mut Rows<'_>,
+    how: &H,
+) -> Result<Reader, ScriptError>
+    requires { H.ready how.now }
+    ensures { TellsDraft result (draft_after reader number rows.old) }
+{
+    let mut number = number;
+    let first = read_first(alloc, reader, &mut number, rows)?;
+    let reader = first.with_markets_by(alloc, how)?;
+    if reader.is_underway() {
+        how.read_rows(alloc, reader, number, rows)
+    } else {
+        Ok(reader)
+    }
 }
 
 /// The dump at the start, whose accounts have no findings.
@@ -194,7 +236,7 @@ pub fn read_rows(
 
 /// What is read behind the rows up to the first instruction row, which is the last that is taken, or the first faulty one.
 /// The rows that are left are those behind it; where no instruction row stands among them, all are read.
-pub fn read_first(
+fn read_first(
     alloc: Global,
     mut reader: Reader,
     number: &mut u32,

@@ -9,8 +9,9 @@ ghost use Rattle.dex_script.specs.Telling.{draft_of};
 
 use crate::draft::Draft;
 use crate::known::{is_among, is_any_among, made_addresses};
+use crate::market::DeclaredMarket;
 use crate::markets::{add_orders, exceeds_market, orders_at, set_of};
-use dex_make::{make_market, make_orders, make_wallet};
+use dex_make::{make_orders, make_wallet};
 use dex_statement::{FaultKind, MarketWords, RowError, SetupCode, Statement};
 use dex_types::{Address, Named, OrdersAccount, Program};
 use std::alloc::Global;
@@ -176,7 +177,7 @@ impl Draft {
         let is_full = (16 <= self.start.markets.len()) | exceeds_market(words);
         self.check_new(is_any_among(&new, &self.taken), is_full)?;
         let set = set_of(words)?;
-        self.start.markets.push(make_market(alloc, &set)?)?;
+        self.start.markets.push(DeclaredMarket::of_set(alloc, set))?;
         self.take(&new)
     }
 

@@ -21,7 +21,8 @@ pub fn is_role(role: Option<Address>, address: Address) -> bool
 /// The place of a wallet, if the row names it.
 pub fn place_in(row: &Row, places: &RowPlaces, address: Address) -> Option<usize>
     ensures place { IfSome result (λ place. (start : PlainAccounts)
-        → IsPlaced start (row_of row.entry.now) places.entry.now → wallet_place address start.wallets ≡ Some place) }
+        → IsPlaced start (row_of row.entry.now) places.entry.now
+        → wallet_place address start.wallets ≡ Some place) }
     ensures none { result ≡ None → fold.names (row_of row.entry.now) address ≡ false }
 {
     if is_role(row.coin, address) {

@@ -2,6 +2,7 @@
 #![tactic(auto)]
 
 mod guesses;
+mod making;
 mod piece;
 mod reading;
 

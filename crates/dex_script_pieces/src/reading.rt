@@ -9,11 +9,15 @@ ghost use Rattle.dex_script.specs.Telling.{TellsDraft, TellsScript};
 ghost use Rattle.dex_script_pieces.specs.Pieces.{ArePieces, HasRead, IsBeside, IsNext, rows_of};
 
 use crate::guesses::{Place, place_behind};
+use crate::making::make_side_by_side;
 use crate::piece::{Piece, read_behind};
 use dex_lanes::run_jobs;
 use dex_rows::plain::PlainRows;
 use dex_rows::records::Rows;
-use dex_script::{ReadRows, Reader, Script, ScriptError, read_first, read_rows, read_script_by};
+use dex_script::{
+    DeclaredMarket, ReadRows, Reader, Script, ScriptError, read_rows, read_script_by,
+};
+use dex_types::NoMemory;
 use std::alloc::{AllocError, Global};
 use std::marker::Sync;
 use std::thread::Threads;
@@ -36,7 +40,7 @@ pub fn read_script<R: Threads + Sync>(
     read_script_by(alloc, bytes, batch, &InPieces { rt, threads })
 }
 
-// Rows are read in so many pieces at most, on threads of this runtime.
+// Rows are read in so many pieces at most, and markets made side by side, on threads of this runtime.
 #[derive(Drop)]
 struct InPieces<'a, R> {
     rt: &'a R,
@@ -54,14 +58,22 @@ impl<'a, R: Threads + Sync> ReadRows for InPieces<'a, R> {
         rows: &mut Rows<'_>,
     ) -> Result<Reader, ScriptError> {
         let mut number = number;
-        let reader = read_first(alloc, reader, &mut number, rows)?;
+        // Setup rows may follow: each is held against those before it.
         if !reader.is_underway() {
-            return Ok(reader);
+            return read_rows(alloc, reader, &mut number, rows);
         }
         match rows.plain() {
             Some(plain) => read_plain(self.rt, alloc, reader, number, plain, self.threads),
             None => read_rows(alloc, reader, &mut number, rows),
         }
+    }
+
+    fn make_markets(
+        &self,
+        alloc: Global,
+        markets: Vec<DeclaredMarket>,
+    ) -> Result<Vec<DeclaredMarket>, NoMemory> {
+        make_side_by_side(self.rt, alloc, markets)
     }
 }
 

@@ -83,8 +83,8 @@ buys_for program msrm max_pc = answer (row (new Bid 60 3 max_pc Decrement Ioc 8 
 abbrev takes_for : Program → ℕ → ℕ → Reply
 takes_for program msrm max_pc = answer (row (SendTake Bid 60 3 max_pc 0 0 10) bob []) (program_sees program msrm) asked.market
 
-budgets : (buys_for Serum 1 1502 ≡ Ordered (id_of Bid 60 1) 0 3 1500 2 0) × (buys_for Serum 0 1502 ≡ Ordered (id_of Bid 60 1) 0 2 1000 3 0)
-    × (buys_for Serum 1 1501 ≡ Ordered (id_of Bid 60 1) 0 2 1000 1 0) × (buys_for OpenBook 0 1501 ≡ Ordered (id_of Bid 60 1) 0 3 1500 1 0)
+budgets : (buys_for Serum 1 1502 ≡ Ordered 0 (id_of Bid 60 1) 3 1500 2 0) × (buys_for Serum 0 1502 ≡ Ordered 0 (id_of Bid 60 1) 2 1000 3 0)
+    × (buys_for Serum 1 1501 ≡ Ordered 0 (id_of Bid 60 1) 2 1000 1 0) × (buys_for OpenBook 0 1501 ≡ Ordered 0 (id_of Bid 60 1) 3 1500 1 0)
     × (takes_for Serum 1 1502 ≡ Took 3 1500 2) × (takes_for Serum 0 1502 ≡ Took 2 1000 3)
     × (takes_for Serum 1 1501 ≡ Took 2 1000 1) × (takes_for OpenBook 0 1501 ≡ Took 3 1500 1)
 unfolding taken demand_after price_of sequence_of id_of taker_rate maker_rate
@@ -126,7 +126,7 @@ abbrev slots_of : Address → Market → List (Option Holding)
 slots_of owner m = slots_in (trader_at owner m.traders)
 
 slots_again : (slots_of ben freed ≡ None ∷ Some (record { id = id_of Bid 45 2; side = Bid; client = 9 }) ∷ replicate 126 None)
-    × (answer (row (new Bid 44 1 1000 Decrement Limit 9 10) bob (ben ∷ [])) (sees None (bob_usd 5000)) freed ≡ Ordered (id_of Bid 44 3) 0 0 0 0 1)
+    × (answer (row (new Bid 44 1 1000 Decrement Limit 9 10) bob (ben ∷ [])) (sees None (bob_usd 5000)) freed ≡ Ordered 0 (id_of Bid 44 3) 0 0 0 1)
 unfolding taken demand_after price_of sequence_of id_of taker_rate maker_rate
 slots_again = (refl, refl)
 

@@ -39,7 +39,7 @@ unfolding taken demand_after price_of sequence_of id_of taker_rate maker_rate
 opens_once = (refl, refl, refl)
 
 -- ann asks four lots at 50; her wallet pays all of it
-asks : (asked.reply ≡ Ordered 922337203685477580800 0 0 0 0 4) × (movements (ask_sees 1000) asked.transfers ≡ debit (codes "ann_coin") 400 1000 ∷ [])
+asks : (asked.reply ≡ Ordered 0 922337203685477580800 0 0 0 4) × (movements (ask_sees 1000) asked.transfers ≡ debit (codes "ann_coin") 400 1000 ∷ [])
     × (events asked.market ≡ []) × (held asked.market ≡ 400 ∷ 0 ∷ 0 ∷ 0 ∷ []) × (funds amy asked.market ≡ 0 ∷ 400 ∷ 0 ∷ 0 ∷ 0 ∷ [])
 unfolding taken demand_after price_of sequence_of id_of taker_rate maker_rate
 asks = (refl, refl, refl, refl, refl)
@@ -51,7 +51,7 @@ unfolding taken demand_after price_of sequence_of id_of taker_rate maker_rate
 asks_too_poor = (refl, refl)
 
 -- bob buys three of them
-buys : (bought.reply ≡ Ordered 1125251388496282648574 0 3 1500 4 0) × (movements buy_sees bought.transfers ≡ debit (codes "bob_usd") 2000 5000 ∷ [])
+buys : (bought.reply ≡ Ordered 0 1125251388496282648574 3 1500 4 0) × (movements buy_sees bought.transfers ≡ debit (codes "bob_usd") 2000 5000 ∷ [])
     × (events bought.market ≡ (9 ∷ 1500 ∷ 300 ∷ 0 ∷ []) ∷ (5 ∷ 300 ∷ 1504 ∷ 4 ∷ []) ∷ (6 ∷ 0 ∷ 0 ∷ 0 ∷ []) ∷ [])
     × (held bought.market ≡ 400 ∷ 2000 ∷ 4 ∷ 0 ∷ []) × (funds ben bought.market ≡ 300 ∷ 300 ∷ 496 ∷ 496 ∷ 0 ∷ [])
 unfolding taken demand_after price_of sequence_of id_of taker_rate maker_rate
@@ -256,9 +256,9 @@ discounted mint owner balance = record buy_sees {
 abbrev buys_discounted : Address → Address → ℕ → Reply
 buys_discounted mint owner balance = (step buy_row (discounted mint owner balance) asked.market).reply
 
-discounts : (buys_discounted (label (codes "srm")) bob 100000000 ≡ Ordered 1125251388496282648574 0 3 1500 3 0)
-    × (buys_discounted (label (codes "srm")) bob 99999999 ≡ Ordered 1125251388496282648574 0 3 1500 4 0)
-    × (buys_discounted (label (codes "msrm")) bob 1 ≡ Ordered 1125251388496282648574 0 3 1500 2 0)
+discounts : (buys_discounted (label (codes "srm")) bob 100000000 ≡ Ordered 0 1125251388496282648574 3 1500 3 0)
+    × (buys_discounted (label (codes "srm")) bob 99999999 ≡ Ordered 0 1125251388496282648574 3 1500 4 0)
+    × (buys_discounted (label (codes "msrm")) bob 1 ≡ Ordered 0 1125251388496282648574 3 1500 2 0)
     × (buys_discounted usd bob 1 ≡ Refused (refusal.WrongMint usd))
     × (buys_discounted (label (codes "srm")) ann 1 ≡ Refused (refusal.WalletNotSigned ann))
 unfolding taken demand_after price_of sequence_of id_of taker_rate maker_rate
@@ -284,7 +284,7 @@ large = open_on (listing 10000000000000000000 455 2978)
 abbrev large_ask : ℕ → Step
 large_ask lots = step (row (new Ask 1 lots 1 Decrement Limit 1 10) ann (amy ∷ [])) (ask_sees 10000000000000000000) large
 
-too_large : ((large_ask 2).reply ≡ Refused refusal.AskTooLarge) × ((large_ask 1).reply ≡ Ordered 18446744073709551616 0 0 0 0 1)
+too_large : ((large_ask 2).reply ≡ Refused refusal.AskTooLarge) × ((large_ask 1).reply ≡ Ordered 0 18446744073709551616 0 0 0 1)
     × ((step (row (new Bid 1 1 100 Decrement Ioc 2 10) bob (ben ∷ [])) (sees None (bob_usd 5000)) (large_ask 1).market).reply ≡ Refused (refusal.SumTooLarge 10000000000000000000 10000000000000000000))
 unfolding taken demand_after price_of sequence_of id_of taker_rate maker_rate
 too_large = (refl, refl, refl)
@@ -293,7 +293,7 @@ too_large = (refl, refl, refl)
 abbrev cheaper : Step
 cheaper = step buy_row (record buy_sees { program = OpenBook }) asked.market
 
-second_program : (cheaper.reply ≡ Ordered 1125251388496282648574 0 3 1500 1 0) × (funds ben cheaper.market ≡ 300 ∷ 300 ∷ 499 ∷ 499 ∷ 0 ∷ []) × (held cheaper.market ≡ 400 ∷ 2000 ∷ 1 ∷ 0 ∷ [])
+second_program : (cheaper.reply ≡ Ordered 0 1125251388496282648574 3 1500 1 0) × (funds ben cheaper.market ≡ 300 ∷ 300 ∷ 499 ∷ 499 ∷ 0 ∷ []) × (held cheaper.market ≡ 400 ∷ 2000 ∷ 1 ∷ 0 ∷ [])
 unfolding taken demand_after price_of sequence_of id_of taker_rate maker_rate
 second_program = (refl, refl, refl)
 
@@ -301,7 +301,7 @@ second_program = (refl, refl, refl)
 abbrev buys_until : ℤ → Reply
 buys_until latest = (step (record (row (NewOrderV3 Bid 60 3 2000 Decrement Ioc 8 10 (Some latest)) bob (ben ∷ [])) { now = pos 100 }) buy_sees asked.market).reply
 
-times : (buys_until (pos 99) ≡ Refused (refusal.TimePast (pos 100) (pos 99))) × (buys_until (pos 100) ≡ Ordered 1125251388496282648574 0 3 1500 4 0)
+times : (buys_until (pos 99) ≡ Refused (refusal.TimePast (pos 100) (pos 99))) × (buys_until (pos 100) ≡ Ordered 0 1125251388496282648574 3 1500 4 0)
     × (buys_until (negsuc 4) ≡ Refused (refusal.TimePast (pos 100) (negsuc 4)))
 unfolding taken demand_after price_of sequence_of id_of taker_rate maker_rate
 times = (refl, refl, refl)

@@ -95,7 +95,7 @@ later_order_reasons : (in_time (ann_coin 0) (market (2 ^ 64) 0 amy 7 no_slots) �
     × (in_time (ann_coin 0) (market (2 ^ 64) 3 ben 7 no_slots) ≡ Refused (refusal.InsufficientFunds 200 0))
     × (in_time (ann_coin 200) (market (2 ^ 64) 3 ben 7 no_slots) ≡ Refused (refusal.SumTooLarge 18446744073709551816 0))
     × (in_time (ann_coin 200) (record (market (2 ^ 64) 3 ben 7 no_slots) { coin_vault = 0 }) ≡ Refused (refusal.SumTooLarge 18446744073709551616 500))
-    × (in_time (ann_coin 200) (market 0 3 ben 7 no_slots) ≡ Ordered (id_of Ask 40 7) 0 1 500 2 1)
+    × (in_time (ann_coin 200) (market 0 3 ben 7 no_slots) ≡ Ordered 0 (id_of Ask 40 7) 1 500 2 1)
 unfolding taken demand_after price_of sequence_of id_of taker_rate maker_rate
 later_order_reasons = (refl, refl, refl, refl, refl, refl)
 

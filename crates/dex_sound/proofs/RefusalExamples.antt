@@ -36,7 +36,7 @@ order_reasons : (buys bob None None None ≡ Refused refusal.NoAccount)
     × (buys bob None (ann_usd 1) bob_srm ≡ Refused (refusal.WrongMint (label (codes "srm"))))
     × (buys bob None (ann_usd 1) None ≡ Refused (refusal.WalletNotSigned ann))
     × (buys bob None (bob_usd 1999) None ≡ Refused (refusal.InsufficientFunds 2000 1999))
-    × (buys bob (ann_usd 1) (bob_usd 2000) None ≡ Ordered 1125251388496282648574 0 3 1500 4 0)
+    × (buys bob (ann_usd 1) (bob_usd 2000) None ≡ Ordered 0 1125251388496282648574 3 1500 4 0)
     × (answer (record buy_row { named = [] }) buy_sees asked.market ≡ Refused refusal.NoAccount)
     × (answer (record buy_row { named = bob ∷ ben ∷ [] }) buy_sees asked.market ≡ Refused refusal.NoAccount)
 unfolding taken demand_after price_of sequence_of id_of taker_rate maker_rate
@@ -76,7 +76,7 @@ all_quote = after (row (new Bid 1 1 18446744073709551615 Decrement Limit 1 10) a
 bounds_begin : (all_quote.pc_vault ≡ 18446744073709551615)
     × (answer (row (new Bid 1 1 1 Decrement Limit 1 10) bob (ben ∷ [])) (sees None (bob_usd 1)) all_quote ≡ Refused (refusal.SumTooLarge 18446744073709551616 0))
     × (answer (row (new Ask 1 2 1 Decrement Limit 1 10) ann (amy ∷ [])) (sees (ann_coin 0) None) (open_on (listing 9223372036854775808 455 2978)) ≡ Refused refusal.AskTooLarge)
-    × (answer buy_row buy_sees (after ask_row (ask_sees 400) (open_on (listing 100 455 3))) ≡ Ordered 1125251388496282648574 0 3 1500 4 0)
+    × (answer buy_row buy_sees (after ask_row (ask_sees 400) (open_on (listing 100 455 3))) ≡ Ordered 0 1125251388496282648574 3 1500 4 0)
     × (answer buy_row buy_sees (record bought.market { listing = listing 100 455 5 }) ≡ Refused (refusal.EventQueueFull 4 2))
 unfolding taken demand_after price_of sequence_of id_of taker_rate maker_rate
 bounds_begin = (refl, refl, refl, refl, refl)

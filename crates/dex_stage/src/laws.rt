@@ -18,7 +18,8 @@ ghost use Rattle.dex_stage.specs.Stages.{AreDone, AreReady, AreWalletsOf, IsRowA
 pub fn a_row_leaves_what_it_does_not_name()
     ensures markets { (script : PlainScript) (count : ℕ) (row : PlainRow) → IsRowAt script count row
         → (place : ℕ) → place < length script.start.markets
-        → ((d : PlainMarketAccounts) → is_same row.market (slice_index_or script.start.markets place d).address ≡ false)
+        → ((d : PlainMarketAccounts)
+        → is_same row.market (slice_index_or script.start.markets place d).address ≡ false)
         → (d : MarketState) → slice_index_or (world_at script (count + 1)).markets place d
         ≡ slice_index_or (world_at script count).markets place d }
     ensures wallets { (script : PlainScript) (count : ℕ) (row : PlainRow) → IsRowAt script count row

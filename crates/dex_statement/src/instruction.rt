@@ -8,7 +8,7 @@ ghost use Rattle.dex_statement.specs.Telling.{Tells, TellsFault, TellsIn};
 
 use crate::faults::{FaultKind, RowError};
 use crate::fields::{bytes_at, u32_at};
-use crate::order_words::data_in;
+use crate::order_words::read_data;
 use crate::parties::{Parties, read_parties};
 use crate::statement::Statement;
 use dex_rows::printable::row_is_printable;
@@ -105,7 +105,7 @@ fn read_words(alloc: Global, row: &Fields<'_>, words: &mut InstructionWords) -> 
     if field_count(row) != 10 {
         return Err(RowError::Fault(FaultKind::FieldCount));
     }
-    words.bytes = data_in(alloc, field_at(row, 9))?;
+    read_data(alloc, field_at(row, 9), &mut words.bytes)?;
     words.lane = u32_at(row, 1)?;
     read_parties(row, &mut words.parties)
 }

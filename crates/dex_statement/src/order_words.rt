@@ -3,8 +3,8 @@
 ghost use Rattle.std.specs.Prelude.{◌≡◌, ◌≤◌, ◌∷◌, [], IfOk, MatchResult, drop, length, take};
 ghost use Rattle.dex_instruction.specs.Spelling.{spelling};
 ghost use Rattle.dex_statement.specs.OrderWords as order;
-ghost use Rattle.dex_statement.specs.Telling.{TellsAs};
-ghost use Rattle.dex_statement.specs.Words.{texts, words_of};
+ghost use Rattle.dex_statement.specs.Telling.{TellsIn};
+ghost use Rattle.dex_statement.specs.Words.{field_at, order_type_of, self_trade_of, side_of, texts, words_of};
 
 use crate::faults::{FaultKind, RowError};
 use crate::words::{
@@ -12,7 +12,7 @@ use crate::words::{
 };
 use dex_instruction::encode;
 use dex_rows::numbers::{u16_word, u64_word, u128_word};
-use dex_types::{ClientIds, Ix, Side};
+use dex_types::{ClientIds, Ix, OrderType, SelfTrade, Side};
 use std::alloc::Global;
 
 /// The first word of a `do` row, which names the instruction.
@@ -33,49 +33,50 @@ pub enum Verb {
     CancelByClients,
 }
 
-/// The instruction's bytes that the words of a field ask for. It takes memory for the words only where they are more than the
-/// longest form has.
-pub(crate) fn data_in(alloc: Global, field: &[u8]) -> Result<Vec<u8>, RowError>
-    ensures { TellsAs (λ bytes. bytes.items) result (order.data_of (words_of field.now)) }
+/// Reads the instruction's bytes that the words of a field ask for. It takes memory for the words only where they are more than
+/// the longest form has.
+pub(crate) fn read_data(alloc: Global, field: &[u8], bytes: &mut Vec<u8>) -> Result<(), RowError>
+    ensures { TellsIn result bytes.new.items (order.data_of (words_of field.now)) }
 {
     let none: &[u8] = &[];
     let mut words = [none; MOST_WORDS];
     match few_words(field, &mut words) {
-        Some(count) => data_of(alloc, &words[..count]),
-        None => data_of_many(alloc, field),
+        Some(count) => read_words(&words[..count], bytes),
+        None => read_many(alloc, field, bytes),
     }
 }
 
 /// The same, of any number of words.
 #[inline(never)]
-fn data_of_many(alloc: Global, field: &[u8]) -> Result<Vec<u8>, RowError>
-    ensures { TellsAs (λ bytes. bytes.items) result (order.data_of (words_of field.now)) }
+fn read_many(alloc: Global, field: &[u8], bytes: &mut Vec<u8>) -> Result<(), RowError>
+    ensures { TellsIn result bytes.new.items (order.data_of (words_of field.now)) }
 {
     let words = words_of(alloc, field)?;
-    data_of(alloc, &words)
+    read_words(&words, bytes)
 }
 
-/// The instruction's bytes that the words of a `do` row ask for.
+/// Reads the instruction's bytes that the words of a `do` row ask for.
 #[tactic(auto, unfolding(crate::specs::OrderWords::data_of))]
-pub(crate) fn data_of(alloc: Global, words: &[&[u8]]) -> Result<Vec<u8>, RowError>
-    ensures { TellsAs (λ bytes. bytes.items) result (order.data_of (texts words.now)) }
+fn read_words(words: &[&[u8]], bytes: &mut Vec<u8>) -> Result<(), RowError>
+    ensures { TellsIn result bytes.new.items (order.data_of (texts words.now)) }
 {
     let ix = match verb_of(word_at(words, 0)) {
         None => return Err(RowError::Fault(FaultKind::UnknownRow)),
         Some(verb) => ix_of(verb, words)?,
     };
-    spelling_of(alloc, &ix)
+    write_spelling(&ix, bytes)
 }
 
-/// The bytes that spell an instruction.
-fn spelling_of(alloc: Global, ix: &Ix) -> Result<Vec<u8>, RowError>
-    ensures { TellsAs (λ bytes. bytes.items) result (Ok (spelling ix.now)) }
+/// Writes the bytes that spell an instruction in place of those that are there.
+fn write_spelling(ix: &Ix, bytes: &mut Vec<u8>) -> Result<(), RowError>
+    ensures { TellsIn result bytes.new.items (Ok (spelling ix.now)) }
 {
     let mut out = [0; 128];
     let count = encode(ix, &mut out);
-    let mut data = Vec::with_capacity(alloc, count)?;
-    data.extend_from_slice(&out[..count])?;
-    Ok(data)
+    bytes.clear();
+    bytes.reserve_exact(count)?;
+    bytes.extend_from_slice(&out[..count])?;
+    Ok(())
 }
 
 /// The verb that a word is.
@@ -199,13 +200,21 @@ fn is_strange_side(words: &[&[u8]], place: usize) -> bool
     place < words.len() && side_of(word_at(words, place)).is_none()
 }
 
-/// Whether one of an order's words that are of a list is not.
-fn is_strange_order(words: &[&[u8]]) -> bool
+/// Whether one of an order's words that are of a list is not, by what they name.
+fn is_strange_order(
+    words: &[&[u8]],
+    side: Option<Side>,
+    self_trade: Option<SelfTrade>,
+    order_type: Option<OrderType>,
+) -> bool
+    requires side { side ≡ side_of (field_at (texts words.now) 1) }
+    requires self_trade { self_trade ≡ self_trade_of (field_at (texts words.now) 5) }
+    requires order_type { order_type ≡ order_type_of (field_at (texts words.now) 6) }
     ensures { result ≡ order.is_strange_order (texts words.now) }
 {
-    is_strange_side(words, 1)
-        || (5 < words.len() && self_trade_of(word_at(words, 5)).is_none())
-        || (6 < words.len() && order_type_of(word_at(words, 6)).is_none())
+    (1 < words.len() && side.is_none())
+        || (5 < words.len() && self_trade.is_none())
+        || (6 < words.len() && order_type.is_none())
 }
 
 /// The latest time that the word behind an order's others says, where there is one.
@@ -220,32 +229,43 @@ fn latest_of(words: &[&[u8]]) -> Result<Option<i64>, FaultKind>
     Ok(Some(latest))
 }
 
-/// The new order that words ask for.
+/// The new order that words ask for. Each word that is of a list is looked up once.
 #[tactic(auto, unfolding(crate::specs::OrderWords::order_of))]
 fn order_of(words: &[&[u8]]) -> Result<Ix, FaultKind>
     ensures { result ≡ order.order_of (texts words.now) }
 {
-    if is_strange_order(words) {
+    let side = side_of(word_at(words, 1));
+    let self_trade = self_trade_of(word_at(words, 5));
+    let order_type = order_type_of(word_at(words, 6));
+    if is_strange_order(words, side, self_trade, order_type) {
         return Err(FaultKind::UnknownRow);
     }
     if words.len() != 9 && words.len() != 10 {
         return Err(FaultKind::FieldCount);
     }
-    order_in(words)
+    order_in(words, side, self_trade, order_type)
 }
 
-/// The new order whose fields stand in words, by place.
+/// The new order whose fields stand in words, by place, and of which this is known.
 #[tactic(auto, unfolding(crate::specs::OrderWords::order_in))]
-fn order_in(words: &[&[u8]]) -> Result<Ix, FaultKind>
+fn order_in(
+    words: &[&[u8]],
+    side: Option<Side>,
+    self_trade: Option<SelfTrade>,
+    order_type: Option<OrderType>,
+) -> Result<Ix, FaultKind>
+    requires side { side ≡ side_of (field_at (texts words.now) 1) }
+    requires self_trade { self_trade ≡ self_trade_of (field_at (texts words.now) 5) }
+    requires order_type { order_type ≡ order_type_of (field_at (texts words.now) 6) }
     ensures { result ≡ order.order_in (texts words.now) }
 {
     Ok(Ix::NewOrderV3 {
-        side: side_at(words, 1)?,
+        side: side.ok_or(FaultKind::UnknownRow)?,
         limit_price: amount_at(words, 2)?,
         max_coin_qty: amount_at(words, 3)?,
         max_native_pc_qty_including_fees: amount_at(words, 4)?,
-        self_trade_behavior: self_trade_of(word_at(words, 5)).ok_or(FaultKind::UnknownRow)?,
-        order_type: order_type_of(word_at(words, 6)).ok_or(FaultKind::UnknownRow)?,
+        self_trade_behavior: self_trade.ok_or(FaultKind::UnknownRow)?,
+        order_type: order_type.ok_or(FaultKind::UnknownRow)?,
         client_order_id: amount_at(words, 7)?,
         limit: limit_at(words, 8)?,
         max_ts: latest_of(words)?,

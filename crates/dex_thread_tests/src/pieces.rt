@@ -5,17 +5,18 @@ use dex_script_pieces::read_script;
 use std::alloc::{AllocError, Global};
 use std::test::Fail;
 
-/// What stands before the rows that are drawn, of which the first sets the clock.
+/// What stands before the rows that are drawn: the last but one sets the clock, and the two markets are large.
 const FRONT: &[u8] = b"mint,coin,6
 mint,usd,6
-market,m,coin,usd,admin,5,5,8,AAAAAABkAAAAAAAAAAoAAAAAAAAAAAAAAAAAAAAAAAEAAAAAAAAA
+market,m,coin,usd,admin,8000,8000,1000,AAAAAABkAAAAAAAAAAoAAAAAAAAAAAAAAAAAAAAAAAEAAAAAAAAA
+market,n,usd,coin,admin,7000,7000,1000,AAAAAABkAAAAAAAAAAoAAAAAAAAAAAAAAAAAAAAAAAEAAAAAAAAA
 orders,m,amy
 clock,5
 do,0,m,ann,amy,-,-,-,-,init
 ";
 
 /// How many rows stand in front of the first instruction row.
-const SETUP: u32 = 5;
+const SETUP: u32 = 6;
 
 /// How many rows are drawn, and which of them sets the clock again.
 const ROWS: u32 = 8_000;
@@ -68,6 +69,15 @@ fn are_in_order(script: &Script) -> bool {
     true
 }
 
+// Whether both markets have their accounts, each at its place.
+fn are_made(script: &Script) -> bool {
+    let markets = &script.start.markets;
+    markets.len() == 2
+        && markets[0].orders.len() == 1
+        && markets[1].orders.is_empty()
+        && markets[1].bids.len() < markets[0].bids.len()
+}
+
 #[test]
 fn pieces_are_the_whole(rt: HostRuntime) -> Result<(), Fail> {
     let alloc = rt.alloc();
@@ -78,6 +88,7 @@ fn pieces_are_the_whole(rt: HostRuntime) -> Result<(), Fail> {
     assert_eq!(rt; script.rows.len(), ROWS as usize);
     assert_eq!(rt; script.lanes, 2);
     assert!(rt; are_in_order(&script));
+    assert!(rt; are_made(&script));
     Ok(())
 }
 

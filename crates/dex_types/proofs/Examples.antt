@@ -147,7 +147,7 @@ resting orders = map (λ (o : Order). o.id ∷ o.lots ∷ []) orders
 abbrev asks : Told
 asks = new Ask (order amy 50 4 1 Decrement Limit 7 10) (market 455 455)
 
-asks_reply : asks.reply ≡ Some (Ordered 922337203685477580800 0 0 0 0 4)
+asks_reply : asks.reply ≡ Some (Ordered 0 922337203685477580800 0 0 0 4)
 unfolding taken demand_after price_of sequence_of id_of taker_rate maker_rate
 asks_reply = refl
 
@@ -163,7 +163,7 @@ asks_events = refl
 abbrev buys : Told
 buys = new Bid (order ben 60 3 2000 Decrement Ioc 8 10) asks.after
 
-buys_reply : buys.reply ≡ Some (Ordered 1125251388496282648574 0 3 1500 4 0)
+buys_reply : buys.reply ≡ Some (Ordered 0 1125251388496282648574 3 1500 4 0)
 unfolding taken demand_after price_of sequence_of id_of taker_rate maker_rate
 buys_reply = refl
 
@@ -214,7 +214,7 @@ short_of_the_fee_frees = (refl, refl, refl)
 abbrev post_only : Told
 post_only = new Bid (order ben 55 1 1000 Decrement PostOnly 8 10) asks.after
 
-post_only_fills_nothing : (post_only.reply ≡ Some (Ordered (id_of Bid 55 1) 0 0 0 0 0)) × (events post_only ≡ event 6 0 0 0 ∷ []) × (funds ben post_only ≡ 0 ∷ 0 ∷ 1000 ∷ 1000 ∷ [])
+post_only_fills_nothing : (post_only.reply ≡ Some (Ordered 0 (id_of Bid 55 1) 0 0 0 0)) × (events post_only ≡ event 6 0 0 0 ∷ []) × (funds ben post_only ≡ 0 ∷ 0 ∷ 1000 ∷ 1000 ∷ [])
 unfolding taken demand_after price_of sequence_of id_of taker_rate maker_rate
 post_only_fills_nothing = (refl, refl, refl)
 
@@ -225,7 +225,7 @@ two_asks = new Ask (order amy 51 1 1 Decrement Limit 2 10) (new Ask (order amy 5
 abbrev meets_one : Told
 meets_one = new Bid (order ben 55 2 5000 Decrement Limit 8 1) two_asks.after
 
-meets_one_only : (meets_one.reply ≡ Some (Ordered (id_of Bid 55 2) 0 1 500 2 0)) × (funds ben meets_one ≡ 100 ∷ 100 ∷ 4498 ∷ 4498 ∷ [])
+meets_one_only : (meets_one.reply ≡ Some (Ordered 0 (id_of Bid 55 2) 1 500 2 0)) × (funds ben meets_one ≡ 100 ∷ 100 ∷ 4498 ∷ 4498 ∷ [])
 unfolding taken demand_after price_of sequence_of id_of taker_rate maker_rate
 meets_one_only = (refl, refl)
 
@@ -272,7 +272,7 @@ asks_200 = new Ask (order amy 100 200 1 Decrement Limit 7 10) (market 455 455)
 abbrev buys_200 : ℕ → Told
 buys_200 max_pc = new Bid (order ben 100 200 max_pc Decrement Limit 8 10) asks_200.after
 
-buys_200_reply : (buys_200 200440).reply ≡ Some (Ordered 1863121151444664713214 0 200 200000 440 0)
+buys_200_reply : (buys_200 200440).reply ≡ Some (Ordered 0 1863121151444664713214 200 200000 440 0)
 unfolding taken demand_after price_of sequence_of id_of taker_rate maker_rate
 buys_200_reply = refl
 
@@ -281,7 +281,7 @@ unfolding taken demand_after price_of sequence_of id_of taker_rate maker_rate
 buys_200_fees = (refl, refl, refl)
 
 -- with one less to spend, one lot less fills
-buys_199 : ((buys_200 200439).reply ≡ Some (Ordered 1863121151444664713214 0 199 199000 438 0)) × ((buys_200 200439).after.pc_fees ≡ 292) × ((buys_200 200439).after.referrer_rebates ≡ 87) × (funds ben (buys_200 200439) ≡ 19900 ∷ 19900 ∷ 1001 ∷ 1001 ∷ [])
+buys_199 : ((buys_200 200439).reply ≡ Some (Ordered 0 1863121151444664713214 199 199000 438 0)) × ((buys_200 200439).after.pc_fees ≡ 292) × ((buys_200 200439).after.referrer_rebates ≡ 87) × (funds ben (buys_200 200439) ≡ 19900 ∷ 19900 ∷ 1001 ∷ 1001 ∷ [])
 unfolding taken demand_after price_of sequence_of id_of taker_rate maker_rate
 buys_199 = (refl, refl, refl, refl)
 
@@ -290,7 +290,7 @@ abbrev two_fills : Told
 two_fills = new Bid (order ben 60 4 1520 Decrement Ioc 8 10)
     (new Ask (order amy 51 2 1 Decrement Limit 2 10) (new Ask (order amy 50 2 1 Decrement Limit 1 10) (market 455 455)).after).after
 
-two_fills_events : (two_fills.reply ≡ Some (Ordered (id_of Bid 60 2) 0 3 1510 4 0)) × (events two_fills ≡ event 9 1000 200 0 ∷ event 2 0 0 0 ∷ event 9 510 100 0 ∷ event 5 300 1514 4 ∷ event 6 0 0 0 ∷ [])
+two_fills_events : (two_fills.reply ≡ Some (Ordered 0 (id_of Bid 60 2) 3 1510 4 0)) × (events two_fills ≡ event 9 1000 200 0 ∷ event 2 0 0 0 ∷ event 9 510 100 0 ∷ event 5 300 1514 4 ∷ event 6 0 0 0 ∷ [])
 unfolding taken demand_after price_of sequence_of id_of taker_rate maker_rate
 two_fills_events = (refl, refl)
 
@@ -305,7 +305,7 @@ best_maker = record (order amy 100 20 30000 Decrement Limit 1 10) { tier = Msrm 
 abbrev sells_to_msrm : Told
 sells_to_msrm = new Ask (order ben 90 15 1 Decrement Limit 2 10) (new Bid best_maker (market 455 455)).after
 
-sells_to_msrm_events : (sells_to_msrm.reply ≡ Some (Ordered (id_of Ask 90 1) 0 15 15000 33 0)) × (events sells_to_msrm ≡ event 13 1500 14993 7 ∷ event 1 14967 1500 33 ∷ event 2 0 0 0 ∷ [])
+sells_to_msrm_events : (sells_to_msrm.reply ≡ Some (Ordered 0 (id_of Ask 90 1) 15 15000 33 0)) × (events sells_to_msrm ≡ event 13 1500 14993 7 ∷ event 1 14967 1500 33 ∷ event 2 0 0 0 ∷ [])
 unfolding taken demand_after price_of sequence_of id_of taker_rate maker_rate
 sells_to_msrm_events = (refl, refl)
 
@@ -317,7 +317,7 @@ sells_to_msrm_pays = (refl, refl, refl)
 abbrev uses_free : Told
 uses_free = new Bid (order ben 50 1 700 Decrement Limit 2 10) too_poor.after
 
-uses_free_first : (uses_free.reply ≡ Some (Ordered (id_of Bid 50 1) 1 0 0 0 1)) × (uses_free.deposit ≡ 101) × (funds ben uses_free ≡ 0 ∷ 0 ∷ 200 ∷ 700 ∷ [])
+uses_free_first : (uses_free.reply ≡ Some (Ordered 1 (id_of Bid 50 1) 0 0 0 1)) × (uses_free.deposit ≡ 101) × (funds ben uses_free ≡ 0 ∷ 0 ∷ 200 ∷ 700 ∷ [])
 unfolding taken demand_after price_of sequence_of id_of taker_rate maker_rate
 uses_free_first = (refl, refl, refl)
 
@@ -325,7 +325,7 @@ uses_free_first = (refl, refl, refl)
 abbrev rests_after : Told
 rests_after = new Bid (order ben 50 5 2000 Decrement Limit 8 10) (new Ask (order amy 50 2 1 Decrement Limit 1 10) (market 455 455)).after
 
-rests_after_a_fill : (rests_after.reply ≡ Some (Ordered (id_of Bid 50 1) 0 2 1000 3 1)) × (events rests_after ≡ event 9 1000 200 0 ∷ event 2 0 0 0 ∷ event 5 200 1003 3 ∷ []) × (funds ben rests_after ≡ 200 ∷ 200 ∷ 497 ∷ 997 ∷ [])
+rests_after_a_fill : (rests_after.reply ≡ Some (Ordered 0 (id_of Bid 50 1) 2 1000 3 1)) × (events rests_after ≡ event 9 1000 200 0 ∷ event 2 0 0 0 ∷ event 5 200 1003 3 ∷ []) × (funds ben rests_after ≡ 200 ∷ 200 ∷ 497 ∷ 997 ∷ [])
 unfolding taken demand_after price_of sequence_of id_of taker_rate maker_rate
 rests_after_a_fill = (refl, refl, refl)
 
@@ -342,7 +342,7 @@ abbrev own_first : ℕ → Told
 own_first matches = new Bid (order ben 55 4 5000 Decrement Limit 8 matches)
     (new Ask (order amy 51 1 1 Decrement Limit 2 10) (new Ask (order ben 50 2 1 Decrement Limit 1 10) (market 455 455)).after).after
 
-own_first_decrements : ((own_first 10).reply ≡ Some (Ordered (id_of Bid 55 2) 1 1 510 2 1)) × (events (own_first 10) ≡ event 18 200 0 0 ∷ event 9 510 100 0 ∷ event 2 0 0 0 ∷ event 5 100 512 2 ∷ []) × (funds ben (own_first 10) ≡ 100 ∷ 300 ∷ 3938 ∷ 4488 ∷ [])
+own_first_decrements : ((own_first 10).reply ≡ Some (Ordered 1 (id_of Bid 55 2) 1 510 2 1)) × (events (own_first 10) ≡ event 18 200 0 0 ∷ event 9 510 100 0 ∷ event 2 0 0 0 ∷ event 5 100 512 2 ∷ []) × (funds ben (own_first 10) ≡ 100 ∷ 300 ∷ 3938 ∷ 4488 ∷ [])
 unfolding taken demand_after price_of sequence_of id_of taker_rate maker_rate
 own_first_decrements = (refl, refl, refl)
 

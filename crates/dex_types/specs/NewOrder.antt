@@ -206,4 +206,4 @@ after_order side account n o m =
 
 -- what a new order is answered
 abbrev pub order_reply : NewOrder → Ordering → Reply
-order_reply n o = Ordered o.order.id o.order.slot o.met.lots o.met.pc (fee_of n o.met) o.order.lots
+order_reply n o = Ordered o.order.slot o.order.id o.met.lots o.met.pc (fee_of n o.met) o.order.lots

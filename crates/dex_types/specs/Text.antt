@@ -87,7 +87,7 @@ refusal_text (refusal.SumTooLarge vault pending) = codes "refused 24 SumTooLarge
 
 -- a reply: what was done with its numbers, or the refusal
 abbrev pub reply_text : Reply → List ℕ
-reply_text (Ordered id slot lots pc fee rested) =
+reply_text (Ordered slot id lots pc fee rested) =
     codes "ok order" ++ spaced (decimal id) ++ spaced (decimal slot) ++ spaced (decimal lots) ++ spaced (decimal pc) ++ spaced (decimal fee) ++ spaced (decimal rested)
 reply_text (Took lots pc fee) = codes "ok take" ++ spaced (decimal lots) ++ spaced (decimal pc) ++ spaced (decimal fee)
 reply_text (Cancelled count) = codes "ok cancelled" ++ spaced (decimal count)

@@ -15,8 +15,8 @@ use std::fmt;
 #[derive(Clone, Copy, Debug, PartialEq, Eq)]
 pub enum Reply {
     Ordered {
-        id: u128,
         slot: u8,
+        id: u128,
         lots: u64,
         pc: u64,
         fee: u64,
@@ -81,7 +81,7 @@ fn ordered<W: fmt::Write>(
     rested: u64,
 ) -> fmt::Result
     ensures { DisplaysOnOk W.write_str_gives f.old result
-        (Some (reply_text (Ordered id slot lots pc fee rested))) f.new }
+        (Some (reply_text (Ordered slot id lots pc fee rested))) f.new }
 {
     let mut buffer = Buffer::new();
     let id = buffer.format(id);

@@ -68,3 +68,7 @@ with_entry cell entry = record cell {
   share = record cell.share { amount = moved_balance entry.kind entry.amount cell.share.amount };
   entries = cell.entries ++ entry ∷ [];
 }
+
+-- the cell after the movement of this kind and amount, by a row of this number that the lane submits to the market
+abbrev pub moved_by : CellState → Address → ℕ → ℕ → MoveKind → ℕ → CellState
+moved_by cell market lane row kind amount = with_entry cell (movement cell market lane row kind amount)

@@ -39,7 +39,7 @@ impl WalletCell {
     ghost use Rattle.dex_token.specs.TokenAccount.{IsWallet, wallet_words};
     ghost use Rattle.dex_wallet.specs.TokenAmount.{held_in};
     ghost use Rattle.dex_wallet.specs.CellState.{HasSpare, IsWalletCell, balance_of, movement, new_cell};
-    ghost use Rattle.dex_wallet.specs.CellState.{seen_of, with_entry};
+    ghost use Rattle.dex_wallet.specs.CellState.{moved_by, seen_of};
 
     /// The cell of a token account and of the parcel that its amount is, with room for so many movements. Where there
     /// is no memory for them, both are given up.
@@ -139,7 +139,7 @@ impl WalletCell {
     /// A row of this number, which this lane submits to this market, looks at the balance.
     pub fn probe(&mut self, market: Address, lane: u32, row: u32)
         requires { HasSpare self.old }
-        ensures moved { self.new ≡ with_entry self.old (movement self.old market lane row MoveKind.Probe 0) }
+        ensures moved { self.new ≡ moved_by self.old market lane row MoveKind.Probe 0 }
         ensures bytes { self.new.bytes ≡ self.old.bytes }
         ensures cell { IsWalletCell self.new }
     {
@@ -153,7 +153,7 @@ impl WalletCell {
         requires some { 1 ≤ amount }
         requires funds { amount ≤ balance_of self.old.bytes }
         ensures parcel { result ≡ record { mint = (wallet_words self.old.bytes).mint; amount = amount } }
-        ensures moved { self.new ≡ with_entry self.old (movement self.old market lane row MoveKind.Debit amount) }
+        ensures moved { self.new ≡ moved_by self.old market lane row MoveKind.Debit amount }
         ensures words { wallet_words self.new.bytes
             ≡ record (wallet_words self.old.bytes) { amount = balance_of self.old.bytes - amount } }
         ensures cell { IsWalletCell self.new }
@@ -170,7 +170,7 @@ impl WalletCell {
         requires mint { parcel.mint ≡ (wallet_words self.old.bytes).mint }
         requires some { 1 ≤ parcel.amount }
         requires fits { balance_of self.old.bytes + parcel.amount < 2 ^ 64 }
-        ensures moved { self.new ≡ with_entry self.old (movement self.old market lane row MoveKind.Credit parcel.amount) }
+        ensures moved { self.new ≡ moved_by self.old market lane row MoveKind.Credit parcel.amount }
         ensures words { wallet_words self.new.bytes
             ≡ record (wallet_words self.old.bytes) { amount = balance_of self.old.bytes + parcel.amount } }
         ensures cell { IsWalletCell self.new }

@@ -1,5 +1,5 @@
-use Rattle.std.proofs.Common.{◌≡◌, ◌∷◌, length, take, drop, ap, ◌∙◌, arith}
-use Rattle.dex_instruction.specs.Numbers.{number}
+use Rattle.std.proofs.Common.{◌≡◌, ◌∷◌, length, take, drop, refl, ap, ◌∙◌, arith}
+use Rattle.byteorder.specs.Endian.{little_bytes}
 use Rattle.dex_instruction.specs.Reading.{decoded}
 use Rattle.dex_instruction.specs.Spelling.{fields_of, spelling, tag_of}
 use Rattle.dex_instruction.specs.Writing.{written}
@@ -14,9 +14,9 @@ unfolding spelling
 whole c =
     let ix = c.args.ix.now in
     let end = c.put_fields.new.out in
-    let tag_put = c.put_u32.ensures.bytes ∙ ap (λ tag. written 1 (number 4 tag) c.put_u8.new.out) c.tag_of.ensures in
-    let from_tag = behind_number 1 5 4 (tag_of ix) (fields_of ix) c.put_u8.new.out c.put_u32.new.out end (omega arith) (omega arith) tag_put c.put_fields.ensures.bytes in
-    behind_number 0 1 1 0 ((4, tag_of ix) ∷ fields_of ix) c.args.out.now c.put_u8.new.out end (omega arith) (omega arith) c.put_u8.ensures.bytes from_tag
+    let tag_bytes = c.to_le_bytes.ensures ∙ ap (little_bytes 4) c.tag_of.ensures in
+    let from_tag = behind_number 1 5 4 (tag_of ix) (fields_of ix) _ c.put.new.out c.put-2.new.out end (omega arith) (omega arith) tag_bytes c.put-2.ensures.bytes c.put_fields.ensures.bytes in
+    behind_number 0 1 1 0 ((4, tag_of ix) ∷ fields_of ix) _ c.args.out.now c.put.new.out end (omega arith) (omega arith) refl c.put.ensures.bytes from_tag
 
 size : (c : goal.After-put_fields) → c.put_fields.result ≡ length (spelling c.args.ix.now)
 size c = omega (arith, length-spelling c.args.ix.now, c.put_fields.ensures.end)

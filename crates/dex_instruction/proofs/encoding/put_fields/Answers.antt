@@ -1,9 +1,10 @@
-use Rattle.std.proofs.Common.{[], ◌∷◌, ◌<◌, ◌^◌, List, rules, sym, arith}
+use Rattle.std.proofs.Common.{[], ◌∷◌, ◌<◌, ◌^◌, List, rules, sym, ap, ◌∙◌, arith}
 use Rattle.dex_instruction.specs.Codes.{side_code, self_trade_code, order_type_code}
-use Rattle.dex_instruction.specs.Numbers.{Field}
+use Rattle.dex_instruction.specs.Numbers.{Field, spelled}
 use Rattle.dex_instruction.specs.Spelling.{latest_fields}
-use Rattle.dex_instruction.proofs.Writing.{behind_fields, written-nothing}
-use Rattle.dex_instruction.proofs.Ranges.{no_fields, order_fits}
+use Rattle.dex_instruction.specs.Writing.{written}
+use Rattle.dex_instruction.proofs.Writing.{behind_fields, last_number, written-nothing}
+use Rattle.dex_instruction.proofs.Ranges.{limit_alone, no_fields, order_fits}
 use Rattle.dex_instruction.proofs.encoding.put_fields.Goals as goal
 
 pub returns-in-NewOrderV3-clause-bytes : goal.returns-in-NewOrderV3-clause-bytes
@@ -38,3 +39,14 @@ returns-in-CancelOrdersByClientIds-clause-fits c = rw c.in-CancelOrdersByClientI
 pub returns-in-SettleFunds-clause-bytes : goal.returns-in-SettleFunds-clause-bytes
 returns-in-SettleFunds-clause-bytes c =
     rw (no_fields c.args.ix.now c.in-SettleFunds.is) (sym (written-nothing 5 c.args.out.now (omega arith)))
+
+pub returns-in-CancelOrderByClientIdV2-clause-bytes : goal.returns-in-CancelOrderByClientIdV2-clause-bytes
+returns-in-CancelOrderByClientIdV2-clause-bytes c =
+    let cancel = c.in-CancelOrderByClientIdV2 in
+    rw cancel.is (last_number 5 8 cancel.client_order_id _ c.args.out.now c.put.new.out c.to_le_bytes.ensures c.put.ensures.bytes)
+
+pub returns-in-MatchOrders-clause-bytes : goal.returns-in-MatchOrders-clause-bytes
+returns-in-MatchOrders-clause-bytes c =
+    let limit = c.in-MatchOrders.limit in
+    last_number 5 2 limit _ c.args.out.now c.put-in-MatchOrders.new.out c.to_le_bytes-in-MatchOrders.ensures c.put-in-MatchOrders.ensures.bytes
+    ∙ ap (λ fields. written 5 (spelled fields) c.args.out.now) (sym (limit_alone c.args.ix.now limit c.in-MatchOrders.is))

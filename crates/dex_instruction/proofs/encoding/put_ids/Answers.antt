@@ -19,8 +19,8 @@ ids-preserved c =
     let done : List Field = as_fields (take i ids) in
     let more : as_fields (take (i + 1) ids) ≡ done ++ (8, id) ∷ [] = ap as_fields (take_more ids i 0 (omega arith)) ∙ map_push (λ x. (8, x)) (take i ids) id in
     let size : widths done ≡ 8 * i = widths-as_fields (take i ids) ∙ ap (λ n. 8 * n) (length-take-le i ids (omega arith)) in
-    let last = last_number c.ids.at 8 id c.ids.out c.put_u64-at.new.out c.put_u64-at.ensures.bytes in
-    let bytes = behind_fields 5 c.ids.at done ((8, id) ∷ []) c.args.out.now c.ids.out c.put_u64-at.new.out (omega arith) (omega arith) c.ids.invariant.bytes last in
+    let last = last_number c.ids.at 8 id _ c.ids.out c.put-at.new.out c.to_le_bytes.ensures c.put-at.ensures.bytes in
+    let bytes = behind_fields 5 c.ids.at done ((8, id) ∷ []) c.args.out.now c.ids.out c.put-at.new.out (omega arith) (omega arith) c.ids.invariant.bytes last in
     let small : id < 2 ^ 64 = search rules in
     record {
       place = omega arith;

@@ -1,5 +1,7 @@
-use Rattle.std.proofs.Common.{◌≡◌, ℕ, true, ap, refl, subst}
+use Rattle.std.proofs.Common.{◌≡◌, ◌≤◌, List, ℕ, ap, length, map, refl, subst, sym, true}
 use Rattle.std.proofs.lemmas.Result.{IfOk-weaker}
+use Rattle.dex_types.specs.Rows.{PlainRow, row_of}
+use Rattle.dex_fold.specs.Items.{items_of}
 use Rattle.dex_report.specs.Outcomes.{PlainOutcome, outcome_of}
 use Rattle.dex_report.specs.Report.{report_text}
 use Rattle.dex_report.specs.Telling.{FitOutcome}
@@ -14,8 +16,13 @@ use Rattle.dex_program.specs.Told.{text_of}
 use Rattle.dex_program.proofs.Pieces.{says-more}
 use Rattle.dex_program.proofs.batch.batch_answer.Goals as goal
 
-pub run_batch-requires-clause-rows : goal.run_batch-requires-clause-rows
-run_batch-requires-clause-rows g c = λ κs lives. c.in-Ok.ensures.apart refl
+pub run_batch_with_rows-requires-clause-rows : goal.run_batch_with_rows-requires-clause-rows
+run_batch_with_rows-requires-clause-rows g c = λ κs lives. c.in-Ok.ensures.apart refl
+
+pub report_of-requires-clause-few : goal.report_of-requires-clause-few
+report_of-requires-clause-few g c =
+    let is : IsScript c.in-Ok.script = subst IsScript c.script.view_is c.script.invariant.0 in
+    λ κs lives. subst (λ (rows : List PlainRow). length (items_of rows) ≤ 100000) (sym c.in_ok-outcome-in-Ok.ensures.rows) is.rows.few
 
 pub returns-in_ok-outcome-in-Ok : goal.returns-in_ok-outcome-in-Ok
 returns-in_ok-outcome-in-Ok g c =
@@ -23,8 +30,7 @@ returns-in_ok-outcome-in-Ok g c =
     let outcome : PlainOutcome = outcome_of c.in_ok-outcome-in-Ok.outcome in
     let left = c.in_ok-outcome-in-Ok.ensures in
     let is : IsScript script = subst IsScript c.script.view_is c.script.invariant.0 in
-    let counted = rw c.deref.ensures.value at c.items_in-rows.ensures in
-    let told = subst (λ (one : PlainScript). c.items_in-rows.result ≡ rows_told one) c.script.view_is counted in
+    let counted : length (items_of (map row_of c.in_ok-outcome-in-Ok.rows.items)) ≡ rows_told script = ap (λ (rows : List PlainRow). length (items_of rows)) left.rows in
     says-more _ (AnswersBatch c.args.bytes.now) _ (FitOutcome outcome) c.report_of.ensures.status c.report_of.ensures.text c.report_of.ensures.fits
     (λ fits. (
       script,
@@ -32,7 +38,7 @@ returns-in_ok-outcome-in-Ok g c =
       c.in-Ok.ensures.told,
       played script outcome is left.outcome left.run (c.without_swaps_rows_act_one_by_one.ensures.replay script outcome),
       run-told script outcome left.run fits,
-      ap (λ (n : ℕ). report_text outcome n) told,
+      ap (λ (n : ℕ). report_text outcome n) counted,
     ))
 
 pub returns-in-Err : goal.returns-in-Err

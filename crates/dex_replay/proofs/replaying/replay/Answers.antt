@@ -1,6 +1,3 @@
-use Rattle.std.proofs.Common.{map, sym, subst}
-use Rattle.dex_fold.proofs.Common.{row_of}
-use Rattle.dex_bank.specs.Places.{ArePlacedIn}
 use Rattle.dex_replay.proofs.Common.{outcome_of}
 use Rattle.dex_replay.proofs.RunOf.{items-replay, replay-is-run}
 use Rattle.dex_replay.proofs.replaying.replay.Goals as goal
@@ -9,8 +6,7 @@ pub use_up-requires-clause-script : goal.use_up-requires-clause-script
 use_up-requires-clause-script c = (c.args.script, c.in_ok-cells.ensures.script, c.in_ok-cells.ensures.cells, c.in_ok-cells.ensures.rows)
 
 pub use_up-requires-clause-places : goal.use_up-requires-clause-places
-use_up-requires-clause-places c =
-    subst (ArePlacedIn c.in_ok-cells.cells (map row_of c.in_ok-cells.rows.items)) (sym c.deref.ensures.value) c.in_ok-cells.ensures.places
+use_up-requires-clause-places c = c.in_ok-cells.ensures.places
 
 pub returns-in-Ok-clause-outcome : goal.returns-in-Ok-clause-outcome
 returns-in-Ok-clause-outcome c =

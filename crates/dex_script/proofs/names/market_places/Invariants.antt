@@ -2,7 +2,7 @@ use Rattle.std.proofs.Common.{◌≡◌, drop}
 use Rattle.std.specs.HashMap as hash
 use Rattle.std.specs.List.{position_from}
 use Rattle.dex_types.specs.declared.addresses.Address.{Address}
-use Rattle.dex_types.specs.declared.account_bytes.MarketAccounts.{MarketAccounts}
+use Rattle.dex_types.specs.Accounts.{PlainMarketAccounts}
 use Rattle.dex_types.specs.Addresses.{is_same}
 use Rattle.dex_script.proofs.names.market_places.Given as goal
 
@@ -10,4 +10,4 @@ use Rattle.dex_script.proofs.names.market_places.Given as goal
 abbrev pub invariant-loop-place : goal.invariant-loop-place
 invariant-loop-place l =
     (address : Address)
-    → hash.get is_same l.places address ≡ position_from (λ (one : MarketAccounts). is_same address one.address) l.place (drop l.place l.markets)
+    → hash.get is_same l.places address ≡ position_from (λ (one : PlainMarketAccounts). is_same address one.address) l.place (drop l.place l.markets)

@@ -15,4 +15,4 @@ returns g c =
     ∙ ap (λ (rows : List Fields). draft_after before 1 rows) c.new-rows.ensures in
     tells c.args.batch c.args.bytes.now (draft_after before 1 (rows_of c.args.bytes.now))
     (answers-plain c.args.batch c.args.bytes.now c.requires.begins)
-    c.read_rows.result (subst (TellsDraft c.read_rows.result) given c.read_rows.ensures)
+    c.read_all.result (subst (TellsDraft c.read_all.result) given c.read_all.ensures)

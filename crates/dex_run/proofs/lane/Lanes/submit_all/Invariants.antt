@@ -1,6 +1,5 @@
 use Rattle.std.proofs.Common.{◌≡◌, drop}
-use Rattle.dex_run.proofs.Common.{IsSeatOf}
-use Rattle.dex_run.proofs.LaneItems.{IsRestAt}
+use Rattle.dex_run.proofs.Common.{IsRestAt, IsSeatOf}
 use Rattle.dex_run.proofs.lane.Lanes.submit_all.Given as goal
 
 abbrev pub invariant-loop-item : goal.invariant-loop-item

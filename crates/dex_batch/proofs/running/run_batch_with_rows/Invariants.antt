@@ -1,4 +1,4 @@
-use Rattle.dex_batch.proofs.running.run_batch.Given as goal
+use Rattle.dex_batch.proofs.running.run_batch_with_rows.Given as goal
 
 -- the brand is the script
 abbrev pub ghosts-batched : goal.ghosts-batched

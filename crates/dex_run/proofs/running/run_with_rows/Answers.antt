@@ -5,7 +5,7 @@ use Rattle.dex_types.specs.declared.rows.RowPlaces.{RowPlaces}
 use Rattle.dex_script_facts.specs.Places.{ArePlaced}
 use Rattle.dex_run.proofs.Common.{IsIndex}
 use Rattle.dex_run.proofs.Jobs.{after-done, after-lanes, after-of_bank, lane-below}
-use Rattle.dex_run.proofs.running.run.Goals as goal
+use Rattle.dex_run.proofs.running.run_with_rows.Goals as goal
 
 pub places_by_lane-requires : goal.places_by_lane-requires
 places_by_lane-requires g c = (
