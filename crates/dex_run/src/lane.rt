@@ -5,7 +5,8 @@ ghost use Rattle.dex_run.specs.LaneItems.{IsItemOf, IsRestAt};
 ghost use Rattle.dex_run.specs.Running.{AreRowsOf, CanRun, HasRun};
 ghost use Rattle.dex_turns.specs.Seats.{IsSeatOf};
 
-use crate::stay::{Doors, Stay};
+use crate::stay::Stay;
+use dex_gate::Door;
 use dex_io::Pace;
 use dex_lanes::Job;
 use dex_replay::is_swap;
@@ -13,12 +14,12 @@ use dex_turns::{Bank, LaneSeat};
 use dex_types::{Row, RowPlaces};
 use std::sync::Wait;
 
-/// What all lanes look at: the bank with its doors, all rows with their places, and where the items of each lane
+/// What all lanes look at: the bank with a door for each of its markets, all rows with their places, and where the items of each lane
 /// begin.
 #[derive(Clone, Copy)]
 pub(crate) struct Lanes<'a> {
     pub(crate) bank: &'a Bank,
-    pub(crate) doors: &'a Doors,
+    pub(crate) doors: &'a [Door],
     pub(crate) rows: &'a [Row],
     pub(crate) places: &'a [RowPlaces],
     pub(crate) by_lane: &'a [Vec<usize>],

@@ -11,7 +11,7 @@ use crate::building::bank_over;
 use crate::closing::close;
 use crate::index::places_by_lane;
 use crate::lane::{LaneJob, Lanes};
-use crate::stay::Doors;
+use crate::stay::doors_for;
 use dex_bank::Cells;
 use dex_io::Pace;
 use dex_lanes::run_jobs;
@@ -96,7 +96,7 @@ pub fn run_with_rows<R: Threads + Wait + Sync, P: Pace + Sync>(
     let by_lane = places_by_lane(alloc, outline.lanes(), &rows)?;
     let (bank, seats) = bank_over(alloc, outline, cells)?;
     let (markets, _) = bank.counts();
-    let doors = Doors::new(rt, alloc, markets)?;
+    let doors = doors_for(alloc, markets)?;
     let lanes = Lanes {
         bank: &bank,
         doors: &doors,

@@ -44,7 +44,7 @@ fn four_come<R: Wait + Threads + Sync>(rt: &R, room: &Room) {
 #[test]
 fn one_at_a_time_is_behind_a_door(rt: HostRuntime) -> Result<(), Fail> {
     let room = Room {
-        door: Door::new(1),
+        door: Door::new(),
         inside: AtomicU64::new(0),
         met: AtomicU64::new(0),
     };
