@@ -17,7 +17,7 @@ use std::alloc::Global;
 use std::sync::Wait;
 
 /// How many items a lane may do before it lets others in.
-const MOST: usize = 8192;
+const MOST: usize = 1024;
 /// Fewer items are not worth a door.
 const FEW: usize = 32;
 /// How many rows are weighed together at most.
