@@ -1,34 +1,32 @@
-//! A door: no more than so many are behind it at a time, in the order in which they came, for as long as they stay.
+//! A door: one at a time is behind it, in the order in which they came, for as long as it stays.
 use crate::bells::Bells;
 use std::sync::Wait;
 use std::sync::atomic::{AtomicU64, Ordering};
 
-/// A door before gates. Who takes turn after turn comes in first and goes out behind the last, so that few or none are in its way. A gate
+/// A door before gates. Who takes turn after turn comes in first and goes out behind the last, so that nobody else is in its way. A gate
 /// asks for no door and promises as much without one: a door is about time alone, and no clause speaks of it. At most as many may
-/// wait at a door at once as a gate has passes.
+/// stand at a door at once as a gate has passes.
 ///
 /// No waiter is left asleep, for the reason that `Bells` gives: who waits sets its own bell and then looks, and who goes out lets the next
 /// one in and then takes its bell back. Who waits sleeps at once, since a stay is long.
 #[derive(Drop)]
 pub struct Door {
-    places: u64,
     came: AtomicU64,
     out: AtomicU64,
     bells: Bells,
 }
 
 impl Door {
-    /// A door behind which nobody is, and so many may be at once.
-    pub fn new(places: u64) -> Door {
+    /// A door behind which nobody is.
+    pub fn new() -> Door {
         Door {
-            places,
             came: AtomicU64::new(0),
             out: AtomicU64::new(0),
             bells: Bells::new(),
         }
     }
 
-    /// Waits until there is a place behind it for who came now.
+    /// Waits until all who came before have gone out.
     pub fn come_in<R: Wait>(&self, rt: &R) {
         let ticket = self.came.fetch_add(1, Ordering::SeqCst);
         for _ in rt.forever() {
@@ -46,12 +44,11 @@ impl Door {
     /// Lets the next one in. Who came in calls it once.
     pub fn go_out(&self) {
         let out = self.out.fetch_add(1, Ordering::SeqCst);
-        self.bells.wake(out.wrapping_add(self.places));
+        self.bells.wake(out.wrapping_add(1));
     }
 
-    // Whether so many have gone out that a ticket has a place. Who came later may have gone out before.
+    // Whether all tickets before this one have gone out.
     fn is_open_to(&self, ticket: u64) -> bool {
-        let out = self.out.load(Ordering::SeqCst);
-        ticket < out.saturating_add(self.places)
+        self.out.load(Ordering::SeqCst) == ticket
     }
 }

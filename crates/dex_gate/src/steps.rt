@@ -9,20 +9,20 @@ use crate::journaled::Journaled;
 use crate::plays::{Look, PassOn};
 use std::hint;
 
-/// How often who is soon next looks at the turn before it sleeps: together some microseconds on the processors seen, as long as a few
+/// How often who is next looks at the turn before it sleeps: together some microseconds on the processors seen, as long as a few
 /// turns.
 const LOOKS: u32 = 1_000;
 
-/// Whether the turn of the ticket has come, or comes while it is looked for. Up to three who are next look, since to sleep and to be
-/// woken takes longer than a turn: who is further behind would take a processor from those before it. Where it says yes, nobody else
-/// can take the turn.
+/// Whether the turn of the ticket has come, or comes while it is looked for. Only who is next looks, since to sleep and to be woken
+/// takes longer than a turn: who is further behind would take a processor from those before it. Where it says yes, nobody else can
+/// take the turn.
 pub(crate) fn comes<V: Journaled>(top: &Top<V>, ticket: u64) -> bool
     requires { IsBoard top.now.table_id }
 {
     for _ in 0..LOOKS {
         match ticket.wrapping_sub(top.peek(SERVED)) {
             0 => return true,
-            1..=3 => hint::spin_loop(),
+            1 => hint::spin_loop(),
             _ => return false,
         }
     }

@@ -6,26 +6,20 @@
 //! place, and between items, where a lane has no turn. So who waits at a door has but doors of lower places, and no lanes wait in a
 //! circle.
 //!
-//! Any other lane comes in at the hall's door, does up to `IN_HALL` items, and goes out again. No more lanes are in the hall than there are
-//! processors: each runs, so a turn that one waits for comes soon, and it need not sleep. Who is in the hall has no door of a market.
-//!
 //! The rows of one lane lie apart from each other, so the processor does not foresee which comes next, and each was waited for when its
 //! item acted. Therefore a lane weighs some rows together, which reads them side by side, just before their items act.
 
+use crate::index::is_swap;
 use crate::lane::Lanes;
 use dex_gate::Door;
-use dex_lanes::processors;
-use dex_replay::is_swap;
+use dex_script_facts::RowList;
 use dex_types::{NoMemory, Row, RowPlaces, add};
 use std::alloc::Global;
 use std::sync::Wait;
-use std::thread::Threads;
 
 /// How many items a lane may do before it lets others in.
 const MOST: usize = 1024;
-/// How many items a lane may do in the hall before it lets others in.
-const IN_HALL: usize = 256;
-/// Fewer items are not worth a market's door.
+/// Fewer items are not worth a door.
 const FEW: usize = 32;
 /// How many rows are weighed together at most.
 const TOGETHER: usize = 64;
@@ -95,7 +89,7 @@ fn weight_of(row: &Row) -> usize {
 }
 
 /// Weighs the rows with which the next items begin, and tells before which item to go on.
-fn weighed(rows: &[Row], own: &[usize], first: usize) -> usize {
+fn weighed(rows: &RowList, own: &[usize], first: usize) -> usize {
     let mut next = first;
     let mut weight: usize = 0;
     for _ in 0..TOGETHER {
@@ -112,36 +106,25 @@ fn weighed(rows: &[Row], own: &[usize], first: usize) -> usize {
 }
 
 /// The row with which an item begins.
-fn row_at<'a>(rows: &'a [Row], own: &[usize], item: usize) -> Option<&'a Row> {
-    rows.get(*own.get(item)?)
-}
-
-/// The doors of a bank: each market's, behind which one lane is at a time, and the hall's.
-#[derive(Drop)]
-pub(crate) struct Doors {
-    markets: Vec<Door>,
-    hall: Door,
-}
-
-impl Doors {
-    /// The doors of so many markets, and of a hall for as many lanes as there are processors. Asks memory.
-    pub(crate) fn new<R: Threads>(
-        rt: &R,
-        alloc: Global,
-        markets: usize,
-    ) -> Result<Doors, NoMemory> {
-        let mut doors = Vec::new(alloc);
-        for _ in 0..markets {
-            add(&mut doors, Door::new(1))?;
-        }
-        Ok(Doors {
-            markets: doors,
-            hall: Door::new(processors(rt) as u64),
-        })
+fn row_at<'a>(rows: &'a RowList, own: &[usize], item: usize) -> Option<&'a Row> {
+    let place = *own.get(item)?;
+    if place < rows.len() {
+        Some(rows.at(place))
+    } else {
+        None
     }
 }
 
-/// Items of a lane up to one, and the markets behind whose doors they are done; where there are none, they are done in the hall.
+/// A door for each market. Asks memory.
+pub(crate) fn doors_for(alloc: Global, markets: usize) -> Result<Vec<Door>, NoMemory> {
+    let mut doors = Vec::new(alloc);
+    for _ in 0..markets {
+        add(&mut doors, Door::new())?;
+    }
+    Ok(doors)
+}
+
+/// Items of a lane up to one, and the markets behind whose doors they are done, if they are.
 #[derive(Drop)]
 pub(crate) struct Stay {
     weighed: usize,
@@ -159,7 +142,7 @@ impl Stay {
         }
     }
 
-    /// The items from one on that act on two markets at most, or some in the hall. These are the places at which a lane's items begin.
+    /// The items from one on that act on two markets at most. These are the places at which a lane's items begin.
     fn from(lanes: &Lanes<'_>, own: &[usize], first: usize) -> Stay {
         let mut until = first;
         let mut markets = None;
@@ -175,7 +158,6 @@ impl Stay {
         }
         if until.wrapping_sub(first) < FEW {
             markets = None;
-            until = first.wrapping_add(IN_HALL).min(own.len());
         }
         Stay {
             weighed: first,
@@ -201,32 +183,26 @@ impl Stay {
         }
     }
 
-    /// Comes in at its doors.
-    fn come_in<R: Wait>(&self, rt: &R, doors: &Doors) {
-        match self.markets {
-            Some(Markets { lower, higher }) => {
-                come_in_at(rt, &doors.markets, lower);
-                if higher != lower {
-                    come_in_at(rt, &doors.markets, higher);
-                }
+    /// Comes in at the doors of its markets.
+    fn come_in<R: Wait>(&self, rt: &R, doors: &[Door]) {
+        if let Some(Markets { lower, higher }) = self.markets {
+            come_in_at(rt, doors, lower);
+            if higher != lower {
+                come_in_at(rt, doors, higher);
             }
-            None => doors.hall.come_in(rt),
         }
     }
 
     /// Behind an item: goes out where the stay ends with it.
-    pub(crate) fn behind(&self, doors: &Doors, item: usize) {
+    pub(crate) fn behind(&self, doors: &[Door], item: usize) {
         if item.wrapping_add(1) != self.until {
             return;
         }
-        match self.markets {
-            Some(Markets { lower, higher }) => {
-                if higher != lower {
-                    go_out_at(&doors.markets, higher);
-                }
-                go_out_at(&doors.markets, lower);
+        if let Some(Markets { lower, higher }) = self.markets {
+            if higher != lower {
+                go_out_at(doors, higher);
             }
-            None => doors.hall.go_out(),
+            go_out_at(doors, lower);
         }
     }
 }
