@@ -44,15 +44,7 @@ impl<'a> Lanes<'a> {
             let next = place + 1;
             let first = rows.at(place);
             let second = rows.at(next);
-            bank.submit_two_at(
-                rt,
-                seat,
-                first,
-                second,
-                &places[place],
-                &places[next],
-                pace,
-            );
+            bank.submit_two_at(rt, seat, first, second, &places[place], &places[next], pace);
         } else {
             let row = rows.at(place);
             bank.submit_at(rt, seat, row, &places[place], pace);

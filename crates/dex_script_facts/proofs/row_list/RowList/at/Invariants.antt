@@ -7,5 +7,5 @@ abbrev pub invariant-loop-piece : goal.invariant-loop-piece
 invariant-loop-piece l = record {
   within : l.left < length (rows_in (drop l.piece-index l.piece-items));
   same : (default : Row) →
-    slice_index_or (rows_in (drop l.piece-index l.piece-items)) l.left default ≡ slice_index_or l.fn.self l.fn.place default;
+      slice_index_or (rows_in (drop l.piece-index l.piece-items)) l.left default ≡ slice_index_or l.fn.self l.fn.place default;
 }
