@@ -1,5 +1,5 @@
 use Rattle.std.proofs.Common.{List, ap, arith, length, map, sym, subst, ◌∙◌}
-use Rattle.dex_fold.proofs.Common.{Row, range_with_len, row_of}
+use Rattle.dex_fold.proofs.Common.{range_with_len, row_of}
 use Rattle.dex_replay.proofs.Common.{IsOneOrder, IsRunOf, IsScript, PlainScript, outcome_of}
 use Rattle.dex_types.specs.declared.rows.RowPlaces.{RowPlaces}
 use Rattle.dex_script_facts.specs.Places.{ArePlaced}
