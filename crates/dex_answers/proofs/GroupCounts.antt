@@ -1,5 +1,7 @@
 -- How many groups neighbours of one number make, counted from the front.
-use Rattle.std.proofs.Common.{◌≡◌, ◌∙◌, ◌+◌, ℕ, Bool, true, false, cond, eqb, List, [], ◌∷◌, Option, Some, None, length, map, refl, ap, sym, arith}
+use Rattle.std.proofs.Common.{◌≡◌, ◌∙◌, ◌+◌, ◌<◌, ℕ, suc, Bool, true, false, cond, eqb, not, List, [], ◌∷◌, Option, Some, None, length, map, slice_index_or, drop, refl, ap, sym, arith}
+use Rattle.std.specs.Option.{option_eq}
+use Rattle.std.proofs.Math.Seq.{drop-cons}
 use Rattle.std.proofs.lemmas.List.{length-map}
 use Rattle.dex_types.specs.declared.rows.Row.{Row}
 use Rattle.dex_types.specs.Rows.{PlainRow, row_of}
@@ -16,6 +18,29 @@ goes_with (Some last) number = eqb last number
 abbrev pub begun : Option ℕ → List Row → ℕ
 begun last [] = 0
 begun last (row ∷ rows) = cond (goes_with last row.number) 0 1 + begun (Some row.number) rows
+
+-- one, where this is so
+abbrev one_where : Bool → ℕ
+one_where so = cond so 1 0
+
+-- an item begins where the row before has another number
+begins : (last : Option ℕ) (number : ℕ) (differs : Bool) → differs ≡ not (option_eq eqb last (Some number)) → cond (goes_with last number) 0 1 ≡ one_where differs
+begins None number differs is = ap one_where (sym is)
+begins (Some last) number differs is = turned (eqb last number) ∙ ap one_where (sym is)
+  where
+    turned : (b : Bool) → cond b 0 1 ≡ one_where (not b)
+    turned true = refl
+    turned false = refl
+
+-- from a row to those behind it
+pub begun-more : (rows : List Row) (place : ℕ) (row : Row) (last : Option ℕ) (differs : Bool) → place < length rows → row ≡ slice_index_or rows place row
+    → differs ≡ not (option_eq eqb last (Some row.number))
+    → begun last (drop place rows) ≡ one_where differs + begun (Some row.number) (drop (place + 1) rows)
+begun-more rows place row last differs within at is =
+    let next : suc place ≡ place + 1 = omega arith in
+    ap (begun last)
+    (drop-cons rows place row within ∙ ap (λ (one : Row). one ∷ drop (suc place) rows) (sym at) ∙ ap (λ (n : ℕ). row ∷ drop n rows) next)
+    ∙ ap (λ (n : ℕ). n + begun (Some row.number) (drop (place + 1) rows)) (begins last row.number differs is)
 
 module _ {A : Type 0} (key : A → ℕ) where
   length-joined : (y x : A) (groups : List (Group A)) → length (joined key y (joined key x groups)) ≡ cond (eqb (key y) (key x)) 0 1 + length (joined key x groups)

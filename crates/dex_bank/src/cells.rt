@@ -10,7 +10,7 @@ use crate::standing::Standing;
 use crate::stepping::{act_or_wait, stepped_both};
 use dex_cell::MarketCell;
 use dex_report::Outcome;
-use dex_script_facts::Script;
+use dex_script_facts::{RowList, Script};
 use dex_types::{Address, Named, NoMemory, Program, Reply, Row, RowPlaces};
 use dex_wallet::WalletCell;
 use std::alloc::Global;
@@ -65,11 +65,11 @@ impl Cells {
     pub fn of_script(
         alloc: Global,
         script: Script,
-    ) -> Result<(Cells, Vec<Row>, Vec<RowPlaces>), NoMemory>
+    ) -> Result<(Cells, RowList, Vec<RowPlaces>), NoMemory>
         ensures cells { IfOk result (λ made. made.0 ≡ first.opened script) }
-        ensures rows { IfOk result (λ made. map row_of made.1.items ≡ script.rows) }
-        ensures places { IfOk result (λ made. ArePlacedIn made.0 (map row_of made.1.items) made.2.items) }
-        ensures placed { IfOk result (λ made. ArePlaced script.start (map row_of made.1.items) made.2.items) }
+        ensures rows { IfOk result (λ made. map row_of made.1 ≡ script.rows) }
+        ensures places { IfOk result (λ made. ArePlacedIn made.0 (map row_of made.1) made.2.items) }
+        ensures placed { IfOk result (λ made. ArePlaced script.start (map row_of made.1) made.2.items) }
         ensures script { IsScript script }
     {
         let Script {

@@ -9,6 +9,7 @@ ghost use Rattle.dex_bank.specs.Counts as spec;
 ghost use Rattle.dex_bank.specs.Counts.{AreCounted, HaveSpare};
 ghost use Rattle.dex_bank.specs.Opened as first;
 
+use dex_script_facts::RowList;
 use dex_types::{Accounts, Address, NoMemory, Row, RowPlaces};
 use std::alloc::Global;
 
@@ -86,7 +87,7 @@ pub(crate) struct RowCounts {
 pub(crate) fn row_counts(
     alloc: Global,
     start: &Accounts,
-    rows: &[Row],
+    rows: &RowList,
     places: &[RowPlaces],
 ) -> Result<RowCounts, NoMemory>
     requires start { IsStart (accounts_of start.now) }
@@ -99,7 +100,7 @@ pub(crate) fn row_counts(
     let mut markets = Vec::from_elem(alloc, 0, start.markets.len())?;
     let mut wallets = Vec::from_elem(alloc, 0, start.wallets.len())?;
     for i in 0..rows.len() {
-        let (row, at) = (&rows[i], &places[i]);
+        let (row, at) = (rows.at(i), &places[i]);
         count_each(&mut markets, &[Some(at.market)]);
         count_each(&mut wallets, &wallets_told(row, at));
     }

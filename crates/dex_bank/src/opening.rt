@@ -20,8 +20,9 @@ ghost use Rattle.dex_bank.specs.Opened as first;
 use crate::cells::Cells;
 use crate::counting::row_counts;
 use dex_cell::MarketCell;
+use dex_script_facts::RowList;
 use dex_token::WalletRef;
-use dex_types::{Accounts, MarketAccounts, Named, NoMemory, Program, Row, RowPlaces, add};
+use dex_types::{Accounts, MarketAccounts, Named, NoMemory, Program, RowPlaces, add};
 use dex_wallet::{Parcel, WalletCell};
 use std::alloc::Global;
 
@@ -104,7 +105,7 @@ fn wallet_cells(
 pub(crate) fn opened(
     alloc: Global,
     start: Accounts,
-    rows: &[Row],
+    rows: &RowList,
     places: &[RowPlaces],
     program: Program,
 ) -> Result<Cells, NoMemory>

@@ -12,7 +12,7 @@ use dex_bank::Cells;
 use dex_io::Pace;
 use dex_replay::laws::{a_replay_is_in_one_order, what_one_order_leaves_is_a_run};
 use dex_report::Outcome;
-use dex_script_facts::{Script, addresses_of_markets, addresses_of_wallets};
+use dex_script_facts::{RowList, Script, addresses_of_markets, addresses_of_wallets};
 use dex_stage::Terms;
 use dex_team::{Lists, Naming, work_all};
 use dex_types::{NoMemory, Row};
@@ -26,6 +26,15 @@ fn helpers_for(workers: u32, markets: usize) -> usize {
     (workers as usize).min(markets).saturating_sub(1)
 }
 
+/// These rows as a list of one piece.
+fn in_one_piece(alloc: Global, rows: Vec<Row>) -> Result<RowList, NoMemory>
+    ensures { IfOk result (λ list. list ≡ rows.items) }
+{
+    let mut list = RowList::new(alloc);
+    list.push_piece(rows)?;
+    Ok(list)
+}
+
 /// The same as `run_batch`, of the script that the brand names.
 fn batched<J: Naming + Send + Sync, R: Threads + Wait + Sync, P: Pace + Sync>(
     rt: &R,
@@ -33,16 +42,17 @@ fn batched<J: Naming + Send + Sync, R: Threads + Wait + Sync, P: Pace + Sync>(
     script: Script,
     workers: u32,
     pace: &P,
-) -> Result<(Outcome, Vec<Row>), NoMemory>
+) -> Result<(Outcome, RowList), NoMemory>
     requires is { script ≡ J.script }
     requires single { HasNoSwap J.script.rows }
     ensures outcome { IfOk result (λ left. IsReplayOf J.script (outcome_of left.0)) }
-    ensures rows { IfOk result (λ left. map row_of left.1.items ≡ J.script.rows) }
+    ensures rows { IfOk result (λ left. map row_of left.1 ≡ J.script.rows) }
 {
     let terms = Terms::of(&script);
     let market_addresses = addresses_of_markets(alloc, &script.start.markets)?;
     let wallet_addresses = addresses_of_wallets(alloc, &script.start.wallets)?;
     let (cells, rows, places) = Cells::of_script(alloc, script)?;
+    let rows = rows.into_rows(alloc)?;
     let (mints, markets, wallets) = cells.into_parts();
     let helpers = helpers_for(workers, markets.len());
     let lists = Lists {
@@ -56,7 +66,7 @@ fn batched<J: Naming + Send + Sync, R: Threads + Wait + Sync, P: Pace + Sync>(
         rt, alloc, lists, markets, wallets, helpers, pace,
     )?;
     let outcome = left_by::<J>(alloc, mints, terms, markets, wallets)?;
-    Ok((outcome, rows))
+    Ok((outcome, in_one_piece(alloc, rows)?))
 }
 
 /// What is left when all rows of a script have acted in their order, on so many threads, and the rows. A row acts as soon as all rows
@@ -67,12 +77,12 @@ pub fn run_batch_with_rows<R: Threads + Wait + Sync, P: Pace + Sync>(
     script: Script,
     workers: u32,
     pace: &P,
-) -> Result<(Outcome, Vec<Row>), NoMemory>
+) -> Result<(Outcome, RowList), NoMemory>
     requires workers { (1 ≤ workers) × (workers ≤ 16) }
     requires rows { HasNoSwap script.rows }
     ensures outcome { IfOk result (λ left. IsReplayOf script (outcome_of left.0)) }
     ensures run { IfOk result (λ left. IsRunOf script (outcome_of left.0)) }
-    ensures rows { IfOk result (λ left. map row_of left.1.items ≡ script.rows) }
+    ensures rows { IfOk result (λ left. map row_of left.1 ≡ script.rows) }
 {
     let _ = &script.rows;
     a_replay_is_in_one_order();

@@ -8,4 +8,4 @@ mod job;
 mod running;
 
 pub use job::Job;
-pub use running::run_jobs;
+pub use running::{processors, run_jobs};

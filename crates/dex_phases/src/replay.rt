@@ -16,7 +16,7 @@ use std::time::Clock;
 pub struct Phases {
     /// From the bytes to the script.
     pub reading: u128,
-    /// From the script to the cells with which it starts, into which its accounts go.
+    /// From the script to the cells with which it starts, into which its accounts go, and to its rows in one piece.
     pub building: u128,
     /// All rows on the cells.
     pub rows: u128,
@@ -60,6 +60,7 @@ pub fn round<R: Clock + AllocGlobal>(rt: &R, bytes: &[u8]) -> Result<Replayed, E
     let count = items_in(&script.rows);
     let reading = watch.lap(rt)?;
     let (cells, of_script, places) = Cells::of_script(alloc, script)?;
+    let of_script = of_script.into_rows(alloc)?;
     let building = watch.lap(rt)?;
     let cells = act_all(cells, &of_script, &places);
     let rows = watch.lap(rt)?;

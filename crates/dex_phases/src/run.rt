@@ -53,7 +53,7 @@ pub fn round<R: Threads + Wait + Sync + Clock + AllocGlobal>(
     let reading = watch.lap(rt)?;
     let (outcome, rows) = run_with_rows(rt, alloc, script, &NoPace)?;
     let lanes = watch.lap(rt)?;
-    let pieces = report_pieces(rt, alloc, outcome, count, rows)?;
+    let pieces = report_pieces(rt, alloc, outcome, count, rows.into_pieces())?;
     let report = watch.lap(rt)?;
     drop(pieces);
     let dropping = watch.lap(rt)?;

@@ -61,9 +61,14 @@ dump-behind accounts =
     sym (append_assoc (opening ++ rows) (codes "enddump\n") (codes "end\n") ∙ append_assoc opening rows (codes "enddump\n" ++ codes "end\n"))
     ∙ ap (λ (t : List ℕ). t ++ codes "end\n") (whole-text accounts [])
 
-module _ (spent : Vec Row Global) (head opening end : Vec ℕ Global) (markets : List MarketJournal) (wallets : Vec WalletJournal Global) (rows : List MarketAccounts) where
+-- of rows that are spent nothing is told
+nothing-of : (spent : List (Vec Row Global)) → flat_map part_lines (map Spent spent) ≡ []
+nothing-of [] = refl
+nothing-of (rows ∷ spent) = nothing-of spent
+
+module _ (spent : List (Vec Row Global)) (head opening end : Vec ℕ Global) (markets : List MarketJournal) (wallets : Vec WalletJournal Global) (rows : List MarketAccounts) where
   abbrev up_to_head : List Part
-  up_to_head = (Spent spent ∷ []) ++ Text head ∷ []
+  up_to_head = map Spent spent ++ Text head ∷ []
 
   abbrev up_to_markets : List Part
   up_to_markets = up_to_head ++ map Market markets
@@ -90,7 +95,8 @@ module _ (spent : Vec Row Global) (head opening end : Vec ℕ Global) (markets :
       (both up_to_opening (map Rows rows) _ _
       (both up_to_wallets (Text opening ∷ []) _ _
       (both up_to_markets (Wallets wallets ∷ []) _ _
-      (both up_to_head (map Market markets) _ _ (append-nil head.items)
+      (both up_to_head (map Market markets) _ _
+      (both (map Spent spent) (Text head ∷ []) [] _ (nothing-of spent) (append-nil head.items))
       (flat_map-map part_lines Market markets ∙ sym (flat_map-map market_lines market_journal_of markets)))
       (append-nil _ ∙ sym (flat_map-map wallet_lines wallet_journal_of wallets.items)))
       (append-nil opening.items))

@@ -18,7 +18,7 @@ pub(crate) enum Part {
     Wallets(Vec<WalletJournal>),
     /// The rows of a market's accounts.
     Rows(MarketAccounts),
-    /// The rows of a script, of which nothing is written: they are let go beside what is.
+    /// A piece of the rows of a script, of which nothing is written: they are let go beside what is.
     Spent(Vec<Row>),
 }
 

@@ -19,14 +19,14 @@ use std::thread::Threads;
 
 /// The report of an outcome of so many rows, in pieces that follow each other and are written on threads of their own: each market's
 /// journal, the journals of all wallets and each market's accounts, small ones together. They are let go when they are written, and
-/// what is spent beside them: rows, of which nothing is told. All values that it tells fit: addresses 32 bytes, amounts of movements 64
-/// bits, and numbers of replies 128.
+/// what is spent beside them: pieces of rows, of which nothing is told. All values that it tells fit: addresses 32 bytes, amounts of
+/// movements 64 bits, and numbers of replies 128.
 pub fn report_pieces<R: Threads + Sync>(
     rt: &R,
     alloc: Global,
     outcome: Outcome,
     rows: u32,
-    spent: Vec<Row>,
+    spent: Vec<Vec<Row>>,
 ) -> Result<Vec<Vec<u8>>, NoMemory>
     ensures fits { IfOk result (λ pieces. FitOutcome (outcome_of outcome)) }
     ensures text { IfOk result (λ pieces.
@@ -43,7 +43,7 @@ fn pieces_of<R: Threads + Sync>(
     alloc: Global,
     outcome: Outcome,
     rows: u32,
-    spent: Vec<Row>,
+    spent: Vec<Vec<Row>>,
 ) -> Result<Vec<Vec<u8>>, AllocError>
     ensures fits { IfOk result (λ pieces. FitOutcome (outcome_of outcome)) }
     ensures text { IfOk result (λ pieces.
@@ -58,7 +58,7 @@ fn parts_of(
     alloc: Global,
     outcome: Outcome,
     rows: u32,
-    spent: Vec<Row>,
+    spent: Vec<Vec<Row>>,
 ) -> Result<Vec<Part>, AllocError>
     ensures fits { IfOk result (λ parts. All FitPart parts.items → FitOutcome (outcome_of outcome)) }
     ensures text { IfOk result (λ parts.
@@ -76,7 +76,7 @@ fn parts_of(
     let mut end = Vec::new(alloc);
     end.extend_from_slice(b"enddump\nend\n")?;
     let mut parts = Vec::new(alloc);
-    parts.push(Part::Spent(spent))?;
+    add_spent(&mut parts, spent)?;
     parts.push(Part::Text(head))?;
     add_markets(&mut parts, markets)?;
     parts.push(Part::Wallets(wallets))?;
@@ -84,6 +84,15 @@ fn parts_of(
     add_rows(&mut parts, accounts.markets)?;
     parts.push(Part::Text(end))?;
     Ok(parts)
+}
+
+fn add_spent(parts: &mut Vec<Part>, spent: Vec<Vec<Row>>) -> Result<(), AllocError>
+    ensures { OnOk result (parts.new.items ≡ parts.old.items ++ map part.Spent spent.items) }
+{
+    for rows in spent {
+        parts.push(Part::Spent(rows))?;
+    }
+    Ok(())
 }
 
 fn add_markets(parts: &mut Vec<Part>, journals: Vec<MarketJournal>) -> Result<(), AllocError>

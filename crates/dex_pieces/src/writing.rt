@@ -5,7 +5,7 @@ ghost use Rattle.std.specs.List.{All, AllZip, flat_map};
 ghost use Rattle.dex_pieces.specs.Parts.{FitPart, WritesParts, part_lines, parts_in};
 
 use crate::part::Part;
-use dex_lanes::{Job, run_jobs};
+use dex_lanes::{Job, processors, run_jobs};
 use dex_report::{LINE, take_each};
 use std::alloc::{AllocError, Global};
 use std::marker::Sync;
@@ -52,7 +52,7 @@ pub(crate) fn texts_of<R: Threads + Sync>(
     ensures text { IfOk result (λ texts. flat_map (λ text. text.items) texts.items
         ≡ flat_map part_lines parts.items) }
 {
-    let groups = groups_of(alloc, parts)?;
+    let groups = groups_of(alloc, parts, processors(rt))?;
     let mut jobs = jobs_of(alloc, groups)?;
     run_jobs(rt, &mut jobs);
     written_by(alloc, jobs)
@@ -67,20 +67,17 @@ fn weight_of(parts: &[Part]) -> usize {
     weight
 }
 
-/// For how many threads there is to be work, where no part is much larger than others.
-const SHARES: usize = 4;
-
 /// Whether a group of some weight is complete where a part of this weight comes next.
 fn is_complete(group: usize, part: usize, share: usize) -> bool {
     LINE < group && share < group.saturating_add(part)
 }
 
-/// The parts in groups of those that follow each other. A thread costs as much time as some hundred lines, so small parts are
-/// written by the thread of a larger one.
-fn groups_of(alloc: Global, parts: Vec<Part>) -> Result<Vec<Vec<Part>>, AllocError>
+/// The parts in groups of those that follow each other: about so many, where no part is much larger than others, and one where there
+/// is one processor. A thread costs as much time as some hundred lines, so small parts are written by the thread of a larger one.
+fn groups_of(alloc: Global, parts: Vec<Part>, shares: usize) -> Result<Vec<Vec<Part>>, AllocError>
     ensures { IfOk result (λ groups. parts_in groups.items ≡ parts.items) }
 {
-    let share = weight_of(&parts) / SHARES;
+    let share = weight_of(&parts) / shares.max(1);
     let mut groups = Vec::new(alloc);
     let mut group = Vec::new(alloc);
     let mut weight: usize = 0;

@@ -1,5 +1,5 @@
 -- What a script leaves that was run, from how the run ended.
-use Rattle.std.proofs.Common.{◌≡◌, ◌∙◌, ℕ, Bool, true, false, List, Option, Some, None, ap, subst}
+use Rattle.std.proofs.Common.{◌≡◌, ◌∙◌, ℕ, Bool, true, false, List, Option, Some, ap, subst}
 use Rattle.std.specs.Io.KnownBytes.{append_known}
 use Rattle.dex_words.specs.declared.command.Command.{Command}
 use Rattle.dex_words.specs.declared.command.Command.TheVariants.{Batch, Replay, Run}

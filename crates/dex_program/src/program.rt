@@ -13,6 +13,7 @@ use crate::threads::answer_on_threads;
 use crate::told::StatusPieces;
 use dex_answers::Status;
 use dex_io::{Pace, Sink, Source};
+use dex_pieces::let_go;
 use dex_plain::{Stop, is_plain, plain, read_input, written, written_each};
 use dex_words::{Command, WordsError, read_words};
 use std::alloc::Global;
@@ -82,7 +83,7 @@ fn by_words<R: Threads + Wait + Sync, S: Source, K: Sink, P: Pace + Sync>(
     }
 }
 
-// Runs one command on several threads.
+// Runs one command on several threads. What was written is let go side by side too.
 fn on_threads<R: Threads + Wait + Sync, S: Source, K: Sink, P: Pace + Sync>(
     rt: &R,
     alloc: Global,
@@ -98,7 +99,11 @@ fn on_threads<R: Threads + Wait + Sync, S: Source, K: Sink, P: Pace + Sync>(
         (output (K.taken sink.old) (K.taken sink.new) (K.faults sink.old) (K.faults sink.new)) result }
 {
     match threads_answer(rt, alloc, command, source, pace) {
-        Ok(report) => written_each(sink, &report.pieces, report.status),
+        Ok(report) => {
+            let ended = written_each(sink, &report.pieces, report.status);
+            let_go(rt, alloc, report.pieces);
+            ended
+        }
         Err(stop) => written(sink, stop.line(), stop.status()),
     }
 }

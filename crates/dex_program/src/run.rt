@@ -6,6 +6,7 @@ ghost use Rattle.dex_program.specs.Told.{text_of};
 
 use crate::told::{StatusPieces, refused, report_of};
 use dex_io::Pace;
+use dex_lanes::processors;
 use dex_replay::laws::without_swaps_rows_act_one_by_one;
 use dex_run::run_with_rows;
 use dex_script_pieces::read_script;
@@ -15,8 +16,8 @@ use std::marker::Sync;
 use std::sync::Wait;
 use std::thread::Threads;
 
-/// How many threads read the rows of a script.
-const READERS: usize = 4;
+/// At most so many threads read the rows of a script.
+const READERS: usize = 16;
 
 /// The report of what is left when the lanes of a script have run side by side, or why the bytes are no script. Each row is let
 /// in by the pace.
@@ -28,7 +29,7 @@ pub fn run_answer<R: Threads + Wait + Sync, P: Pace + Sync>(
 ) -> Result<StatusPieces, NoMemory>
     ensures { IfOk result (λ told. AnswersRun bytes.now told.status (text_of told)) }
 {
-    match read_script(rt, alloc, bytes, false, READERS) {
+    match read_script(rt, alloc, bytes, false, processors(rt).min(READERS)) {
         Ok(script) => {
             // What the script's type keeps of its rows, for the proof.
             let _ = &script.rows;

@@ -15,7 +15,8 @@ use dex_answers::{Status, StatusText, items_in, no_script};
 use dex_pieces::report_pieces;
 use dex_report::Outcome;
 use dex_script::ScriptError;
-use dex_types::{NoMemory, Row};
+use dex_script_facts::RowList;
+use dex_types::NoMemory;
 use std::alloc::Global;
 use std::marker::Sync;
 use std::thread::Threads;
@@ -46,16 +47,16 @@ pub(crate) fn report_of<R: Threads + Sync>(
     rt: &R,
     alloc: Global,
     outcome: Outcome,
-    rows: Vec<Row>,
+    rows: RowList,
 ) -> Result<StatusPieces, NoMemory>
-    requires few { length (items_of (map row_of rows.items)) ≤ 100000 }
+    requires few { length (items_of (map row_of rows)) ≤ 100000 }
     ensures fits { IfOk result (λ told. FitOutcome (outcome_of outcome)) }
     ensures status { IfOk result (λ told. told.status ≡ status.Ok) }
     ensures text { IfOk result (λ told. text_of told
-        ≡ report_text (outcome_of outcome) (length (items_of (map row_of rows.items)))) }
+        ≡ report_text (outcome_of outcome) (length (items_of (map row_of rows)))) }
 {
     let items = items_in(&rows);
-    let pieces = report_pieces(rt, alloc, outcome, items, rows)?;
+    let pieces = report_pieces(rt, alloc, outcome, items, rows.into_pieces())?;
     Ok(StatusPieces {
         status: Status::Ok,
         pieces,

@@ -1,8 +1,6 @@
 //! All items of a script act on its cells, one after the other.
 
-ghost use Rattle.std.specs.Prelude.{◌≡◌, ◌∷◌, ◌+◌, ◌-◌, ◌<◌, List, length, map, take, true, false};
-ghost use Rattle.std.specs.Prelude.{option_copied, option_map, slice_index_or};
-ghost use Rattle.dex_types.specs.declared.rows.Row.{Row as PlainBuffer};
+ghost use Rattle.std.specs.Prelude.{◌≡◌, ◌∷◌, ◌-◌, List, length, map, option_copied, option_map, take};
 ghost use Rattle.dex_types.specs.declared.rows.RowPlaces.{RowPlaces as RowPlacesOf};
 ghost use Rattle.dex_types.specs.Rows.{PlainRow, row_of};
 ghost use Rattle.dex_fold.specs.Items.{items_of};
@@ -16,17 +14,6 @@ ghost use Rattle.dex_replay.specs.Replays.{world_after};
 
 use dex_bank::Cells;
 use dex_types::{Row, RowPlaces};
-
-/// Whether the row at a place and the one behind it are the legs of one swap: they have one number.
-pub fn is_swap(rows: &[Row], place: usize) -> bool
-    requires { place < length rows.now }
-    ensures yes { result ≡ true → (row : PlainBuffer) → (place + 1 < length rows.now)
-        × ((slice_index_or rows.now place row).number ≡ (slice_index_or rows.now (place + 1) row).number) }
-    ensures no { result ≡ false → (row : PlainBuffer) → place + 1 < length rows.now
-        → (slice_index_or rows.now place row).number ≡ (slice_index_or rows.now (place + 1) row).number → ⊥ }
-{
-    rows.len() - place > 1 && rows[place].number == rows[place + 1].number
-}
 
 /// The item that begins with a row acts: the row, or, where the one behind it has its number, both as the legs of a swap. The row stands
 /// among the cells at the places `at`, and the one behind it at `at_behind`. Says how many rows these are.

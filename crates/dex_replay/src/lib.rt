@@ -7,5 +7,5 @@ pub mod laws;
 mod replaying;
 pub mod reports;
 
-pub use acting::{act_all, is_swap};
+pub use acting::act_all;
 pub use replaying::{replay, replay_with_rows};

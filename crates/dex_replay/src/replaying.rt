@@ -21,6 +21,7 @@ pub fn replay_with_rows(alloc: Global, script: Script) -> Result<(Outcome, Vec<R
     ensures rows { IfOk result (λ left. map row_of left.1.items ≡ script.rows) }
 {
     let (cells, rows, places) = Cells::of_script(alloc, script)?;
+    let rows = rows.into_rows(alloc)?;
     let cells = act_all(cells, &rows, &places);
     match cells.close(alloc) {
         Ok(outcome) => Ok((outcome, rows)),
@@ -34,6 +35,7 @@ pub fn replay(alloc: Global, script: Script) -> Result<Outcome, NoMemory>
     ensures run { IfOk result (λ outcome. IsRunOf script (outcome_of outcome)) }
 {
     let (cells, rows, places) = Cells::of_script(alloc, script)?;
+    let rows = rows.into_rows(alloc)?;
     match use_up(cells, rows, places).close(alloc) {
         Ok(outcome) => Ok(outcome),
         Err(_) => Err(NoMemory),

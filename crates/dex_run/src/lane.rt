@@ -5,13 +5,14 @@ ghost use Rattle.dex_run.specs.LaneItems.{IsItemOf, IsRestAt};
 ghost use Rattle.dex_run.specs.Running.{AreRowsOf, CanRun, HasRun};
 ghost use Rattle.dex_turns.specs.Seats.{IsSeatOf};
 
+use crate::index::is_swap;
 use crate::stay::Stay;
 use dex_gate::Door;
 use dex_io::Pace;
 use dex_lanes::Job;
-use dex_replay::is_swap;
+use dex_script_facts::RowList;
 use dex_turns::{Bank, LaneSeat};
-use dex_types::{Row, RowPlaces};
+use dex_types::RowPlaces;
 use std::sync::Wait;
 
 /// What all lanes look at: the bank with a door for each of its markets, all rows with their places, and where the items of each lane
@@ -20,7 +21,7 @@ use std::sync::Wait;
 pub(crate) struct Lanes<'a> {
     pub(crate) bank: &'a Bank,
     pub(crate) doors: &'a [Door],
-    pub(crate) rows: &'a [Row],
+    pub(crate) rows: &'a RowList,
     pub(crate) places: &'a [RowPlaces],
     pub(crate) by_lane: &'a [Vec<usize>],
 }
@@ -41,17 +42,12 @@ impl<'a> Lanes<'a> {
         let places = self.places;
         if is_swap(rows, place) {
             let next = place + 1;
-            bank.submit_two_at(
-                rt,
-                seat,
-                &rows[place],
-                &rows[next],
-                &places[place],
-                &places[next],
-                pace,
-            );
+            let first = rows.at(place);
+            let second = rows.at(next);
+            bank.submit_two_at(rt, seat, first, second, &places[place], &places[next], pace);
         } else {
-            bank.submit_at(rt, seat, &rows[place], &places[place], pace);
+            let row = rows.at(place);
+            bank.submit_at(rt, seat, row, &places[place], pace);
         }
     }
 

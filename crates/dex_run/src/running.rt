@@ -16,9 +16,9 @@ use dex_bank::Cells;
 use dex_io::Pace;
 use dex_lanes::run_jobs;
 use dex_report::Outcome;
-use dex_script_facts::Script;
+use dex_script_facts::{RowList, Script};
 use dex_turns::{LaneSeat, Outline};
-use dex_types::{NoMemory, Row, add};
+use dex_types::{NoMemory, add};
 use std::alloc::Global;
 use std::marker::Sync;
 use std::sync::Wait;
@@ -86,10 +86,10 @@ pub fn run_with_rows<R: Threads + Wait + Sync, P: Pace + Sync>(
     alloc: Global,
     script: Script,
     pace: &P,
-) -> Result<(Outcome, Vec<Row>), NoMemory>
+) -> Result<(Outcome, RowList), NoMemory>
     ensures run { IfOk result (λ left. IsRunOf script (outcome_of left.0)) }
     ensures one_order { IfOk result (λ left. IsOneOrder script (outcome_of left.0)) }
-    ensures rows { IfOk result (λ left. map row_of left.1.items ≡ script.rows) }
+    ensures rows { IfOk result (λ left. map row_of left.1 ≡ script.rows) }
 {
     let outline = Outline::of(alloc, &script)?;
     let (cells, rows, places) = Cells::of_script(alloc, script)?;

@@ -9,9 +9,10 @@
 //! The rows of one lane lie apart from each other, so the processor does not foresee which comes next, and each was waited for when its
 //! item acted. Therefore a lane weighs some rows together, which reads them side by side, just before their items act.
 
+use crate::index::is_swap;
 use crate::lane::Lanes;
 use dex_gate::Door;
-use dex_replay::is_swap;
+use dex_script_facts::RowList;
 use dex_types::{NoMemory, Row, RowPlaces, add};
 use std::alloc::Global;
 use std::sync::Wait;
@@ -88,7 +89,7 @@ fn weight_of(row: &Row) -> usize {
 }
 
 /// Weighs the rows with which the next items begin, and tells before which item to go on.
-fn weighed(rows: &[Row], own: &[usize], first: usize) -> usize {
+fn weighed(rows: &RowList, own: &[usize], first: usize) -> usize {
     let mut next = first;
     let mut weight: usize = 0;
     for _ in 0..TOGETHER {
@@ -105,8 +106,13 @@ fn weighed(rows: &[Row], own: &[usize], first: usize) -> usize {
 }
 
 /// The row with which an item begins.
-fn row_at<'a>(rows: &'a [Row], own: &[usize], item: usize) -> Option<&'a Row> {
-    rows.get(*own.get(item)?)
+fn row_at<'a>(rows: &'a RowList, own: &[usize], item: usize) -> Option<&'a Row> {
+    let place = *own.get(item)?;
+    if place < rows.len() {
+        Some(rows.at(place))
+    } else {
+        None
+    }
 }
 
 /// A door for each market. Asks memory.

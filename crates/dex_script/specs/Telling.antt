@@ -1,5 +1,5 @@
 -- What the answers of calls tell, without their buffers.
-use Rattle.std.specs.Prelude.{◌≡◌, ◌&&◌, ℕ, Bool, true, false, not, List, [], map, Result, Ok, Err}
+use Rattle.std.specs.Prelude.{◌≡◌, ◌&&◌, ℕ, Bool, true, false, not, List, [], ◌++◌, map, Result, Ok, Err}
 use Rattle.dex_audit.specs.Findings.{findings}
 use Rattle.dex_dump.specs.declared.reader.DumpRead.{DumpRead}
 use Rattle.dex_dump.specs.Answers.{AnswersDump, PlainDump}
@@ -28,10 +28,15 @@ start_of start = record {
   markets = start.markets.items;
 }
 
--- the script so far
+-- the script so far: the rows of the pieces before, and those of the piece that is read
 abbrev pub draft_of : Draft → PlainDraft
 draft_of draft = record {
-  script = record { start = start_of draft.start; rows = map row_of draft.rows.items; lanes = draft.lanes; program = draft.program };
+  script = record {
+    start = start_of draft.start;
+    rows = map row_of (draft.before ++ draft.rows.items);
+    lanes = draft.lanes;
+    program = draft.program;
+  };
   taken = draft.taken.items;
   clock = draft.clock;
   is_first = draft.is_first;

@@ -1,6 +1,6 @@
 //! A script as far as it is read.
 
-ghost use Rattle.std.specs.Prelude.{◌≡◌, IfOk, map};
+ghost use Rattle.std.specs.Prelude.{◌≡◌, ◌++◌, IfOk, map};
 ghost use Rattle.dex_types.specs.Accounts.{accounts_of};
 ghost use Rattle.dex_types.specs.Rows.{row_of};
 ghost use Rattle.dex_dump.specs.Accepted.{AreAccepted};
@@ -13,7 +13,7 @@ use crate::market::DeclaredMarket;
 use crate::markets::{all_accounts, declared};
 use crate::mints::Mints;
 use crate::taken::taken_addresses;
-use dex_script_facts::Script;
+use dex_script_facts::{RowList, Script};
 use dex_types::{Accounts, Address, Named, NoMemory, Program, Row, RowPlaces};
 use std::alloc::Global;
 
@@ -31,6 +31,9 @@ pub(crate) struct Start {
 #[derive(Drop)]
 pub(crate) struct Draft {
     pub(crate) start: Start,
+    /// The rows of pieces that were read before.
+    pub(crate) before: RowList,
+    /// The rows of the piece that is read.
     pub(crate) rows: Vec<Row>,
     pub(crate) lanes: u32,
     pub(crate) program: Program,
@@ -61,6 +64,7 @@ impl Draft {
                 wallets: Vec::new(alloc),
                 markets: Vec::new(alloc),
             },
+            before: RowList::new(alloc),
             rows: Vec::new(alloc),
             lanes: 1,
             program: Program::Serum,
@@ -92,6 +96,7 @@ impl Draft {
                 wallets: accounts.wallets,
                 markets,
             },
+            before: RowList::new(alloc),
             rows: Vec::new(alloc),
             lanes: 1,
             program: Program::Serum,
@@ -111,7 +116,7 @@ impl Draft {
         places: Vec<RowPlaces>,
     ) -> Result<Script, NoMemory>
         requires script { IsScript (draft_of self).script }
-        requires placed { ArePlaced (start_of self.start) (map row_of self.rows.items) places.items }
+        requires placed { ArePlaced (start_of self.start) (map row_of (self.before ++ self.rows.items)) places.items }
         ensures { IfOk result (λ script. script ≡ (draft_of self).script) }
     {
         let Start {
@@ -122,6 +127,8 @@ impl Draft {
             markets,
         } = self.start;
         let markets = all_accounts(alloc, markets)?;
+        let mut rows = self.before;
+        rows.push_piece(self.rows)?;
         Ok(Script {
             start: Accounts {
                 mints: mints.into_accounts(),
@@ -130,7 +137,7 @@ impl Draft {
                 wallets,
                 markets,
             },
-            rows: self.rows,
+            rows,
             places,
             lanes: self.lanes,
             program: self.program,

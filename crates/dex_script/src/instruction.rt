@@ -1,8 +1,8 @@
 //! Instruction rows, behind the rows before them.
 
-ghost use Rattle.std.specs.Prelude.{◌≡◌, [], ◌∷◌, ◌++◌, true, IfErr, OnOk, map};
+ghost use Rattle.std.specs.Prelude.{◌≡◌, List, [], ◌∷◌, ◌++◌, true, IfErr, OnOk, map};
 ghost use Rattle.dex_types.specs.Accounts.{PlainAccounts};
-ghost use Rattle.dex_types.specs.Rows.{row_of};
+ghost use Rattle.dex_types.specs.Rows.{PlainRow, row_of};
 ghost use Rattle.dex_statement.specs.Telling.{TellsIn};
 ghost use Rattle.dex_script_facts.specs.Places.{ArePlaced, IsPlaced};
 ghost use Rattle.dex_script.specs.Names.{IsReading, StandAt};
@@ -116,9 +116,10 @@ fn push(
     ensures memory { IfErr result (λ error. error ≡ RowError.NoMemory) }
     ensures row { OnOk result (map row_of rows.new.items
         ≡ map row_of rows.old.items ++ (spec.instruction_row number now words.old ∷ [])) }
-    ensures placed { (start : PlainAccounts) → IsPlaced start (spec.instruction_row number now words.old) at
-        → ArePlaced start (map row_of rows.old.items) places.old.items
-        → ArePlaced start (map row_of rows.new.items) places.new.items }
+    ensures placed { (start : PlainAccounts) (front : List PlainRow)
+        → IsPlaced start (spec.instruction_row number now words.old) at
+        → ArePlaced start (front ++ map row_of rows.old.items) places.old.items
+        → ArePlaced start (front ++ map row_of rows.new.items) places.new.items }
 {
     rows.reserve(1)?;
     places.push(at)?;

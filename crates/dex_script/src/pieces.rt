@@ -8,7 +8,8 @@ use crate::draft::{Draft, Start};
 use crate::market::DeclaredMarket;
 use crate::mints::Mints;
 use crate::reader::Reader;
-use dex_types::Named;
+use dex_script_facts::RowList;
+use dex_types::{Named, NoMemory};
 use std::alloc::{AllocError, Global};
 
 /// How many instruction rows a script may have, where a swap is one.
@@ -43,6 +44,7 @@ impl Reader {
         };
         let draft = Draft {
             start,
+            before: RowList::new(alloc),
             rows: Vec::new(alloc),
             lanes: 0,
             program: self.draft.program,
@@ -67,17 +69,20 @@ impl Reader {
         piece.draft.items <= MOST && self.draft.items <= MOST - piece.draft.items
     }
 
-    /// What is read with the rows of a piece behind, which name the same markets and wallets.
-    pub fn join(self, piece: Reader) -> Result<Reader, AllocError>
+    /// What is read with the rows of a piece behind, which name the same markets and wallets. No row is moved.
+    pub fn join(self, piece: Reader) -> Result<Reader, NoMemory>
         requires alike { spec.AreAlike self piece }
         requires room { self.items + piece.items ≤ 100000 }
         ensures { IfOk result (λ both. both ≡ spec.joined self piece) }
     {
         let mut draft = self.draft;
         let mut places = self.places;
-        let mut more = piece.draft;
+        let more = piece.draft;
         let mut others = piece.places;
-        draft.rows.append(&mut more.rows)?;
+        let read = draft.rows;
+        draft.rows = more.rows;
+        draft.before.push_piece(read)?;
+        draft.before.append(more.before)?;
         places.append(&mut others)?;
         draft.lanes = draft.lanes.max(more.lanes);
         draft.clock = more.clock;

@@ -3,6 +3,7 @@ pub mod Firsts
 pub mod Known
 pub mod Places
 pub mod PlainScript
+pub mod RowLists
 pub mod ScriptInside
 pub mod Sight
 pub mod Starts

@@ -11,7 +11,7 @@ use Rattle.dex_script_facts.specs.Places.{ArePlaced}
 abbrev pub script_inside : Inside → PlainScript
 script_inside inside = record {
   start = accounts_of inside.start;
-  rows = map row_of inside.rows.items;
+  rows = map row_of inside.rows;
   lanes = inside.lanes;
   program = inside.program;
 }
@@ -19,4 +19,4 @@ script_inside inside = record {
 -- what holds of every script (`IsScript`) holds of the fields, and each row has its places beside it
 abbrev pub IsKept : Inside → Type 0
 IsKept inside =
-    IsScript (script_inside inside) × ArePlaced (accounts_of inside.start) (map row_of inside.rows.items) inside.places.items
+    IsScript (script_inside inside) × ArePlaced (accounts_of inside.start) (map row_of inside.rows) inside.places.items

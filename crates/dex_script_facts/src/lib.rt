@@ -3,8 +3,10 @@
 
 mod addresses;
 mod placing;
+mod row_list;
 mod script;
 
 pub use addresses::{addresses_of_markets, addresses_of_wallets, push_address, push_named};
 pub use placing::{is_role, place_in};
+pub use row_list::RowList;
 pub use script::Script;

@@ -1,6 +1,7 @@
 //! A script.
 
-use dex_types::{Accounts, Program, Row, RowPlaces};
+use crate::row_list::RowList;
+use dex_types::{Accounts, Program, RowPlaces};
 use std::marker::Model;
 
 /// A script: the accounts with which it starts, its instruction rows in their order, how many lanes it has (the highest
@@ -9,7 +10,7 @@ use std::marker::Model;
 #[derive(Debug, Drop)]
 pub struct Script {
     pub start: Accounts,
-    pub rows: Vec<Row>,
+    pub rows: RowList,
     /// Of each row, where its market and its wallets stand among those of `start`.
     pub places: Vec<RowPlaces>,
     pub lanes: u32,

@@ -58,7 +58,8 @@ fn text(alloc: Global, bad: u32) -> Result<Vec<u8>, AllocError> {
 // Whether each row stands where it was, with the clock of its place.
 fn are_in_order(script: &Script) -> bool {
     let mut number = SETUP;
-    for row in &script.rows {
+    for place in 0..script.rows.len() {
+        let row = script.rows.at(place);
         let step = if number == LAST_BEFORE { 2 } else { 1 };
         number = number.wrapping_add(step);
         let now = if number > LAST_BEFORE { 6 } else { 5 };

@@ -5,5 +5,5 @@ use Rattle.dex_answers.proofs.GroupCounts.{begun}
 use Rattle.dex_answers.proofs.counting.items_in.Given as goal
 
 -- what is counted, and what begins in the rows that are left, are all items
-abbrev pub invariant-loop-row : goal.invariant-loop-row
-invariant-loop-row l = l.count + begun l.last (drop l.row-index l.fn.rows) ≡ length (items_of (map row_of l.fn.rows))
+abbrev pub invariant-loop-place : goal.invariant-loop-place
+invariant-loop-place l = l.count + begun l.last (drop l.place l.rows) ≡ length (items_of (map row_of l.rows))

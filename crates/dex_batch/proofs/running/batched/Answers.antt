@@ -17,12 +17,12 @@ work_all-requires-clause-lists g c κs within =
     let script : PlainScript = g.J.Naming.script in
     let inside = c.script.view_is ∙ c.requires.is in
     let facts : IsScript script = subst IsScript c.requires.is c.in_ok-cells.ensures.script in
-    let rows : List Row = c.in_ok-cells.rows.items in
+    let rows : List Row = c.in_ok-cells.rows in
     record {
       facts = facts;
       few = rows-few script facts c.requires.single;
-      are_rows = ap (λ (list : List Row). map row_of list) c.deref-3.ensures.value ∙ c.in_ok-cells.ensures.rows ∙ ap (λ (s : PlainScript). s.rows) c.requires.is;
-      are_placed = subst (λ (list : List Row). ArePlaced script.start (map row_of list) c.deref-4.result.now) (sym c.deref-3.ensures.value)
+      are_rows = ap (λ (list : List Row). map row_of list) (c.deref-3.ensures.value ∙ c.in_ok-rows.ensures) ∙ c.in_ok-cells.ensures.rows ∙ ap (λ (s : PlainScript). s.rows) c.requires.is;
+      are_placed = subst (λ (list : List Row). ArePlaced script.start (map row_of list) c.deref-4.result.now) (sym (c.deref-3.ensures.value ∙ c.in_ok-rows.ensures))
           (subst (λ (list : List RowPlaces). ArePlaced script.start (map row_of rows) list) (sym c.deref-4.ensures.value)
           (subst (λ (s : PlainScript). ArePlaced s.start (map row_of rows) c.in_ok-cells.places.items) c.requires.is c.in_ok-cells.ensures.placed));
       are_terms = subst (λ (s : PlainScript). AreTermsOf s c.of-terms.result) c.requires.is c.of-terms.ensures;

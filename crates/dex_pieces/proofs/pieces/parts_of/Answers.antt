@@ -7,17 +7,17 @@ use Rattle.dex_pieces.proofs.Listed.{markets-fit, parts, report-of-parts, rows-f
 use Rattle.dex_pieces.proofs.pieces.parts_of.Goals as goal
 
 -- all parts were pushed
-pushed : (c : goal.After-drop-accounts-3) → c.push-5.new.self.items
-    ≡ parts c.args.spent c.write_head.new.text c.write_front.new.text c.extend_from_slice.new.self c.args.outcome.markets.items c.args.outcome.wallets c.args.outcome.accounts.markets.items
+pushed : (c : goal.After-drop-accounts-3) → c.push-4.new.self.items
+    ≡ parts c.args.spent.items c.write_head.new.text c.write_front.new.text c.extend_from_slice.new.self c.args.outcome.markets.items c.args.outcome.wallets c.args.outcome.accounts.markets.items
 pushed c =
     rw (
-      c.in_ok-push-5.ensures.items,
-      c.in_ok-add_rows.ensures,
       c.in_ok-push-4.ensures.items,
+      c.in_ok-add_rows.ensures,
       c.in_ok-push-3.ensures.items,
-      c.in_ok-add_markets.ensures,
       c.in_ok-push-2.ensures.items,
+      c.in_ok-add_markets.ensures,
       c.in_ok-push.ensures.items,
+      c.in_ok-add_spent.ensures,
       c.new-parts.ensures.items,
     ) refl
 
@@ -35,7 +35,7 @@ pub returns-clause-text : goal.returns-clause-text
 returns-clause-text c =
     let outcome = c.args.outcome in
     rw (pushed c)
-    (report-of-parts c.args.spent c.write_head.new.text c.write_front.new.text c.extend_from_slice.new.self outcome.markets.items outcome.wallets outcome.accounts.markets.items
+    (report-of-parts c.args.spent.items c.write_head.new.text c.write_front.new.text c.extend_from_slice.new.self outcome.markets.items outcome.wallets outcome.accounts.markets.items
     (accounts_of outcome.accounts) (head_line (codes "report") None c.args.rows) refl
     (rw (c.in_ok-write_head.ensures, c.new-head.ensures.items) refl)
     (rw (c.in_ok-write_front.ensures.text, c.new-front.ensures.items) refl)

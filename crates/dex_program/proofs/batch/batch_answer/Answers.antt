@@ -30,7 +30,7 @@ returns-in_ok-outcome-in-Ok g c =
     let outcome : PlainOutcome = outcome_of c.in_ok-outcome-in-Ok.outcome in
     let left = c.in_ok-outcome-in-Ok.ensures in
     let is : IsScript script = subst IsScript c.script.view_is c.script.invariant.0 in
-    let counted : length (items_of (map row_of c.in_ok-outcome-in-Ok.rows.items)) ≡ rows_told script = ap (λ (rows : List PlainRow). length (items_of rows)) left.rows in
+    let counted : length (items_of (map row_of c.in_ok-outcome-in-Ok.rows)) ≡ rows_told script = ap (λ (rows : List PlainRow). length (items_of rows)) left.rows in
     says-more _ (AnswersBatch c.args.bytes.now) _ (FitOutcome outcome) c.report_of.ensures.status c.report_of.ensures.text c.report_of.ensures.fits
     (λ fits. (
       script,

@@ -6,4 +6,4 @@ use Rattle.dex_program.proofs.program.on_threads.Goals as goal
 pub returns-in-Ok : goal.returns-in-Ok
 returns-in-Ok g c =
     let report = c.in-Ok.report in
-    ends report.status (Some c.args.command) _ _ (text_of report) c.written_each.result c.in-Ok.ensures.built (rw c.deref.ensures.value at c.written_each.ensures)
+    ends report.status (Some c.args.command) _ _ (text_of report) c.written_each-ended.result c.in-Ok.ensures.built (rw c.deref.ensures.value at c.written_each-ended.ensures)

@@ -6,12 +6,12 @@ use Rattle.dex_replay.proofs.RunOf.{items-replay, replay-is-run}
 use Rattle.dex_replay.proofs.replaying.replay_with_rows.Goals as goal
 
 pub act_all-cells-requires-clause-script : goal.act_all-cells-requires-clause-script
-act_all-cells-requires-clause-script c = (c.args.script, c.in_ok-cells.ensures.script, c.in_ok-cells.ensures.cells, ap (λ (rows : List Row). map row_of rows) c.deref.ensures.value ∙ c.in_ok-cells.ensures.rows)
+act_all-cells-requires-clause-script c = (c.args.script, c.in_ok-cells.ensures.script, c.in_ok-cells.ensures.cells, ap (λ (rows : List Row). map row_of rows) (c.deref.ensures.value ∙ c.in_ok-rows.ensures) ∙ c.in_ok-cells.ensures.rows)
 
 pub act_all-cells-requires-clause-places : goal.act_all-cells-requires-clause-places
 act_all-cells-requires-clause-places c =
     subst (ArePlacedIn c.in_ok-cells.cells (map row_of c.deref.result.now)) (sym c.deref-2.ensures.value)
-    (subst (λ (rows : List Row). ArePlacedIn c.in_ok-cells.cells (map row_of rows) c.in_ok-cells.places.items) (sym c.deref.ensures.value) c.in_ok-cells.ensures.places)
+    (subst (λ (rows : List Row). ArePlacedIn c.in_ok-cells.cells (map row_of rows) c.in_ok-cells.places.items) (sym (c.deref.ensures.value ∙ c.in_ok-rows.ensures)) c.in_ok-cells.ensures.places)
 
 pub returns-in-Ok-clause-outcome : goal.returns-in-Ok-clause-outcome
 returns-in-Ok-clause-outcome c =
@@ -19,7 +19,7 @@ returns-in-Ok-clause-outcome c =
     let is = c.in_ok-cells.ensures.script in
     let made = c.in_ok-cells.ensures.cells in
     items-replay script c.in_ok-cells.cells c.act_all-cells.result _ is made c.act_all-cells.ensures.kept c.in-Ok.ensures.cells
-    (c.act_all-cells.ensures.acted script is made (ap (λ (rows : List Row). map row_of rows) c.deref.ensures.value ∙ c.in_ok-cells.ensures.rows)) c.in-Ok.ensures.outcome
+    (c.act_all-cells.ensures.acted script is made (ap (λ (rows : List Row). map row_of rows) (c.deref.ensures.value ∙ c.in_ok-rows.ensures) ∙ c.in_ok-cells.ensures.rows)) c.in-Ok.ensures.outcome
 
 pub returns-in-Ok-clause-run : goal.returns-in-Ok-clause-run
 returns-in-Ok-clause-run c = replay-is-run c.args.script (outcome_of c.in-Ok.outcome) c.in_ok-cells.ensures.script (returns-in-Ok-clause-outcome c)

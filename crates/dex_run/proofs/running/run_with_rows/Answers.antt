@@ -1,5 +1,5 @@
 use Rattle.std.proofs.Common.{List, ap, arith, length, map, sym, subst, ◌∙◌}
-use Rattle.dex_fold.proofs.Common.{Row, range_with_len, row_of}
+use Rattle.dex_fold.proofs.Common.{range_with_len, row_of}
 use Rattle.dex_replay.proofs.Common.{IsOneOrder, IsRunOf, IsScript, PlainScript, outcome_of}
 use Rattle.dex_types.specs.declared.rows.RowPlaces.{RowPlaces}
 use Rattle.dex_script_facts.specs.Places.{ArePlaced}
@@ -11,37 +11,32 @@ pub places_by_lane-requires : goal.places_by_lane-requires
 places_by_lane-requires g c = (
   c.args.script,
   c.in_ok-cells.ensures.script.rows,
-  ap (λ (rows : List Row). map row_of rows) c.deref.ensures.value ∙ c.in_ok-cells.ensures.rows,
+  c.in_ok-cells.ensures.rows,
   c.lanes.ensures.lanes ∙ ap (λ (s : PlainScript). s.lanes) c.in_ok-outline.ensures,
 )
 
 -- each seat may run all rows of the script
 pub run_all-requires-after_bounds : goal.run_all-requires-after_bounds
 run_all-requires-after_bounds g c κs bounds = λ k d within.
-    let rows_are = ap (λ (rows : List Row). map row_of rows) c.deref-3.ensures.value ∙ c.in_ok-cells.ensures.rows in
     let script_is = sym (c.in_ok-bank.ensures.bank ∙ c.in_ok-outline.ensures) in
-    let same = c.deref.ensures.value ∙ sym c.deref-3.ensures.value in
     record {
       are = record {
         is = subst IsScript script_is c.in_ok-cells.ensures.script;
-        rows_are = rows_are ∙ ap (λ (s : PlainScript). s.rows) script_is;
+        rows_are = c.in_ok-cells.ensures.rows ∙ ap (λ (s : PlainScript). s.rows) script_is;
         placed =
-            subst (λ (s : PlainScript). ArePlaced s.start (map row_of c.deref-3.result.now) c.deref-4.result.now) script_is
-            (subst (λ (rows : List Row). ArePlaced c.args.script.start (map row_of rows) c.deref-4.result.now) (sym c.deref-3.ensures.value)
-            (subst (λ (places : List RowPlaces). ArePlaced c.args.script.start (map row_of c.in_ok-cells.rows.items) places) (sym c.deref-4.ensures.value) c.in_ok-cells.ensures.placed));
+            subst (λ (s : PlainScript). ArePlaced s.start (map row_of c.in_ok-cells.rows) c.deref-2.result.now) script_is
+            (subst (λ (places : List RowPlaces). ArePlaced c.args.script.start (map row_of c.in_ok-cells.rows) places) (sym c.deref-2.ensures.value) c.in_ok-cells.ensures.placed);
       };
       of_bank = c.in_ok-bank.ensures.seats k d within;
       fresh = c.in_ok-bank.ensures.fresh k d within;
-      index =
-          subst (λ (rows : List Row). IsIndex rows c.deref-5.result.now) same
-          (subst (IsIndex c.deref.result.now) (sym c.deref-5.ensures.value) c.in_ok-by_lane.ensures.index);
+      index = subst (IsIndex c.in_ok-cells.rows) (sym c.deref-3.ensures.value) c.in_ok-by_lane.ensures.index;
       within =
           omega (
             arith,
             lane-below c.in_ok-bank.seats.items c.in_ok-outline.outline.lanes c.in_ok-bank.ensures.lanes k d within,
             c.lanes.ensures.lanes,
             c.in_ok-by_lane.ensures.count,
-            ap length c.deref-5.ensures.value,
+            ap length c.deref-3.ensures.value,
           );
     }
 

@@ -10,37 +10,51 @@ is_swap-requires g c = c.requires.item.within
 
 -- ---- two legs
 
-pub bounds-rows-place : goal.bounds-rows-place
-bounds-rows-place g c = omega (arith, c.requires.item.within)
+-- the places are as many as the rows
+pub overflow_add-next : goal.overflow_add-next
+overflow_add-next g c = omega (arith, c.requires.item.within, places-long c.args.self.now.bank.now c.args.self.now.rows.now c.args.self.now.places.now c.requires.rows)
+
+pub at-second-requires : goal.at-second-requires
+at-second-requires g c = (c.is_swap.ensures.yes c.if-is_swap.true c.at-first.result.now).0
 
 pub bounds-places-place : goal.bounds-places-place
 bounds-places-place g c = omega (arith, c.requires.item.within, places-long c.args.self.now.bank.now c.args.self.now.rows.now c.args.self.now.places.now c.requires.rows)
 
 pub bounds-places-next : goal.bounds-places-next
 bounds-places-next g c =
-    omega (arith, (c.is_swap.ensures.yes c.if-is_swap.true c.index-rows-place.result).0, places-long c.args.self.now.bank.now c.args.self.now.rows.now c.args.self.now.places.now c.requires.rows)
+    omega (arith, (c.is_swap.ensures.yes c.if-is_swap.true c.at-first.result.now).0, places-long c.args.self.now.bank.now c.args.self.now.rows.now c.args.self.now.places.now c.requires.rows)
+
+pub offset_bounds-places-place : goal.offset_bounds-places-place
+offset_bounds-places-place g c = omega (arith, c.requires.item.within, places-long c.args.self.now.bank.now c.args.self.now.rows.now c.args.self.now.places.now c.requires.rows)
+
+pub offset_bounds-places-next : goal.offset_bounds-places-next
+offset_bounds-places-next g c =
+    omega (arith, (c.is_swap.ensures.yes c.if-is_swap.true c.at-first.result.now).0, places-long c.args.self.now.bank.now c.args.self.now.rows.now c.args.self.now.places.now c.requires.rows)
 
 pub submit_two_at-requires-clause-legs : goal.submit_two_at-requires-clause-legs
 submit_two_at-requires-clause-legs g c =
-    let first = c.index-rows-place.result in
-    let second = c.index-rows-next.result in
+    let first = c.at-first.result.now in
+    let second = c.at-second.result.now in
+    let at = c.at-first.ensures first in
+    let next = c.at-second.ensures second in
     let item = c.requires.item in
     let swap = c.is_swap.ensures.yes c.if-is_swap.true in
-    next-both c.args.self.now.rows.now c.args.place first second c.args.seat.now (swap first).0 c.index-rows-place.is c.index-rows-next.is
+    next-both c.args.self.now.rows.now c.args.place first second c.args.seat.now (swap first).0 at next
     (c.requires.rows.rows_are ∙ ap (λ (s : PlainScript). s.rows) (sym c.requires.bank.script)) (sym item.so_far)
-    (lower-before c.args.self.now.rows.now c.args.place first item.within c.index-rows-place.is item.begins)
-    (one-number c.args.self.now.rows.now c.args.place first second c.index-rows-place.is c.index-rows-next.is swap)
-    (are-legs c.args.self.now.bank.now.script c.args.self.now.rows.now c.requires.rows.rows_are c.requires.rows.is.rows c.args.place first second c.index-rows-place.is c.index-rows-next.is swap)
-    (ap (λ (r : Row). r.lane) c.index-rows-place.is ∙ item.own first)
+    (lower-before c.args.self.now.rows.now c.args.place first item.within at item.begins)
+    (one-number c.args.self.now.rows.now c.args.place first second at next swap)
+    (are-legs c.args.self.now.bank.now.script c.args.self.now.rows.now c.requires.rows.rows_are c.requires.rows.is.rows c.args.place first second at next swap)
+    (ap (λ (r : Row). r.lane) at ∙ item.own first)
 
 pub submit_two_at-requires-clause-first : goal.submit_two_at-requires-clause-first
 submit_two_at-requires-clause-first g c =
-    row-placed c.args.self.now.bank.now c.args.self.now.rows.now c.args.self.now.places.now c.requires.rows c.args.place c.index-rows-place.result _ c.requires.item.within c.index-rows-place.is
+    row-placed c.args.self.now.bank.now c.args.self.now.rows.now c.args.self.now.places.now c.requires.rows c.args.place c.at-first.result.now _ c.requires.item.within
+    (c.at-first.ensures c.at-first.result.now)
 
 pub submit_two_at-requires-clause-second : goal.submit_two_at-requires-clause-second
 submit_two_at-requires-clause-second g c =
-    row-placed c.args.self.now.bank.now c.args.self.now.rows.now c.args.self.now.places.now c.requires.rows (c.args.place + 1) c.index-rows-next.result _
-    (c.is_swap.ensures.yes c.if-is_swap.true c.index-rows-place.result).0 c.index-rows-next.is
+    row-placed c.args.self.now.bank.now c.args.self.now.rows.now c.args.self.now.places.now c.requires.rows (c.args.place + 1) c.at-second.result.now _
+    (c.is_swap.ensures.yes c.if-is_swap.true c.at-first.result.now).0 (c.at-second.ensures c.at-second.result.now)
 
 pub returns-then-is_swap-clause-rest : goal.returns-then-is_swap-clause-rest
 returns-then-is_swap-clause-rest g c = λ later rest.
@@ -51,16 +65,16 @@ returns-then-is_swap-clause-rest g c = λ later rest.
 
 -- ---- a row alone
 
-pub bounds-rows-place-else-is_swap : goal.bounds-rows-place-else-is_swap
-bounds-rows-place-else-is_swap g c = omega (arith, c.requires.item.within)
-
 pub bounds-places-place-else-is_swap : goal.bounds-places-place-else-is_swap
 bounds-places-place-else-is_swap g c = omega (arith, c.requires.item.within, places-long c.args.self.now.bank.now c.args.self.now.rows.now c.args.self.now.places.now c.requires.rows)
 
+pub offset_bounds-places-place-else-is_swap : goal.offset_bounds-places-place-else-is_swap
+offset_bounds-places-place-else-is_swap g c = omega (arith, c.requires.item.within, places-long c.args.self.now.bank.now c.args.self.now.rows.now c.args.self.now.places.now c.requires.rows)
+
 pub submit_at-requires-clause-row : goal.submit_at-requires-clause-row
 submit_at-requires-clause-row g c =
-    let row = c.index-rows-place-else-is_swap.result in
-    let at = c.index-rows-place-else-is_swap.is in
+    let row = c.at-row.result.now in
+    let at = c.at-row.ensures row in
     let item = c.requires.item in
     next-own c.args.self.now.rows.now c.args.place row c.args.seat.now item.within at
     (c.requires.rows.rows_are ∙ ap (λ (s : PlainScript). s.rows) (sym c.requires.bank.script)) (sym item.so_far)
@@ -71,8 +85,8 @@ submit_at-requires-clause-row g c =
 
 pub submit_at-requires-clause-places : goal.submit_at-requires-clause-places
 submit_at-requires-clause-places g c =
-    row-placed c.args.self.now.bank.now c.args.self.now.rows.now c.args.self.now.places.now c.requires.rows c.args.place c.index-rows-place-else-is_swap.result _ c.requires.item.within
-    c.index-rows-place-else-is_swap.is
+    row-placed c.args.self.now.bank.now c.args.self.now.rows.now c.args.self.now.places.now c.requires.rows c.args.place c.at-row.result.now _ c.requires.item.within
+    (c.at-row.ensures c.at-row.result.now)
 
 pub returns-else-is_swap-clause-rest : goal.returns-else-is_swap-clause-rest
 returns-else-is_swap-clause-rest g c = λ later rest.
