@@ -8,4 +8,4 @@ mod wallets;
 
 pub use places::{WalletPlaces, places_in};
 pub use rows::{act, hold};
-pub use wallets::wallet_at;
+pub use wallets::look;

@@ -22,17 +22,30 @@ use dex_movements::Amounts;
 use dex_types::{Address, Row, WalletSeen, is_same};
 use dex_wallet::{Parcel, WalletCell};
 
-/// What a row sees of the wallet of an address, if it is among these.
-pub fn wallet_at(cells: &[WalletCell], address: Address) -> Option<WalletSeen>
-    ensures seen { result ≡ world.wallet_at address (map wallet_state_of cells.now) }
-    ensures fits { Fits result }
+/// Writes down what a row sees of the wallet that a role names, if it is among these, where there was nothing.
+pub fn look(cells: &[WalletCell], role: &Option<Address>, seen: &mut Option<WalletSeen>)
+    requires { seen.old ≡ None }
+    ensures seen { seen.new ≡ world.role_at role.entry.now (map wallet_state_of cells.entry.now) }
+    ensures fits { Fits seen.new }
+{
+    match role {
+        Some(address) => look_at(cells, *address, seen),
+        None => {}
+    }
+}
+
+/// Writes down what a row sees of the wallet of an address, if it is among these, where there was nothing.
+fn look_at(cells: &[WalletCell], address: Address, seen: &mut Option<WalletSeen>)
+    requires { seen.old ≡ None }
+    ensures seen { seen.new ≡ world.wallet_at address (map wallet_state_of cells.entry.now) }
+    ensures fits { Fits seen.new }
 {
     for place in 0..cells.len() {
         if is_same(address, cells[place].address()) {
-            return Some(cells[place].seen());
+            *seen = Some(cells[place].seen());
+            return;
         }
     }
-    None
 }
 
 /// A row takes an amount out of the cell at a place.

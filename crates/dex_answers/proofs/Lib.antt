@@ -1,4 +1,3 @@
 pub mod AnswerLaws
-pub mod GroupCounts
 pub mod PairLaws
 pub mod TextLaws

@@ -4,7 +4,6 @@
 mod audit;
 mod bulk;
 mod clean;
-mod counting;
 mod dump;
 mod laws;
 mod lines;
@@ -17,7 +16,6 @@ mod told;
 
 pub use audit::audit_answer;
 pub use bulk::{bulk_answer, is_of_made};
-pub use counting::items_in;
 pub use dump::dump_answer;
 pub use laws::{both_legs_of_a_swap_take_or_neither, what_suits_a_command_is_answered};
 pub use make::make_answer;

@@ -5,7 +5,6 @@ ghost use Rattle.dex_script.specs.Telling.{TellsError, TellsScript};
 ghost use Rattle.dex_answers.specs.Answers.{IsNoScript};
 ghost use Rattle.dex_answers.specs.Telling.{TellsPlayed};
 
-use crate::counting::items_in;
 use crate::lines::{audit_failed, dump_refused, script_refused};
 use crate::told::StatusText;
 use dex_lines::ScriptRefused;
@@ -49,7 +48,9 @@ fn play_read(alloc: Global, read: Result<Script, ScriptError>) -> Result<Played,
 {
     match read {
         Ok(script) => {
-            let rows = items_in(&script.rows);
+            // What the script's type keeps of its rows, for the proof.
+            let _ = &script.rows;
+            let rows = script.items();
             let outcome = replay(alloc, script)?;
             without_swaps_rows_act_one_by_one();
             Ok(Played::AllRows { rows, outcome })

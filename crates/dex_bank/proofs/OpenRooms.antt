@@ -14,7 +14,7 @@ use Rattle.dex_script_facts.specs.Places.{ArePlaced, IsPlaced, IsRolePlaced}
 use Rattle.dex_script_facts.proofs.Apart.{AreDistinct, markets-distinct, wallets-distinct}
 use Rattle.dex_script_facts.proofs.PlacedLaws.{placed-at, position-map}
 use Rattle.dex_bank.proofs.Stands.{some-of}
-use Rattle.dex_bank.specs.Counts.{AreCounted, HaveSpare, is_there, is_told, one, role_place, wallets_told}
+use Rattle.dex_bank.specs.Counts.{AreCounted, HaveSpare, is_told, one, wallets_told}
 
 -- ---- the place of an address
 
@@ -55,29 +55,34 @@ abbrev pub on : PlainRow → Address → Bool
 on row address = is_same row.market address
 
 -- what a row names tells the places that are told of it
-abbrev pub Tells : List Address → (PlainRow → Address → Bool) → PlainRow → List (Option ℕ) → Type 0
+abbrev pub Tells : List Address → (PlainRow → Address → Bool) → PlainRow → List ℕ → Type 0
 Tells addresses names row told = (place : ℕ) (d : Address) → place < length addresses → is_told place told ≡ names row (get_or addresses place d)
 
 module _ (start : PlainAccounts) (is : IsStart start) (row : PlainRow) (places : RowPlaces) (placed : IsPlaced start row places) where
-  pub market-tells : Tells (markets_at start.markets) on row (Some places.market ∷ [])
+  pub market-tells : Tells (markets_at start.markets) on row (places.market ∷ [])
   market-tells place d within =
       or-false (eqb place places.market)
       ∙ at-place (markets_at start.markets) (markets-distinct start is.accepted) row.market places.market place d
       (position-map (λ (accounts : PlainMarketAccounts). accounts.address) row.market start.markets ∙ placed.market) within
 
-  pub wallet-tells : Tells (wallets_at start.wallets) names row (wallets_told row places)
+  pub wallet-tells : Tells (wallets_at start.wallets) names row (wallets_told places)
   wallet-tells place d within =
       let address = get_or (wallets_at start.wallets) place d in
       let of = λ (role : Option Address). is_role role address in
-      let there = λ (role : Option Address) (at : ℕ). is_there place (role_place role at) in
-      ap (λ (b : Bool). b || (there row.pc places.pc || (there row.discount places.discount || (there row.referrer places.referrer || false)))) (told row.coin places.coin placed.coin)
-      ∙ ap (λ (b : Bool). of row.coin || (b || (there row.discount places.discount || (there row.referrer places.referrer || false)))) (told row.pc places.pc placed.pc)
-      ∙ ap (λ (b : Bool). of row.coin || (of row.pc || (b || (there row.referrer places.referrer || false)))) (told row.discount places.discount placed.discount)
+      let there = λ (at : ℕ). eqb place at in
+      ap (λ (b : Bool). b || (there places.pc || (there places.discount || (there places.referrer || false)))) (told row.coin places.coin placed.coin)
+      ∙ ap (λ (b : Bool). of row.coin || (b || (there places.discount || (there places.referrer || false)))) (told row.pc places.pc placed.pc)
+      ∙ ap (λ (b : Bool). of row.coin || (of row.pc || (b || (there places.referrer || false)))) (told row.discount places.discount placed.discount)
       ∙ ap (λ (b : Bool). of row.coin || (of row.pc || (of row.discount || (b || false)))) (told row.referrer places.referrer placed.referrer)
       ∙ sym (names-roles row address)
     where
-      told : (role : Option Address) (there : ℕ) → IsRolePlaced start.wallets role there → is_there place (role_place role there) ≡ is_role role (get_or (wallets_at start.wallets) place d)
-      told None there is_placed = refl
+      differ : (n m : ℕ) → n ≢ m → eqb n m ≡ false
+      differ n m other = ⊎_elim (λ same. absurd (other same.1)) (λ apart. apart.0) (eqb_tells n m)
+
+      told : (role : Option Address) (there : ℕ) → IsRolePlaced start.wallets role there → eqb place there ≡ is_role role (get_or (wallets_at start.wallets) place d)
+      told None there is_placed =
+          differ place there
+          (λ same. omega (arith, same, is_placed, within, length-map start.wallets (λ (account : PlainAccount). account.address), is.accepted.few_wallets))
       told (Some wallet) there is_placed =
           at-place (wallets_at start.wallets) (wallets-distinct start is.accepted) wallet there place d
           (position-map (λ (account : PlainAccount). account.address) wallet start.wallets ∙ is_placed) within
@@ -99,7 +104,7 @@ module _ (names : PlainRow → Address → Bool) (addresses : List Address) wher
       omega (arith, few, so.each place d (omega (arith, less, so.long)), count_by-le-length (λ (one : PlainRow). names one (get_or addresses place d)) rows)
 
   -- a row more
-  row-counted : (rows : List PlainRow) (row : PlainRow) (told : List (Option ℕ)) (before after : List ℕ) → Tells addresses names row told
+  row-counted : (rows : List PlainRow) (row : PlainRow) (told : List ℕ) (before after : List ℕ) → Tells addresses names row told
       → AreRowsOf names addresses rows before → AreCounted (λ (place : ℕ). is_told place told) before after → AreRowsOf names addresses (rows ++ row ∷ []) after
   row-counted rows row told before after tells so more = record {
     long = more.long ∙ so.long;
@@ -117,7 +122,7 @@ module _ (names : PlainRow → Address → Bool) (addresses : List Address) wher
   }
 
   -- one of a script's
-  pub row-more : (rows : List Row) (i : ℕ) (row : Row) (told : List (Option ℕ)) (before after : List ℕ) → i < length rows → row ≡ get_or rows i row
+  pub row-more : (rows : List Row) (i : ℕ) (row : Row) (told : List ℕ) (before after : List ℕ) → i < length rows → row ≡ get_or rows i row
       → Tells addresses names (row_of row) told → AreRowsOf names addresses (take i (map row_of rows)) before → AreCounted (λ (place : ℕ). is_told place told) before after
       → AreRowsOf names addresses (take (i + 1) (map row_of rows)) after
   row-more rows i row told before after inside at tells so more =

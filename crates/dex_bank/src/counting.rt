@@ -1,6 +1,6 @@
 //! How many rows name each market and each wallet, counted by their places in one pass over the rows.
 
-ghost use Rattle.std.specs.Prelude.{◌≡◌, ◌&&◌, not, ℕ, IfOk, map};
+ghost use Rattle.std.specs.Prelude.{◌≡◌, ◌==◌, ◌&&◌, not, ℕ, IfOk, map};
 ghost use Rattle.dex_types.specs.Accounts.{accounts_of};
 ghost use Rattle.dex_types.specs.Rows.{row_of};
 ghost use Rattle.dex_script_facts.specs.Facts.{IsStart};
@@ -10,70 +10,36 @@ ghost use Rattle.dex_bank.specs.Counts.{AreCounted, HaveSpare};
 ghost use Rattle.dex_bank.specs.Opened as first;
 
 use dex_script_facts::RowList;
-use dex_types::{Accounts, Address, NoMemory, Row, RowPlaces};
+use dex_types::{Accounts, NoMemory, RowPlaces};
 use std::alloc::Global;
 
-/// The place of a role's wallet, where the role names one.
-fn role_place(role: &Option<Address>, place: u16) -> Option<u16>
-    ensures { result ≡ spec.role_place role.now place }
-{
-    match role {
-        Some(_) => Some(place),
-        None => None,
-    }
-}
-
 /// Whether the place is one of these.
-fn is_told(place: u16, told: &[Option<u16>]) -> bool
+fn is_told(place: u16, told: &[u16]) -> bool
     ensures { result ≡ spec.is_told place told.now }
 {
-    told.iter().any(|other| is_there(place, *other))
+    told.iter().any(|other| place == *other)
 }
 
-/// Whether this place is told.
-fn is_there(place: u16, told: Option<u16>) -> bool
-    ensures { result ≡ spec.is_there place told }
-{
-    match told {
-        Some(other) => place == other,
-        None => false,
-    }
-}
-
-/// One more at a place that is told behind others, unless it is one of them.
-fn count(counts: &mut [usize], told: Option<u16>, others: &[Option<u16>])
+/// One more at a place that is told behind others, if there is such a place, unless it is one of them.
+fn count(counts: &mut [usize], told: u16, others: &[u16])
     requires { HaveSpare 1 counts.old }
-    ensures { AreCounted (λ (place : ℕ). not (spec.is_told place others.entry.now) && spec.is_there place told)
+    ensures { AreCounted (λ (place : ℕ). not (spec.is_told place others.entry.now) && place == told)
         counts.old counts.new }
 {
-    if let Some(place) = told {
-        let place_of = place as usize;
-        if !is_told(place, others) && place_of < counts.len() {
-            counts[place_of] += 1;
-        }
+    let place = told as usize;
+    if place < counts.len() && !is_told(told, others) {
+        counts[place] += 1;
     }
 }
 
-/// One more at each of these places.
-fn count_each(counts: &mut [usize], told: &[Option<u16>])
+/// One more at each of these places that there is.
+fn count_each(counts: &mut [usize], told: &[u16])
     requires { HaveSpare 2 counts.old }
     ensures { AreCounted (λ (place : ℕ). spec.is_told place told.entry.now) counts.old counts.new }
 {
     for i in 0..told.len() {
         count(counts, told[i], &told[..i]);
     }
-}
-
-/// The places of the wallets that a row names, role by role.
-fn wallets_told(row: &Row, places: &RowPlaces) -> [Option<u16>; 4]
-    ensures { result ≡ spec.wallets_told (row_of row.entry.now) places.entry.now }
-{
-    [
-        role_place(&row.coin, places.coin),
-        role_place(&row.pc, places.pc),
-        role_place(&row.discount, places.discount),
-        role_place(&row.referrer, places.referrer),
-    ]
 }
 
 /// How many rows are on each market, and how many name each wallet.
@@ -100,9 +66,9 @@ pub(crate) fn row_counts(
     let mut markets = Vec::from_elem(alloc, 0, start.markets.len())?;
     let mut wallets = Vec::from_elem(alloc, 0, start.wallets.len())?;
     for i in 0..rows.len() {
-        let (row, at) = (rows.at(i), &places[i]);
-        count_each(&mut markets, &[Some(at.market)]);
-        count_each(&mut wallets, &wallets_told(row, at));
+        let at = &places[i];
+        count_each(&mut markets, &[at.market]);
+        count_each(&mut wallets, &[at.coin, at.pc, at.discount, at.referrer]);
     }
     Ok(RowCounts { markets, wallets })
 }

@@ -2,7 +2,6 @@
 
 use crate::watch::{ROUNDS, Watch};
 use anyhow::Error;
-use dex_answers::items_in;
 use dex_bank::Cells;
 use dex_replay::act_all;
 use dex_report::into_report_text;
@@ -57,7 +56,7 @@ pub fn round<R: Clock + AllocGlobal>(rt: &R, bytes: &[u8]) -> Result<Replayed, E
     let mut watch = Watch::start(rt)?;
     let script = read_script(alloc, bytes, false)?;
     let lanes = script.lanes;
-    let count = items_in(&script.rows);
+    let count = script.items();
     let reading = watch.lap(rt)?;
     let (cells, of_script, places) = Cells::of_script(alloc, script)?;
     let of_script = of_script.into_rows(alloc)?;

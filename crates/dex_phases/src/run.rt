@@ -2,19 +2,18 @@
 
 use crate::watch::{ROUNDS, Watch};
 use anyhow::Error;
-use dex_answers::items_in;
 use dex_io::NoPace;
-use dex_pieces::report_pieces;
+use dex_lanes::processors;
+use dex_pieces::{let_go, report_pieces};
 use dex_run::run_with_rows;
 use dex_script_pieces::read_script;
 use std::marker::Sync;
-use std::mem::drop;
 use std::sync::Wait;
 use std::thread::Threads;
 use std::time::Clock;
 
-/// How many threads read the rows of a script, as in `run`.
-const READERS: usize = 4;
+/// At most so many threads read the rows of a script, as in `run`.
+const READERS: usize = 16;
 
 /// How many nanoseconds each phase of a run took.
 #[derive(Clone, Copy, Debug)]
@@ -48,14 +47,14 @@ pub fn round<R: Threads + Wait + Sync + Clock + AllocGlobal>(
 ) -> Result<(Phases, u32), Error> {
     let alloc = rt.alloc();
     let mut watch = Watch::start(rt)?;
-    let script = read_script(rt, alloc, bytes, false, READERS)?;
-    let count = items_in(&script.rows);
+    let script = read_script(rt, alloc, bytes, false, processors(rt).min(READERS))?;
+    let count = script.items();
     let reading = watch.lap(rt)?;
     let (outcome, rows) = run_with_rows(rt, alloc, script, &NoPace)?;
     let lanes = watch.lap(rt)?;
     let pieces = report_pieces(rt, alloc, outcome, count, rows.into_pieces())?;
     let report = watch.lap(rt)?;
-    drop(pieces);
+    let_go(rt, alloc, pieces);
     let dropping = watch.lap(rt)?;
     let phases = Phases {
         reading,

@@ -33,9 +33,10 @@ pub fn run_answer<R: Threads + Wait + Sync, P: Pace + Sync>(
         Ok(script) => {
             // What the script's type keeps of its rows, for the proof.
             let _ = &script.rows;
+            let items = script.items();
             let (outcome, rows) = run_with_rows(rt, alloc, script, pace)?;
             without_swaps_rows_act_one_by_one();
-            report_of(rt, alloc, outcome, rows)
+            report_of(rt, alloc, outcome, items, rows)
         }
         Err(error) => refused(alloc, error),
     }

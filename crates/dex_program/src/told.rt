@@ -1,8 +1,6 @@
 //! What a command on several threads answers: a text in pieces.
 
-ghost use Rattle.std.specs.Prelude.{◌≡◌, ◌≤◌, Bool, List, ℕ, IfOk, length, map};
-ghost use Rattle.dex_types.specs.Rows.{row_of};
-ghost use Rattle.dex_fold.specs.Items.{items_of};
+ghost use Rattle.std.specs.Prelude.{◌≡◌, Bool, List, ℕ, IfOk};
 ghost use Rattle.dex_report.specs.Outcomes.{outcome_of};
 ghost use Rattle.dex_report.specs.Report.{report_text};
 ghost use Rattle.dex_report.specs.Telling.{FitOutcome};
@@ -11,7 +9,7 @@ ghost use Rattle.dex_answers.specs.Answers.{IsNoScript};
 ghost use Rattle.dex_answers.specs.declared.status.Status.TheVariants as status;
 ghost use Rattle.dex_program.specs.Told.{text_of};
 
-use dex_answers::{Status, StatusText, items_in, no_script};
+use dex_answers::{Status, StatusText, no_script};
 use dex_pieces::report_pieces;
 use dex_report::Outcome;
 use dex_script::ScriptError;
@@ -41,21 +39,18 @@ pub(crate) fn refused(alloc: Global, error: ScriptError) -> Result<StatusPieces,
     }
 }
 
-/// The report of an outcome of these rows, made side by side: it tells how many items they are. Outcome and rows are given up. All values
-/// that it tells fit.
+/// The report of an outcome of so many items, made side by side. The outcome is given up, and its rows. All values that it tells fit.
 pub(crate) fn report_of<R: Threads + Sync>(
     rt: &R,
     alloc: Global,
     outcome: Outcome,
+    items: u32,
     rows: RowList,
 ) -> Result<StatusPieces, NoMemory>
-    requires few { length (items_of (map row_of rows)) ≤ 100000 }
     ensures fits { IfOk result (λ told. FitOutcome (outcome_of outcome)) }
     ensures status { IfOk result (λ told. told.status ≡ status.Ok) }
-    ensures text { IfOk result (λ told. text_of told
-        ≡ report_text (outcome_of outcome) (length (items_of (map row_of rows)))) }
+    ensures text { IfOk result (λ told. text_of told ≡ report_text (outcome_of outcome) items) }
 {
-    let items = items_in(&rows);
     let pieces = report_pieces(rt, alloc, outcome, items, rows.into_pieces())?;
     Ok(StatusPieces {
         status: Status::Ok,

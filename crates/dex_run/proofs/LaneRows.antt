@@ -1,13 +1,13 @@
 -- The items of a lane, one after the other.
 use Rattle.std.proofs.Common.{◌≡◌, ℕ, zero, suc, ◌+◌, ◌<◌, ◌≤◌, ⊎_elim, nat_eq, drop, length-drop, Bool, cond, List, [], ◌∷◌, ◌++◌, length, get_or, map, take, sym, ap, ◌∙◌, subst, arith}
-use Rattle.dex_fold.proofs.Common.{All-cons, All-filter, All-map, All-nil, All-weaker, get_or-map, length-map, PlainRow, Row, eq-eqb, filter-append, row_of, rows_of_lane, take_at}
+use Rattle.dex_fold.proofs.Common.{All-cons, All-filter, All-map, All-nil, All-weaker, get_or-map, length-map, PlainAccounts, PlainRow, Row, eq-eqb, filter-append, row_of, rows_of_lane, take_at}
 use Rattle.dex_replay.proofs.Common.{AreLegs, AreRows, PlainScript, lanes_of}
 use Rattle.std.specs.List.{All}
 use Rattle.dex_fold.proofs.MappedLists.{same-get}
-use Rattle.dex_run.proofs.Common.{AreNext, AreRowsOf, BankState, Begins, IsNext, SeatState}
+use Rattle.dex_run.proofs.Common.{AreBeside, AreNext, AreRowsOf, BankState, Begins, IsNext, SeatState}
 use Rattle.dex_types.specs.declared.rows.RowPlaces.{RowPlaces}
-use Rattle.dex_script_facts.specs.Places.{IsPlaced}
-use Rattle.dex_script_facts.proofs.PlacedLaws.{placed-at, placed-long}
+use Rattle.dex_script_facts.specs.Places.{ArePlaced, IsPlaced}
+use Rattle.dex_script_facts.proofs.PlacedLaws.{item-at, item_at, placed-at, placed-long}
 use Rattle.std.proofs.lemmas.Bool.{cases_lt}
 use Rattle.std.proofs.lemmas.List.{drop_more, get_or-drop, take-append-drop, get_or-take, length-take-le, map-append}
 
@@ -198,6 +198,32 @@ next-both rows i first second seat within at at_second are so_far lower together
     }
 
 -- ---- places
+
+-- beside the rows of a script stand their numbers and lanes
+pub beside : (start : PlainAccounts) (rows : List Row) (places : List RowPlaces) → ArePlaced start (map row_of rows) places → AreBeside rows places
+beside start rows places are =
+    let at : (i : ℕ) (row : Row) (place : RowPlaces) → i < length rows → IsPlaced start (row_of (get_or rows i row)) (get_or places i place) = λ i row place within.
+    subst (λ (r : PlainRow). IsPlaced start r (get_or places i place)) (get_or-map row_of rows i row (row_of row) within)
+    (placed-at start (map row_of rows) places are i (row_of row) place (omega (arith, within, length-map rows row_of))) in
+    record {
+      long = placed-long start (map row_of rows) places are ∙ length-map rows row_of;
+      number = λ i row place within. (at i row place within).number;
+      lane = λ i row place within. (at i row place within).lane;
+    }
+
+-- so do those of a bank's script
+pub beside-of : (bank : BankState) (rows : List Row) (places : List RowPlaces) → AreRowsOf bank rows places → AreBeside rows places
+beside-of bank rows places are = beside bank.script.start rows places are.placed
+
+-- what stands beside no row
+abbrev pub nowhere : RowPlaces
+nowhere = record { number = 0; lane = 0; market = 0; coin = 0; pc = 0; discount = 0; referrer = 0 }
+
+-- the lane beside a row is the row's
+pub lane-beside : (rows : List Row) (places : List RowPlaces) (place : ℕ) (within : place < length rows) → AreBeside rows places
+    → (get_or places place nowhere).lane ≡ (item_at rows place within).lane
+lane-beside rows places place within are =
+    are.lane place (item_at rows place within) nowhere within ∙ ap (λ (row : Row). row.lane) (sym (item-at rows place within))
 
 module _ (bank : BankState) (rows : List Row) (places : List RowPlaces) (are : AreRowsOf bank rows places) where
   pub places-long : length places ≡ length rows

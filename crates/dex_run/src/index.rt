@@ -1,36 +1,36 @@
 //! Where the items of each lane begin.
 
-ghost use Rattle.std.specs.Prelude.{◌≡◌, ◌+◌, ◌<◌, IfOk, false, length, map, slice_index_or, true};
+ghost use Rattle.std.specs.Prelude.{◌≡◌, ◌<◌, List, IfOk, false, length, map, true};
 ghost use Rattle.dex_types.specs.declared.rows.Row.{Row as RowOf};
 ghost use Rattle.dex_types.specs.Rows.{row_of};
 ghost use Rattle.dex_script_facts.specs.PlainScript.{PlainScript};
 ghost use Rattle.dex_script_facts.specs.Facts.{AreRows};
-ghost use Rattle.dex_run.specs.LaneItems.{IsIndex};
+ghost use Rattle.dex_run.specs.LaneItems.{AreBeside, IsAlone, IsIndex, IsSwapAt};
 
 use crate::columns::columns_for;
 use dex_script_facts::RowList;
-use dex_types::{NoMemory, add};
+use dex_types::{NoMemory, RowPlaces, add};
 use std::alloc::Global;
 
-/// Whether the row at a place and the one behind it are the legs of one swap: they have one number.
-pub(crate) fn is_swap(rows: &RowList, place: usize) -> bool
-    requires { place < length rows.now }
-    ensures yes { result ≡ true → (row : RowOf) → (place + 1 < length rows.now)
-        × ((slice_index_or rows.now place row).number ≡ (slice_index_or rows.now (place + 1) row).number) }
-    ensures no { result ≡ false → (row : RowOf) → place + 1 < length rows.now
-        → (slice_index_or rows.now place row).number ≡ (slice_index_or rows.now (place + 1) row).number → ⊥ }
+/// Whether the row at a place and the one behind it are the legs of one swap: they have one number, as what stands beside them tells.
+pub(crate) fn is_swap(places: &[RowPlaces], place: usize) -> bool
+    requires { place < length places.now }
+    ensures yes { result ≡ true → (rows : List RowOf) → AreBeside rows places.now → IsSwapAt rows place }
+    ensures no { result ≡ false → (rows : List RowOf) → AreBeside rows places.now → IsAlone rows place }
 {
-    rows.len() - place > 1 && rows.at(place).number == rows.at(place + 1).number
+    places.len() - place > 1 && places[place].number == places[place + 1].number
 }
 
-/// For each lane of a script the places at which its items begin, by one pass over the rows. Asks memory.
+/// For each lane of a script the places at which its items begin, by one pass over what stands beside the rows. Asks memory.
 pub(crate) fn places_by_lane(
     alloc: Global,
     lanes: u32,
     rows: &RowList,
+    places: &[RowPlaces],
 ) -> Result<Vec<Vec<usize>>, NoMemory>
-    requires { (script : PlainScript) × AreRows script × (map row_of rows.now ≡ script.rows)
+    requires rows { (script : PlainScript) × AreRows script × (map row_of rows.now ≡ script.rows)
         × (lanes ≡ script.lanes) }
+    requires beside { AreBeside rows.now places.now }
     ensures count { IfOk result (λ by_lane. length by_lane.items ≡ lanes) }
     ensures index { IfOk result (λ by_lane. IsIndex rows.now by_lane.items) }
 {
@@ -40,9 +40,8 @@ pub(crate) fn places_by_lane(
     let mut by_lane = columns;
     let mut place = 0;
     'item: while place < rows.len() {
-        let row = rows.at(place);
-        add(&mut by_lane[row.lane as usize], place)?;
-        if is_swap(rows, place) {
+        add(&mut by_lane[places[place].lane as usize], place)?;
+        if is_swap(places, place) {
             place += 2;
         } else {
             place += 1;

@@ -40,7 +40,7 @@ impl<'a> Lanes<'a> {
         let bank = self.bank;
         let rows = self.rows;
         let places = self.places;
-        if is_swap(rows, place) {
+        if is_swap(places, place) {
             let next = place + 1;
             let first = rows.at(place);
             let second = rows.at(next);

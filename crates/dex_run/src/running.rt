@@ -93,7 +93,7 @@ pub fn run_with_rows<R: Threads + Wait + Sync, P: Pace + Sync>(
 {
     let outline = Outline::of(alloc, &script)?;
     let (cells, rows, places) = Cells::of_script(alloc, script)?;
-    let by_lane = places_by_lane(alloc, outline.lanes(), &rows)?;
+    let by_lane = places_by_lane(alloc, outline.lanes(), &rows, &places)?;
     let (bank, seats) = bank_over(alloc, outline, cells)?;
     let (markets, _) = bank.counts();
     let doors = doors_for(alloc, markets)?;

@@ -67,7 +67,7 @@ fn with_row(places: &[RowPlaces], place: usize, before: Option<Markets>) -> Opti
 /// The markets of the item that begins at a place, and these, if they are no more than two.
 fn with_item(lanes: &Lanes<'_>, place: usize, before: Option<Markets>) -> Option<Markets> {
     let markets = with_row(lanes.places, place, before)?;
-    if place < lanes.rows.len() && is_swap(lanes.rows, place) {
+    if place < lanes.places.len() && is_swap(lanes.places, place) {
         with_row(lanes.places, place.wrapping_add(1), Some(markets))
     } else {
         Some(markets)
@@ -76,16 +76,13 @@ fn with_item(lanes: &Lanes<'_>, place: usize, before: Option<Markets>) -> Option
 
 /// About how much a row touches: the accounts that it names, and what its data asks for.
 fn weight_of(row: &Row) -> usize {
-    let mut weight = row.named.len();
-    'roles: for role in [&row.coin, &row.pc, &row.discount, &row.referrer] {
-        if role.is_some() {
-            weight = weight.wrapping_add(1);
-        }
-    }
-    match row.bytes.get(1) {
-        Some(&CRANK) => weight.wrapping_add(8),
-        _ => weight.wrapping_add(1),
-    }
+    let coins = row.coin.is_some() as usize + row.pc.is_some() as usize;
+    let others = row.discount.is_some() as usize + row.referrer.is_some() as usize;
+    let asked = match row.bytes.get(1) {
+        Some(&CRANK) => 8,
+        _ => 1,
+    };
+    row.named.len().wrapping_add(coins + others + asked)
 }
 
 /// Weighs the rows with which the next items begin, and tells before which item to go on.

@@ -5,13 +5,13 @@ use Rattle.std.specs.Option.{is_some}
 use Rattle.std.proofs.lemmas.Iterator.Adapters.{position_from-zero}
 use Rattle.std.proofs.lemmas.Option.{same_Some}
 use Rattle.dex_types.specs.declared.addresses.Address.{Address}
-use Rattle.dex_types.specs.declared.rows.RowPlaces.{RowPlaces}
 use Rattle.dex_types.specs.Accounts.{PlainAccount, PlainAccounts, PlainMarketAccounts}
 use Rattle.dex_types.specs.Addresses.{is_same}
 use Rattle.dex_laws.proofs.TraderLaws.{is_same-sym}
 use Rattle.dex_statement.specs.Stated.{PlainParties}
 use Rattle.dex_script_facts.specs.Known.{has_market, is_known_role}
 use Rattle.dex_script_facts.specs.Places.{IsRolePlaced, market_place, wallet_place}
+use Rattle.dex_script.specs.declared.names.Stand.{Stand}
 use Rattle.dex_script.specs.Names.{StandAt, all_places, places_of, role_place}
 use Rattle.dex_script.specs.Rows.{is_unknown}
 
@@ -77,15 +77,15 @@ role-known wallets None = refl
 role-known wallets (Some address) = position-any (λ (wallet : PlainAccount). is_same address wallet.address) wallets
 
 role-placed : (wallets : List PlainAccount) (role : Option Address) (place : ℕ) → role_in wallets role ≡ Some place → IsRolePlaced wallets role place
-role-placed wallets None place is = tt
+role-placed wallets None place is = sym (same_Some 65535 place is)
 role-placed wallets (Some address) place is = is
 
 -- ---- what is not found is unknown
 
-differ : (places : RowPlaces) → ◌≡◌ {A = Option RowPlaces} None (Some places) → ⊥
+differ : (places : Stand) → ◌≡◌ {A = Option Stand} None (Some places) → ⊥
 differ places is = cc
 
-missing : (places : RowPlaces) → ◌≡◌ {A = Option RowPlaces} (Some places) None → ⊥
+missing : (places : Stand) → ◌≡◌ {A = Option Stand} (Some places) None → ⊥
 missing places is = cc
 
 none-of : (m c p d r : Option ℕ) → all_places m c p d r ≡ None
@@ -98,14 +98,14 @@ none-of (Some m) (Some c) (Some p) (Some d) None is = refl
 none-of (Some m) (Some c) (Some p) (Some d) (Some r) is = absurd (missing _ is)
 
 -- all are found, at these places
-record AreFound (m c p d r : Option ℕ) (places : RowPlaces) : Type 0 where
+record AreFound (m c p d r : Option ℕ) (places : Stand) : Type 0 where
   market : m ≡ Some places.market
   coin : c ≡ Some places.coin
   pc : p ≡ Some places.pc
   discount : d ≡ Some places.discount
   referrer : r ≡ Some places.referrer
 
-all-of : (m c p d r : Option ℕ) (places : RowPlaces) → all_places m c p d r ≡ Some places → AreFound m c p d r places
+all-of : (m c p d r : Option ℕ) (places : Stand) → all_places m c p d r ≡ Some places → AreFound m c p d r places
 all-of None c p d r places is = absurd (differ places is)
 all-of (Some m) None p d r places is = absurd (differ places is)
 all-of (Some m) (Some c) None d r places is = absurd (differ places is)
@@ -133,16 +133,16 @@ module _ (start : PlainAccounts) (parties : PlainParties) where
   pub unknown : places_of start parties ≡ None → is_unknown start parties ≡ true
   unknown none = unknown-by ∙ none-of _ _ _ _ _ none
 
-  found : (places : RowPlaces) → places_of start parties ≡ Some places
+  found : (places : Stand) → places_of start parties ≡ Some places
       → AreFound (market_place parties.market start.markets) (role_in start.wallets parties.coin) (role_in start.wallets parties.pc)
       (role_in start.wallets parties.discount) (role_in start.wallets parties.referrer) places
   found places is = all-of _ _ _ _ _ places is
 
-  pub known : (places : RowPlaces) → places_of start parties ≡ Some places → is_unknown start parties ≡ false
+  pub known : (places : Stand) → places_of start parties ≡ Some places → is_unknown start parties ≡ false
   known places is =
       let are = found places is in unknown-by ∙ rw (are.market, are.coin, are.pc, are.discount, are.referrer) refl
 
-  pub stand : (places : RowPlaces) → places_of start parties ≡ Some places → StandAt start parties places
+  pub stand : (places : Stand) → places_of start parties ≡ Some places → StandAt start parties places
   stand places is =
       let are = found places is in
       record {
@@ -154,5 +154,5 @@ module _ (start : PlainAccounts) (parties : PlainParties) where
       }
 
   -- the same of accounts that are these
-  pub stand-in : (other : PlainAccounts) (places : RowPlaces) → other ≡ start → places_of start parties ≡ Some places → StandAt other parties places
+  pub stand-in : (other : PlainAccounts) (places : Stand) → other ≡ start → places_of start parties ≡ Some places → StandAt other parties places
   stand-in other places same is = subst (λ (s : PlainAccounts). StandAt s parties places) (sym same) (stand places is)

@@ -20,6 +20,7 @@ use Rattle.dex_statement.specs.Statements.{statement_of}
 use Rattle.dex_statement.specs.Words.{Fields}
 use Rattle.dex_script_facts.specs.Places.{ArePlaced, IsRolePlaced, wallet_place}
 use Rattle.dex_script.specs.Drafts.{PlainDraft}
+use Rattle.dex_script.specs.declared.names.Stand.{Stand}
 use Rattle.dex_script.specs.Names.{AreFew, IsReading, places_of, role_place}
 use Rattle.dex_script.specs.Pieces.{AreAlike, HaveSamePlaces, IsUnderway, bare, bare_market, bare_wallet, beside, joined, number_after}
 use Rattle.dex_script.specs.Rows.{IsSetup, exceeds_row, instruction_row, is_bad_swap, is_full, is_unknown, with_clock, with_instruction, with_item, with_known, with_legs, with_program, with_row, with_statement, with_swap, with_two}
@@ -41,7 +42,7 @@ module _ (one other : PlainAccounts) (same : HaveSamePlaces one other) where
   places-same parties =
       rw (same.markets parties.market, role-same parties.coin, role-same parties.pc, role-same parties.discount, role-same parties.referrer) refl
 
-  known-by : (parties : PlainParties) (found : Option RowPlaces) → places_of one parties ≡ found → is_unknown one parties ≡ false
+  known-by : (parties : PlainParties) (found : Option Stand) → places_of one parties ≡ found → is_unknown one parties ≡ false
       → is_unknown other parties ≡ false
   known-by parties None is not = absurd (differ (sym (unknown one parties is) ∙ not))
   known-by parties (Some at) is not = known other parties at (sym (places-same parties) ∙ is)
@@ -290,7 +291,7 @@ after-both number draft (fields ∷ rows) more =
 
 module _ (one other : PlainAccounts) (same : HaveSamePlaces one other) where
   role-there : (role : Option Address) (place : ℕ) → IsRolePlaced one.wallets role place → IsRolePlaced other.wallets role place
-  role-there None place is = tt
+  role-there None place is = is
   role-there (Some address) place is = sym (same.wallets address) ∙ is
 
   placed-there : (rows : List PlainRow) (places : List RowPlaces) → ArePlaced one rows places → ArePlaced other rows places
@@ -299,6 +300,8 @@ module _ (one other : PlainAccounts) (same : HaveSamePlaces one other) where
   placed-there (row ∷ rows) [] are = absurd are
   placed-there (row ∷ rows) (place ∷ places) (is, are) = (
     record {
+      number = is.number;
+      lane = is.lane;
       market = sym (same.markets row.market) ∙ is.market;
       coin = role-there row.coin place.coin is.coin;
       pc = role-there row.pc place.pc is.pc;

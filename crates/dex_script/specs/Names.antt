@@ -8,6 +8,7 @@ use Rattle.dex_types.specs.Addresses.{is_same}
 use Rattle.dex_statement.specs.Stated.{PlainParties}
 use Rattle.dex_script_facts.specs.Places.{ArePlaced, IsRolePlaced, market_place, wallet_place}
 use Rattle.dex_script.specs.declared.names.Names.{Names}
+use Rattle.dex_script.specs.declared.names.Stand.{Stand}
 use Rattle.dex_script.specs.Drafts.{PlainDraft}
 
 -- they are those of these accounts
@@ -15,33 +16,33 @@ pub record AreNames (names : Names) (start : PlainAccounts) : Type 0 where
   pub markets : (address : Address) → hash.get is_same names.markets address ≡ market_place address start.markets
   pub wallets : (address : Address) → hash.get is_same names.wallets address ≡ wallet_place address start.wallets
 
--- where the wallet of a role stands, if it is found; 0 for a role that names none
+-- where the wallet of a role stands, if it is found; the highest number of 16 bits for a role that names none
 abbrev pub role_place : (Address → Option ℕ) → Option Address → Option ℕ
-role_place find None = Some 0
+role_place find None = Some 65535
 role_place find (Some address) = find address
 
 -- all five places, if all are found
-abbrev pub all_places : Option ℕ → Option ℕ → Option ℕ → Option ℕ → Option ℕ → Option RowPlaces
+abbrev pub all_places : Option ℕ → Option ℕ → Option ℕ → Option ℕ → Option ℕ → Option Stand
 all_places (Some market) (Some coin) (Some pc) (Some discount) (Some referrer) =
     Some (record { market = market; coin = coin; pc = pc; discount = discount; referrer = referrer })
 all_places _ _ _ _ _ = None
 
 -- where the market and the wallets that an instruction row names are found, if all are
-abbrev pub places_by : (Address → Option ℕ) → (Address → Option ℕ) → PlainParties → Option RowPlaces
+abbrev pub places_by : (Address → Option ℕ) → (Address → Option ℕ) → PlainParties → Option Stand
 places_by market wallet parties =
     all_places (market parties.market) (role_place wallet parties.coin) (role_place wallet parties.pc)
     (role_place wallet parties.discount) (role_place wallet parties.referrer)
 
 -- by the names
-abbrev pub places_in : Names → PlainParties → Option RowPlaces
+abbrev pub places_in : Names → PlainParties → Option Stand
 places_in names parties = places_by (hash.get is_same names.markets) (hash.get is_same names.wallets) parties
 
 -- among the accounts
-abbrev pub places_of : PlainAccounts → PlainParties → Option RowPlaces
+abbrev pub places_of : PlainAccounts → PlainParties → Option Stand
 places_of start parties = places_by (λ address. market_place address start.markets) (λ address. wallet_place address start.wallets) parties
 
 -- the market and the wallets that an instruction row names stand at these places
-pub record StandAt (start : PlainAccounts) (parties : PlainParties) (places : RowPlaces) : Type 0 where
+pub record StandAt (start : PlainAccounts) (parties : PlainParties) (places : Stand) : Type 0 where
   pub market : market_place parties.market start.markets ≡ Some places.market
   pub coin : IsRolePlaced start.wallets parties.coin places.coin
   pub pc : IsRolePlaced start.wallets parties.pc places.pc

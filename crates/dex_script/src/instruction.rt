@@ -4,12 +4,13 @@ ghost use Rattle.std.specs.Prelude.{◌≡◌, List, [], ◌∷◌, ◌++◌, tr
 ghost use Rattle.dex_types.specs.Accounts.{PlainAccounts};
 ghost use Rattle.dex_types.specs.Rows.{PlainRow, row_of};
 ghost use Rattle.dex_statement.specs.Telling.{TellsIn};
-ghost use Rattle.dex_script_facts.specs.Places.{ArePlaced, IsPlaced};
+ghost use Rattle.dex_script_facts.specs.Places.{ArePlaced};
 ghost use Rattle.dex_script.specs.Names.{IsReading, StandAt};
 ghost use Rattle.dex_script.specs.Rows as spec;
 ghost use Rattle.dex_script.specs.Telling.{draft_of, start_of};
 
 use crate::draft::Draft;
+use crate::names::Stand;
 use crate::swap::is_bad_swap;
 use dex_statement::{FaultKind, InstructionWords, RowError};
 use dex_types::{Row, RowPlaces};
@@ -29,7 +30,7 @@ impl Draft {
         places: &mut Vec<RowPlaces>,
         number: u32,
         words: &mut InstructionWords,
-        at: RowPlaces,
+        at: Stand,
     ) -> Result<(), RowError>
         requires reading { IsReading (draft_of self.old) places.old.items }
         requires at { StandAt (start_of self.old.start) words.old.parties at }
@@ -55,8 +56,8 @@ impl Draft {
         number: u32,
         first: &mut InstructionWords,
         second: &mut InstructionWords,
-        first_at: RowPlaces,
-        second_at: RowPlaces,
+        first_at: Stand,
+        second_at: Stand,
     ) -> Result<(), RowError>
         requires reading { IsReading (draft_of self.old) places.old.items }
         requires first { StandAt (start_of self.old.start) first.old.parties first_at }
@@ -89,7 +90,7 @@ impl Draft {
         places: &mut Vec<RowPlaces>,
         number: u32,
         words: &mut InstructionWords,
-        at: RowPlaces,
+        at: Stand,
     ) -> Result<(), RowError>
         requires reading { IsReading (draft_of self.old) places.old.items }
         requires late { self.old.is_late ≡ true }
@@ -111,18 +112,26 @@ fn push(
     number: u32,
     now: i64,
     words: &mut InstructionWords,
-    at: RowPlaces,
+    at: Stand,
 ) -> Result<(), RowError>
     ensures memory { IfErr result (λ error. error ≡ RowError.NoMemory) }
     ensures row { OnOk result (map row_of rows.new.items
         ≡ map row_of rows.old.items ++ (spec.instruction_row number now words.old ∷ [])) }
     ensures placed { (start : PlainAccounts) (front : List PlainRow)
-        → IsPlaced start (spec.instruction_row number now words.old) at
+        → StandAt start words.old.parties at
         → ArePlaced start (front ++ map row_of rows.old.items) places.old.items
         → ArePlaced start (front ++ map row_of rows.new.items) places.new.items }
 {
     rows.reserve(1)?;
-    places.push(at)?;
+    places.push(RowPlaces {
+        number,
+        lane: words.lane,
+        market: at.market,
+        coin: at.coin,
+        pc: at.pc,
+        discount: at.discount,
+        referrer: at.referrer,
+    })?;
     rows.push(take_row(number, now, words)).unwrap();
     Ok(())
 }

@@ -12,9 +12,20 @@ ghost use Rattle.dex_script.specs.Telling.{start_of};
 use crate::draft::Start;
 use crate::market::DeclaredMarket;
 use dex_statement::Parties;
-use dex_types::{Address, Named, NoMemory, RowPlaces};
+use dex_types::{Address, Named, NoMemory};
 use std::alloc::Global;
 use std::collections::HashMap;
+
+/// Where the market and the wallets of a row stand in the lists of those with which its script starts; `u16::MAX` for a role that
+/// names none.
+#[derive(Clone, Copy)]
+pub(crate) struct Stand {
+    pub(crate) market: u16,
+    pub(crate) coin: u16,
+    pub(crate) pc: u16,
+    pub(crate) discount: u16,
+    pub(crate) referrer: u16,
+}
 
 /// The markets and the wallets with which a script starts, each at its place.
 #[derive(Drop)]
@@ -36,10 +47,10 @@ impl Names {
     }
 
     /// Where the market and the wallets that an instruction row names stand, if all of them are here.
-    pub(crate) fn places_of(&self, parties: &Parties) -> Option<RowPlaces>
+    pub(crate) fn places_of(&self, parties: &Parties) -> Option<Stand>
         ensures { result ≡ spec.places_in self.now parties.now }
     {
-        Some(RowPlaces {
+        Some(Stand {
             market: place_in(&self.markets, parties.market)?,
             coin: role_place(&self.wallets, parties.coin)?,
             pc: role_place(&self.wallets, parties.pc)?,
@@ -56,12 +67,12 @@ fn place_in(places: &HashMap<Address, u16>, address: Address) -> Option<u16>
     places.get(&address).copied()
 }
 
-/// Where the wallet of a role stands, if it is here; 0 for a role that names none.
+/// Where the wallet of a role stands, if it is here; `u16::MAX` for a role that names none.
 fn role_place(places: &HashMap<Address, u16>, role: Option<Address>) -> Option<u16>
     ensures { result ≡ spec.role_place (hash.get is_same places.now) role }
 {
     match role {
-        None => Some(0),
+        None => Some(u16::MAX),
         Some(address) => place_in(places, address),
     }
 }

@@ -10,7 +10,7 @@ ghost use Rattle.dex_script.specs.Rows.{IsSetup};
 ghost use Rattle.dex_script.specs.Telling.{draft_of};
 
 use crate::draft::Draft;
-use crate::names::Names;
+use crate::names::{Names, Stand};
 use crate::reading::ReadRows;
 use dex_rows::records::Fields;
 use dex_script_facts::Script;
@@ -195,7 +195,7 @@ impl Reader {
 
     /// Where the market and the wallets that an instruction row names stand, if all are declared. Makes the names where
     /// they are not there yet.
-    fn places_of(&mut self, alloc: Global, parties: &Parties) -> Result<Option<RowPlaces>, NoMemory>
+    fn places_of(&mut self, alloc: Global, parties: &Parties) -> Result<Option<Stand>, NoMemory>
         ensures places { IfOk result (λ found. found ≡ places_of self.old.script.start parties.now) }
         ensures same { self.new ≡ self.old }
     {
@@ -211,7 +211,7 @@ impl Reader {
         &mut self,
         alloc: Global,
         parties: &Parties,
-    ) -> Result<Option<RowPlaces>, NoMemory>
+    ) -> Result<Option<Stand>, NoMemory>
         ensures places { IfOk result (λ found. found ≡ places_of self.old.script.start parties.now) }
         ensures same { self.new ≡ self.old }
     {

@@ -1,3 +1,4 @@
 pub mod Apart
+pub mod ItemCounts
 pub mod PlacedLaws
 pub mod Roles

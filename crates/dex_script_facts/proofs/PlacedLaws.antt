@@ -28,6 +28,19 @@ placed-at start (first ∷ rows) (place ∷ places) are zero row at within = are
 placed-at start (first ∷ rows) (place ∷ places) are (suc index) row at within =
     placed-at start rows places are.1 index row at (omega (arith, within))
 
+-- what stands at a place that is within
+pub item_at : {A : Type 0} (items : List A) (place : ℕ) → place < length items → A
+item_at [] place within = absurd (omega (arith, within))
+item_at (item ∷ items) zero within = item
+item_at (item ∷ items) (suc place) within = item_at items place (omega (arith, within))
+
+pub item-at : {A : Type 0} (items : List A) (place : ℕ) (within : place < length items)
+    → item_at items place within ≡ get_or items place (item_at items place within)
+unfolding item_at
+item-at [] place within = absurd (omega (arith, within))
+item-at (item ∷ items) zero within = refl
+item-at (item ∷ items) (suc place) within = item-at items place (omega (arith, within))
+
 -- one row more, with its places
 pub placed-push : (start : PlainAccounts) (rows : List PlainRow) (places : List RowPlaces) (row : PlainRow) (at : RowPlaces)
     → ArePlaced start rows places → IsPlaced start row at → ArePlaced start (rows ++ row ∷ []) (places ++ at ∷ [])

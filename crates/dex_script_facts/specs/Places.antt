@@ -6,6 +6,7 @@ use Rattle.dex_types.specs.declared.rows.RowPlaces.{RowPlaces}
 use Rattle.dex_types.specs.Accounts.{PlainAccount, PlainAccounts, PlainMarketAccounts}
 use Rattle.dex_types.specs.Addresses.{is_same}
 use Rattle.dex_types.specs.Rows.{PlainRow}
+use Rattle.dex_fold.specs.Groups.{grouped}
 use Rattle.dex_script_facts.specs.PlainScript.{PlainScript}
 
 -- the place of the first market of an address
@@ -16,18 +17,24 @@ market_place address markets = position (λ (market : PlainMarketAccounts). is_s
 abbrev pub wallet_place : Address → List PlainAccount → Option ℕ
 wallet_place address wallets = position (λ (wallet : PlainAccount). is_same address wallet.address) wallets
 
--- the wallet of a role stands at this place; of a role that names none the place says nothing
+-- the wallet of a role stands at this place; of a role that names none it is the highest number of 16 bits
 abbrev pub IsRolePlaced : List PlainAccount → Option Address → ℕ → Type 0
-IsRolePlaced wallets None place = Unit {0}
+IsRolePlaced wallets None place = place ≡ 65535
 IsRolePlaced wallets (Some address) place = wallet_place address wallets ≡ Some place
 
--- the market and the wallets of a row stand at these places
+-- the row has this number and this lane, and its market and its wallets stand at these places
 pub record IsPlaced (start : PlainAccounts) (row : PlainRow) (places : RowPlaces) : Type 0 where
+  pub number : places.number ≡ row.number
+  pub lane : places.lane ≡ row.lane
   pub market : market_place row.market start.markets ≡ Some places.market
   pub coin : IsRolePlaced start.wallets row.coin places.coin
   pub pc : IsRolePlaced start.wallets row.pc places.pc
   pub discount : IsRolePlaced start.wallets row.discount places.discount
   pub referrer : IsRolePlaced start.wallets row.referrer places.referrer
+
+-- how many items rows with these places are: neighbours of one number are one
+abbrev pub items_at : List RowPlaces → ℕ
+items_at places = length (grouped (λ (at : RowPlaces). at.number) places)
 
 -- each row has its places beside it
 abbrev pub ArePlaced : PlainAccounts → List PlainRow → List RowPlaces → Type 0

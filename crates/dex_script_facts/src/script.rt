@@ -1,5 +1,9 @@
 //! A script.
 
+ghost use Rattle.std.specs.Prelude.{◌≡◌, ◌≤◌, length};
+ghost use Rattle.dex_fold.specs.Items.{items_of};
+ghost use Rattle.dex_script_facts.specs.Places.{items_at};
+
 use crate::row_list::RowList;
 use dex_types::{Accounts, Program, RowPlaces};
 use std::marker::Model;
@@ -11,7 +15,7 @@ use std::marker::Model;
 pub struct Script {
     pub start: Accounts,
     pub rows: RowList,
-    /// Of each row, where its market and its wallets stand among those of `start`.
+    /// Of each row its number, its lane, and where its market and its wallets stand among those of `start`.
     pub places: Vec<RowPlaces>,
     pub lanes: u32,
     pub program: Program,
@@ -26,4 +30,30 @@ impl Model for Script {
     ghost view = { script_inside };
 
     ghost invariant = { IsKept };
+}
+
+impl Script {
+    /// How many items there are: neighbours of one number are one item.
+    pub fn items(&self) -> u32
+        ensures { result ≡ length (items_of self.now.rows) }
+    {
+        items_among(&self.places)
+    }
+}
+
+/// How many items the rows of these places are.
+fn items_among(places: &[RowPlaces]) -> u32
+    requires few { items_at places.now ≤ 100000 }
+    ensures { result ≡ items_at places.now }
+{
+    let mut count = 0;
+    let mut last = None;
+    for place in 0..places.len() {
+        let number = places[place].number;
+        if last != Some(number) {
+            count += 1;
+        }
+        last = Some(number);
+    }
+    count
 }

@@ -1,17 +1,17 @@
 //! A row on the cells that it names.
 
-ghost use Rattle.std.specs.Prelude.{◌≡◌, map};
+ghost use Rattle.std.specs.Prelude.{◌≡◌};
 ghost use Rattle.std.specs.List.{All};
 ghost use Rattle.dex_types.specs.Rows.{row_of};
 ghost use Rattle.dex_cell.specs.CellState.{step_on};
 ghost use Rattle.dex_fold.specs.World as world;
-ghost use Rattle.dex_act.specs.Wallets.{Fits, roles_of, wallet_state_of};
+ghost use Rattle.dex_act.specs.Wallets.{Fits, roles_of};
 ghost use Rattle.dex_stage.specs.Parts.{AreTermsOf, CanStep, HasStepped, world_in_hand};
 
-use dex_act::{act, places_in, wallet_at};
+use dex_act::{act, look, places_in};
 use dex_cell::MarketCell;
 use dex_script_facts::Script;
-use dex_types::{Address, Program, Reply, Row, Seen, WalletSeen};
+use dex_types::{Address, Program, Reply, Row, Seen};
 use dex_wallet::WalletCell;
 
 /// What a row sees beside its wallets: which mints are SRM and MSRM, and the program that runs.
@@ -42,31 +42,25 @@ pub struct Parts {
     pub wallets: Vec<WalletCell>,
 }
 
-/// What a row sees of the wallet that a role names.
-fn role_at(hands: &[WalletCell], role: Option<Address>) -> Option<WalletSeen>
-    ensures seen { result ≡ world.role_at role (map wallet_state_of hands.now) }
-    ensures fits { Fits result }
-{
-    match role {
-        Some(address) => wallet_at(hands, address),
-        None => None,
-    }
-}
-
 /// What a row sees of the wallets in hand.
 pub fn seen_by(hands: &[WalletCell], terms: Terms, row: &Row) -> Seen
     ensures seen { result ≡ world.seen_by (row_of row.entry.now) (world_in_hand terms hands.now) }
     ensures fits { All Fits (roles_of result) }
 {
-    Seen {
-        coin: role_at(hands, row.coin),
-        pc: role_at(hands, row.pc),
-        discount: role_at(hands, row.discount),
-        referrer: role_at(hands, row.referrer),
+    let mut seen = Seen {
+        coin: None,
+        pc: None,
+        discount: None,
+        referrer: None,
         srm: terms.srm,
         msrm: terms.msrm,
         program: terms.program,
-    }
+    };
+    look(hands, &row.coin, &mut seen.coin);
+    look(hands, &row.pc, &mut seen.pc);
+    look(hands, &row.discount, &mut seen.discount);
+    look(hands, &row.referrer, &mut seen.referrer);
+    seen
 }
 
 /// A row acts on its market and on the wallets in hand, which are those that it names.

@@ -69,12 +69,14 @@ impl Outline {
         self.script.same()
     }
 
-    /// The places of a row's market and wallets among those of the script.
+    /// What stands beside a row: its number, its lane, and the places of its market and wallets among those of the script.
     pub(crate) fn places_of(&self, row: &Row) -> RowPlaces
         requires { IsRowOf self.now.start (row_of row.now) }
         ensures { IsPlaced self.now.start (row_of row.entry.now) result }
     {
         RowPlaces {
+            number: row.number,
+            lane: row.lane,
             market: self.market_of(row.market),
             coin: self.wallet_of(row.coin),
             pc: self.wallet_of(row.pc),
@@ -98,7 +100,7 @@ impl Outline {
     {
         match role {
             Some(address) => place_among(&self.wallets, address),
-            None => 0,
+            None => u16::MAX,
         }
     }
 }

@@ -12,5 +12,5 @@ returns-in_ok-outcome-in-Ok c bytes told =
     let outcome : PlainOutcome = outcome_of c.in_ok-outcome-in-Ok.outcome in
     let left = c.in_ok-outcome-in-Ok.ensures in
     let is : IsScript script = subst IsScript c.script.view_is c.script.invariant.0 in
-    let rows = subst (λ (one : PlainScript). c.items_in-rows.result ≡ rows_told one) c.script.view_is c.items_in-rows.ensures in
+    let rows : c.items-rows.result ≡ rows_told script = c.items-rows.ensures in
     (script, rw c.in-Ok.is at told, played script outcome is left.outcome left.run (c.without_swaps_rows_act_one_by_one.ensures.replay script outcome), rows)

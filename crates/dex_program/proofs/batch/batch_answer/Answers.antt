@@ -1,7 +1,5 @@
-use Rattle.std.proofs.Common.{◌≡◌, ◌≤◌, List, ℕ, ap, length, map, refl, subst, sym, true}
+use Rattle.std.proofs.Common.{◌≡◌, ℕ, ap, refl, subst, true}
 use Rattle.std.proofs.lemmas.Result.{IfOk-weaker}
-use Rattle.dex_types.specs.Rows.{PlainRow, row_of}
-use Rattle.dex_fold.specs.Items.{items_of}
 use Rattle.dex_report.specs.Outcomes.{PlainOutcome, outcome_of}
 use Rattle.dex_report.specs.Report.{report_text}
 use Rattle.dex_report.specs.Telling.{FitOutcome}
@@ -19,18 +17,13 @@ use Rattle.dex_program.proofs.batch.batch_answer.Goals as goal
 pub run_batch_with_rows-requires-clause-rows : goal.run_batch_with_rows-requires-clause-rows
 run_batch_with_rows-requires-clause-rows g c = λ κs lives. c.in-Ok.ensures.apart refl
 
-pub report_of-requires-clause-few : goal.report_of-requires-clause-few
-report_of-requires-clause-few g c =
-    let is : IsScript c.in-Ok.script = subst IsScript c.script.view_is c.script.invariant.0 in
-    λ κs lives. subst (λ (rows : List PlainRow). length (items_of rows) ≤ 100000) (sym c.in_ok-outcome-in-Ok.ensures.rows) is.rows.few
-
 pub returns-in_ok-outcome-in-Ok : goal.returns-in_ok-outcome-in-Ok
 returns-in_ok-outcome-in-Ok g c =
     let script : PlainScript = c.in-Ok.script in
     let outcome : PlainOutcome = outcome_of c.in_ok-outcome-in-Ok.outcome in
     let left = c.in_ok-outcome-in-Ok.ensures in
     let is : IsScript script = subst IsScript c.script.view_is c.script.invariant.0 in
-    let counted : length (items_of (map row_of c.in_ok-outcome-in-Ok.rows)) ≡ rows_told script = ap (λ (rows : List PlainRow). length (items_of rows)) left.rows in
+    let counted : c.items-items.result ≡ rows_told script = c.items-items.ensures in
     says-more _ (AnswersBatch c.args.bytes.now) _ (FitOutcome outcome) c.report_of.ensures.status c.report_of.ensures.text c.report_of.ensures.fits
     (λ fits. (
       script,

@@ -3,17 +3,23 @@ use Rattle.dex_fold.proofs.Common.{range_with_len, row_of}
 use Rattle.dex_replay.proofs.Common.{IsOneOrder, IsRunOf, IsScript, PlainScript, outcome_of}
 use Rattle.dex_types.specs.declared.rows.RowPlaces.{RowPlaces}
 use Rattle.dex_script_facts.specs.Places.{ArePlaced}
-use Rattle.dex_run.proofs.Common.{IsIndex}
+use Rattle.dex_run.proofs.Common.{AreBeside, IsIndex}
+use Rattle.dex_run.proofs.LaneRows.{beside}
 use Rattle.dex_run.proofs.Jobs.{after-done, after-lanes, after-of_bank, lane-below}
 use Rattle.dex_run.proofs.running.run_with_rows.Goals as goal
 
 pub places_by_lane-requires : goal.places_by_lane-requires
-places_by_lane-requires g c = (
-  c.args.script,
-  c.in_ok-cells.ensures.script.rows,
-  c.in_ok-cells.ensures.rows,
-  c.lanes.ensures.lanes ∙ ap (λ (s : PlainScript). s.lanes) c.in_ok-outline.ensures,
-)
+places_by_lane-requires g c = record {
+  rows = (
+    c.args.script,
+    c.in_ok-cells.ensures.script.rows,
+    c.in_ok-cells.ensures.rows,
+    c.lanes.ensures.lanes ∙ ap (λ (s : PlainScript). s.lanes) c.in_ok-outline.ensures,
+  );
+  beside =
+      subst (AreBeside c.in_ok-cells.rows) (sym c.deref.ensures.value)
+      (beside c.args.script.start c.in_ok-cells.rows c.in_ok-cells.places.items c.in_ok-cells.ensures.placed);
+}
 
 -- each seat may run all rows of the script
 pub run_all-requires-after_bounds : goal.run_all-requires-after_bounds
@@ -24,19 +30,19 @@ run_all-requires-after_bounds g c κs bounds = λ k d within.
         is = subst IsScript script_is c.in_ok-cells.ensures.script;
         rows_are = c.in_ok-cells.ensures.rows ∙ ap (λ (s : PlainScript). s.rows) script_is;
         placed =
-            subst (λ (s : PlainScript). ArePlaced s.start (map row_of c.in_ok-cells.rows) c.deref-2.result.now) script_is
-            (subst (λ (places : List RowPlaces). ArePlaced c.args.script.start (map row_of c.in_ok-cells.rows) places) (sym c.deref-2.ensures.value) c.in_ok-cells.ensures.placed);
+            subst (λ (s : PlainScript). ArePlaced s.start (map row_of c.in_ok-cells.rows) c.deref-3.result.now) script_is
+            (subst (λ (places : List RowPlaces). ArePlaced c.args.script.start (map row_of c.in_ok-cells.rows) places) (sym c.deref-3.ensures.value) c.in_ok-cells.ensures.placed);
       };
       of_bank = c.in_ok-bank.ensures.seats k d within;
       fresh = c.in_ok-bank.ensures.fresh k d within;
-      index = subst (IsIndex c.in_ok-cells.rows) (sym c.deref-3.ensures.value) c.in_ok-by_lane.ensures.index;
+      index = subst (IsIndex c.in_ok-cells.rows) (sym c.deref-4.ensures.value) c.in_ok-by_lane.ensures.index;
       within =
           omega (
             arith,
             lane-below c.in_ok-bank.seats.items c.in_ok-outline.outline.lanes c.in_ok-bank.ensures.lanes k d within,
             c.lanes.ensures.lanes,
             c.in_ok-by_lane.ensures.count,
-            ap length c.deref-3.ensures.value,
+            ap length c.deref-4.ensures.value,
           );
     }
 

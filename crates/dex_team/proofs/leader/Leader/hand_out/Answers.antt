@@ -14,7 +14,7 @@ use Rattle.dex_team.proofs.leader.Leader.hand_out.Goals.{After-self}
 use Rattle.dex_team.proofs.leader.Leader.hand_out.Goals as goal
 
 abbrev at-home : RowPlaces
-at-home = record { market = 0; coin = 0; pc = 0; discount = 0; referrer = 0 }
+at-home = record { number = 0; lane = 0; market = 0; coin = 0; pc = 0; discount = 0; referrer = 0 }
 
 within : (g : given.Over) (c : After-self g) → c.self.inside.next < length c.self.inside.desk.now.lists.rows.now
 within g c =
