@@ -22,12 +22,12 @@ use dex_movements::Amounts;
 use dex_types::{Address, Row, WalletSeen, is_same};
 use dex_wallet::{Parcel, WalletCell};
 
-/// Writes down what a row sees of the wallet that a role names, if it is among these, where there was nothing.
+/// Writes down what a row sees of the wallet that a role names, if it is among these, and nothing otherwise.
 pub fn look(cells: &[WalletCell], role: &Option<Address>, seen: &mut Option<WalletSeen>)
-    requires { seen.old ≡ None }
     ensures seen { seen.new ≡ world.role_at role.entry.now (map wallet_state_of cells.entry.now) }
     ensures fits { Fits seen.new }
 {
+    *seen = None;
     match role {
         Some(address) => look_at(cells, *address, seen),
         None => {}

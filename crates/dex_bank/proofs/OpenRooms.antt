@@ -10,9 +10,9 @@ use Rattle.std.proofs.lemmas.List.Quantifiers.{position-Some}
 use Rattle.std.proofs.lemmas.List.Sums.{count_by-le-length}
 use Rattle.dex_types.specs.declared.rows.RowPlaces.{RowPlaces}
 use Rattle.dex_script_facts.specs.Facts.{IsStart}
-use Rattle.dex_script_facts.specs.Places.{ArePlaced, IsPlaced, IsRolePlaced}
+use Rattle.dex_script_facts.specs.Places.{IsBeside, IsMarked, IsPlaced, IsRolePlaced}
 use Rattle.dex_script_facts.proofs.Apart.{AreDistinct, markets-distinct, wallets-distinct}
-use Rattle.dex_script_facts.proofs.PlacedLaws.{placed-at, position-map}
+use Rattle.dex_script_facts.proofs.PlacedLaws.{position-map}
 use Rattle.dex_bank.proofs.Stands.{some-of}
 use Rattle.dex_bank.specs.Counts.{AreCounted, HaveSpare, is_told, one, wallets_told}
 
@@ -65,25 +65,26 @@ module _ (start : PlainAccounts) (is : IsStart start) (row : PlainRow) (places :
       ∙ at-place (markets_at start.markets) (markets-distinct start is.accepted) row.market places.market place d
       (position-map (λ (accounts : PlainMarketAccounts). accounts.address) row.market start.markets ∙ placed.market) within
 
-  pub wallet-tells : Tells (wallets_at start.wallets) names row (wallets_told places)
-  wallet-tells place d within =
+  pub wallet-tells : IsBeside row places → Tells (wallets_at start.wallets) names row (wallets_told places)
+  wallet-tells beside place d within =
       let address = get_or (wallets_at start.wallets) place d in
       let of = λ (role : Option Address). is_role role address in
       let there = λ (at : ℕ). eqb place at in
-      ap (λ (b : Bool). b || (there places.pc || (there places.discount || (there places.referrer || false)))) (told row.coin places.coin placed.coin)
-      ∙ ap (λ (b : Bool). of row.coin || (b || (there places.discount || (there places.referrer || false)))) (told row.pc places.pc placed.pc)
-      ∙ ap (λ (b : Bool). of row.coin || (of row.pc || (b || (there places.referrer || false)))) (told row.discount places.discount placed.discount)
-      ∙ ap (λ (b : Bool). of row.coin || (of row.pc || (of row.discount || (b || false)))) (told row.referrer places.referrer placed.referrer)
+      ap (λ (b : Bool). b || (there places.pc || (there places.discount || (there places.referrer || false)))) (told row.coin places.coin placed.coin beside.coin)
+      ∙ ap (λ (b : Bool). of row.coin || (b || (there places.discount || (there places.referrer || false)))) (told row.pc places.pc placed.pc beside.pc)
+      ∙ ap (λ (b : Bool). of row.coin || (of row.pc || (b || (there places.referrer || false)))) (told row.discount places.discount placed.discount beside.discount)
+      ∙ ap (λ (b : Bool). of row.coin || (of row.pc || (of row.discount || (b || false)))) (told row.referrer places.referrer placed.referrer beside.referrer)
       ∙ sym (names-roles row address)
     where
       differ : (n m : ℕ) → n ≢ m → eqb n m ≡ false
       differ n m other = ⊎_elim (λ same. absurd (other same.1)) (λ apart. apart.0) (eqb_tells n m)
 
-      told : (role : Option Address) (there : ℕ) → IsRolePlaced start.wallets role there → eqb place there ≡ is_role role (get_or (wallets_at start.wallets) place d)
-      told None there is_placed =
+      told : (role : Option Address) (there : ℕ) → IsRolePlaced start.wallets role there → IsMarked role there
+          → eqb place there ≡ is_role role (get_or (wallets_at start.wallets) place d)
+      told None there is_placed marked =
           differ place there
-          (λ same. omega (arith, same, is_placed, within, length-map start.wallets (λ (account : PlainAccount). account.address), is.accepted.few_wallets))
-      told (Some wallet) there is_placed =
+          (λ same. omega (arith, same, marked, within, length-map start.wallets (λ (account : PlainAccount). account.address), is.accepted.few_wallets))
+      told (Some wallet) there is_placed marked =
           at-place (wallets_at start.wallets) (wallets-distinct start is.accepted) wallet there place d
           (position-map (λ (account : PlainAccount). account.address) wallet start.wallets ∙ is_placed) within
           ∙ is_same-sym wallet (get_or (wallets_at start.wallets) place d)
@@ -130,13 +131,6 @@ module _ (names : PlainRow → Address → Bool) (addresses : List Address) wher
       (sym (take_more (map row_of rows) i (row_of row) (omega (arith, inside, length-map rows row_of))
       ∙ ap (λ (one : PlainRow). take i (map row_of rows) ++ one ∷ []) (get_or-map row_of rows i row (row_of row) inside ∙ ap row_of (sym at))))
       (row-counted (take i (map row_of rows)) (row_of row) told before after tells so more)
-
--- the places beside a row of a script
-pub placed-row : (start : PlainAccounts) (rows : List Row) (places : List RowPlaces) → ArePlaced start (map row_of rows) places → (i : ℕ) (row : Row) (d : RowPlaces)
-    → i < length rows → row ≡ get_or rows i row → IsPlaced start (row_of row) (get_or places i d)
-placed-row start rows places placed i row d inside at =
-    subst (λ (one : PlainRow). IsPlaced start one (get_or places i d)) (get_or-map row_of rows i row (row_of row) inside ∙ ap row_of (sym at))
-    (placed-at start (map row_of rows) places placed i (row_of row) d (omega (arith, inside, length-map rows row_of)))
 
 -- the counts of all of them
 all-counted : {A : Type 0} (names : PlainRow → Address → Bool) (address_in : A → Address) (rows : List PlainRow) (items : List A) (counts : List ℕ)

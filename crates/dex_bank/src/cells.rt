@@ -43,7 +43,7 @@ impl Cells {
     ghost use Rattle.dex_types.specs.Rows.{row_of};
     ghost use Rattle.dex_report.specs.Outcomes.{outcome_of};
     ghost use Rattle.dex_script_facts.specs.Facts.{IsScript};
-    ghost use Rattle.dex_script_facts.specs.Places.{ArePlaced};
+    ghost use Rattle.dex_script_facts.specs.Places.{AreBeside, ArePlaced};
     ghost use Rattle.dex_bank.specs.Cells.{AreCells, CanAct, CanActBoth};
     ghost use Rattle.dex_bank.specs.CellsInside.{cells_by};
     ghost use Rattle.dex_bank.specs.Closed as left;
@@ -70,6 +70,7 @@ impl Cells {
         ensures rows { IfOk result (λ made. map row_of made.1 ≡ script.rows) }
         ensures places { IfOk result (λ made. ArePlacedIn made.0 (map row_of made.1) made.2.items) }
         ensures placed { IfOk result (λ made. ArePlaced script.start (map row_of made.1) made.2.items) }
+        ensures beside { IfOk result (λ made. AreBeside (map row_of made.1) made.2.items) }
         ensures script { IsScript script }
     {
         let Script {

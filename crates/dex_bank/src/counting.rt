@@ -1,10 +1,10 @@
-//! How many rows name each market and each wallet, counted by their places in one pass over the rows.
+//! How many rows name each market and each wallet, counted in one pass over what stands beside the rows.
 
 ghost use Rattle.std.specs.Prelude.{◌≡◌, ◌==◌, ◌&&◌, not, ℕ, IfOk, map};
 ghost use Rattle.dex_types.specs.Accounts.{accounts_of};
 ghost use Rattle.dex_types.specs.Rows.{row_of};
 ghost use Rattle.dex_script_facts.specs.Facts.{IsStart};
-ghost use Rattle.dex_script_facts.specs.Places.{ArePlaced};
+ghost use Rattle.dex_script_facts.specs.Places.{AreBeside, ArePlaced};
 ghost use Rattle.dex_bank.specs.Counts as spec;
 ghost use Rattle.dex_bank.specs.Counts.{AreCounted, HaveSpare};
 ghost use Rattle.dex_bank.specs.Opened as first;
@@ -58,6 +58,7 @@ pub(crate) fn row_counts(
 ) -> Result<RowCounts, NoMemory>
     requires start { IsStart (accounts_of start.now) }
     requires places { ArePlaced (accounts_of start.now) (map row_of rows.now) places.now }
+    requires beside { AreBeside (map row_of rows.now) places.now }
     ensures markets { IfOk result (λ counts. counts.markets.items
         ≡ first.market_rooms (map row_of rows.now) (accounts_of start.now).markets) }
     ensures wallets { IfOk result (λ counts. counts.wallets.items

@@ -31,7 +31,7 @@ pub trait Source {
 }
 
 /// How many bytes are asked for at a time.
-const CHUNK: usize = 4096;
+const CHUNK: usize = 65_536;
 
 /// Reads to the end of input. It takes at most one byte more than `limit`, and answers `TooLong` exactly where it did.
 pub fn read_all<S: Source>(alloc: Global, source: &mut S, limit: usize) -> Result<Vec<u8>, ReadAll>

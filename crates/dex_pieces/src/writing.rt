@@ -36,7 +36,7 @@ fn text_of(alloc: Global, parts: Vec<Part>) -> Result<Vec<u8>, AllocError>
     ensures fits { IfOk result (λ text. All FitPart parts.items) }
     ensures text { IfOk result (λ text. text.items ≡ flat_map part_lines parts.items) }
 {
-    let mut text = Vec::new(alloc);
+    let mut text = Vec::with_capacity(alloc, weight_of(&parts))?;
     let mut line = [0; LINE];
     take_each(&mut text, &mut line, parts)?;
     Ok(text)
@@ -67,9 +67,10 @@ fn weight_of(parts: &[Part]) -> usize {
     weight
 }
 
-/// Whether a group of some weight is complete where a part of this weight comes next.
-fn is_complete(group: usize, part: usize, share: usize) -> bool {
-    LINE < group && share < group.saturating_add(part)
+/// Whether a group is complete where a part of this weight comes next: with half of it the parts so far would weigh more than all
+/// groups up to this one should.
+fn is_complete(group: usize, so_far: usize, part: usize, bound: usize) -> bool {
+    LINE < group && bound < so_far.saturating_add(part / 2)
 }
 
 /// The parts in groups of those that follow each other: about so many, where no part is much larger than others, and one where there
@@ -80,14 +81,18 @@ fn groups_of(alloc: Global, parts: Vec<Part>, shares: usize) -> Result<Vec<Vec<P
     let share = weight_of(&parts) / shares.max(1);
     let mut groups = Vec::new(alloc);
     let mut group = Vec::new(alloc);
+    let mut bound = share;
     let mut weight: usize = 0;
+    let mut so_far: usize = 0;
     for part in parts {
         let more = part.weight();
-        if is_complete(weight, more, share) {
+        if is_complete(weight, so_far, more, bound) {
             complete(alloc, &mut groups, &mut group)?;
+            bound = bound.saturating_add(share);
             weight = 0;
         }
         weight = weight.saturating_add(more);
+        so_far = so_far.saturating_add(more);
         group.push(part)?;
     }
     complete(alloc, &mut groups, &mut group)?;

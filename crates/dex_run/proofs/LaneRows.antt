@@ -4,11 +4,12 @@ use Rattle.dex_fold.proofs.Common.{All-cons, All-filter, All-map, All-nil, All-w
 use Rattle.dex_replay.proofs.Common.{AreLegs, AreRows, PlainScript, lanes_of}
 use Rattle.std.specs.List.{All}
 use Rattle.dex_fold.proofs.MappedLists.{same-get}
-use Rattle.dex_run.proofs.Common.{AreBeside, AreNext, AreRowsOf, BankState, Begins, IsNext, SeatState}
+use Rattle.dex_run.proofs.Common.{AreNext, AreRowsOf, BankState, Begins, IsNext, SeatState}
 use Rattle.dex_types.specs.declared.rows.RowPlaces.{RowPlaces}
-use Rattle.dex_script_facts.specs.Places.{ArePlaced, IsPlaced}
-use Rattle.dex_script_facts.proofs.PlacedLaws.{item-at, item_at, placed-at, placed-long}
+use Rattle.dex_script_facts.specs.Places.{AreBeside, IsBeside, IsPlaced}
+use Rattle.dex_script_facts.proofs.PlacedLaws.{item-at, item_at, nowhere, placed-long, row-at}
 use Rattle.std.proofs.lemmas.Bool.{cases_lt}
+use Rattle.std.proofs.lemmas.Slice.Zip.{AllZip-long}
 use Rattle.std.proofs.lemmas.List.{drop_more, get_or-drop, take-append-drop, get_or-take, length-take-le, map-append}
 
 pub rows_of_lane-append : (lane : ℕ) (xs ys : List PlainRow) → rows_of_lane lane (xs ++ ys) ≡ rows_of_lane lane xs ++ rows_of_lane lane ys
@@ -199,31 +200,20 @@ next-both rows i first second seat within at at_second are so_far lower together
 
 -- ---- places
 
--- beside the rows of a script stand their numbers and lanes
-pub beside : (start : PlainAccounts) (rows : List Row) (places : List RowPlaces) → ArePlaced start (map row_of rows) places → AreBeside rows places
-beside start rows places are =
-    let at : (i : ℕ) (row : Row) (place : RowPlaces) → i < length rows → IsPlaced start (row_of (get_or rows i row)) (get_or places i place) = λ i row place within.
-    subst (λ (r : PlainRow). IsPlaced start r (get_or places i place)) (get_or-map row_of rows i row (row_of row) within)
-    (placed-at start (map row_of rows) places are i (row_of row) place (omega (arith, within, length-map rows row_of))) in
-    record {
-      long = placed-long start (map row_of rows) places are ∙ length-map rows row_of;
-      number = λ i row place within. (at i row place within).number;
-      lane = λ i row place within. (at i row place within).lane;
-    }
+-- beside each row something stands
+pub beside-long : (rows : List Row) (places : List RowPlaces) → AreBeside (map row_of rows) places → length places ≡ length rows
+beside-long rows places are = AllZip-long IsBeside (map row_of rows) places are ∙ length-map rows row_of
 
--- so do those of a bank's script
-pub beside-of : (bank : BankState) (rows : List Row) (places : List RowPlaces) → AreRowsOf bank rows places → AreBeside rows places
-beside-of bank rows places are = beside bank.script.start rows places are.placed
-
--- what stands beside no row
-abbrev pub nowhere : RowPlaces
-nowhere = record { number = 0; lane = 0; market = 0; coin = 0; pc = 0; discount = 0; referrer = 0 }
+-- the number beside a row is the row's
+pub number-beside : (rows : List Row) (places : List RowPlaces) → AreBeside (map row_of rows) places → (i : ℕ) (row : Row) (at : RowPlaces) → i < length rows
+    → (get_or places i at).number ≡ (get_or rows i row).number
+number-beside rows places are i row at within = (row-at IsBeside rows places are i row at within).number
 
 -- the lane beside a row is the row's
-pub lane-beside : (rows : List Row) (places : List RowPlaces) (place : ℕ) (within : place < length rows) → AreBeside rows places
+pub lane-beside : (rows : List Row) (places : List RowPlaces) (place : ℕ) (within : place < length rows) → AreBeside (map row_of rows) places
     → (get_or places place nowhere).lane ≡ (item_at rows place within).lane
 lane-beside rows places place within are =
-    are.lane place (item_at rows place within) nowhere within ∙ ap (λ (row : Row). row.lane) (sym (item-at rows place within))
+    (row-at IsBeside rows places are place (item_at rows place within) nowhere within).lane ∙ ap (λ (row : Row). row.lane) (sym (item-at rows place within))
 
 module _ (bank : BankState) (rows : List Row) (places : List RowPlaces) (are : AreRowsOf bank rows places) where
   pub places-long : length places ≡ length rows
@@ -232,5 +222,5 @@ module _ (bank : BankState) (rows : List Row) (places : List RowPlaces) (are : A
   -- a row has its places beside it
   pub row-placed : (i : ℕ) (row : Row) (default : RowPlaces) → i < length rows → row ≡ get_or rows i row → IsPlaced bank.script.start (row_of row) (get_or places i default)
   row-placed i row default within at =
-      subst (λ (r : PlainRow). IsPlaced bank.script.start r (get_or places i default)) (get_or-map row_of rows i row (row_of row) within ∙ ap row_of (sym at))
-      (placed-at bank.script.start (map row_of rows) places are.placed i (row_of row) default (omega (arith, within, length-map rows row_of)))
+      subst (λ (one : Row). IsPlaced bank.script.start (row_of one) (get_or places i default)) (sym at)
+      (row-at (IsPlaced bank.script.start) rows places are.placed i row default within)

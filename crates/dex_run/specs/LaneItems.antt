@@ -2,7 +2,6 @@
 use Rattle.std.specs.Prelude.{ℕ, ◌≡◌, ◌+◌, ◌<◌, List, [], ◌∷◌, Vec, length, map, slice_index_or, take}
 use Rattle.std.specs.declared.alloc.Global.{Global}
 use Rattle.dex_types.specs.declared.rows.Row.{Row}
-use Rattle.dex_types.specs.declared.rows.RowPlaces.{RowPlaces}
 use Rattle.dex_types.specs.Rows.{row_of}
 use Rattle.dex_fold.specs.Items.{rows_of_lane}
 use Rattle.dex_turns.specs.Seats.{SeatState}
@@ -24,14 +23,6 @@ abbrev pub IsAlone : List Row → ℕ → Type 0
 IsAlone rows place =
     (row : Row) → place + 1 < length rows
     → (slice_index_or rows place row).number ≡ (slice_index_or rows (place + 1) row).number → ⊥
-
--- beside each row stand its number and its lane
-pub record AreBeside (rows : List Row) (places : List RowPlaces) : Type 0 where
-  pub long : length places ≡ length rows
-  pub number : (place : ℕ) (row : Row) (at : RowPlaces) → place < length rows
-      → (slice_index_or places place at).number ≡ (slice_index_or rows place row).number
-  pub lane : (place : ℕ) (row : Row) (at : RowPlaces) → place < length rows
-      → (slice_index_or places place at).lane ≡ (slice_index_or rows place row).lane
 
 -- how many rows of a lane stand before a place
 abbrev pub rows_before : ℕ → List Row → ℕ → ℕ

@@ -4,18 +4,19 @@ use Rattle.dex_types.specs.declared.rows.Row.{Row}
 use Rattle.dex_types.specs.declared.rows.RowPlaces.{RowPlaces}
 use Rattle.dex_types.specs.Rows.{row_of}
 use Rattle.dex_script_facts.specs.Facts.{IsScript}
-use Rattle.dex_script_facts.specs.Places.{ArePlaced}
+use Rattle.dex_script_facts.specs.Places.{AreBeside, ArePlaced}
 use Rattle.dex_run.specs.LaneItems.{IsIndex}
 use Rattle.dex_run.specs.declared.lane.LaneJob.{LaneJob}
 use Rattle.dex_run.specs.declared.lane.Lanes.{Lanes}
 use Rattle.dex_turns.specs.Bank.{BankState}
 use Rattle.dex_turns.specs.Seats.{IsDone, IsSeatOf, SeatState}
 
--- all rows of the bank's script with their places
+-- all rows of the bank's script with their places, and with their numbers and lanes
 pub record AreRowsOf (bank : BankState) (rows : List Row) (places : List RowPlaces) : Type 0 where
   pub is : IsScript bank.script
   pub rows_are : map row_of rows ≡ bank.script.rows
   pub placed : ArePlaced bank.script.start (map row_of rows) places
+  pub beside : AreBeside (map row_of rows) places
 
 -- a seat of this bank of whose rows none has acted, all rows of its script with their places, and where the items of each lane
 -- begin

@@ -5,7 +5,8 @@ ghost use Rattle.dex_types.specs.declared.rows.Row.{Row as RowOf};
 ghost use Rattle.dex_types.specs.Rows.{row_of};
 ghost use Rattle.dex_script_facts.specs.PlainScript.{PlainScript};
 ghost use Rattle.dex_script_facts.specs.Facts.{AreRows};
-ghost use Rattle.dex_run.specs.LaneItems.{AreBeside, IsAlone, IsIndex, IsSwapAt};
+ghost use Rattle.dex_script_facts.specs.Places.{AreBeside};
+ghost use Rattle.dex_run.specs.LaneItems.{IsAlone, IsIndex, IsSwapAt};
 
 use crate::columns::columns_for;
 use dex_script_facts::RowList;
@@ -15,8 +16,8 @@ use std::alloc::Global;
 /// Whether the row at a place and the one behind it are the legs of one swap: they have one number, as what stands beside them tells.
 pub(crate) fn is_swap(places: &[RowPlaces], place: usize) -> bool
     requires { place < length places.now }
-    ensures yes { result ≡ true → (rows : List RowOf) → AreBeside rows places.now → IsSwapAt rows place }
-    ensures no { result ≡ false → (rows : List RowOf) → AreBeside rows places.now → IsAlone rows place }
+    ensures yes { result ≡ true → (rows : List RowOf) → AreBeside (map row_of rows) places.now → IsSwapAt rows place }
+    ensures no { result ≡ false → (rows : List RowOf) → AreBeside (map row_of rows) places.now → IsAlone rows place }
 {
     places.len() - place > 1 && places[place].number == places[place + 1].number
 }
@@ -30,7 +31,7 @@ pub(crate) fn places_by_lane(
 ) -> Result<Vec<Vec<usize>>, NoMemory>
     requires rows { (script : PlainScript) × AreRows script × (map row_of rows.now ≡ script.rows)
         × (lanes ≡ script.lanes) }
-    requires beside { AreBeside rows.now places.now }
+    requires beside { AreBeside (map row_of rows.now) places.now }
     ensures count { IfOk result (λ by_lane. length by_lane.items ≡ lanes) }
     ensures index { IfOk result (λ by_lane. IsIndex rows.now by_lane.items) }
 {

@@ -13,7 +13,7 @@ use Rattle.dex_statement.specs.declared.faults.FaultKind.TheVariants.{SetupRefus
 use Rattle.dex_statement.specs.declared.faults.SetupCode.TheVariants as code
 use Rattle.dex_statement.specs.declared.statement.Statement.{Statement}
 use Rattle.dex_statement.specs.declared.statement.Statement.TheVariants as row
-use Rattle.dex_script_facts.specs.Places.{ArePlaced}
+use Rattle.dex_script_facts.specs.Places.{AreBeside, ArePlaced}
 use Rattle.dex_script.specs.Drafts.{PlainDraft}
 use Rattle.dex_script.specs.Names.{AreFew, IsReading}
 use Rattle.dex_script.specs.Rows.{IsSetup, with_clock, with_program, with_statement}
@@ -98,6 +98,7 @@ none-placed start (row ∷ rows) places other none are = absurd (some row rows n
 pub kept-reading : (before after : PlainDraft) (places : List RowPlaces) → Kept before after → IsReading before places → IsReading after places
 kept-reading before after places kept reading = record {
   placed = placed_now before.is_late refl;
+  beside = subst (λ (rows : List PlainRow). AreBeside rows places) (sym kept.rows) reading.beside;
   quiet = λ early. kept.rows ∙ reading.quiet (sym kept.late ∙ early);
   few = kept.few reading.few;
 }

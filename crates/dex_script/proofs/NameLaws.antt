@@ -10,9 +10,9 @@ use Rattle.dex_types.specs.Addresses.{is_same}
 use Rattle.dex_laws.proofs.TraderLaws.{is_same-sym}
 use Rattle.dex_statement.specs.Stated.{PlainParties}
 use Rattle.dex_script_facts.specs.Known.{has_market, is_known_role}
-use Rattle.dex_script_facts.specs.Places.{IsRolePlaced, market_place, wallet_place}
+use Rattle.dex_script_facts.specs.Places.{market_place, wallet_place}
 use Rattle.dex_script.specs.declared.names.Stand.{Stand}
-use Rattle.dex_script.specs.Names.{StandAt, all_places, places_of, role_place}
+use Rattle.dex_script.specs.Names.{IsRoleAt, StandAt, all_places, places_of, role_place}
 use Rattle.dex_script.specs.Rows.{is_unknown}
 
 -- ---- the first place, from the last item to the first
@@ -76,9 +76,9 @@ role-known : (wallets : List PlainAccount) (role : Option Address) → is_some (
 role-known wallets None = refl
 role-known wallets (Some address) = position-any (λ (wallet : PlainAccount). is_same address wallet.address) wallets
 
-role-placed : (wallets : List PlainAccount) (role : Option Address) (place : ℕ) → role_in wallets role ≡ Some place → IsRolePlaced wallets role place
-role-placed wallets None place is = sym (same_Some 65535 place is)
-role-placed wallets (Some address) place is = is
+role-at : (wallets : List PlainAccount) (role : Option Address) (place : ℕ) → role_in wallets role ≡ Some place → IsRoleAt wallets role place
+role-at wallets None place is = (tt, sym (same_Some 65535 place is))
+role-at wallets (Some address) place is = (is, tt)
 
 -- ---- what is not found is unknown
 
@@ -147,10 +147,10 @@ module _ (start : PlainAccounts) (parties : PlainParties) where
       let are = found places is in
       record {
         market = are.market;
-        coin = role-placed start.wallets parties.coin places.coin are.coin;
-        pc = role-placed start.wallets parties.pc places.pc are.pc;
-        discount = role-placed start.wallets parties.discount places.discount are.discount;
-        referrer = role-placed start.wallets parties.referrer places.referrer are.referrer;
+        coin = role-at start.wallets parties.coin places.coin are.coin;
+        pc = role-at start.wallets parties.pc places.pc are.pc;
+        discount = role-at start.wallets parties.discount places.discount are.discount;
+        referrer = role-at start.wallets parties.referrer places.referrer are.referrer;
       }
 
   -- the same of accounts that are these

@@ -1,5 +1,6 @@
 -- Rows that are read behind the bare markets and wallets of a script, and added to it, are read behind the script.
 use Rattle.std.proofs.Common.{◌≡◌, ◌∙◌, ◌+◌, ◌-◌, ◌^◌, ◌≤◌, ◌==◌, ℕ, ℤ, Bool, true, false, not, nat_le, List, [], ◌∷◌, ◌++◌, Option, Some, None, Result, Ok, Err, ap, append_assoc, append-nil, arith, map, max, refl, subst, sym}
+use Rattle.std.specs.List.{AllZip}
 use Rattle.std.proofs.lemmas.Bool.{lt-leb}
 use Rattle.std.proofs.lemmas.Iterator.Adapters.{position_from-zero}
 use Rattle.std.proofs.lemmas.List.{length-map}
@@ -18,7 +19,7 @@ use Rattle.dex_statement.specs.Faults.{◌>>=◌}
 use Rattle.dex_statement.specs.Stated.{PlainInstruction, PlainParties, PlainSwap}
 use Rattle.dex_statement.specs.Statements.{statement_of}
 use Rattle.dex_statement.specs.Words.{Fields}
-use Rattle.dex_script_facts.specs.Places.{ArePlaced, IsRolePlaced, wallet_place}
+use Rattle.dex_script_facts.specs.Places.{ArePlaced, IsBeside, IsPlaced, IsRolePlaced, wallet_place}
 use Rattle.dex_script.specs.Drafts.{PlainDraft}
 use Rattle.dex_script.specs.declared.names.Stand.{Stand}
 use Rattle.dex_script.specs.Names.{AreFew, IsReading, places_of, role_place}
@@ -300,8 +301,6 @@ module _ (one other : PlainAccounts) (same : HaveSamePlaces one other) where
   placed-there (row ∷ rows) [] are = absurd are
   placed-there (row ∷ rows) (place ∷ places) (is, are) = (
     record {
-      number = is.number;
-      lane = is.lane;
       market = sym (same.markets row.market) ∙ is.market;
       coin = role-there row.coin place.coin is.coin;
       pc = role-there row.pc place.pc is.pc;
@@ -311,18 +310,19 @@ module _ (one other : PlainAccounts) (same : HaveSamePlaces one other) where
     placed-there rows places are,
   )
 
-placed-both : (start : PlainAccounts) (rows more : List PlainRow) (places others : List RowPlaces) → ArePlaced start rows places → ArePlaced start more others
-    → ArePlaced start (rows ++ more) (places ++ others)
-placed-both start [] more [] others are also = also
-placed-both start [] more (place ∷ places) others are also = absurd are
-placed-both start (row ∷ rows) more [] others are also = absurd are
-placed-both start (row ∷ rows) more (place ∷ places) others (is, are) also = (is, placed-both start rows more places others are also)
+zipped-both : {A B : Type 0} (R : A → B → Type 0) (xs more : List A) (ys others : List B) → AllZip R xs ys → AllZip R more others
+    → AllZip R (xs ++ more) (ys ++ others)
+zipped-both R [] more [] others are also = also
+zipped-both R [] more (y ∷ ys) others are also = absurd are
+zipped-both R (x ∷ xs) more [] others are also = absurd are
+zipped-both R (x ∷ xs) more (y ∷ ys) others (is, are) also = (is, zipped-both R xs more ys others are also)
 
 pub joined-reading : (draft piece : PlainDraft) (places others : List RowPlaces) → AreAlike draft piece → IsReading draft places → IsReading piece others
     → IsReading (joined draft piece) (places ++ others)
 joined-reading draft piece places others alike reading also = record {
-  placed = placed-both draft.script.start draft.script.rows piece.script.rows places others reading.placed
+  placed = zipped-both (IsPlaced draft.script.start) draft.script.rows piece.script.rows places others reading.placed
       (placed-there piece.script.start draft.script.start alike.places piece.script.rows others also.placed);
+  beside = zipped-both IsBeside draft.script.rows piece.script.rows places others reading.beside also.beside;
   quiet = λ early. absurd (differ (sym alike.draft_underway.late ∙ early));
   few = reading.few;
 }
@@ -330,6 +330,7 @@ joined-reading draft piece places others alike reading also = record {
 pub beside-reading : (draft : PlainDraft) (clock : ℤ) → AreFew draft.script.start → IsReading (beside draft clock) []
 beside-reading draft clock few = record {
   placed = tt;
+  beside = tt;
   quiet = λ early. refl;
   few = record {
     markets = omega (arith, few.markets, length-map draft.script.start.markets bare_market);

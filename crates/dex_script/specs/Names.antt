@@ -3,10 +3,10 @@ use Rattle.std.specs.Prelude.{◌≡◌, ℕ, ◌≤◌, false, List, [], Option
 use Rattle.std.specs.HashMap as hash
 use Rattle.dex_types.specs.declared.addresses.Address.{Address}
 use Rattle.dex_types.specs.declared.rows.RowPlaces.{RowPlaces}
-use Rattle.dex_types.specs.Accounts.{PlainAccounts}
+use Rattle.dex_types.specs.Accounts.{PlainAccount, PlainAccounts}
 use Rattle.dex_types.specs.Addresses.{is_same}
 use Rattle.dex_statement.specs.Stated.{PlainParties}
-use Rattle.dex_script_facts.specs.Places.{ArePlaced, IsRolePlaced, market_place, wallet_place}
+use Rattle.dex_script_facts.specs.Places.{AreBeside, ArePlaced, IsMarked, IsRolePlaced, market_place, wallet_place}
 use Rattle.dex_script.specs.declared.names.Names.{Names}
 use Rattle.dex_script.specs.declared.names.Stand.{Stand}
 use Rattle.dex_script.specs.Drafts.{PlainDraft}
@@ -41,21 +41,27 @@ places_in names parties = places_by (hash.get is_same names.markets) (hash.get i
 abbrev pub places_of : PlainAccounts → PlainParties → Option Stand
 places_of start parties = places_by (λ address. market_place address start.markets) (λ address. wallet_place address start.wallets) parties
 
+-- the wallet of a role stands at this place, and a role that names none is marked
+abbrev pub IsRoleAt : List PlainAccount → Option Address → ℕ → Type 0
+IsRoleAt wallets role place = IsRolePlaced wallets role place × IsMarked role place
+
 -- the market and the wallets that an instruction row names stand at these places
 pub record StandAt (start : PlainAccounts) (parties : PlainParties) (places : Stand) : Type 0 where
   pub market : market_place parties.market start.markets ≡ Some places.market
-  pub coin : IsRolePlaced start.wallets parties.coin places.coin
-  pub pc : IsRolePlaced start.wallets parties.pc places.pc
-  pub discount : IsRolePlaced start.wallets parties.discount places.discount
-  pub referrer : IsRolePlaced start.wallets parties.referrer places.referrer
+  pub coin : IsRoleAt start.wallets parties.coin places.coin
+  pub pc : IsRoleAt start.wallets parties.pc places.pc
+  pub discount : IsRoleAt start.wallets parties.discount places.discount
+  pub referrer : IsRoleAt start.wallets parties.referrer places.referrer
 
 -- so few that a place is a number of 16 bits
 pub record AreFew (start : PlainAccounts) : Type 0 where
   pub markets : length start.markets ≤ 16
   pub wallets : length start.wallets ≤ 256
 
--- what a reader knows: each row has its places, and none was read where setup rows do not come too late
+-- what a reader knows: each row has its places, its number and its lane beside it, and none was read where setup rows do not come
+-- too late
 pub record IsReading (draft : PlainDraft) (places : List RowPlaces) : Type 0 where
   pub placed : ArePlaced draft.script.start draft.script.rows places
+  pub beside : AreBeside draft.script.rows places
   pub quiet : draft.is_late ≡ false → draft.script.rows ≡ []
   pub few : AreFew draft.script.start

@@ -5,7 +5,7 @@ ghost use Rattle.dex_types.specs.Accounts.{accounts_of};
 ghost use Rattle.dex_types.specs.Rows.{row_of};
 ghost use Rattle.dex_dump.specs.Accepted.{AreAccepted};
 ghost use Rattle.dex_script_facts.specs.Facts.{IsScript};
-ghost use Rattle.dex_script_facts.specs.Places.{ArePlaced};
+ghost use Rattle.dex_script_facts.specs.Places.{AreBeside, ArePlaced};
 ghost use Rattle.dex_script.specs.Drafts as spec;
 ghost use Rattle.dex_script.specs.Telling.{draft_of, start_of};
 
@@ -117,6 +117,7 @@ impl Draft {
     ) -> Result<Script, NoMemory>
         requires script { IsScript (draft_of self).script }
         requires placed { ArePlaced (start_of self.start) (map row_of (self.before ++ self.rows.items)) places.items }
+        requires beside { AreBeside (map row_of (self.before ++ self.rows.items)) places.items }
         ensures { IfOk result (λ script. script ≡ (draft_of self).script) }
     {
         let Start {

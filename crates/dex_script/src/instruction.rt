@@ -4,7 +4,7 @@ ghost use Rattle.std.specs.Prelude.{◌≡◌, List, [], ◌∷◌, ◌++◌, tr
 ghost use Rattle.dex_types.specs.Accounts.{PlainAccounts};
 ghost use Rattle.dex_types.specs.Rows.{PlainRow, row_of};
 ghost use Rattle.dex_statement.specs.Telling.{TellsIn};
-ghost use Rattle.dex_script_facts.specs.Places.{ArePlaced};
+ghost use Rattle.dex_script_facts.specs.Places.{AreBeside, ArePlaced};
 ghost use Rattle.dex_script.specs.Names.{IsReading, StandAt};
 ghost use Rattle.dex_script.specs.Rows as spec;
 ghost use Rattle.dex_script.specs.Telling.{draft_of, start_of};
@@ -121,6 +121,10 @@ fn push(
         → StandAt start words.old.parties at
         → ArePlaced start (front ++ map row_of rows.old.items) places.old.items
         → ArePlaced start (front ++ map row_of rows.new.items) places.new.items }
+    ensures beside { (start : PlainAccounts) (front : List PlainRow)
+        → StandAt start words.old.parties at
+        → AreBeside (front ++ map row_of rows.old.items) places.old.items
+        → AreBeside (front ++ map row_of rows.new.items) places.new.items }
 {
     rows.reserve(1)?;
     places.push(RowPlaces {

@@ -4,12 +4,11 @@ use Rattle.std.specs.Option.{option_eq}
 use Rattle.std.proofs.Math.Seq.{drop-cons}
 use Rattle.std.proofs.lemmas.List.{length-map}
 use Rattle.dex_types.specs.declared.rows.RowPlaces.{RowPlaces}
-use Rattle.dex_types.specs.Accounts.{PlainAccounts}
 use Rattle.dex_types.specs.Rows.{PlainRow}
 use Rattle.dex_fold.specs.Groups.{Group, alone, grouped, joined, map_group, members}
 use Rattle.dex_fold.specs.Items.{items_of}
 use Rattle.dex_fold.proofs.GroupLaws.{grouped-map}
-use Rattle.dex_script_facts.specs.Places.{ArePlaced, items_at}
+use Rattle.dex_script_facts.specs.Places.{AreBeside, items_at}
 
 -- an element of this number goes with what stands before it
 abbrev pub goes_with : Option ℕ → ℕ → Bool
@@ -80,19 +79,19 @@ begun-all (at ∷ places) = begun-behind at places
 
 -- ---- the numbers beside rows are theirs
 
-numbers : (start : PlainAccounts) (rows : List PlainRow) (places : List RowPlaces) → ArePlaced start rows places → map number_at places ≡ map (λ (row : PlainRow). row.number) rows
-numbers start [] [] are = refl
-numbers start [] (at ∷ places) are = absurd are
-numbers start (row ∷ rows) [] are = absurd are
-numbers start (row ∷ rows) (at ∷ places) (is, are) =
-    ap (λ (n : ℕ). n ∷ map number_at places) is.number ∙ ap (λ (rest : List ℕ). row.number ∷ rest) (numbers start rows places are)
+numbers : (rows : List PlainRow) (places : List RowPlaces) → AreBeside rows places → map number_at places ≡ map (λ (row : PlainRow). row.number) rows
+numbers [] [] are = refl
+numbers [] (at ∷ places) are = absurd are
+numbers (row ∷ rows) [] are = absurd are
+numbers (row ∷ rows) (at ∷ places) (is, are) =
+    ap (λ (n : ℕ). n ∷ map number_at places) is.number ∙ ap (λ (rest : List ℕ). row.number ∷ rest) (numbers rows places are)
 
 by-numbers : {A : Type 0} (key : A → ℕ) (xs : List A) → length (grouped key xs) ≡ length (grouped (λ (n : ℕ). n) (map key xs))
 by-numbers key xs = sym (ap length (grouped-map (λ (n : ℕ). n) key xs) ∙ length-map (grouped key xs) (map_group key))
 
 -- so as many items are at the places as the rows are
-pub items-placed : (start : PlainAccounts) (rows : List PlainRow) (places : List RowPlaces) → ArePlaced start rows places → items_at places ≡ length (items_of rows)
-items-placed start rows places are =
+pub items-beside : (rows : List PlainRow) (places : List RowPlaces) → AreBeside rows places → items_at places ≡ length (items_of rows)
+items-beside rows places are =
     by-numbers number_at places
-    ∙ ap (λ (all : List ℕ). length (grouped (λ (n : ℕ). n) all)) (numbers start rows places are)
+    ∙ ap (λ (all : List ℕ). length (grouped (λ (n : ℕ). n) all)) (numbers rows places are)
     ∙ sym (by-numbers (λ (row : PlainRow). row.number) rows)

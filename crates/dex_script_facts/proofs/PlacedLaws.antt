@@ -1,32 +1,44 @@
 -- Places of rows, read off a list of them.
-use Rattle.std.proofs.Common.{◌≡◌, ℕ, ◌+◌, ◌<◌, zero, suc, cond, List, [], ◌∷◌, ◌++◌, Option, None, Some, get_or, length, map, arith, refl, sym, ap, ◌∙◌}
-use Rattle.std.specs.List.{position, position_from}
+use Rattle.std.proofs.Common.{◌≡◌, ℕ, ◌+◌, ◌<◌, zero, suc, cond, List, [], ◌∷◌, ◌++◌, Option, None, Some, get_or, length, map, arith, refl, sym, ap, subst, ◌∙◌}
+use Rattle.std.specs.List.{AllZip, position, position_from}
 use Rattle.std.proofs.lemmas.Iterator.Adapters.{position_from-zero}
+use Rattle.std.proofs.lemmas.List.{get_or-map, length-map}
 use Rattle.std.proofs.lemmas.List.Quantifiers.{position-Some}
-use Rattle.std.proofs.lemmas.Slice.Zip.{AllZip-long}
+use Rattle.std.proofs.lemmas.Slice.Zip.{AllZip-long, all_zipped_more}
 use Rattle.dex_types.specs.declared.addresses.Address.{Address}
+use Rattle.dex_types.specs.declared.rows.Row.{Row}
 use Rattle.dex_types.specs.declared.rows.RowPlaces.{RowPlaces}
 use Rattle.dex_types.specs.Accounts.{PlainAccount, PlainAccounts, PlainMarketAccounts}
 use Rattle.dex_types.specs.Addresses.{is_same}
-use Rattle.dex_types.specs.Rows.{PlainRow}
+use Rattle.dex_types.specs.Rows.{PlainRow, row_of}
 use Rattle.dex_laws.proofs.TraderLaws.{is_same-true}
 use Rattle.dex_script_facts.specs.PlainScript.{PlainScript}
-use Rattle.dex_script_facts.specs.Places.{ArePlaced, IsPlace, IsPlaced, market_addresses, market_place, wallet_addresses, wallet_place}
+use Rattle.dex_script_facts.specs.Places.{AreBeside, ArePlaced, IsBeside, IsPlace, IsPlaced, market_addresses, market_place, wallet_addresses, wallet_place}
 
 -- each row has places
 pub placed-long : (start : PlainAccounts) (rows : List PlainRow) (places : List RowPlaces) → ArePlaced start rows places
     → length places ≡ length rows
 placed-long start rows places are = AllZip-long (IsPlaced start) rows places are
 
--- the row and the places at one index
-pub placed-at : (start : PlainAccounts) (rows : List PlainRow) (places : List RowPlaces) → ArePlaced start rows places
-    → (index : ℕ) (row : PlainRow) (at : RowPlaces) → index < length rows → IsPlaced start (get_or rows index row) (get_or places index at)
-placed-at start [] [] are index row at within = absurd (omega (arith, within))
-placed-at start [] (place ∷ places) are index row at within = absurd are
-placed-at start (first ∷ rows) [] are index row at within = absurd are
-placed-at start (first ∷ rows) (place ∷ places) are zero row at within = are.0
-placed-at start (first ∷ rows) (place ∷ places) are (suc index) row at within =
-    placed-at start rows places are.1 index row at (omega (arith, within))
+-- what holds of each two of two lists side by side holds at one index
+zipped-at : {A B : Type 0} (R : A → B → Type 0) (xs : List A) (ys : List B) → AllZip R xs ys → (index : ℕ) (x : A) (y : B) → index < length xs
+    → R (get_or xs index x) (get_or ys index y)
+zipped-at R [] [] are index x y within = absurd (omega (arith, within))
+zipped-at R [] (next ∷ ys) are index x y within = absurd are
+zipped-at R (first ∷ xs) [] are index x y within = absurd are
+zipped-at R (first ∷ xs) (next ∷ ys) are zero x y within = are.0
+zipped-at R (first ∷ xs) (next ∷ ys) are (suc index) x y within = zipped-at R xs ys are.1 index x y (omega (arith, within))
+
+-- so it does of a row and what stands beside it
+pub row-at : (R : PlainRow → RowPlaces → Type 0) (rows : List Row) (places : List RowPlaces) → AllZip R (map row_of rows) places
+    → (index : ℕ) (row : Row) (at : RowPlaces) → index < length rows → R (row_of (get_or rows index row)) (get_or places index at)
+row-at R rows places are index row at within =
+    subst (λ (one : PlainRow). R one (get_or places index at)) (get_or-map row_of rows index row (row_of row) within)
+    (zipped-at R (map row_of rows) places are index (row_of row) at (omega (arith, within, length-map rows row_of)))
+
+-- what stands beside no row
+abbrev pub nowhere : RowPlaces
+nowhere = record { number = 0; lane = 0; market = 0; coin = 0; pc = 0; discount = 0; referrer = 0 }
 
 -- what stands at a place that is within
 pub item_at : {A : Type 0} (items : List A) (place : ℕ) → place < length items → A
@@ -44,10 +56,12 @@ item-at (item ∷ items) (suc place) within = item-at items place (omega (arith,
 -- one row more, with its places
 pub placed-push : (start : PlainAccounts) (rows : List PlainRow) (places : List RowPlaces) (row : PlainRow) (at : RowPlaces)
     → ArePlaced start rows places → IsPlaced start row at → ArePlaced start (rows ++ row ∷ []) (places ++ at ∷ [])
-placed-push start [] [] row at are is = (is, tt)
-placed-push start [] (place ∷ places) row at are is = absurd are
-placed-push start (first ∷ rows) [] row at are is = absurd are
-placed-push start (first ∷ rows) (place ∷ places) row at are is = (are.0, placed-push start rows places row at are.1 is)
+placed-push start rows places row at are is = all_zipped_more (IsPlaced start) rows places row at are is
+
+-- and with what stands beside it
+pub beside-push : (rows : List PlainRow) (places : List RowPlaces) (row : PlainRow) (at : RowPlaces)
+    → AreBeside rows places → IsBeside row at → AreBeside (rows ++ row ∷ []) (places ++ at ∷ [])
+beside-push rows places row at are is = all_zipped_more IsBeside rows places row at are is
 
 -- a market stands at its place
 pub market-within : (address : Address) (markets : List PlainMarketAccounts) (place : ℕ) → market_place address markets ≡ Some place

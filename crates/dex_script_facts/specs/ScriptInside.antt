@@ -5,7 +5,7 @@ use Rattle.dex_types.specs.Rows.{row_of}
 use Rattle.dex_script_facts.specs.declared.script.Script.TheInside.{Inside}
 use Rattle.dex_script_facts.specs.PlainScript.{PlainScript}
 use Rattle.dex_script_facts.specs.Facts.{IsScript}
-use Rattle.dex_script_facts.specs.Places.{ArePlaced}
+use Rattle.dex_script_facts.specs.Places.{AreBeside, ArePlaced}
 
 -- the script that the fields are
 abbrev pub script_inside : Inside → PlainScript
@@ -16,7 +16,8 @@ script_inside inside = record {
   program = inside.program;
 }
 
--- what holds of every script (`IsScript`) holds of the fields, and each row has its places beside it
+-- what holds of every script (`IsScript`) holds of the fields, and each row has its places, its number and its lane beside it
 abbrev pub IsKept : Inside → Type 0
 IsKept inside =
     IsScript (script_inside inside) × ArePlaced (accounts_of inside.start) (map row_of inside.rows) inside.places.items
+    × AreBeside (map row_of inside.rows) inside.places.items

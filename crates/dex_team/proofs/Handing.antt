@@ -20,7 +20,7 @@ use Rattle.dex_script_facts.specs.PlainScript.{PlainScript}
 use Rattle.dex_script_facts.specs.Facts.{IsScript}
 use Rattle.dex_script_facts.specs.Places.{IsPlaced}
 use Rattle.dex_script_facts.proofs.Apart.{markets-distinct, wallets-distinct}
-use Rattle.dex_script_facts.proofs.PlacedLaws.{placed-at}
+use Rattle.dex_script_facts.proofs.PlacedLaws.{row-at}
 use Rattle.dex_stage.proofs.Frames.{market-stays, wallet-stays}
 use Rattle.dex_stage.specs.Stages.{AreReady, IsMarketAt, IsRowAt, IsWalletAt, world_at}
 use Rattle.dex_team.specs.Lists.{AreLists}
@@ -124,10 +124,7 @@ here-row script rows are count row is within = record {
 -- its places
 pub placed-next : (script : PlainScript) (lists : Lists) → AreLists script lists → (index : ℕ) → index < length lists.rows.now → (row : Row) (places : RowPlaces)
     → IsPlaced script.start (row_of (get_or lists.rows.now index row)) (get_or lists.places.now index places)
-placed-next script lists are index within row places =
-    let rows : List Row = lists.rows.now in
-    subst (λ (one : PlainRow). IsPlaced script.start one (get_or lists.places.now index places)) (get_or-map row_of rows index row (row_of row) within)
-    (placed-at script.start (map row_of rows) lists.places.now are.are_placed index (row_of row) places (omega (arith, within, length-map rows row_of)))
+placed-next script lists are index within row places = row-at (IsPlaced script.start) lists.rows.now lists.places.now are.are_placed index row places within
 
 -- a row's market that was lent is taken up
 pub held : (script : PlainScript) (before after : HomesState) (address : Address) (place : ℕ) (market : MarketCellState) → IsPlace address (market_addresses script) place

@@ -2,10 +2,10 @@ use Rattle.std.proofs.Common.{◌≡◌, ◌+◌, ◌<◌, ◌≤◌, List, [], 
 use Rattle.dex_fold.proofs.Common.{PlainAccount, PlainAccounts, PlainMarketAccounts, Row, accounts_of, length-map, market_accounts_of, named_of, names, row_of, with_items_is}
 use Rattle.std.proofs.lemmas.List.{length-take-le}
 use Rattle.dex_types.specs.declared.rows.RowPlaces.{RowPlaces}
-use Rattle.dex_script_facts.specs.Places.{ArePlaced}
-use Rattle.dex_script_facts.proofs.PlacedLaws.{item-at, item_at, placed-long}
+use Rattle.dex_script_facts.specs.Places.{ArePlaced, IsBeside, IsPlaced}
+use Rattle.dex_script_facts.proofs.PlacedLaws.{item-at, item_at, nowhere, placed-long, row-at}
 use Rattle.dex_bank.specs.Counts.{HaveSpare, wallets_told}
-use Rattle.dex_bank.proofs.OpenRooms.{AreRowsOf, market-tells, markets_at, on, placed-row, rooms-told, row-more, rows-spare, wallet-tells, wallets_at}
+use Rattle.dex_bank.proofs.OpenRooms.{AreRowsOf, market-tells, markets_at, on, rooms-told, row-more, rows-spare, wallet-tells, wallets_at}
 use Rattle.dex_bank.proofs.counting.row_counts.Goals as goal
 
 -- each row has places
@@ -17,9 +17,6 @@ bounds-places-i c = omega (arith, together (accounts_of c.args.start.now) c.args
 
 pub offset_bounds-places-i : goal.offset_bounds-places-i
 offset_bounds-places-i c = omega (arith, together (accounts_of c.args.start.now) c.args.rows.now c.args.places.now c.requires.places)
-
-abbrev nowhere : RowPlaces
-nowhere = record { number = 0; lane = 0; market = 0; coin = 0; pc = 0; discount = 0; referrer = 0 }
 
 few : (rows : List Row) (i : ℕ) → i ≤ length rows → length (take i (map row_of rows)) ≡ i
 few rows i le = length-take-le i (map row_of rows) (omega (arith, le, length-map rows row_of))
@@ -45,7 +42,8 @@ loop-i-preserved c =
     let row : Row = item_at rows i inside in
     let is = item-at rows i inside in
     let there : RowPlaces = get_or c.args.places.now i nowhere in
-    let placed = placed-row start rows c.args.places.now c.requires.places i row nowhere inside is in
+    let placed = subst (λ (one : Row). IsPlaced start (row_of one) there) (sym is) (row-at (IsPlaced start) rows c.args.places.now c.requires.places i row nowhere inside) in
+    let beside = subst (λ (one : Row). IsBeside (row_of one) there) (sym is) (row-at IsBeside rows c.args.places.now c.requires.beside i row nowhere inside) in
     let markets = markets_at start.markets in
     let wallets = wallets_at start.wallets in
     let told = wallets_told there in
@@ -60,7 +58,7 @@ loop-i-preserved c =
           subst (AreRowsOf names wallets (take (i + 1) (map row_of rows)))
           (sym (with_items_is c.loop-i.wallets c.count_each-in-loop-i.new.counts (omega (arith, c.count_each-in-loop-i.auto.counts, c.deref_mut-in-loop-i.ensures.len))))
           (row-more names wallets rows i row told c.deref_mut-in-loop-i.result.now c.count_each-in-loop-i.new.counts inside is
-          (wallet-tells start c.requires.start (row_of row) there placed)
+          (wallet-tells start c.requires.start (row_of row) there placed beside)
           (subst (AreRowsOf names wallets (take i (map row_of rows))) (sym c.deref_mut-in-loop-i.ensures.value) c.loop-i.invariant.wallets) c.count_each-in-loop-i.ensures);
     }
 

@@ -1,8 +1,8 @@
 use Rattle.std.proofs.Common.{ℕ, ◌≡◌, ◌+◌, ◌<◌, ◌∙◌, ap, arith, get_or, length, set, subst, sym}
 use Rattle.std.proofs.lemmas.List.{length-set}
-use Rattle.dex_script_facts.proofs.PlacedLaws.{item-at, item_at}
+use Rattle.dex_script_facts.proofs.PlacedLaws.{item-at, item_at, nowhere}
 use Rattle.dex_run.proofs.LaneItems.{AreFound, found-all, found-alone, found-none, found-two}
-use Rattle.dex_run.proofs.LaneRows.{begins-alone, begins-first, begins-two, lane-beside, lane-within, nowhere}
+use Rattle.dex_run.proofs.LaneRows.{begins-alone, begins-first, begins-two, beside-long, lane-beside, lane-within}
 use Rattle.dex_run.proofs.index.places_by_lane.Goals as goal
 
 pub item-init : goal.item-init
@@ -24,6 +24,18 @@ index_mut-requires c =
       lane-beside rows c.args.places.now c.item.place within c.requires.beside,
       lane-within c.requires.rows.0 rows c.requires.rows.2 c.requires.rows.1 c.item.place (item_at rows c.item.place within) within (item-at rows c.item.place within),
     )
+
+pub offset_bounds-places-place : goal.offset_bounds-places-place
+offset_bounds-places-place c = omega (arith, c.item-test.true, c.len.ensures, beside-long c.args.rows.now c.args.places.now c.requires.beside)
+
+pub bounds-places-place : goal.bounds-places-place
+bounds-places-place c = omega (arith, c.item-test.true, c.len.ensures, beside-long c.args.rows.now c.args.places.now c.requires.beside)
+
+pub is_swap-requires : goal.is_swap-requires
+is_swap-requires c = omega (arith, c.item-test.true, c.len.ensures, beside-long c.args.rows.now c.args.places.now c.requires.beside)
+
+pub overflow_add-place : goal.overflow_add-place
+overflow_add-place c = omega (arith, c.item-test.true, c.len.ensures, beside-long c.args.rows.now c.args.places.now c.requires.beside)
 
 pub item-preserved-then-is_swap : goal.item-preserved-then-is_swap
 item-preserved-then-is_swap c =

@@ -2,9 +2,8 @@ use Rattle.std.proofs.Common.{List, ap, arith, length, map, sym, subst, ◌∙�
 use Rattle.dex_fold.proofs.Common.{range_with_len, row_of}
 use Rattle.dex_replay.proofs.Common.{IsOneOrder, IsRunOf, IsScript, PlainScript, outcome_of}
 use Rattle.dex_types.specs.declared.rows.RowPlaces.{RowPlaces}
-use Rattle.dex_script_facts.specs.Places.{ArePlaced}
-use Rattle.dex_run.proofs.Common.{AreBeside, IsIndex}
-use Rattle.dex_run.proofs.LaneRows.{beside}
+use Rattle.dex_script_facts.specs.Places.{AreBeside, ArePlaced}
+use Rattle.dex_run.proofs.Common.{IsIndex}
 use Rattle.dex_run.proofs.Jobs.{after-done, after-lanes, after-of_bank, lane-below}
 use Rattle.dex_run.proofs.running.run_with_rows.Goals as goal
 
@@ -17,8 +16,7 @@ places_by_lane-requires g c = record {
     c.lanes.ensures.lanes ∙ ap (λ (s : PlainScript). s.lanes) c.in_ok-outline.ensures,
   );
   beside =
-      subst (AreBeside c.in_ok-cells.rows) (sym c.deref.ensures.value)
-      (beside c.args.script.start c.in_ok-cells.rows c.in_ok-cells.places.items c.in_ok-cells.ensures.placed);
+      subst (AreBeside (map row_of c.in_ok-cells.rows)) (sym c.deref.ensures.value) c.in_ok-cells.ensures.beside;
 }
 
 -- each seat may run all rows of the script
@@ -32,6 +30,7 @@ run_all-requires-after_bounds g c κs bounds = λ k d within.
         placed =
             subst (λ (s : PlainScript). ArePlaced s.start (map row_of c.in_ok-cells.rows) c.deref-3.result.now) script_is
             (subst (λ (places : List RowPlaces). ArePlaced c.args.script.start (map row_of c.in_ok-cells.rows) places) (sym c.deref-3.ensures.value) c.in_ok-cells.ensures.placed);
+        beside = subst (AreBeside (map row_of c.in_ok-cells.rows)) (sym c.deref-3.ensures.value) c.in_ok-cells.ensures.beside;
       };
       of_bank = c.in_ok-bank.ensures.seats k d within;
       fresh = c.in_ok-bank.ensures.fresh k d within;

@@ -1,43 +1,44 @@
 use Rattle.std.proofs.Common.{◌≡◌, ◌∙◌, ◌++◌, ◌∷◌, [], ℤ, List, ap, map, refl, sym, w64}
 use Rattle.std.proofs.lemmas.Int.{to_z-of_z}
 use Rattle.std.proofs.lemmas.List.{append_assoc, map-append}
-use Rattle.dex_types.specs.declared.rows.RowPlaces.{RowPlaces}
+use Rattle.dex_types.specs.declared.rows.Row.{Row}
 use Rattle.dex_types.specs.Rows.{PlainRow, row_of}
-use Rattle.dex_script_facts.specs.Places.{IsPlaced}
-use Rattle.dex_script_facts.proofs.PlacedLaws.{placed-push}
+use Rattle.dex_script_facts.proofs.PlacedLaws.{beside-push, placed-push}
 use Rattle.dex_statement.specs.Stated.{PlainInstruction}
 use Rattle.dex_script.specs.Rows.{instruction_row}
 use Rattle.dex_script.proofs.instruction.push.Goals as goal
 
+-- a row more behind those before
+pushed : (front : List PlainRow) (before after : List Row) (one : Row) (row : PlainRow) → after ≡ before ++ one ∷ [] → row_of one ≡ row
+    → front ++ map row_of after ≡ (front ++ map row_of before) ++ row ∷ []
+pushed front before after one row is told =
+    ap (λ (rows : List PlainRow). front ++ rows)
+    (ap (map row_of) is ∙ map-append row_of before (one ∷ []) ∙ ap (λ (last : PlainRow). map row_of before ++ last ∷ []) told)
+    ∙ sym (append_assoc front (map row_of before) (row ∷ []))
+
 pub returns-clause-placed : goal.returns-clause-placed
 returns-clause-placed c = λ start front is are.
     let row = instruction_row c.args.number c.args.now c.args.words.now in
-    let at : RowPlaces = record {
-      number = c.args.number;
-      lane = c.words.inside.lane;
-      market = c.args.at.market;
-      coin = c.args.at.coin;
-      pc = c.args.at.pc;
-      discount = c.args.at.discount;
-      referrer = c.args.at.referrer;
-    } in
-    let placed : IsPlaced start row at = record {
+    let all = pushed front c.args.rows.now.items c.push-2.new.self.items c.take_row.result row
+    (c.push-2.ensures.items ∙ rw (c.unwrap.ensures, c.reserve.ensures.items) refl)
+    (c.take_row.ensures ∙ ap (λ (time : ℤ). instruction_row c.args.number time c.args.words.now) (to_z-of_z w64 c.args.now c.ranges.now)) in
+    rw (c.in_ok-push.ensures.items, all)
+    (placed-push start (front ++ map row_of c.args.rows.now.items) c.args.places.now.items row _ are
+    (record { market = is.market; coin = is.coin.0; pc = is.pc.0; discount = is.discount.0; referrer = is.referrer.0 }))
+
+pub returns-clause-beside : goal.returns-clause-beside
+returns-clause-beside c = λ start front is are.
+    let row = instruction_row c.args.number c.args.now c.args.words.now in
+    let all = pushed front c.args.rows.now.items c.push-2.new.self.items c.take_row.result row
+    (c.push-2.ensures.items ∙ rw (c.unwrap.ensures, c.reserve.ensures.items) refl)
+    (c.take_row.ensures ∙ ap (λ (time : ℤ). instruction_row c.args.number time c.args.words.now) (to_z-of_z w64 c.args.now c.ranges.now)) in
+    rw (c.in_ok-push.ensures.items, all)
+    (beside-push (front ++ map row_of c.args.rows.now.items) c.args.places.now.items row _ are
+    (record {
       number = refl;
       lane = ap (λ (words : PlainInstruction). words.lane) c.words.view_is;
-      market = is.market;
-      coin = is.coin;
-      pc = is.pc;
-      discount = is.discount;
-      referrer = is.referrer;
-    } in
-    let old = map row_of c.args.rows.now.items in
-    let told : row_of c.take_row.result ≡ row =
-    c.take_row.ensures ∙ ap (λ (time : ℤ). instruction_row c.args.number time c.args.words.now) (to_z-of_z w64 c.args.now c.ranges.now) in
-    let pushed : c.push-2.new.self.items ≡ c.args.rows.now.items ++ c.take_row.result ∷ [] =
-    c.push-2.ensures.items ∙ rw (c.unwrap.ensures, c.reserve.ensures.items) refl in
-    let all : front ++ map row_of c.push-2.new.self.items ≡ (front ++ old) ++ row ∷ [] =
-    ap (λ (rows : List PlainRow). front ++ rows)
-    (ap (map row_of) pushed ∙ map-append row_of c.args.rows.now.items (c.take_row.result ∷ [])
-    ∙ ap (λ (one : PlainRow). old ++ one ∷ []) told)
-    ∙ sym (append_assoc front old (row ∷ [])) in
-    rw (c.in_ok-push.ensures.items, all) (placed-push start (front ++ old) c.args.places.now.items row at are placed)
+      coin = is.coin.1;
+      pc = is.pc.1;
+      discount = is.discount.1;
+      referrer = is.referrer.1;
+    }))

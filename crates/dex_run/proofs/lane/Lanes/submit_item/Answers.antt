@@ -2,7 +2,7 @@ use Rattle.std.proofs.Common.{◌+◌, ◌∷◌, [], ◌∙◌, ap, arith, leng
 use Rattle.dex_fold.proofs.Common.{Row}
 use Rattle.dex_replay.proofs.Common.{PlainScript}
 use Rattle.dex_run.proofs.LaneItems.{rest-behind}
-use Rattle.dex_run.proofs.LaneRows.{are-legs, begins-alone, beside-of, higher-behind, lower-before, next-both, next-own, one-number, places-long, row-placed}
+use Rattle.dex_run.proofs.LaneRows.{are-legs, begins-alone, higher-behind, lower-before, next-both, next-own, one-number, places-long, row-placed}
 use Rattle.dex_run.proofs.lane.Lanes.submit_item.Goals as goal
 
 pub is_swap-requires : goal.is_swap-requires
@@ -15,21 +15,21 @@ pub overflow_add-next : goal.overflow_add-next
 overflow_add-next g c = omega (arith, c.requires.item.within, places-long c.args.self.now.bank.now c.args.self.now.rows.now c.args.self.now.places.now c.requires.rows)
 
 pub at-second-requires : goal.at-second-requires
-at-second-requires g c = (c.is_swap.ensures.yes c.if-is_swap.true c.args.self.now.rows.now (beside-of c.args.self.now.bank.now c.args.self.now.rows.now c.args.self.now.places.now c.requires.rows) c.at-first.result.now).0
+at-second-requires g c = (c.is_swap.ensures.yes c.if-is_swap.true c.args.self.now.rows.now c.requires.rows.beside c.at-first.result.now).0
 
 pub bounds-places-place : goal.bounds-places-place
 bounds-places-place g c = omega (arith, c.requires.item.within, places-long c.args.self.now.bank.now c.args.self.now.rows.now c.args.self.now.places.now c.requires.rows)
 
 pub bounds-places-next : goal.bounds-places-next
 bounds-places-next g c =
-    omega (arith, (c.is_swap.ensures.yes c.if-is_swap.true c.args.self.now.rows.now (beside-of c.args.self.now.bank.now c.args.self.now.rows.now c.args.self.now.places.now c.requires.rows) c.at-first.result.now).0, places-long c.args.self.now.bank.now c.args.self.now.rows.now c.args.self.now.places.now c.requires.rows)
+    omega (arith, (c.is_swap.ensures.yes c.if-is_swap.true c.args.self.now.rows.now c.requires.rows.beside c.at-first.result.now).0, places-long c.args.self.now.bank.now c.args.self.now.rows.now c.args.self.now.places.now c.requires.rows)
 
 pub offset_bounds-places-place : goal.offset_bounds-places-place
 offset_bounds-places-place g c = omega (arith, c.requires.item.within, places-long c.args.self.now.bank.now c.args.self.now.rows.now c.args.self.now.places.now c.requires.rows)
 
 pub offset_bounds-places-next : goal.offset_bounds-places-next
 offset_bounds-places-next g c =
-    omega (arith, (c.is_swap.ensures.yes c.if-is_swap.true c.args.self.now.rows.now (beside-of c.args.self.now.bank.now c.args.self.now.rows.now c.args.self.now.places.now c.requires.rows) c.at-first.result.now).0, places-long c.args.self.now.bank.now c.args.self.now.rows.now c.args.self.now.places.now c.requires.rows)
+    omega (arith, (c.is_swap.ensures.yes c.if-is_swap.true c.args.self.now.rows.now c.requires.rows.beside c.at-first.result.now).0, places-long c.args.self.now.bank.now c.args.self.now.rows.now c.args.self.now.places.now c.requires.rows)
 
 pub submit_two_at-requires-clause-legs : goal.submit_two_at-requires-clause-legs
 submit_two_at-requires-clause-legs g c =
@@ -38,7 +38,7 @@ submit_two_at-requires-clause-legs g c =
     let at = c.at-first.ensures first in
     let next = c.at-second.ensures second in
     let item = c.requires.item in
-    let swap = c.is_swap.ensures.yes c.if-is_swap.true c.args.self.now.rows.now (beside-of c.args.self.now.bank.now c.args.self.now.rows.now c.args.self.now.places.now c.requires.rows) in
+    let swap = c.is_swap.ensures.yes c.if-is_swap.true c.args.self.now.rows.now c.requires.rows.beside in
     next-both c.args.self.now.rows.now c.args.place first second c.args.seat.now (swap first).0 at next
     (c.requires.rows.rows_are ∙ ap (λ (s : PlainScript). s.rows) (sym c.requires.bank.script)) (sym item.so_far)
     (lower-before c.args.self.now.rows.now c.args.place first item.within at item.begins)
@@ -54,14 +54,14 @@ submit_two_at-requires-clause-first g c =
 pub submit_two_at-requires-clause-second : goal.submit_two_at-requires-clause-second
 submit_two_at-requires-clause-second g c =
     row-placed c.args.self.now.bank.now c.args.self.now.rows.now c.args.self.now.places.now c.requires.rows (c.args.place + 1) c.at-second.result.now _
-    (c.is_swap.ensures.yes c.if-is_swap.true c.args.self.now.rows.now (beside-of c.args.self.now.bank.now c.args.self.now.rows.now c.args.self.now.places.now c.requires.rows) c.at-first.result.now).0 (c.at-second.ensures c.at-second.result.now)
+    (c.is_swap.ensures.yes c.if-is_swap.true c.args.self.now.rows.now c.requires.rows.beside c.at-first.result.now).0 (c.at-second.ensures c.at-second.result.now)
 
 pub returns-then-is_swap-clause-rest : goal.returns-then-is_swap-clause-rest
 returns-then-is_swap-clause-rest g c = λ later rest.
     let submitted = c.submit_two_at.ensures.submitted in
     rest-behind c.args.self.now.rows.now c.args.seat.now c.submit_two_at.new.seat later (length c.args.seat.now.calls + 2) submitted.lane
     (ap length submitted.calls ∙ length-append c.args.seat.now.calls (submitted.one ∷ submitted.two ∷ []))
-    (rest.1.1 (c.is_swap.ensures.yes c.if-is_swap.true c.args.self.now.rows.now (beside-of c.args.self.now.bank.now c.args.self.now.rows.now c.args.self.now.places.now c.requires.rows)))
+    (rest.1.1 (c.is_swap.ensures.yes c.if-is_swap.true c.args.self.now.rows.now c.requires.rows.beside))
 
 -- ---- a row alone
 
@@ -80,7 +80,7 @@ submit_at-requires-clause-row g c =
     (c.requires.rows.rows_are ∙ ap (λ (s : PlainScript). s.rows) (sym c.requires.bank.script)) (sym item.so_far)
     (lower-before c.args.self.now.rows.now c.args.place row item.within at item.begins)
     (higher-behind c.args.self.now.bank.now.script c.args.self.now.rows.now c.requires.rows.rows_are c.requires.rows.is.rows c.args.place row item.within at
-    (begins-alone c.args.self.now.bank.now.script c.args.self.now.rows.now c.requires.rows.rows_are c.requires.rows.is.rows c.args.place item.begins (c.is_swap.ensures.no c.if-is_swap.false c.args.self.now.rows.now (beside-of c.args.self.now.bank.now c.args.self.now.rows.now c.args.self.now.places.now c.requires.rows))))
+    (begins-alone c.args.self.now.bank.now.script c.args.self.now.rows.now c.requires.rows.rows_are c.requires.rows.is.rows c.args.place item.begins (c.is_swap.ensures.no c.if-is_swap.false c.args.self.now.rows.now c.requires.rows.beside)))
     (ap (λ (r : Row). r.lane) at ∙ item.own row)
 
 pub submit_at-requires-clause-places : goal.submit_at-requires-clause-places
@@ -92,4 +92,4 @@ pub returns-else-is_swap-clause-rest : goal.returns-else-is_swap-clause-rest
 returns-else-is_swap-clause-rest g c = λ later rest.
     let submitted = c.submit_at.ensures.submitted in
     rest-behind c.args.self.now.rows.now c.args.seat.now c.submit_at.new.seat later (length c.args.seat.now.calls + 1) submitted.lane
-    (ap length submitted.calls ∙ length-append c.args.seat.now.calls (submitted.call ∷ [])) (rest.1.0 (c.is_swap.ensures.no c.if-is_swap.false c.args.self.now.rows.now (beside-of c.args.self.now.bank.now c.args.self.now.rows.now c.args.self.now.places.now c.requires.rows)))
+    (ap length submitted.calls ∙ length-append c.args.seat.now.calls (submitted.call ∷ [])) (rest.1.0 (c.is_swap.ensures.no c.if-is_swap.false c.args.self.now.rows.now c.requires.rows.beside))

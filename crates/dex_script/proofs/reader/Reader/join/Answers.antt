@@ -22,4 +22,4 @@ invariant_of-result c =
     subst (λ (d : PlainDraft). AreAlike draft d) (sym c.piece.view_is) (subst (λ (d : PlainDraft). AreAlike d c.args.piece) (sym c.self.view_is) c.requires.alike) in
     let both = joined-reading draft piece c.self.inside.places.items c.piece.inside.places.items alike c.self.invariant.0 c.piece.invariant.0 in
     rw (c.in_ok-append.ensures, c.in_ok-push_piece.ensures, c.in_ok-append-2.ensures.items, rows-joined one.before one.rows.items other.before other.rows.items)
-    (record { placed = both.placed; quiet = both.quiet; few = both.few }, c.self.invariant.1)
+    (record { placed = both.placed; beside = both.beside; quiet = both.quiet; few = both.few }, c.self.invariant.1)

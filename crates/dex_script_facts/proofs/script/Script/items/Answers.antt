@@ -1,10 +1,9 @@
 use Rattle.std.proofs.Common.{◌∙◌, ap, arith, length, map}
-use Rattle.dex_types.specs.Accounts.{accounts_of}
 use Rattle.dex_types.specs.Rows.{row_of}
 use Rattle.dex_fold.specs.Items.{items_of}
 use Rattle.dex_script_facts.specs.Places.{items_at}
 use Rattle.dex_script_facts.specs.PlainScript.{PlainScript}
-use Rattle.dex_script_facts.proofs.ItemCounts.{items-placed}
+use Rattle.dex_script_facts.proofs.ItemCounts.{items-beside}
 use Rattle.dex_script_facts.proofs.script.Script.items.Goals as goal
 
 pub items_among-requires : goal.items_among-requires
@@ -15,7 +14,7 @@ items_among-requires c =
           omega (
             arith,
             ap items_at c.deref.ensures.value,
-            items-placed (accounts_of inside.start) (map row_of inside.rows) inside.places.items c.self.invariant.1,
+            items-beside (map row_of inside.rows) inside.places.items c.self.invariant.2,
             c.self.invariant.0.rows.few,
           );
     }
@@ -25,5 +24,5 @@ returns c =
     let inside = c.self.inside in
     c.items_among.ensures
     ∙ ap items_at c.deref.ensures.value
-    ∙ items-placed (accounts_of inside.start) (map row_of inside.rows) inside.places.items c.self.invariant.1
+    ∙ items-beside (map row_of inside.rows) inside.places.items c.self.invariant.2
     ∙ ap (λ (script : PlainScript). length (items_of script.rows)) c.self.view_is
