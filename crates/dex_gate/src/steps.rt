@@ -7,16 +7,32 @@ ghost use Rattle.dex_gate.specs.Seats.{IsBoard, IsWaiting, TakesTurn, MayPassOn,
 use crate::board::{Board, Place, SERVED, Top};
 use crate::journaled::Journaled;
 use crate::plays::{Look, PassOn};
-use std::hint;
+use std::{hint, thread};
 
-/// How often who is next looks at the turn before it sleeps: together some microseconds on the processors seen, as long as a few
-/// turns.
-const LOOKS: u32 = 1_000;
+/// How often who is next looks at the turn before it gives its processor way: together less than a microsecond on the processors
+/// seen, which is about a turn.
+const LOOKS: u32 = 300;
 
-/// Whether the turn of the ticket has come, or comes while it is looked for. Only who is next looks, since to sleep and to be woken
-/// takes longer than a turn: who is further behind would take a processor from those before it. Where it says yes, nobody else can
-/// take the turn.
+/// How often who waits gives its processor way before it sleeps.
+const WAYS: u32 = 30;
+
+/// Whether the turn of the ticket has come, or comes while it is waited for. Who waits gives its processor way, so that others act there
+/// meanwhile, and sleeps only where that takes long: to sleep and to be woken takes longer than many turns. Where it says yes, nobody
+/// else can take the turn.
 pub(crate) fn comes<V: Journaled>(top: &Top<V>, ticket: u64) -> bool
+    requires { IsBoard top.now.table_id }
+{
+    for _ in 0..WAYS {
+        if is_served(top, ticket) {
+            return true;
+        }
+        thread::yield_now();
+    }
+    false
+}
+
+/// Whether the turn of the ticket has come. Who is next looks for a while; who is further behind looks once.
+fn is_served<V: Journaled>(top: &Top<V>, ticket: u64) -> bool
     requires { IsBoard top.now.table_id }
 {
     for _ in 0..LOOKS {

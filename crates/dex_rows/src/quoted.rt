@@ -83,11 +83,11 @@ fn read_row(reader: &mut Reader<&[u8]>, row: &mut ByteRecord) -> Result<bool, No
 }
 
 /// The bytes of the field at a place of a record, counted from 0; no bytes behind the last.
-pub(crate) fn field(record: &ByteRecord, place: usize) -> &[u8]
-    ensures { result.now ≡ field_at (fields_of record.now) place }
+pub(crate) fn field(read: &ByteRecord, place: usize) -> &[u8]
+    ensures { result.now ≡ field_at (fields_of read.now) place }
 {
-    if record.len() <= place {
+    if read.len() <= place {
         return &[];
     }
-    record.get(place).unwrap()
+    read.get(place).unwrap()
 }

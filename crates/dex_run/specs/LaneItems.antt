@@ -2,9 +2,15 @@
 use Rattle.std.specs.Prelude.{ℕ, ◌≡◌, ◌+◌, ◌<◌, List, [], ◌∷◌, Vec, length, map, slice_index_or, take}
 use Rattle.std.specs.declared.alloc.Global.{Global}
 use Rattle.dex_types.specs.declared.rows.Row.{Row}
+use Rattle.dex_types.specs.declared.rows.RowPlaces.{RowPlaces}
 use Rattle.dex_types.specs.Rows.{row_of}
 use Rattle.dex_fold.specs.Items.{rows_of_lane}
+use Rattle.dex_script_facts.specs.Places.{AreBeside}
 use Rattle.dex_turns.specs.Seats.{SeatState}
+
+-- what is said of rows holds of all that these stand beside
+abbrev pub OfRows : List RowPlaces → (List Row → Type 0) → Type 0
+OfRows places So = (rows : List Row) → AreBeside (map row_of rows) places → So rows
 
 -- with the row at a place an item begins: the rows before it have lower numbers
 abbrev pub Begins : List Row → ℕ → Type 0

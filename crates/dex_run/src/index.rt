@@ -1,12 +1,11 @@
 //! Where the items of each lane begin.
 
-ghost use Rattle.std.specs.Prelude.{◌≡◌, ◌<◌, List, IfOk, false, length, map, true};
-ghost use Rattle.dex_types.specs.declared.rows.Row.{Row as RowOf};
+ghost use Rattle.std.specs.Prelude.{◌≡◌, ◌<◌, IfOk, false, length, map, true};
 ghost use Rattle.dex_types.specs.Rows.{row_of};
 ghost use Rattle.dex_script_facts.specs.PlainScript.{PlainScript};
 ghost use Rattle.dex_script_facts.specs.Facts.{AreRows};
 ghost use Rattle.dex_script_facts.specs.Places.{AreBeside};
-ghost use Rattle.dex_run.specs.LaneItems.{IsAlone, IsIndex, IsSwapAt};
+ghost use Rattle.dex_run.specs.LaneItems.{IsAlone, IsIndex, IsSwapAt, OfRows};
 
 use crate::columns::columns_for;
 use dex_script_facts::RowList;
@@ -16,8 +15,8 @@ use std::alloc::Global;
 /// Whether the row at a place and the one behind it are the legs of one swap: they have one number, as what stands beside them tells.
 pub(crate) fn is_swap(places: &[RowPlaces], place: usize) -> bool
     requires { place < length places.now }
-    ensures yes { result ≡ true → (rows : List RowOf) → AreBeside (map row_of rows) places.now → IsSwapAt rows place }
-    ensures no { result ≡ false → (rows : List RowOf) → AreBeside (map row_of rows) places.now → IsAlone rows place }
+    ensures yes { result ≡ true → OfRows places.now (λ rows. IsSwapAt rows place) }
+    ensures no { result ≡ false → OfRows places.now (λ rows. IsAlone rows place) }
 {
     places.len() - place > 1 && places[place].number == places[place + 1].number
 }

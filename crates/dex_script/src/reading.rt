@@ -26,13 +26,7 @@ use dex_rows::records::{Fields, Rows};
 use dex_script_facts::Script;
 use dex_statement::{FaultKind, InstructionWords, RowError};
 use dex_types::NoMemory;
-use std::alloc::{AllocError, Global};
-
-/// Room is made for the buffers of so many rows at a time.
-const STRETCH: u32 = 512;
-
-/// How many bytes these buffers take, about; less than a block that the allocator asks of the system by itself.
-const ROOM: usize = 120_000;
+use std::alloc::Global;
 
 /// How the rows of a script are read, and its markets made.
 pub trait ReadRows {
@@ -234,20 +228,10 @@ pub fn read_rows(
     let mut row = Fields::new();
     let mut words = InstructionWords::none(alloc);
     'rows: while rows.next_row(&mut row)? {
-        if *number % STRETCH == 0 {
-            make_room(alloc);
-        }
         add_row(alloc, &mut reader, *number, &row, &mut words)?;
         *number = next_number(*number);
     }
     Ok(reader)
-}
-
-/// Takes the room that the buffers of some rows want, and gives it back: so the heap grows by all of it at once. The heap of a
-/// thread grows by a page at a time otherwise, and all threads wait for each other meanwhile. Where memory is wanting nothing is taken.
-fn make_room(alloc: Global) {
-    let room: Result<Vec<u8>, AllocError> = Vec::with_capacity(alloc, ROOM);
-    drop(room);
 }
 
 /// What is read behind the rows up to the first instruction row, which is the last that is taken, or the first faulty one.

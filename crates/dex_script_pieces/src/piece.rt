@@ -10,7 +10,13 @@ use dex_lanes::Job;
 use dex_rows::plain::PlainRows;
 use dex_rows::records::Rows;
 use dex_script::{Reader, ScriptError, read_rows};
-use std::alloc::Global;
+use std::alloc::{AllocError, Global};
+
+/// How many bytes of room are taken at once: less than a block that the allocator asks of the system by itself.
+const BLOCK: usize = 120_000;
+
+/// How many times the bytes of rows their buffers take at most, about.
+const TIMES: usize = 3;
 
 /// Some rows, where a piece of them begins: the number of the first, and the clock before it.
 #[derive(Drop)]
@@ -31,6 +37,7 @@ impl<'a> Job for Piece<'a> {
     ghost ran = { ReadsPiece };
 
     fn run(&mut self) {
+        make_room(self.alloc, self.rows.size());
         self.after = self.number;
         let reader = std::mem::replace(&mut self.reader, Err(ScriptError::NoMemory));
         self.reader = read_behind(self.alloc, reader, &mut self.after, &self.rows);
@@ -58,4 +65,19 @@ pub(crate) fn read_behind(
     ensures number { OnOk result (number.new ≡ number_after number.old rows.now) }
 {
     read_rows(alloc, reader?, number, &mut Rows::of_plain(rows))
+}
+
+/// Takes the room that the buffers of rows of so many bytes want, and gives it back. The heap of a thread grows by a page at a time
+/// otherwise, and each time all threads wait for the map of memory. Where memory is wanting less is taken.
+fn make_room(alloc: Global, size: usize) {
+    let mut blocks: Vec<Vec<u8>> = Vec::new(alloc);
+    for _ in 0..(size / BLOCK).saturating_mul(TIMES) {
+        let block: Result<Vec<u8>, AllocError> = Vec::with_capacity(alloc, BLOCK);
+        let Ok(block) = block else {
+            return;
+        };
+        if blocks.push(block).is_err() {
+            return;
+        }
+    }
 }
