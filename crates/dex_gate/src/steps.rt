@@ -9,8 +9,8 @@ use crate::journaled::Journaled;
 use crate::plays::{Look, PassOn};
 use std::{hint, thread};
 
-/// How often who is next looks at the turn before it gives its processor way: together less than a microsecond on the processors
-/// seen, which is about a turn.
+/// How often who is next looks at the turn before it gives its processor way. A thousand looks took some microseconds on the processor
+/// seen, which is some turns.
 const LOOKS: u32 = 300;
 
 /// How often who waits gives its processor way before it sleeps.

@@ -44,7 +44,7 @@ pub fn role_word(text: &[u8]) -> Option<Option<Address>>
 pub fn read_role(text: &[u8], role: &mut Option<Address>) -> bool
     ensures { IsRead result (role_of text.now) role.new }
 {
-    if text == b"-".as_slice() {
+    if let [b'-'] = text {
         *role = None;
         true
     } else {

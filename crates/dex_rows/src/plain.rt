@@ -4,11 +4,9 @@ ghost use Rattle.std.specs.Prelude.{◌≡◌, ◌++◌, ◌≤◌, drop, length
 ghost use Rattle.dex_rows.specs.Lines.{HasNoQuote, IsEnd};
 
 use crate::lines::ends_row;
+use memchr::arch::all::memchr::One;
 use memchr::memmem;
 use std::marker::Model;
-
-/// Line feeds are counted in so many bytes at a time.
-const PART: usize = 255;
 
 /// Rows of a text without a quote that are still to come, as they stand in it. A contract sees them as a list.
 #[derive(Drop)]
@@ -47,11 +45,7 @@ impl<'a> PlainRows<'a> {
 
     /// How many line feeds stand among them.
     pub fn line_feeds(&self) -> usize {
-        let mut count: usize = 0;
-        for part in self.bytes.chunks(PART) {
-            count = count.wrapping_add(feeds_in(part) as usize);
-        }
-        count
+        One::new(b'\n').count(self.bytes)
     }
 
     /// What stands from the last place on at which these bytes do. No clause says which place that is.
@@ -63,15 +57,6 @@ impl<'a> PlainRows<'a> {
             }),
         }
     }
-}
-
-// How many of at most 255 bytes are line feeds. So small a count lets the processor look at many bytes at once.
-fn feeds_in(part: &[u8]) -> u8 {
-    let mut count: u8 = 0;
-    for byte in part {
-        count = count.wrapping_add((*byte == b'\n') as u8);
-    }
-    count
 }
 
 // Where the first line end behind so many bytes stands, or where the text ends.

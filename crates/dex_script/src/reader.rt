@@ -22,6 +22,15 @@ use dex_types::{NoMemory, RowPlaces};
 use std::alloc::Global;
 use std::marker::Model;
 
+/// Where so many bytes or more are still to be read, room is taken for rows before.
+const MANY: usize = 262_144;
+
+/// For so many rows: a little more than the 128 KB from which on the C library's lists are pages of their own.
+const ROWS: usize = 512;
+
+/// The same for the places of rows.
+const PLACES: usize = 6_600;
+
 /// A script as far as its rows are read, the places of each row, and, from its first instruction row on, the names of its
 /// markets and wallets. A contract sees it as what the rows say.
 #[derive(Drop)]
@@ -90,6 +99,19 @@ impl Reader {
             places: self.places,
             names: self.names,
         })
+    }
+
+    /// This reader, with room for some rows more where so many bytes are still to be read. Lists that are shorter than this are copied
+    /// each time that they grow, and longer ones only get other pages.
+    pub(crate) fn with_room(self, left: usize) -> Result<Reader, NoMemory>
+        ensures { IfOk result (λ wide. wide ≡ self) }
+    {
+        let mut wide = self;
+        if MANY <= left {
+            wide.draft.rows.reserve(ROWS)?;
+            wide.places.reserve(PLACES)?;
+        }
+        Ok(wide)
     }
 
     /// Adds what the row of this number states. Behind a fault, what is left does not matter. The words are a buffer for

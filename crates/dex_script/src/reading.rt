@@ -1,6 +1,6 @@
 //! A script, from its bytes.
 
-ghost use Rattle.std.specs.Prelude.{◌≡◌, IfOk, OnOk, false, true, ⊤};
+ghost use Rattle.std.specs.Prelude.{◌≡◌, ℕ, IfOk, List, OnOk, true, ⊤};
 ghost use Rattle.dex_types.specs.Accounts.{accounts_of};
 ghost use Rattle.dex_dump.specs.Accepted.{AreAccepted};
 ghost use Rattle.dex_dump.specs.Answers.{next_number};
@@ -22,6 +22,7 @@ use crate::markets::make_markets;
 use crate::reader::Reader;
 use dex_audit::audit;
 use dex_dump::{DumpError, DumpRead, is_first_row};
+use dex_rows::plain::PlainRows;
 use dex_rows::records::{Fields, Rows};
 use dex_script_facts::Script;
 use dex_statement::{FaultKind, InstructionWords, RowError};
@@ -123,46 +124,30 @@ fn read_text<H: ReadRows>(
     requires { H.ready how.now }
     ensures { TellsText result batch bytes.now }
 {
-    if begins_with_dump(alloc, bytes)? {
-        read_behind_dump(alloc, bytes, batch, how)
+    let mut rows = Rows::new(alloc, bytes);
+    if begins_with_dump(alloc, bytes, &rows)? {
+        read_behind_dump(alloc, &mut rows, batch, how)
     } else {
-        read_from_nothing(alloc, bytes, batch, how)
+        read_all(alloc, Reader::new(alloc, batch), 1, &mut rows, how)
     }
 }
 
-/// What a text that begins with no dump says. It is not inlined, since the rows of a text take much of the stack.
-#[inline(never)]
-fn read_from_nothing<H: ReadRows>(
-    alloc: Global,
-    bytes: &[u8],
-    batch: bool,
-    how: &H,
-) -> Result<Reader, ScriptError>
-    requires begins { begins_with_dump (rows_of bytes.now) ≡ false }
-    requires ready { H.ready how.now }
-    ensures { TellsText result batch bytes.now }
-{
-    let mut rows = Rows::new(alloc, bytes);
-    read_all(alloc, Reader::new(alloc, batch), 1, &mut rows, how)
-}
-
-/// What a text that begins with a dump says. It is not inlined either.
+/// What rows that begin with a dump say. It is not inlined: what is read of a dump takes much of the stack.
 #[inline(never)]
 fn read_behind_dump<H: ReadRows>(
     alloc: Global,
-    bytes: &[u8],
+    rows: &mut Rows<'_>,
     batch: bool,
     how: &H,
 ) -> Result<Reader, ScriptError>
-    requires begins { begins_with_dump (rows_of bytes.now) ≡ true }
+    requires begins { begins_with_dump rows.old ≡ true }
     requires ready { H.ready how.now }
-    ensures { TellsText result batch bytes.now }
+    ensures { (bytes : List ℕ) → rows.old ≡ rows_of bytes → TellsText result batch bytes }
 {
-    let mut rows = Rows::new(alloc, bytes);
-    let dump = read_dump(alloc, &mut rows)?;
+    let dump = read_dump(alloc, rows)?;
     let number = next_number(dump.count);
     let before = Draft::behind_dump(alloc, dump.accounts, batch)?;
-    read_all(alloc, Reader::of(alloc, before), number, &mut rows, how)
+    read_all(alloc, Reader::of(alloc, before), number, rows, how)
 }
 
 /// What is read behind the rows that are left, the first of which has this number, or the first faulty one. The markets are made
@@ -180,10 +165,19 @@ fn read_all<H: ReadRows>(
     let mut number = number;
     let first = read_first(alloc, reader, &mut number, rows)?;
     let reader = first.with_markets_by(alloc, how)?;
+    let reader = reader.with_room(bytes_left(rows))?;
     if reader.is_underway() {
         how.read_rows(alloc, reader, number, rows)
     } else {
         Ok(reader)
+    }
+}
+
+/// How many bytes are still to be read; 0 where the text has a quote.
+fn bytes_left(rows: &Rows<'_>) -> usize {
+    match rows.plain() {
+        Some(plain) => plain.size(),
+        None => 0,
     }
 }
 
@@ -205,12 +199,39 @@ fn read_dump(alloc: Global, rows: &mut Rows<'_>) -> Result<DumpRead, ScriptError
     }
 }
 
-/// Whether a text begins with the row `dump`.
-fn begins_with_dump(alloc: Global, bytes: &[u8]) -> Result<bool, NoMemory>
+/// Whether a text of these rows begins with the row `dump`. None of them is taken: the first is read beside them.
+fn begins_with_dump(alloc: Global, bytes: &[u8], rows: &Rows<'_>) -> Result<bool, NoMemory>
+    requires { rows.now ≡ rows_of bytes.now }
+    ensures { IfOk result (λ begins. begins ≡ begins_with_dump rows.now) }
+{
+    match rows.plain() {
+        Some(plain) => plain_begins_with_dump(&plain),
+        None => text_begins_with_dump(alloc, bytes),
+    }
+}
+
+/// The same of rows that have no quote. It is not inlined: rows that are read take much of the stack.
+#[inline(never)]
+fn plain_begins_with_dump(plain: &PlainRows<'_>) -> Result<bool, NoMemory>
+    ensures { IfOk result (λ begins. begins ≡ begins_with_dump plain.now) }
+{
+    next_begins_dump(&mut Rows::of_plain(plain))
+}
+
+/// The same of any text. It is not inlined either.
+#[inline(never)]
+fn text_begins_with_dump(alloc: Global, bytes: &[u8]) -> Result<bool, NoMemory>
     ensures { IfOk result (λ begins. begins ≡ begins_with_dump (rows_of bytes.now)) }
 {
+    next_begins_dump(&mut Rows::new(alloc, bytes))
+}
+
+/// Whether the next row is `dump`.
+fn next_begins_dump(rows: &mut Rows<'_>) -> Result<bool, NoMemory>
+    ensures { IfOk result (λ begins. begins ≡ begins_with_dump rows.old) }
+{
     let mut row = Fields::new();
-    let found = Rows::new(alloc, bytes).next_row(&mut row)?;
+    let found = rows.next_row(&mut row)?;
     Ok(found && is_first_row(&row))
 }
 

@@ -88,7 +88,7 @@ pub fn read_instruction(
     ensures read { IfOk result (λ is. is ≡ true → statements.statement_of row.now ≡ Ok (Instruction words.new)) }
     ensures fault { IfErr result (λ error. TellsFault error (statements.statement_of row.now)) }
 {
-    if field_at(row, 0) == b"do".as_slice() && row_is_printable(row) {
+    if matches!(field_at(row, 0), b"do") && row_is_printable(row) {
         read_words(alloc, row, words)?;
         Ok(true)
     } else {

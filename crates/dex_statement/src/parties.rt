@@ -102,7 +102,7 @@ fn read_named(field: &[u8], named: &mut Vec<Address>) -> Result<(), RowError>
     ensures { TellsIn result named.new.items (parties_meant.named_of field.now) }
 {
     named.clear();
-    if field == b"-".as_slice() {
+    if let [b'-'] = field {
         return Ok(());
     }
     named.reserve_exact(spaces_in(field) + 1)?;

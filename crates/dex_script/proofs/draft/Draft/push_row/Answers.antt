@@ -1,4 +1,4 @@
-use Rattle.std.proofs.Common.{◌≡◌, ◌∙◌, List, map, subst, sym}
+use Rattle.std.proofs.Common.{◌∙◌, List, map, subst, sym}
 use Rattle.std.proofs.lemmas.List.{map-append}
 use Rattle.dex_types.specs.Rows.{PlainRow, row_of}
 use Rattle.dex_script_facts.specs.Places.{AreBeside, ArePlaced}
