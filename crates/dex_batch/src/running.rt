@@ -84,6 +84,7 @@ pub fn run_batch_with_rows<R: Threads + Wait + Sync, P: Pace + Sync>(
     ensures run { IfOk result (λ left. IsRunOf script (outcome_of left.0)) }
     ensures rows { IfOk result (λ left. map row_of left.1 ≡ script.rows) }
 {
+    // What the script's type keeps of its rows, for the proof.
     let _ = &script.rows;
     a_replay_is_in_one_order();
     what_one_order_leaves_is_a_run();

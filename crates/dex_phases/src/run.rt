@@ -12,9 +12,6 @@ use std::sync::Wait;
 use std::thread::Threads;
 use std::time::Clock;
 
-/// At most so many threads read the rows of a script, as in `run`.
-const READERS: usize = 16;
-
 /// How many nanoseconds each phase of a run took.
 #[derive(Clone, Copy, Debug)]
 pub struct Phases {
@@ -47,7 +44,7 @@ pub fn round<R: Threads + Wait + Sync + Clock + AllocGlobal>(
 ) -> Result<(Phases, u32), Error> {
     let alloc = rt.alloc();
     let mut watch = Watch::start(rt)?;
-    let script = read_script(rt, alloc, bytes, false, processors(rt).min(READERS))?;
+    let script = read_script(rt, alloc, bytes, false, processors(rt))?;
     let count = script.items();
     let reading = watch.lap(rt)?;
     let (outcome, rows) = run_with_rows(rt, alloc, script, &NoPace)?;

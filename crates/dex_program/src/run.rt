@@ -16,9 +16,6 @@ use std::marker::Sync;
 use std::sync::Wait;
 use std::thread::Threads;
 
-/// At most so many threads read the rows of a script.
-const READERS: usize = 16;
-
 /// The report of what is left when the lanes of a script have run side by side, or why the bytes are no script. Each row is let
 /// in by the pace.
 pub fn run_answer<R: Threads + Wait + Sync, P: Pace + Sync>(
@@ -29,7 +26,7 @@ pub fn run_answer<R: Threads + Wait + Sync, P: Pace + Sync>(
 ) -> Result<StatusPieces, NoMemory>
     ensures { IfOk result (λ told. AnswersRun bytes.now told.status (text_of told)) }
 {
-    match read_script(rt, alloc, bytes, false, processors(rt).min(READERS)) {
+    match read_script(rt, alloc, bytes, false, processors(rt)) {
         Ok(script) => {
             // What the script's type keeps of its rows, for the proof.
             let _ = &script.rows;

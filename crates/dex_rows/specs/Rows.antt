@@ -15,7 +15,7 @@ fields_in line (Some quoted) = fields_of quoted
 -- the rows of what is left of a text
 abbrev pub rows_behind : Source → List (List (List ℕ))
 rows_behind (source.Plain rest) = rows_in rest.now
-rows_behind (source.Quoted rows) = rows
+rows_behind (source.Quoted rows) = rows.value
 
 -- what is cut where it stands has no quote
 abbrev pub IsSource : Source → Type 0

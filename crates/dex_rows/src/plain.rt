@@ -4,8 +4,7 @@ ghost use Rattle.std.specs.Prelude.{◌≡◌, ◌++◌, ◌≤◌, drop, length
 ghost use Rattle.dex_rows.specs.Lines.{HasNoQuote, IsEnd};
 
 use crate::lines::ends_row;
-use memchr::arch::all::memchr::One;
-use memchr::memmem;
+use memchr::{memchr_iter, memmem};
 use std::marker::Model;
 
 /// Rows of a text without a quote that are still to come, as they stand in it. A contract sees them as a list.
@@ -43,9 +42,13 @@ impl<'a> PlainRows<'a> {
         behind
     }
 
-    /// How many line feeds stand among them.
+    /// How many line feeds stand among them. Each is looked for, since the library's own count goes from byte to byte.
     pub fn line_feeds(&self) -> usize {
-        One::new(b'\n').count(self.bytes)
+        let mut count: usize = 0;
+        for _ in memchr_iter(b'\n', self.bytes) {
+            count = count.wrapping_add(1);
+        }
+        count
     }
 
     /// What stands from the last place on at which these bytes do. No clause says which place that is.

@@ -57,11 +57,11 @@ pub struct Rows<'a> {
     source: Source<'a>,
 }
 
-// What is left of a text: bytes without a quote, or rows that `csv` reads.
+// What is left of a text: bytes without a quote, or rows that `csv` reads. Its reader takes 16 KB, so it stands in a box.
 #[derive(Drop)]
 enum Source<'a> {
     Plain(&'a [u8]),
-    Quoted(QuotedRows<'a>),
+    Quoted(Box<QuotedRows<'a>>),
 }
 
 impl<'a> Model for Rows<'a> {
@@ -76,15 +76,16 @@ impl<'a> Model for Rows<'a> {
 }
 
 impl<'a> Rows<'a> {
-    /// All rows of a text. It takes no memory.
-    pub fn new(alloc: Global, text: &'a [u8]) -> Rows<'a>
-        ensures { result ≡ rows_of text.now }
+    /// All rows of a text. It takes no memory where the text has no quote.
+    pub fn new(alloc: Global, text: &'a [u8]) -> Result<Rows<'a>, NoMemory>
+        ensures { IfOk result (λ rows. rows ≡ rows_of text.now) }
     {
-        let source = match memchr(b'"', text) {
-            None => Source::Plain(without_mark(text)),
-            Some(_) => Source::Quoted(QuotedRows::new(alloc, text)),
-        };
-        Rows { source }
+        match memchr(b'"', text) {
+            None => Ok(Rows {
+                source: Source::Plain(without_mark(text)),
+            }),
+            Some(_) => read_by_csv(alloc, text),
+        }
     }
 
     /// The rows of a text without a quote, to be read.
@@ -120,6 +121,17 @@ impl<'a> Rows<'a> {
             Source::Quoted(rows) => rows.next_row(&mut row.quoted),
         }
     }
+}
+
+// The rows of a text, read by `csv`. It is not inlined, so that a reader is on the stack only here.
+#[inline(never)]
+fn read_by_csv<'a>(alloc: Global, text: &'a [u8]) -> Result<Rows<'a>, NoMemory>
+    ensures { IfOk result (λ rows. rows ≡ rows_of text.now) }
+{
+    let rows = Box::new(alloc, QuotedRows::new(alloc, text))?;
+    Ok(Rows {
+        source: Source::Quoted(rows),
+    })
 }
 
 /// How many fields a row has.

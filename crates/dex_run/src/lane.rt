@@ -5,6 +5,7 @@ ghost use Rattle.dex_run.specs.LaneItems.{IsItemOf, IsRestAt};
 ghost use Rattle.dex_run.specs.Running.{AreRowsOf, CanRun, HasRun};
 ghost use Rattle.dex_turns.specs.Seats.{IsSeatOf};
 
+use crate::ahead::Ahead;
 use crate::index::is_swap;
 use crate::stay::Stay;
 use dex_gate::Door;
@@ -51,8 +52,8 @@ impl<'a> Lanes<'a> {
         }
     }
 
-    /// The items of the seat's lane act, in their order.
-    fn submit_all<R: Wait, P: Pace>(&self, rt: &R, seat: &mut LaneSeat, pace: &P)
+    /// The items of the seat's lane act, in their order. Gives the sum of what was seen ahead.
+    fn submit_all<R: Wait, P: Pace>(&self, rt: &R, seat: &mut LaneSeat, pace: &P) -> usize
         requires { CanRun self.now seat.old }
         ensures { HasRun self.now.bank.now seat.old seat.new }
     {
@@ -60,11 +61,14 @@ impl<'a> Lanes<'a> {
         let by_lane = self.by_lane;
         let own = &by_lane[lane];
         let mut stay = Stay::none();
+        let mut ahead = Ahead::none();
         for item in 0..own.len() {
             stay.before(rt, self, own, item);
+            ahead.before(self, own, item);
             self.submit_item(rt, seat, own[item], pace);
             stay.behind(self.doors, item);
         }
+        ahead.seen()
     }
 }
 
@@ -75,6 +79,8 @@ pub(crate) struct LaneJob<'a, R, P> {
     pub(crate) lanes: Lanes<'a>,
     pub(crate) seat: LaneSeat,
     pub(crate) pace: &'a P,
+    /// The sum of what was seen ahead. Nobody asks for it ([`Ahead`]).
+    pub(crate) seen: usize,
 }
 
 impl<'a, R: Wait, P: Pace> Job for LaneJob<'a, R, P> {
@@ -84,6 +90,6 @@ impl<'a, R: Wait, P: Pace> Job for LaneJob<'a, R, P> {
 
     fn run(&mut self) {
         let lanes = self.lanes;
-        lanes.submit_all(self.rt, &mut self.seat, self.pace);
+        self.seen = lanes.submit_all(self.rt, &mut self.seat, self.pace);
     }
 }

@@ -41,6 +41,7 @@ fn jobs_of<'a, R: Wait, P: Pace>(
             lanes,
             seat,
             pace,
+            seen: 0,
         };
         add(&mut jobs, job)?;
     }

@@ -5,15 +5,11 @@
 //! out again. Meanwhile other such lanes sleep, and no turn of a market passes from one processor to another. Doors are taken by rising
 //! place, and between items, where a lane has no turn. So who waits at a door has but doors of lower places, and no lanes wait in a
 //! circle.
-//!
-//! The rows of one lane lie apart from each other, so the processor does not foresee which comes next, and each was waited for when its
-//! item acted. Therefore a lane weighs some rows together, which reads them side by side, just before their items act.
 
 use crate::index::is_swap;
 use crate::lane::Lanes;
 use dex_gate::Door;
-use dex_script_facts::RowList;
-use dex_types::{NoMemory, Row, RowPlaces, add};
+use dex_types::{NoMemory, RowPlaces, add};
 use std::alloc::Global;
 use std::sync::Wait;
 
@@ -21,12 +17,6 @@ use std::sync::Wait;
 const MOST: usize = 1024;
 /// Fewer items are not worth a door.
 const FEW: usize = 32;
-/// How many rows are weighed together at most.
-const TOGETHER: usize = 64;
-/// How heavy those before the last of them may be.
-const HEAVY: usize = 128;
-/// The second byte of data that asks for a crank.
-const CRANK: u8 = 3;
 
 /// One market, or two by rising place. Of one, both places are its own.
 #[derive(Clone, Copy)]
@@ -74,44 +64,6 @@ fn with_item(lanes: &Lanes<'_>, place: usize, before: Option<Markets>) -> Option
     }
 }
 
-/// About how much a row touches: the accounts that it names, and what its data asks for.
-fn weight_of(row: &Row) -> usize {
-    let coins = row.coin.is_some() as usize + row.pc.is_some() as usize;
-    let others = row.discount.is_some() as usize + row.referrer.is_some() as usize;
-    let asked = match row.bytes.get(1) {
-        Some(&CRANK) => 8,
-        _ => 1,
-    };
-    row.named.len().wrapping_add(coins + others + asked)
-}
-
-/// Weighs the rows with which the next items begin, and tells before which item to go on.
-fn weighed(rows: &RowList, own: &[usize], first: usize) -> usize {
-    let mut next = first;
-    let mut weight: usize = 0;
-    for _ in 0..TOGETHER {
-        let Some(row) = row_at(rows, own, next) else {
-            break;
-        };
-        if HEAVY < weight {
-            break;
-        }
-        weight = weight.wrapping_add(weight_of(row));
-        next = next.wrapping_add(1);
-    }
-    next
-}
-
-/// The row with which an item begins.
-fn row_at<'a>(rows: &'a RowList, own: &[usize], item: usize) -> Option<&'a Row> {
-    let place = *own.get(item)?;
-    if place < rows.len() {
-        Some(rows.at(place))
-    } else {
-        None
-    }
-}
-
 /// A door for each market. Asks memory.
 pub(crate) fn doors_for(alloc: Global, markets: usize) -> Result<Vec<Door>, NoMemory> {
     let mut doors = Vec::new(alloc);
@@ -124,7 +76,6 @@ pub(crate) fn doors_for(alloc: Global, markets: usize) -> Result<Vec<Door>, NoMe
 /// Items of a lane up to one, and the markets behind whose doors they are done, if they are.
 #[derive(Drop)]
 pub(crate) struct Stay {
-    weighed: usize,
     until: usize,
     markets: Option<Markets>,
 }
@@ -133,7 +84,6 @@ impl Stay {
     /// No items yet.
     pub(crate) fn none() -> Stay {
         Stay {
-            weighed: 0,
             until: 0,
             markets: None,
         }
@@ -156,14 +106,10 @@ impl Stay {
         if until.wrapping_sub(first) < FEW {
             markets = None;
         }
-        Stay {
-            weighed: first,
-            until,
-            markets,
-        }
+        Stay { until, markets }
     }
 
-    /// Before an item: comes in where a stay begins with it, and weighs rows where it is behind those that were weighed.
+    /// Before an item: comes in where a stay begins with it.
     pub(crate) fn before<R: Wait>(
         &mut self,
         rt: &R,
@@ -174,9 +120,6 @@ impl Stay {
         if self.until <= item {
             *self = Stay::from(lanes, own, item);
             self.come_in(rt, lanes.doors);
-        }
-        if self.weighed <= item {
-            self.weighed = weighed(lanes.rows, own, item);
         }
     }
 

@@ -22,7 +22,6 @@ use crate::markets::make_markets;
 use crate::reader::Reader;
 use dex_audit::audit;
 use dex_dump::{DumpError, DumpRead, is_first_row};
-use dex_rows::plain::PlainRows;
 use dex_rows::records::{Fields, Rows};
 use dex_script_facts::Script;
 use dex_statement::{FaultKind, InstructionWords, RowError};
@@ -124,7 +123,7 @@ fn read_text<H: ReadRows>(
     requires { H.ready how.now }
     ensures { TellsText result batch bytes.now }
 {
-    let mut rows = Rows::new(alloc, bytes);
+    let mut rows = Rows::new(alloc, bytes)?;
     if begins_with_dump(alloc, bytes, &rows)? {
         read_behind_dump(alloc, &mut rows, batch, how)
     } else {
@@ -132,8 +131,7 @@ fn read_text<H: ReadRows>(
     }
 }
 
-/// What rows that begin with a dump say. It is not inlined: what is read of a dump takes much of the stack.
-#[inline(never)]
+/// What rows that begin with a dump say.
 fn read_behind_dump<H: ReadRows>(
     alloc: Global,
     rows: &mut Rows<'_>,
@@ -205,25 +203,9 @@ fn begins_with_dump(alloc: Global, bytes: &[u8], rows: &Rows<'_>) -> Result<bool
     ensures { IfOk result (λ begins. begins ≡ begins_with_dump rows.now) }
 {
     match rows.plain() {
-        Some(plain) => plain_begins_with_dump(&plain),
-        None => text_begins_with_dump(alloc, bytes),
+        Some(plain) => next_begins_dump(&mut Rows::of_plain(&plain)),
+        None => next_begins_dump(&mut Rows::new(alloc, bytes)?),
     }
-}
-
-/// The same of rows that have no quote. It is not inlined: rows that are read take much of the stack.
-#[inline(never)]
-fn plain_begins_with_dump(plain: &PlainRows<'_>) -> Result<bool, NoMemory>
-    ensures { IfOk result (λ begins. begins ≡ begins_with_dump plain.now) }
-{
-    next_begins_dump(&mut Rows::of_plain(plain))
-}
-
-/// The same of any text. It is not inlined either.
-#[inline(never)]
-fn text_begins_with_dump(alloc: Global, bytes: &[u8]) -> Result<bool, NoMemory>
-    ensures { IfOk result (λ begins. begins ≡ begins_with_dump (rows_of bytes.now)) }
-{
-    next_begins_dump(&mut Rows::new(alloc, bytes))
 }
 
 /// Whether the next row is `dump`.

@@ -25,8 +25,11 @@ use std::thread::Threads;
 /// No piece but the last is shorter than so many bytes.
 const SHORTEST: usize = 1_048_576;
 
+/// There are no more pieces than these.
+const MOST: usize = 16;
+
 /// The script that a text is, as `read_script` of `dex_script`. Where the text has no quote, the rows behind the first
-/// instruction row are read by so many threads.
+/// instruction row are read by so many threads, 16 at most.
 pub fn read_script<R: Threads + Sync>(
     rt: &R,
     alloc: Global,
@@ -89,7 +92,7 @@ fn read_plain<R: Threads + Sync>(
     requires { IsUnderway reader }
     ensures { TellsDraft result (draft_after reader number rows.entry) }
 {
-    let count = threads.min(rows.size() / SHORTEST);
+    let count = threads.min(MOST).min(rows.size() / SHORTEST);
     if count < 2 {
         let mut number = number;
         return read_behind(alloc, Ok(reader), &mut number, &rows);

@@ -1,5 +1,5 @@
 -- Accounts with numbers of their own are apart, and with them a market as it is made is ready.
-use Rattle.std.proofs.Common.{◌≡◌, ℕ, ◌+◌, ◌<◌, true, false, List, [], ◌∷◌, ◌++◌, Option, Some, None, map, refl, sym, ap, ◌∙◌, subst, arith, ⊎_elim}
+use Rattle.std.proofs.Common.{◌≡◌, ℕ, ◌+◌, ◌<◌, true, false, List, [], ◌∷◌, ◌++◌, Some, None, map, refl, sym, ap, ◌∙◌, subst, arith, ⊎_elim}
 use Rattle.std.proofs.lemmas.Bool.{cases_Bool, cond-true, cond-false}
 use Rattle.std.proofs.lemmas.List.{map-append}
 use Rattle.std.specs.List.{All}
@@ -13,7 +13,7 @@ use Rattle.dex_types.specs.Market.{Market}
 use Rattle.dex_types.specs.Soundness.{AreDistinct}
 use Rattle.dex_types.specs.Trader.{Blank, trader_at}
 use Rattle.dex_laws.proofs.TraderLaws.{is_same-false}
-use Rattle.dex_accounts.specs.Decoded.{AreSound, market_in}
+use Rattle.dex_accounts.specs.Decoded.{AreSound}
 use Rattle.dex_accounts.specs.StandsFor.{StandsFor}
 use Rattle.dex_accounts.proofs.Decoded.{AreSound-of, told}
 use Rattle.dex_make.specs.Blanks.{blank_account, with_blanks}

@@ -20,8 +20,7 @@ use Rattle.dex_gate.specs.declared.stage.Stage.TheVariants.{Idle, Out}
 use Rattle.dex_history.specs.Journal.{Call, asked_of, is_held}
 use Rattle.dex_cell.specs.CellState.{call_made}
 use Rattle.dex_wallet.specs.CellState.{CellState, HasSpare, IsWalletCell, balance_of}
-use Rattle.dex_fold.specs.World.{World}
-use Rattle.dex_act.specs.Wallets.{made_of, wallet_state_of}
+use Rattle.dex_act.specs.Wallets.{made_of}
 use Rattle.dex_script_facts.specs.PlainScript.{PlainScript}
 use Rattle.dex_script_facts.specs.Facts.{AreLegs}
 use Rattle.dex_script_facts.specs.Known.{has_account}

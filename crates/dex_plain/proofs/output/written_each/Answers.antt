@@ -1,4 +1,4 @@
-use Rattle.std.proofs.Common.{◌≡◌, inr, refl, take}
+use Rattle.std.proofs.Common.{inr, refl}
 use Rattle.dex_plain.proofs.Pieces.{rose-since, stopped-at}
 use Rattle.dex_plain.proofs.output.written_each.Goals as goal
 

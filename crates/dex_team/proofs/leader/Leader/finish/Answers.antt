@@ -1,5 +1,4 @@
-use Rattle.std.proofs.Common.{ℕ, ◌+◌, ◌∙◌, ap, sym, subst}
-use Rattle.dex_wallet.specs.CellState.{CellState}
+use Rattle.std.proofs.Common.{ℕ, ◌+◌, sym, subst}
 use Rattle.dex_stage.specs.declared.parts.Parts.{Parts}
 use Rattle.dex_team.specs.Slots.{AreWalletsAt}
 use Rattle.dex_team.proofs.Returning.{keeps_trans}
