@@ -1,3 +1,4 @@
 pub mod AnswerLaws
 pub mod PairLaws
+pub mod ReplayLaws
 pub mod TextLaws

@@ -3,3 +3,4 @@ pub mod ExitCodes
 pub mod Paired
 pub mod Suits
 pub mod Telling
+pub mod Told

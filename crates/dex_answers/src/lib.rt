@@ -23,4 +23,4 @@ pub use migrate::migrate_answer;
 pub use played::no_script;
 pub use replay::{replay_answer, replay_taken, report_of};
 pub use status::Status;
-pub use told::StatusText;
+pub use told::{StatusPieces, StatusText};

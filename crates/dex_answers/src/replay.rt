@@ -1,18 +1,19 @@
 //! The command `replay`.
 
-ghost use Rattle.std.specs.Prelude.{ℕ, IfOk, List};
+ghost use Rattle.std.specs.Prelude.{◌≡◌, ℕ, IfOk, List};
 ghost use Rattle.dex_words.specs.declared.command.Command.TheVariants.{Replay};
 ghost use Rattle.dex_report.specs.Outcomes.{outcome_of};
 ghost use Rattle.dex_report.specs.Report.{report_text};
 ghost use Rattle.dex_report.specs.Telling.{FitOutcome};
 ghost use Rattle.dex_answers.specs.Answers.{Answers};
 ghost use Rattle.dex_answers.specs.Telling.{IsText, TellsPlayed};
+ghost use Rattle.dex_answers.specs.Told.{text_of};
 ghost use Rattle.dex_answers.specs.declared.status.Status.TheVariants as status;
 
 use crate::played::{Played, play_script, play_taken};
 use crate::status::Status;
-use crate::told::StatusText;
-use dex_report::{Outcome, into_report_text};
+use crate::told::{StatusPieces, StatusText};
+use dex_report::{Outcome, into_report_pieces, into_report_text};
 use dex_types::NoMemory;
 use std::alloc::Global;
 
@@ -23,11 +24,11 @@ pub fn replay_answer(alloc: Global, bytes: &[u8]) -> Result<StatusText, NoMemory
     told_of(alloc, play_script(alloc, bytes)?)
 }
 
-/// The same of bytes that are given up.
-pub fn replay_taken(alloc: Global, bytes: Vec<u8>) -> Result<StatusText, NoMemory>
-    ensures { IfOk result (λ told. Answers Replay bytes.items told.status told.text.items) }
+/// The same of bytes that are given up, in pieces.
+pub fn replay_taken(alloc: Global, bytes: Vec<u8>) -> Result<StatusPieces, NoMemory>
+    ensures { IfOk result (λ told. Answers Replay bytes.items told.status (text_of told)) }
 {
-    told_of(alloc, play_taken(alloc, bytes)?)
+    told_in_pieces(alloc, play_taken(alloc, bytes)?)
 }
 
 /// The report of what a script came to.
@@ -41,6 +42,17 @@ fn told_of(alloc: Global, played: Played) -> Result<StatusText, NoMemory>
     }
 }
 
+/// The same in pieces.
+fn told_in_pieces(alloc: Global, played: Played) -> Result<StatusPieces, NoMemory>
+    ensures { (bytes : List ℕ) → TellsPlayed played bytes
+        → IfOk result (λ told. Answers Replay bytes told.status (text_of told)) }
+{
+    match played {
+        Played::AllRows { rows, outcome } => pieces_of(alloc, outcome, rows),
+        Played::Refused(told) => told.into_pieces(alloc),
+    }
+}
+
 /// The report of an outcome, which is given up, that tells of so many rows. All values that it tells fit.
 pub fn report_of(alloc: Global, outcome: Outcome, rows: u32) -> Result<StatusText, NoMemory>
     ensures fits { IfOk result (λ told. FitOutcome (outcome_of outcome)) }
@@ -50,5 +62,18 @@ pub fn report_of(alloc: Global, outcome: Outcome, rows: u32) -> Result<StatusTex
     Ok(StatusText {
         status: Status::Ok,
         text,
+    })
+}
+
+/// The same in pieces.
+fn pieces_of(alloc: Global, outcome: Outcome, rows: u32) -> Result<StatusPieces, NoMemory>
+    ensures fits { IfOk result (λ told. FitOutcome (outcome_of outcome)) }
+    ensures status { IfOk result (λ told. told.status ≡ status.Ok) }
+    ensures text { IfOk result (λ told. text_of told ≡ report_text (outcome_of outcome) rows) }
+{
+    let pieces = into_report_pieces(alloc, outcome, rows)?;
+    Ok(StatusPieces {
+        status: Status::Ok,
+        pieces,
     })
 }

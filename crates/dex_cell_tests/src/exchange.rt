@@ -68,7 +68,7 @@ impl Exchange {
     /// Takes each row of a text, and answers the lines of the entries that it adds to the journal.
     pub fn run(&mut self, text: &[u8]) -> Result<String, Fail> {
         let mut lines = String::new(self.alloc);
-        let mut rows = Rows::new(self.alloc, text)?;
+        let mut rows = Rows::new(self.alloc, text);
         let mut row = Fields::new();
         for _ in 0..u64::MAX {
             if !rows.next_row(&mut row)? {

@@ -3,11 +3,12 @@
 ghost use Rattle.std.specs.Prelude.{IfOk};
 ghost use Rattle.dex_words.specs.Spelling.{IsPlain, IsWithin};
 ghost use Rattle.dex_answers.specs.Answers.{Answers};
+ghost use Rattle.dex_answers.specs.Told.{text_of};
 
 use crate::worth::worth_answer;
 use dex_answers::{
-    StatusText, audit_answer, bulk_answer, dump_answer, make_answer, migrate_answer, replay_answer,
-    replay_taken,
+    StatusPieces, StatusText, audit_answer, bulk_answer, dump_answer, make_answer, migrate_answer,
+    replay_answer, replay_taken,
 };
 use dex_types::NoMemory;
 use dex_words::Command;
@@ -32,18 +33,19 @@ pub fn answer_to(alloc: Global, command: Command, bytes: &[u8]) -> Result<Status
     }
 }
 
-/// The same of bytes that are given up: a replay lets them go before the first row acts.
+/// The same of bytes that are given up, in pieces: a replay lets its bytes go before the first row acts, and its accounts as they are
+/// written.
 pub fn answer_taking(
     alloc: Global,
     command: Command,
     bytes: Vec<u8>,
-) -> Result<StatusText, NoMemory>
+) -> Result<StatusPieces, NoMemory>
     requires within { IsWithin command }
     requires plain { IsPlain command }
-    ensures { IfOk result (λ told. Answers command bytes.items told.status told.text.items) }
+    ensures { IfOk result (λ told. Answers command bytes.items told.status (text_of told)) }
 {
     match command {
         Command::Replay => replay_taken(alloc, bytes),
-        other => answer_to(alloc, other, &bytes),
+        other => answer_to(alloc, other, &bytes)?.into_pieces(alloc),
     }
 }

@@ -1,4 +1,5 @@
 pub mod TextLaws
+pub mod PieceLaws
 pub mod ReadingLaws
 pub mod AnswerLaws
 pub mod FieldLaws

@@ -5,7 +5,9 @@ use Rattle.std.proofs.lemmas.List.Elements.{All-push}
 use Rattle.std.proofs.lemmas.List.{map-append, map_more, take_more}
 use Rattle.std.proofs.lemmas.Grind.{flat_map-append}
 use Rattle.dex_dump_rows.specs.Lines.{Fields}
-use Rattle.dex_dump.specs.DumpText.{line_text, lines_text}
+use Rattle.dex_types.specs.Accounts.{PlainMarketAccounts}
+use Rattle.dex_dump.specs.DumpText.{base64_text, behind_first, line_text, lines_text, market_row}
+use Rattle.dex_dump.specs.Terms.{terms_text}
 
 -- the text of rows is that of a front and of the rest
 pub lines_text-append : (rows others : List Fields) → lines_text (rows ++ others) ≡ lines_text rows ++ lines_text others
@@ -49,11 +51,16 @@ rows_more rows plain text before xs i x h here e =
     subst (λ (most : _). before ++ lines_text (rows (plain x)) ≡ text ++ lines_text (flat_map rows (map plain most)))
     (ap (λ (y : _). take i xs ++ y ∷ []) here ∙ sym (take_more xs i x h)) (rows-pushed rows plain text before (take i xs) x e)
 
--- pieces that are written one behind the other
-pub pieces : (t a b c d e f g h : List ℕ)
-    → (((((((t ++ a) ++ b) ++ c) ++ d) ++ e) ++ f) ++ g) ++ h ≡ t ++ (a ++ (b ++ (c ++ (d ++ (e ++ (f ++ (g ++ h)))))))
-pieces t a b c d e f g h =
-    append_assoc _ g h ∙ append_assoc _ f (g ++ h) ∙ append_assoc _ e _ ∙ append_assoc _ d _ ∙ append_assoc _ c _ ∙ append_assoc _ b _ ∙ append_assoc t a _
+-- what is written one behind the other
+pub in-turn : (t a b c d e f : List ℕ) → (((((t ++ a) ++ b) ++ c) ++ d) ++ e) ++ f ≡ t ++ (a ++ (b ++ (c ++ (d ++ (e ++ f)))))
+in-turn t a b c d e f = append_assoc _ e f ∙ append_assoc _ d (e ++ f) ∙ append_assoc _ c _ ∙ append_assoc _ b _ ∙ append_assoc t a _
+
+-- a market's row, and its terms in front of the rest
+pub row-text : (market : PlainMarketAccounts)
+    → terms_text market ++ ((44 ∷ base64_text market.requests) ++ ((44 ∷ base64_text market.events) ++ ((44 ∷ base64_text market.bids) ++ ((44 ∷ base64_text market.asks) ++ (10 ∷ [])))))
+    ≡ line_text (market_row market)
+unfolding behind_first
+row-text market = simp append_assoc
 
 -- what holds of each up to a place, and of the next
 pub held_more : {A B : Type 0} (P : B → Type 0) (plain : A → B) (xs : List A) (i : ℕ) (x : A) → i < length xs → x ≡ get_or xs i x

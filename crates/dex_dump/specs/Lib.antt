@@ -1,3 +1,5 @@
+pub mod Pieces
+pub mod Terms
 pub mod DumpText
 pub mod Reading
 pub mod Checks

@@ -4,6 +4,7 @@
 mod checks;
 pub mod faults;
 mod laws;
+mod pieces;
 mod reader;
 mod reading;
 mod taking;
@@ -14,8 +15,9 @@ pub use faults::{DumpError, DumpFault};
 pub use laws::{
     one_text_is_of_one_exchange, what_is_read_is_accepted, what_is_written_is_read_back,
 };
+pub use pieces::Pieces;
 pub use reader::{DumpRead, read_dump, read_rows};
-pub use taking::{append_taken, into_dump};
+pub use taking::{append_taken, into_dump, take_accounts, take_market_rows};
 pub use writing::{
     append_dump, room_of_dump, room_of_market, write_dump, write_front, write_market_rows,
 };

@@ -28,7 +28,7 @@ pub fn read_dump(alloc: Global, bytes: &[u8]) -> Result<Accounts, DumpError>
     ensures accepted { IfOk result (λ accounts. AreAccepted (accounts_of accounts)) }
     ensures bytes { IfOk result (λ accounts. HoldBytes (accounts_of accounts)) }
 {
-    let mut rows = Rows::new(alloc, bytes)?;
+    let mut rows = Rows::new(alloc, bytes);
     let dump = read_rows(alloc, &mut rows)?;
     if rows.next_row(&mut Fields::new())? {
         return Err(grammar_fault(next_number(dump.count)).into());

@@ -1,16 +1,25 @@
 //! Writing a dump of accounts that are given up: a market is let go when its rows are written, so that the bytes of all markets and
-//! their texts are not there together.
+//! their texts are not there together. A text in pieces goes on where they stood.
 
-ghost use Rattle.std.specs.Prelude.{◌≡◌, ◌++◌, IfOk, OnOk, map};
+ghost use Rattle.std.specs.Prelude.{◌≡◌, ◌∷◌, ◌++◌, IfOk, OnOk, map};
 ghost use Rattle.std.specs.List.{All, flat_map};
 ghost use Rattle.dex_types.specs.Accounts.{accounts_of, market_accounts_of};
+ghost use Rattle.hex.specs.Hex.{IsBytes};
 ghost use Rattle.dex_dump.specs.Accepted.{AreAccepted, HoldBytes, IsHeldMarket};
 ghost use Rattle.dex_dump.specs.Answers.{IsReadAs};
-ghost use Rattle.dex_dump.specs.DumpText.{dump_text, lines_text, market_rows};
+ghost use Rattle.dex_dump.specs.DumpText.{base64_text, dump_text, lines_text, market_rows};
+ghost use Rattle.dex_dump.specs.Pieces.{text_in};
 
-use crate::writing::{room_of_dump, write_front, write_market_rows, write_word};
+use crate::pieces::Pieces;
+use crate::writing::{
+    end_row, room_of_dump, write_bytes, write_front, write_market_rows, write_orders, write_terms,
+    write_word,
+};
 use dex_types::{Accounts, MarketAccounts, NoMemory};
 use std::alloc::{AllocError, Global};
+
+/// A text goes on where an account of so many bytes or more stood.
+const LARGE: usize = 1_048_576;
 
 /// The dump of all accounts, as `write_dump` has it.
 pub fn into_dump(alloc: Global, accounts: Accounts) -> Result<Vec<u8>, NoMemory>
@@ -45,4 +54,61 @@ fn take_markets(text: &mut Vec<u8>, markets: Vec<MarketAccounts>) -> Result<(), 
         write_market_rows(text, &market)?;
     }
     Ok(())
+}
+
+/// Writes the dump of all accounts behind a text in pieces, as `append_dump` does behind one of a single piece.
+pub fn take_accounts(text: &mut Pieces, accounts: Accounts) -> Result<(), AllocError>
+    ensures text { OnOk result (text_in text.new ≡ text_in text.old ++ dump_text (accounts_of accounts)) }
+    ensures held { OnOk result (HoldBytes (accounts_of accounts)) }
+{
+    write_front(&mut text.last, &accounts)?;
+    take_each_market(text, accounts.markets)?;
+    write_word(&mut text.last, "enddump\n")?;
+    Ok(())
+}
+
+fn take_each_market(text: &mut Pieces, markets: Vec<MarketAccounts>) -> Result<(), AllocError>
+    ensures text { OnOk result (text_in text.new
+        ≡ text_in text.old ++ lines_text (flat_map market_rows (map market_accounts_of markets.items))) }
+    ensures held { OnOk result (All IsHeldMarket (map market_accounts_of markets.items)) }
+{
+    for market in markets {
+        take_market_rows(text, market)?;
+    }
+    Ok(())
+}
+
+/// The rows of a market, as `write_market_rows` has them. A large account is let go for the text behind it: memory that is in use
+/// already need not be taken anew.
+pub fn take_market_rows(text: &mut Pieces, market: MarketAccounts) -> Result<(), AllocError>
+    ensures text { OnOk result (text_in text.new
+        ≡ text_in text.old ++ lines_text (market_rows (market_accounts_of market))) }
+    ensures held { OnOk result (IsHeldMarket (market_accounts_of market)) }
+{
+    write_terms(&mut text.last, &market)?;
+    take_bytes(text, market.requests)?;
+    take_bytes(text, market.events)?;
+    take_bytes(text, market.bids)?;
+    take_bytes(text, market.asks)?;
+    end_row(&mut text.last)?;
+    write_orders(&mut text.last, market.address, &market.orders)?;
+    Ok(())
+}
+
+/// A comma, and the bytes of an account.
+fn take_bytes(text: &mut Pieces, bytes: Vec<u8>) -> Result<(), AllocError>
+    ensures text { OnOk result (text_in text.new ≡ text_in text.old ++ (44 ∷ base64_text bytes.items)) }
+    ensures held { OnOk result (IsBytes bytes.items) }
+{
+    if bytes.len() < LARGE {
+        return write_bytes(&mut text.last, &bytes);
+    }
+    text.last.reserve_exact(room_of_bytes(bytes.len()))?;
+    write_bytes(&mut text.last, &bytes)?;
+    text.go_on_in(bytes)
+}
+
+/// Room for a comma and for so many bytes in base64.
+fn room_of_bytes(bytes: usize) -> usize {
+    bytes.saturating_add(bytes / 3).saturating_add(8)
 }

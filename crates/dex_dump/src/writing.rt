@@ -7,8 +7,9 @@ ghost use Rattle.dex_types.specs.Text.{address_text};
 ghost use Rattle.hex.specs.Hex.{IsBytes};
 ghost use Rattle.dex_dump.specs.Accepted.{AreAccepted, HoldBytes, IsAddress, IsHeld, IsHeldMarket};
 ghost use Rattle.dex_dump.specs.Answers.{IsReadAs};
-ghost use Rattle.dex_dump.specs.DumpText.{account_row, account_rows, base64_text, behind_first, dump_text, first_row, line_text, lines_text};
-ghost use Rattle.dex_dump.specs.DumpText.{market_fields, market_row, market_rows, named_rows, orders_row};
+ghost use Rattle.dex_dump.specs.DumpText.{account_row, account_rows, base64_text, dump_text, first_row, line_text, lines_text};
+ghost use Rattle.dex_dump.specs.DumpText.{market_row, market_rows, named_rows, orders_row};
+ghost use Rattle.dex_dump.specs.Terms.{terms_of, terms_text};
 
 use crate::checks::is_blank;
 use base64::engine::general_purpose::STANDARD;
@@ -117,7 +118,7 @@ pub fn write_market_rows(text: &mut Vec<u8>, market: &MarketAccounts) -> Result<
     Ok(())
 }
 
-fn write_orders(
+pub(crate) fn write_orders(
     text: &mut Vec<u8>,
     market: Address,
     accounts: &[OrdersAccount],
@@ -184,28 +185,26 @@ fn write_market(text: &mut Vec<u8>, market: &MarketAccounts) -> Result<(), Alloc
         ≡ text.old.items ++ line_text (market_row (market_accounts_of market.now))) }
     ensures held { OnOk result (IsHeldMarket (record (market_accounts_of market.now) { orders = [] })) }
 {
-    write_word(text, "market")?;
-    write_address(text, market.address)?;
-    write_address(text, market.authority)?;
-    write_market_fields(text, market)?;
-    Ok(())
-}
-
-/// The accounts of a market's row, and its end.
-fn write_market_fields(text: &mut Vec<u8>, market: &MarketAccounts) -> Result<(), AllocError>
-    ensures text { OnOk result (text.new.items
-        ≡ text.old.items ++ behind_first (market_fields (market_accounts_of market.now))) }
-    ensures held { OnOk result (IsAddress market.now.address → IsAddress market.now.authority
-        → IsHeldMarket (record (market_accounts_of market.now) { orders = [] })) }
-{
-    write_bytes(text, &market.market)?;
-    write_bytes(text, &market.coin_vault)?;
-    write_bytes(text, &market.pc_vault)?;
+    write_terms(text, market)?;
     write_bytes(text, &market.requests)?;
     write_bytes(text, &market.events)?;
     write_bytes(text, &market.bids)?;
     write_bytes(text, &market.asks)?;
     end_row(text)?;
+    Ok(())
+}
+
+/// What stands in a market's row before its queues and its sides.
+pub(crate) fn write_terms(text: &mut Vec<u8>, market: &MarketAccounts) -> Result<(), AllocError>
+    ensures text { OnOk result (text.new.items ≡ text.old.items ++ terms_text (market_accounts_of market.now)) }
+    ensures held { OnOk result (IsHeldMarket (terms_of (market_accounts_of market.now))) }
+{
+    write_word(text, "market")?;
+    write_address(text, market.address)?;
+    write_address(text, market.authority)?;
+    write_bytes(text, &market.market)?;
+    write_bytes(text, &market.coin_vault)?;
+    write_bytes(text, &market.pc_vault)?;
     Ok(())
 }
 
@@ -237,7 +236,7 @@ fn push_address(text: &mut Vec<u8>, address: Address) -> Result<(), AllocError>
 
 /// A comma, and the bytes of an account, piece by piece.
 #[tactic(auto, unfolding(crate::specs::DumpText::base64_text))]
-fn write_bytes(text: &mut Vec<u8>, bytes: &[u8]) -> Result<(), AllocError>
+pub(crate) fn write_bytes(text: &mut Vec<u8>, bytes: &[u8]) -> Result<(), AllocError>
     ensures text { OnOk result (text.new.items ≡ text.old.items ++ (44 ∷ base64_text bytes.now)) }
     ensures held { OnOk result (IsBytes bytes.now) }
 {
@@ -272,7 +271,7 @@ fn write_zeros(text: &mut Vec<u8>) -> Result<(), AllocError>
     text.extend_from_slice(&[b'A'; 1024])
 }
 
-fn end_row(text: &mut Vec<u8>) -> Result<(), AllocError>
+pub(crate) fn end_row(text: &mut Vec<u8>) -> Result<(), AllocError>
     ensures { OnOk result (text.new.items ≡ text.old.items ++ (10 ∷ [])) }
 {
     write_word(text, "\n")

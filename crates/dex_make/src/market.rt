@@ -1,6 +1,7 @@
 //! A market's accounts as they are made.
 
-ghost use Rattle.std.specs.Prelude.{◌≡◌, ◌≤◌, [], length, IfOk};
+ghost use Rattle.std.specs.Prelude.{◌≡◌, ◌≤◌, [], length, replicate, IfOk};
+ghost use Rattle.dex_fields.specs.Empty.{empty_account};
 ghost use Rattle.dex_market.specs.RequestQueue.{IsRequestQueue, next_sequence};
 ghost use Rattle.dex_orders.specs.OrdersAccount.{IsBlank, IsOrders};
 ghost use Rattle.dex_ring.specs.Blank as queue;
@@ -19,8 +20,11 @@ ghost use Rattle.dex_market.specs.StandsFor.{StandsForMarket};
 use crate::market_bytes::write_market;
 use crate::parts::{MarketPart, derived};
 use crate::tokens::make_wallet;
-use crate::zeroed::zeros;
-use dex_fields::{market, open_orders, write_empty_account};
+use crate::zeroed::{room_for, zeros, zeros_in};
+use dex_fields::{
+    END_TEXT, FLAGS, FRONT, FRONT_TEXT, Field, market, open_orders, put_piece, put_u64,
+    write_empty_account,
+};
 use dex_types::{Address, Ix, MarketAccounts, NoMemory, Side};
 use std::alloc::Global;
 
@@ -44,12 +48,60 @@ const REQUEST_QUEUE_SIZE: usize = 5_132;
 /// The flags of a request queue: Initialized and RequestQueue.
 const REQUEST_QUEUE_FLAGS: u64 = 9;
 
+/// The flags of an event queue: Initialized and EventQueue.
+const EVENT_QUEUE_FLAGS: u64 = 17;
+
+/// The flags of the bids: Initialized and Bids.
+const BIDS_FLAGS: u64 = 33;
+
+/// The flags of the asks: Initialized and Asks.
+const ASKS_FLAGS: u64 = 65;
+
+/// Room for the event queue and both sides of a market, where they are large. They are made in it.
+#[derive(Drop)]
+pub struct MarketRoom {
+    pub events: Vec<u8>,
+    pub bids: Vec<u8>,
+    pub asks: Vec<u8>,
+}
+
+impl MarketRoom {
+    /// Room for the accounts that are made of this, each large one with room for the text of the largest. It takes memory, and touches none.
+    pub fn new(alloc: Global, set: &MarketSet) -> Result<MarketRoom, NoMemory>
+        requires { IsMarketSet set.now }
+    {
+        let events = dex_ring::made_size(set.events);
+        let bids = dex_slab::made_size(set.bid_nodes);
+        let asks = dex_slab::made_size(set.ask_nodes);
+        let most = events.max(bids).max(asks);
+        Ok(MarketRoom {
+            events: room_for(alloc, events, most)?,
+            bids: room_for(alloc, bids, most)?,
+            asks: room_for(alloc, asks, most)?,
+        })
+    }
+}
+
 /// The accounts of a market as it is made: an empty book, empty queues and vaults, and no open-orders accounts.
 ///
 /// The instruction is InitializeMarket, a side has 1 to 65,536 nodes, the queue room for 1 to 65,535 events, and the
 /// address 0 as its last byte. The addresses of vaults, queues and sides, and of the vaults' owner, are those that
 /// `derived` gives.
 pub fn make_market(alloc: Global, set: &MarketSet) -> Result<MarketAccounts, NoMemory>
+    requires { IsMarketSet set.now }
+    ensures bytes { IfOk result (λ made. market_accounts_of made ≡ made_accounts set.now) }
+    ensures stands { CanTrade set.now → IfOk result (λ made.
+        StandsFor (market_accounts_of made) (made_market (listing_of set.now) [])) }
+{
+    make_market_in(alloc, set, MarketRoom::new(alloc, set)?)
+}
+
+/// The same, the large accounts in room that is there, whatever stands in it.
+pub fn make_market_in(
+    alloc: Global,
+    set: &MarketSet,
+    room: MarketRoom,
+) -> Result<MarketAccounts, NoMemory>
     requires { IsMarketSet set.now }
     ensures bytes { IfOk result (λ made. market_accounts_of made ≡ made_accounts set.now) }
     ensures stands { CanTrade set.now → IfOk result (λ made.
@@ -63,9 +115,9 @@ pub fn make_market(alloc: Global, set: &MarketSet) -> Result<MarketAccounts, NoM
         coin_vault: make_wallet(alloc, set.coin, owner, 0)?,
         pc_vault: make_wallet(alloc, set.pc, owner, 0)?,
         requests: request_queue(alloc)?,
-        events: event_queue(alloc, set.events)?,
-        bids: side_account(alloc, Side::Bid, set.bid_nodes)?,
-        asks: side_account(alloc, Side::Ask, set.ask_nodes)?,
+        events: event_queue(alloc, room.events, set.events)?,
+        bids: side_account(alloc, room.bids, Side::Bid, set.bid_nodes)?,
+        asks: side_account(alloc, room.asks, Side::Ask, set.ask_nodes)?,
         orders: Vec::new(alloc),
     })
 }
@@ -114,7 +166,7 @@ fn write_requests(bytes: &mut [u8])
 }
 
 /// An event queue as it is made, with room for so many events.
-fn event_queue(alloc: Global, events: u32) -> Result<Vec<u8>, NoMemory>
+fn event_queue(alloc: Global, room: Vec<u8>, events: u32) -> Result<Vec<u8>, NoMemory>
     requires some { 1 ≤ events }
     requires few { events ≤ 65535 }
     ensures bytes { IfOk result (λ bytes. bytes.items ≡ queue.blank_queue (queue.made_size events)) }
@@ -122,13 +174,13 @@ fn event_queue(alloc: Global, events: u32) -> Result<Vec<u8>, NoMemory>
     ensures ring { IfOk result (λ bytes. ring_of bytes.items
         ≡ record { events = []; capacity = events; seq_num = 0 }) }
 {
-    let mut bytes = zeros(alloc, dex_ring::made_size(events))?;
-    dex_ring::blank(&mut bytes);
+    let size = dex_ring::made_size(events);
+    let bytes = empty_account(alloc, room, size, EVENT_QUEUE_FLAGS)?;
     Ok(bytes)
 }
 
 /// A side's account as it is made, with so many nodes.
-fn side_account(alloc: Global, side: Side, nodes: u32) -> Result<Vec<u8>, NoMemory>
+fn side_account(alloc: Global, room: Vec<u8>, side: Side, nodes: u32) -> Result<Vec<u8>, NoMemory>
     requires some { 1 ≤ nodes }
     requires few { nodes ≤ 65536 }
     ensures bytes { IfOk result (λ bytes. bytes.items ≡ slab.blank_side side (slab.made_size nodes)) }
@@ -136,7 +188,44 @@ fn side_account(alloc: Global, side: Side, nodes: u32) -> Result<Vec<u8>, NoMemo
     ensures orders { IfOk result (λ bytes. resting side bytes.items ≡ []) }
     ensures room { IfOk result (λ bytes. room_in bytes.items ≡ room_of nodes) }
 {
-    let mut bytes = zeros(alloc, dex_slab::made_size(nodes))?;
-    dex_slab::blank(&mut bytes, side);
+    let size = dex_slab::made_size(nodes);
+    let bytes = empty_account(alloc, room, size, side_flags(side))?;
     Ok(bytes)
+}
+
+/// The flags of a side's account.
+fn side_flags(side: Side) -> u64
+    ensures { result ≡ slab.side_flags side }
+{
+    match side {
+        Side::Bid => BIDS_FLAGS,
+        Side::Ask => ASKS_FLAGS,
+    }
+}
+
+/// An account of so many bytes with nothing in it, which has these flags. It stands where these bytes stood, if there is room for it; else
+/// elsewhere.
+fn empty_account(alloc: Global, room: Vec<u8>, size: usize, flags: u64) -> Result<Vec<u8>, NoMemory>
+    requires { 20 ≤ size }
+    ensures { IfOk result (λ bytes. bytes.items ≡ empty_account size flags) }
+{
+    let mut bytes = zeros_in(alloc, room, size)?;
+    write_on_zeros(&mut bytes, size, flags);
+    Ok(bytes)
+}
+
+/// Makes so many zeros an account with nothing in it, as `write_empty_account` makes any bytes one. Large accounts are written once so.
+fn write_on_zeros(bytes: &mut [u8], size: usize, flags: u64)
+    requires zeros { bytes.old ≡ replicate size 0 }
+    requires size { length bytes.old ≡ size }
+    requires long { 20 ≤ size }
+    ensures { bytes.new ≡ empty_account size flags }
+{
+    let end = Field {
+        at: size - END_TEXT.len(),
+        len: END_TEXT.len(),
+    };
+    put_piece(bytes, FRONT, &FRONT_TEXT);
+    put_piece(bytes, end, &END_TEXT);
+    put_u64(bytes, FLAGS, flags);
 }

@@ -15,6 +15,7 @@ use dex_io::{StdSource, read_all};
 use dex_replay::replay;
 use dex_report::into_report_text;
 use dex_script::read_script;
+use std::alloc::Global;
 use std::env;
 use std::io::Print;
 use std::marker::Sync;
@@ -77,6 +78,7 @@ fn check<R: Threads + Wait + Sync + Print + Input + Clock + AllocGlobal>(
         report,
     } = replay::round(rt, &bytes)?;
     let script = read_script(alloc, &bytes, false)?;
+    let report = joined(alloc, &report)?;
     let whole = into_report_text(alloc, replay(alloc, script)?, rows)?;
     let told = report.len();
     println!(rt; "{rows} rows in {lanes} lanes: a report of {told} bytes")?;
@@ -90,6 +92,15 @@ fn check<R: Threads + Wait + Sync + Print + Input + Clock + AllocGlobal>(
     } = bulk::round(rt, 100)?;
     println!(rt; "100 rows made: a script of {script} bytes, a summary of {summary} bytes")?;
     Ok(())
+}
+
+/// The pieces of a text, put together.
+fn joined(alloc: Global, pieces: &[Vec<u8>]) -> Result<Vec<u8>, Error> {
+    let mut text = Vec::new(alloc);
+    for piece in pieces {
+        text.extend_from_slice(piece)?;
+    }
+    Ok(text)
 }
 
 /// Prints the times of the phases of a replay of standard input, which is read once.

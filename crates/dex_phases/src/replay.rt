@@ -4,7 +4,7 @@ use crate::watch::{ROUNDS, Watch};
 use anyhow::Error;
 use dex_bank::Cells;
 use dex_replay::act_all;
-use dex_report::into_report_text;
+use dex_report::into_report_pieces;
 use dex_script::read_script;
 use dex_types::NoMemory;
 use std::mem::drop;
@@ -47,7 +47,7 @@ pub struct Replayed {
     pub phases: Phases,
     pub rows: u32,
     pub lanes: u32,
-    pub report: Vec<u8>,
+    pub report: Vec<Vec<u8>>,
 }
 
 /// Replays a script, phase by phase.
@@ -67,7 +67,7 @@ pub fn round<R: Clock + AllocGlobal>(rt: &R, bytes: &[u8]) -> Result<Replayed, E
         return Err(Error::from(NoMemory));
     };
     let closing = watch.lap(rt)?;
-    let text = into_report_text(alloc, outcome, count)?;
+    let pieces = into_report_pieces(alloc, outcome, count)?;
     let report = watch.lap(rt)?;
     drop(of_script);
     drop(places);
@@ -83,7 +83,7 @@ pub fn round<R: Clock + AllocGlobal>(rt: &R, bytes: &[u8]) -> Result<Replayed, E
         },
         rows: count,
         lanes,
-        report: text,
+        report: pieces,
     })
 }
 

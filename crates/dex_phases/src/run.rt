@@ -4,7 +4,7 @@ use crate::watch::{ROUNDS, Watch};
 use anyhow::Error;
 use dex_io::NoPace;
 use dex_lanes::processors;
-use dex_pieces::{let_go, report_pieces};
+use dex_pieces::report_pieces;
 use dex_run::run_with_rows;
 use dex_script_pieces::read_script;
 use std::marker::Sync;
@@ -51,7 +51,7 @@ pub fn round<R: Threads + Wait + Sync + Clock + AllocGlobal>(
     let lanes = watch.lap(rt)?;
     let pieces = report_pieces(rt, alloc, outcome, count, rows.into_pieces())?;
     let report = watch.lap(rt)?;
-    let_go(rt, alloc, pieces);
+    drop(pieces);
     let dropping = watch.lap(rt)?;
     let phases = Phases {
         reading,

@@ -32,7 +32,11 @@ part_lines (Spent rows) = []
 abbrev pub parts_in : List (Vec Part Global) → List Part
 parts_in groups = flat_map (λ (group : Vec Part Global). group.items) groups
 
+-- pieces, one behind the other
+abbrev pub whole : List (Vec ℕ Global) → List ℕ
+whole pieces = flat_map (λ (piece : Vec ℕ Global). piece.items) pieces
+
 -- parts were written: the text is their lines, and their values fit
 pub record WritesParts (before after : Writing) : Type 0 where
-  pub fits : IfOk after.text (λ text. All FitPart before.parts.items)
-  pub text : IfOk after.text (λ text. text.items ≡ flat_map part_lines before.parts.items)
+  pub fits : IfOk after.text (λ pieces. All FitPart before.parts.items)
+  pub text : IfOk after.text (λ pieces. whole pieces.items ≡ flat_map part_lines before.parts.items)

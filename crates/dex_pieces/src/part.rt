@@ -1,8 +1,10 @@
 //! A part of a report.
 
+ghost use Rattle.std.specs.Prelude.{◌≡◌, ◌++◌, OnOk};
+ghost use Rattle.dex_dump.specs.Pieces.{text_in};
 ghost use Rattle.dex_pieces.specs.Parts.{FitPart, part_lines};
 
-use dex_dump::{room_of_market, write_market_rows};
+use dex_dump::{Pieces, room_of_market, take_market_rows};
 use dex_report::{LINE, MarketJournal, Told, WalletJournal, write_each};
 use dex_types::{MarketAccounts, Row};
 use std::alloc::AllocError;
@@ -23,39 +25,51 @@ pub(crate) enum Part {
 }
 
 impl Part {
-    /// About how many bytes its text has; of what is let go, how many could be written meanwhile.
-    pub(crate) fn weight(&self) -> usize {
+    /// About how many bytes its text has.
+    pub(crate) fn size(&self) -> usize {
         match self {
             Part::Text(bytes) => bytes.len(),
             Part::Market(journal) => journal.entries.len().saturating_mul(96),
-            Part::Wallets(journals) => weight_of_wallets(journals),
+            Part::Wallets(journals) => size_of_wallets(journals),
             Part::Rows(market) => room_of_market(market),
-            Part::Spent(rows) => rows.len().saturating_mul(64),
+            Part::Spent(_) => 0,
+        }
+    }
+
+    /// How long it takes to write it and to let it go, told in bytes of accounts: a byte of a journal takes about as long as five of
+    /// these, and a row that is let go as long as 640.
+    pub(crate) fn weight(&self) -> usize {
+        match self {
+            Part::Text(_) | Part::Rows(_) => self.size(),
+            Part::Market(_) | Part::Wallets(_) => self.size().saturating_mul(5),
+            Part::Spent(rows) => rows.len().saturating_mul(640),
         }
     }
 }
 
 /// About how many bytes the text of these journals has.
-fn weight_of_wallets(journals: &[WalletJournal]) -> usize {
-    let mut weight: usize = 0;
+fn size_of_wallets(journals: &[WalletJournal]) -> usize {
+    let mut size: usize = 0;
     'journals: for journal in journals {
-        weight = weight.saturating_add(journal.entries.len().saturating_mul(48));
+        size = size.saturating_add(journal.entries.len().saturating_mul(48));
     }
-    weight
+    size
 }
 
-impl Told for Part {
-    ghost fits = { FitPart };
-
-    ghost lines = { part_lines };
-
-    fn write(&self, text: &mut Vec<u8>, line: &mut [u8; LINE]) -> Result<(), AllocError> {
-        match self {
-            Part::Text(bytes) => text.extend_from_slice(bytes),
-            Part::Market(journal) => journal.write(text, line),
-            Part::Wallets(journals) => write_each(text, line, journals),
-            Part::Rows(market) => write_market_rows(text, market),
-            Part::Spent(_) => Ok(()),
-        }
+/// Writes a part, which is given up, behind a text; each of its lines is put together in the array.
+pub(crate) fn take_part(
+    text: &mut Pieces,
+    line: &mut [u8; LINE],
+    part: Part,
+) -> Result<(), AllocError>
+    ensures fits { OnOk result (FitPart part) }
+    ensures text { OnOk result (text_in text.new ≡ text_in text.old ++ part_lines part) }
+{
+    match part {
+        Part::Text(bytes) => text.last.extend_from_slice(&bytes),
+        Part::Market(journal) => journal.write(&mut text.last, line),
+        Part::Wallets(journals) => write_each(&mut text.last, line, &journals),
+        Part::Rows(market) => take_market_rows(text, market),
+        Part::Spent(_) => Ok(()),
     }
 }

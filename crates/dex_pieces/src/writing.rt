@@ -2,22 +2,27 @@
 
 ghost use Rattle.std.specs.Prelude.{◌≡◌, ◌++◌, [], Ok, IfOk, OnOk, ⊤, map};
 ghost use Rattle.std.specs.List.{All, AllZip, flat_map};
-ghost use Rattle.dex_pieces.specs.Parts.{FitPart, WritesParts, part_lines, parts_in};
+ghost use Rattle.dex_dump.specs.Pieces.{text_in};
+ghost use Rattle.dex_pieces.specs.Parts.{FitPart, WritesParts, part_lines, parts_in, whole};
 
-use crate::part::Part;
+use crate::part::{Part, take_part};
+use dex_dump::Pieces;
 use dex_lanes::{Job, processors, run_jobs};
-use dex_report::{LINE, take_each};
+use dex_report::LINE;
 use std::alloc::{AllocError, Global};
 use std::marker::Sync;
 use std::mem;
 use std::thread::Threads;
 
-/// Parts that follow each other, until they are written, and then their text.
+/// The first piece of a text has room for so many bytes at most, until it needs more.
+const MOST_ROOM: usize = 16_777_216;
+
+/// Parts that follow each other, until they are written, and then their text in pieces.
 #[derive(Drop)]
 pub(crate) struct Writing {
     alloc: Global,
     parts: Vec<Part>,
-    text: Result<Vec<u8>, AllocError>,
+    text: Result<Vec<Vec<u8>>, AllocError>,
 }
 
 impl Job for Writing {
@@ -32,14 +37,26 @@ impl Job for Writing {
 }
 
 /// The text of parts, each of which is let go when it is written.
-fn text_of(alloc: Global, parts: Vec<Part>) -> Result<Vec<u8>, AllocError>
-    ensures fits { IfOk result (λ text. All FitPart parts.items) }
-    ensures text { IfOk result (λ text. text.items ≡ flat_map part_lines parts.items) }
+fn text_of(alloc: Global, parts: Vec<Part>) -> Result<Vec<Vec<u8>>, AllocError>
+    ensures fits { IfOk result (λ pieces. All FitPart parts.items) }
+    ensures text { IfOk result (λ pieces. whole pieces.items ≡ flat_map part_lines parts.items) }
 {
-    let mut text = Vec::with_capacity(alloc, weight_of(&parts))?;
+    let mut text = Pieces::with_capacity(alloc, size_of(&parts).min(MOST_ROOM))?;
+    take_parts(&mut text, parts)?;
+    let pieces = text.into_pieces()?;
+    Ok(pieces)
+}
+
+/// Writes parts behind a text.
+fn take_parts(text: &mut Pieces, parts: Vec<Part>) -> Result<(), AllocError>
+    ensures fits { OnOk result (All FitPart parts.items) }
+    ensures text { OnOk result (text_in text.new ≡ text_in text.old ++ flat_map part_lines parts.items) }
+{
     let mut line = [0; LINE];
-    take_each(&mut text, &mut line, parts)?;
-    Ok(text)
+    for part in parts {
+        take_part(text, &mut line, part)?;
+    }
+    Ok(())
 }
 
 /// The texts of parts that follow each other, written by some threads, and each part let go when it is written.
@@ -49,16 +66,26 @@ pub(crate) fn texts_of<R: Threads + Sync>(
     parts: Vec<Part>,
 ) -> Result<Vec<Vec<u8>>, AllocError>
     ensures fits { IfOk result (λ texts. All FitPart parts.items) }
-    ensures text { IfOk result (λ texts. flat_map (λ text. text.items) texts.items
-        ≡ flat_map part_lines parts.items) }
+    ensures text { IfOk result (λ pieces. whole pieces.items ≡ flat_map part_lines parts.items) }
 {
     let groups = groups_of(alloc, parts, processors(rt))?;
     let mut jobs = jobs_of(alloc, groups)?;
     run_jobs(rt, &mut jobs);
-    written_by(alloc, jobs)
+    let texts = written_by(alloc, jobs)?;
+    let pieces = joined(alloc, texts)?;
+    Ok(pieces)
 }
 
 /// About how many bytes the text of all parts has.
+fn size_of(parts: &[Part]) -> usize {
+    let mut size: usize = 0;
+    'parts: for part in parts {
+        size = size.saturating_add(part.size());
+    }
+    size
+}
+
+/// How long all parts take.
 fn weight_of(parts: &[Part]) -> usize {
     let mut weight: usize = 0;
     'parts: for part in parts {
@@ -129,7 +156,7 @@ fn jobs_of(alloc: Global, groups: Vec<Vec<Part>>) -> Result<Vec<Writing>, AllocE
 }
 
 /// What the jobs wrote, if each wrote its parts.
-fn written_by(alloc: Global, jobs: Vec<Writing>) -> Result<Vec<Vec<u8>>, AllocError>
+fn written_by(alloc: Global, jobs: Vec<Writing>) -> Result<Vec<Vec<Vec<u8>>>, AllocError>
     ensures { IfOk result (λ texts. AllZip (λ job text. job.text ≡ Ok text) jobs.items texts.items) }
 {
     let mut texts = Vec::with_capacity(alloc, jobs.len())?;
@@ -141,8 +168,28 @@ fn written_by(alloc: Global, jobs: Vec<Writing>) -> Result<Vec<Vec<u8>>, AllocEr
 }
 
 /// What a job wrote.
-fn text_in(job: Writing) -> Result<Vec<u8>, AllocError>
+fn text_in(job: Writing) -> Result<Vec<Vec<u8>>, AllocError>
     ensures { result ≡ job.text }
 {
     job.text
+}
+
+/// The pieces of texts, one behind the other.
+fn joined(alloc: Global, texts: Vec<Vec<Vec<u8>>>) -> Result<Vec<Vec<u8>>, AllocError>
+    ensures { IfOk result (λ pieces. whole pieces.items ≡ flat_map (λ text. whole text.items) texts.items) }
+{
+    let mut pieces = Vec::new(alloc);
+    for text in texts {
+        add_each(&mut pieces, text)?;
+    }
+    Ok(pieces)
+}
+
+fn add_each(pieces: &mut Vec<Vec<u8>>, text: Vec<Vec<u8>>) -> Result<(), AllocError>
+    ensures { OnOk result (pieces.new.items ≡ pieces.old.items ++ text.items) }
+{
+    for piece in text {
+        pieces.push(piece)?;
+    }
+    Ok(())
 }

@@ -2,13 +2,14 @@
 
 ghost use Rattle.std.specs.Prelude.{◌≡◌, IfErr, IfOk, IsTrue, Some, false};
 ghost use Rattle.dex_words.specs.Spelling.{IsPlain, IsWithin};
+ghost use Rattle.dex_answers.specs.Told.{text_of};
 ghost use Rattle.dex_plain.specs.Ending.{Completes, Ends, Stands, input, output};
 ghost use Rattle.dex_plain.specs.Stops.{line_of, status_of};
 
 use crate::input::read_input;
-use crate::output::written;
+use crate::output::{written, written_each};
 use crate::stop::Stop;
-use dex_answers::{Status, StatusText};
+use dex_answers::{Status, StatusPieces};
 use dex_commands::answer_taking;
 use dex_io::{Sink, Source};
 use dex_words::Command;
@@ -49,18 +50,18 @@ fn run_plain<S: Source, K: Sink>(
         (output (K.taken sink.old) (K.taken sink.new) (K.faults sink.old) (K.faults sink.new)) result }
 {
     match answer(alloc, command, source) {
-        Ok(built) => written(sink, &built.text, built.status),
+        Ok(built) => written_each(sink, &built.pieces, built.status),
         Err(stop) => written(sink, stop.line(), stop.status()),
     }
 }
 
 // Reads what the command reads, and answers the text that it asks for.
 #[tactic(auto, using(crate::proofs::LaneAnswerLaws::plain_answers))]
-fn answer<S: Source>(alloc: Global, command: Command, source: &mut S) -> Result<StatusText, Stop>
+fn answer<S: Source>(alloc: Global, command: Command, source: &mut S) -> Result<StatusPieces, Stop>
     requires within { IsWithin command }
     requires plain { IsPlain command }
     ensures built { IfOk result (λ built. Stands built.status (Some command)
-        (input (S.left source.old) (S.left source.new) (S.faults source.old) (S.faults source.new)) built.text.items) }
+        (input (S.left source.old) (S.left source.new) (S.faults source.old) (S.faults source.new)) (text_of built)) }
     ensures stopped { IfErr result (λ stop. Stands (status_of stop) (Some command)
         (input (S.left source.old) (S.left source.new) (S.faults source.old) (S.faults source.new)) (line_of stop)) }
 {

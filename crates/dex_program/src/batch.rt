@@ -2,9 +2,10 @@
 
 ghost use Rattle.std.specs.Prelude.{◌≤◌, IfOk};
 ghost use Rattle.dex_plain.specs.LaneAnswers.{AnswersBatch};
-ghost use Rattle.dex_program.specs.Told.{text_of};
+ghost use Rattle.dex_answers.specs.Told.{text_of};
 
-use crate::told::{StatusPieces, refused, report_of};
+use crate::told::{refused, report_of};
+use dex_answers::StatusPieces;
 use dex_batch::run_batch_with_rows;
 use dex_io::Pace;
 use dex_replay::laws::without_swaps_rows_act_one_by_one;

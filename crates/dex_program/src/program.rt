@@ -4,16 +4,14 @@ ghost use Rattle.std.specs.Prelude.{IfErr, IfOk, Some, map};
 ghost use Rattle.std.specs.String.{string_bytes};
 ghost use Rattle.dex_words.specs.Commands.{command_of};
 ghost use Rattle.dex_words.specs.Spelling.{IsPlain, IsWithin};
+ghost use Rattle.dex_answers.specs.Told.{text_of};
 ghost use Rattle.dex_plain.specs.Ending.{Completes, Ends, Stands, input, output};
 ghost use Rattle.dex_plain.specs.Stops.{line_of, status_of};
-ghost use Rattle.dex_program.specs.Told.{text_of};
 ghost use Rattle.dex_program.specs.Ending.{ListedOrder, OneLegalHistory, OneOrder, WhereListed, WhereRun};
 
 use crate::threads::answer_on_threads;
-use crate::told::StatusPieces;
-use dex_answers::Status;
+use dex_answers::{Status, StatusPieces};
 use dex_io::{Pace, Sink, Source};
-use dex_pieces::let_go;
 use dex_plain::{Stop, is_plain, plain, read_input, written, written_each};
 use dex_words::{Command, WordsError, read_words};
 use std::alloc::Global;
@@ -83,7 +81,7 @@ fn by_words<R: Threads + Wait + Sync, S: Source, K: Sink, P: Pace + Sync>(
     }
 }
 
-// Runs one command on several threads. What was written is let go side by side too.
+// Runs one command on several threads.
 fn on_threads<R: Threads + Wait + Sync, S: Source, K: Sink, P: Pace + Sync>(
     rt: &R,
     alloc: Global,
@@ -99,11 +97,7 @@ fn on_threads<R: Threads + Wait + Sync, S: Source, K: Sink, P: Pace + Sync>(
         (output (K.taken sink.old) (K.taken sink.new) (K.faults sink.old) (K.faults sink.new)) result }
 {
     match threads_answer(rt, alloc, command, source, pace) {
-        Ok(report) => {
-            let ended = written_each(sink, &report.pieces, report.status);
-            let_go(rt, alloc, report.pieces);
-            ended
-        }
+        Ok(report) => written_each(sink, &report.pieces, report.status),
         Err(stop) => written(sink, stop.line(), stop.status()),
     }
 }

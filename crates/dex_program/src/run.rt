@@ -2,9 +2,10 @@
 
 ghost use Rattle.std.specs.Prelude.{IfOk};
 ghost use Rattle.dex_plain.specs.LaneAnswers.{AnswersRun};
-ghost use Rattle.dex_program.specs.Told.{text_of};
+ghost use Rattle.dex_answers.specs.Told.{text_of};
 
-use crate::told::{StatusPieces, refused, report_of};
+use crate::told::{refused, report_of};
+use dex_answers::StatusPieces;
 use dex_io::Pace;
 use dex_lanes::processors;
 use dex_replay::laws::without_swaps_rows_act_one_by_one;

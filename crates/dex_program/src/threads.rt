@@ -3,11 +3,11 @@
 ghost use Rattle.std.specs.Prelude.{IfOk};
 ghost use Rattle.dex_words.specs.Spelling.{IsPlain, IsWithin};
 ghost use Rattle.dex_plain.specs.LaneAnswers.{AnswersAll};
-ghost use Rattle.dex_program.specs.Told.{text_of};
+ghost use Rattle.dex_answers.specs.Told.{text_of};
 
 use crate::batch::batch_answer;
 use crate::run::run_answer;
-use crate::told::StatusPieces;
+use dex_answers::StatusPieces;
 use dex_io::Pace;
 use dex_types::NoMemory;
 use dex_words::Command;

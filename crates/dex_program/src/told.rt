@@ -6,10 +6,10 @@ ghost use Rattle.dex_report.specs.Report.{report_text};
 ghost use Rattle.dex_report.specs.Telling.{FitOutcome};
 ghost use Rattle.dex_script.specs.Telling.{TellsError};
 ghost use Rattle.dex_answers.specs.Answers.{IsNoScript};
+ghost use Rattle.dex_answers.specs.Told.{text_of};
 ghost use Rattle.dex_answers.specs.declared.status.Status.TheVariants as status;
-ghost use Rattle.dex_program.specs.Told.{text_of};
 
-use dex_answers::{Status, StatusText, no_script};
+use dex_answers::{Status, StatusPieces, no_script};
 use dex_pieces::report_pieces;
 use dex_report::Outcome;
 use dex_script::ScriptError;
@@ -19,24 +19,12 @@ use std::alloc::Global;
 use std::marker::Sync;
 use std::thread::Threads;
 
-/// A text in pieces that follow each other, and the status under which it is written.
-#[derive(Drop)]
-pub(crate) struct StatusPieces {
-    pub(crate) status: Status,
-    pub(crate) pieces: Vec<Vec<u8>>,
-}
-
 /// The text that tells why bytes are no script, as one piece.
 pub(crate) fn refused(alloc: Global, error: ScriptError) -> Result<StatusPieces, NoMemory>
     ensures { (batch : Bool) (bytes : List ℕ) → TellsError error batch bytes
         → IfOk result (λ told. IsNoScript batch bytes told.status (text_of told)) }
 {
-    let StatusText { status, text } = no_script(alloc, error)?;
-    let mut pieces = Vec::new(alloc);
-    match pieces.push(text) {
-        Ok(()) => Ok(StatusPieces { status, pieces }),
-        Err(_) => Err(NoMemory),
-    }
+    no_script(alloc, error)?.into_pieces(alloc)
 }
 
 /// The report of an outcome of so many items, made side by side. The outcome is given up, and its rows. All values that it tells fit.

@@ -1,6 +1,7 @@
 //! The report of a replay.
 
 ghost use Rattle.std.specs.Prelude.{◌≡◌, ◌++◌, IfOk, OnOk};
+ghost use Rattle.std.specs.List.{flat_map};
 ghost use Rattle.dex_report.specs.Outcomes.{outcome_of};
 ghost use Rattle.dex_report.specs.Report as texts;
 ghost use Rattle.dex_report.specs.Telling.{FitOutcome};
@@ -8,7 +9,7 @@ ghost use Rattle.dex_report.specs.Telling.{FitOutcome};
 use crate::lines::{LINE, write_head};
 use crate::outcome::Outcome;
 use crate::told::{take_each, write_each};
-use dex_dump::{append_dump, append_taken, room_of_dump};
+use dex_dump::{Pieces, append_dump, append_taken, room_of_dump, take_accounts};
 use dex_types::NoMemory;
 use std::alloc::{AllocError, Global};
 
@@ -33,6 +34,22 @@ pub fn into_report_text(alloc: Global, outcome: Outcome, rows: u32) -> Result<Ve
 {
     match into_report(alloc, outcome, rows) {
         Ok(text) => Ok(text),
+        Err(_) => Err(NoMemory),
+    }
+}
+
+/// The same in pieces that follow each other. Those behind a large account stand where it stood.
+pub fn into_report_pieces(
+    alloc: Global,
+    outcome: Outcome,
+    rows: u32,
+) -> Result<Vec<Vec<u8>>, NoMemory>
+    ensures fits { IfOk result (λ pieces. FitOutcome (outcome_of outcome)) }
+    ensures text { IfOk result (λ pieces.
+        flat_map (λ piece. piece.items) pieces.items ≡ texts.report_text (outcome_of outcome) rows) }
+{
+    match into_pieces(alloc, outcome, rows) {
+        Ok(pieces) => Ok(pieces),
         Err(_) => Err(NoMemory),
     }
 }
@@ -63,6 +80,22 @@ fn into_report(alloc: Global, outcome: Outcome, rows: u32) -> Result<Vec<u8>, Al
     append_taken(&mut text, outcome.accounts)?;
     text.extend_from_slice(b"end\n")?;
     Ok(text)
+}
+
+fn into_pieces(alloc: Global, outcome: Outcome, rows: u32) -> Result<Vec<Vec<u8>>, AllocError>
+    ensures fits { IfOk result (λ pieces. FitOutcome (outcome_of outcome)) }
+    ensures text { IfOk result (λ pieces.
+        flat_map (λ piece. piece.items) pieces.items ≡ texts.report_text (outcome_of outcome) rows) }
+{
+    let mut text = Pieces::with_capacity(alloc, first_room_of(&outcome))?;
+    let mut line = [0; LINE];
+    write_head(&mut text.last, b"report", None, rows as u64)?;
+    take_each(&mut text.last, &mut line, outcome.markets)?;
+    take_each(&mut text.last, &mut line, outcome.wallets)?;
+    take_accounts(&mut text, outcome.accounts)?;
+    text.last.extend_from_slice(b"end\n")?;
+    let pieces = text.into_pieces()?;
+    Ok(pieces)
 }
 
 /// Room for the first quarter. The text of a small report then begins where the buffers of rows were, which are let go by now, and

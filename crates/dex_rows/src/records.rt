@@ -1,7 +1,9 @@
 //! The rows of a text, and the fields of a row.
 
-ghost use Rattle.std.specs.Prelude.{◌≡◌, ◌<◌, [], ◌∷◌, IfOk, IfSome, OnErr, false, length, true};
+ghost use Rattle.std.specs.Prelude.{◌≡◌, ◌<◌, [], ◌∷◌, IfOk, IfSome, IsSomeAnd, OnErr, false, length, true};
+ghost use Rattle.csv.specs.Records.{fields_of};
 ghost use Rattle.dex_rows.specs.Records.{field_at, rows_of};
+ghost use Rattle.dex_rows.specs.Rows.{IsSource, rows_behind};
 
 use crate::lines::{self, KEPT, Line, next_line, without_mark};
 use crate::plain::PlainRows;
@@ -57,10 +59,12 @@ pub struct Rows<'a> {
     source: Source<'a>,
 }
 
-// What is left of a text: bytes without a quote, or rows that `csv` reads. Its reader takes 16 KB, so it stands in a box.
+// What is left of a text: bytes without a quote, a text with quotes of which nothing was read, or rows that `csv` reads. Its reader
+// takes 16 KB, so it stands in a box, which is made before the first row is read.
 #[derive(Drop)]
 enum Source<'a> {
     Plain(&'a [u8]),
+    Unread(Global, &'a [u8]),
     Quoted(Box<QuotedRows<'a>>),
 }
 
@@ -76,16 +80,15 @@ impl<'a> Model for Rows<'a> {
 }
 
 impl<'a> Rows<'a> {
-    /// All rows of a text. It takes no memory where the text has no quote.
-    pub fn new(alloc: Global, text: &'a [u8]) -> Result<Rows<'a>, NoMemory>
-        ensures { IfOk result (λ rows. rows ≡ rows_of text.now) }
+    /// All rows of a text. It takes no memory.
+    pub fn new(alloc: Global, text: &'a [u8]) -> Rows<'a>
+        ensures { result ≡ rows_of text.now }
     {
-        match memchr(b'"', text) {
-            None => Ok(Rows {
-                source: Source::Plain(without_mark(text)),
-            }),
-            Some(_) => read_by_csv(alloc, text),
-        }
+        let source = match memchr(b'"', text) {
+            None => Source::Plain(without_mark(text)),
+            Some(_) => Source::Unread(alloc, text),
+        };
+        Rows { source }
     }
 
     /// The rows of a text without a quote, to be read.
@@ -103,6 +106,7 @@ impl<'a> Rows<'a> {
     {
         match &self.source {
             Source::Plain(rest) => Some(PlainRows { bytes: *rest }),
+            Source::Unread(_, _) => None,
             Source::Quoted(_) => None,
         }
     }
@@ -118,20 +122,42 @@ impl<'a> Rows<'a> {
                 row.quoted = None;
                 Ok(next_line(rest, &mut row.line))
             }
+            Source::Unread(alloc, text) => {
+                let (alloc, text) = (*alloc, *text);
+                first_row(alloc, text, &mut self.source, &mut row.quoted)
+            }
             Source::Quoted(rows) => rows.next_row(&mut row.quoted),
         }
     }
 }
 
-// The rows of a text, read by `csv`. It is not inlined, so that a reader is on the stack only here.
+// Takes the first row of a text, read by `csv`, and puts what is left into the source. It is not inlined, so that a reader is on the
+// stack only here, and so that a row behind the first costs nothing for it.
 #[inline(never)]
-fn read_by_csv<'a>(alloc: Global, text: &'a [u8]) -> Result<Rows<'a>, NoMemory>
-    ensures { IfOk result (λ rows. rows ≡ rows_of text.now) }
+fn first_row<'a>(
+    alloc: Global,
+    text: &'a [u8],
+    source: &mut Source<'a>,
+    row: &mut Option<ByteRecord>,
+) -> Result<bool, NoMemory>
+    ensures next { IfOk result (λ found. found ≡ true
+        → IsSomeAnd row.new (λ kept. rows_of text.now ≡ fields_of kept ∷ rows_behind source.new)) }
+    ensures end { IfOk result (λ found. found ≡ false → rows_of text.now ≡ []) }
+    ensures stopped { OnErr result (rows_behind source.new ≡ []) }
+    ensures source { IsSource source.new }
 {
-    let rows = Box::new(alloc, QuotedRows::new(alloc, text))?;
-    Ok(Rows {
-        source: Source::Quoted(rows),
-    })
+    match Box::new(alloc, QuotedRows::new(alloc, text)) {
+        Ok(mut rows) => {
+            let found = rows.next_row(row);
+            *source = Source::Quoted(rows);
+            found
+        }
+        Err(_) => {
+            let none: &[u8] = &[];
+            *source = Source::Plain(none);
+            Err(NoMemory)
+        }
+    }
 }
 
 /// How many fields a row has.

@@ -7,13 +7,13 @@ ghost use Rattle.dex_types.specs.Accounts.{market_accounts_of, orders_account_of
 ghost use Rattle.dex_script.specs.Markets.{market_of, no_accounts_of};
 ghost use Rattle.dex_script.specs.Pieces.{bare_market};
 
-use dex_make::{MarketSet, make_market};
+use dex_make::{MarketRoom, MarketSet, make_market_in};
 use dex_types::{Address, MarketAccounts, NoMemory, OrdersAccount};
 use std::alloc::Global;
 use std::marker::Model;
 
 /// A market with which a script starts. A contract sees it as its accounts. Those of a dump are there. Of a market that a row declares
-/// only the open-orders accounts are there at first: the others are large, and made when the first instruction row is read.
+/// only the open-orders accounts are there at first, and room for large ones: all others are made when the first instruction row is read.
 #[derive(Drop)]
 pub struct DeclaredMarket {
     pub(crate) accounts: MarketAccounts,
@@ -45,15 +45,20 @@ impl DeclaredMarket {
         }
     }
 
-    /// The market that is to be made of this.
-    pub(crate) fn of_set(alloc: Global, set: MarketSet) -> DeclaredMarket
+    /// The market that is to be made of this. Room for its large accounts is taken.
+    pub(crate) fn of_set(alloc: Global, set: MarketSet) -> Result<DeclaredMarket, NoMemory>
         requires { IsMarketSet set }
-        ensures { result ≡ made_accounts set }
+        ensures { IfOk result (λ market. market ≡ made_accounts set) }
     {
-        DeclaredMarket {
-            accounts: no_accounts(alloc, set.address, set.authority),
+        let MarketRoom { events, bids, asks } = MarketRoom::new(alloc, &set)?;
+        let mut accounts = no_accounts(alloc, set.address, set.authority);
+        accounts.events = events;
+        accounts.bids = bids;
+        accounts.asks = asks;
+        Ok(DeclaredMarket {
+            accounts,
             set: Some(set),
-        }
+        })
     }
 
     /// Its address and who signs for it, without accounts.
@@ -115,7 +120,7 @@ impl DeclaredMarket {
     }
 }
 
-// The accounts that are made of this, but with the open-orders accounts of these.
+// The accounts that are made of this where these stand, but for their open-orders accounts, which stay.
 fn made_with(
     alloc: Global,
     set: &MarketSet,
@@ -125,7 +130,12 @@ fn made_with(
     ensures { IfOk result (λ made. market_accounts_of made
         ≡ market_of (Some set.now) (market_accounts_of accounts)) }
 {
-    let mut made = make_market(alloc, set)?;
+    let room = MarketRoom {
+        events: accounts.events,
+        bids: accounts.bids,
+        asks: accounts.asks,
+    };
+    let mut made = make_market_in(alloc, set, room)?;
     made.address = accounts.address;
     made.authority = accounts.authority;
     made.orders = accounts.orders;

@@ -123,7 +123,7 @@ fn read_text<H: ReadRows>(
     requires { H.ready how.now }
     ensures { TellsText result batch bytes.now }
 {
-    let mut rows = Rows::new(alloc, bytes)?;
+    let mut rows = Rows::new(alloc, bytes);
     if begins_with_dump(alloc, bytes, &rows)? {
         read_behind_dump(alloc, &mut rows, batch, how)
     } else {
@@ -204,7 +204,7 @@ fn begins_with_dump(alloc: Global, bytes: &[u8], rows: &Rows<'_>) -> Result<bool
 {
     match rows.plain() {
         Some(plain) => next_begins_dump(&mut Rows::of_plain(&plain)),
-        None => next_begins_dump(&mut Rows::new(alloc, bytes)?),
+        None => next_begins_dump(&mut Rows::new(alloc, bytes)),
     }
 }
 

@@ -177,7 +177,9 @@ impl Draft {
         let is_full = (16 <= self.start.markets.len()) | exceeds_market(words);
         self.check_new(is_any_among(&new, &self.taken), is_full)?;
         let set = set_of(words)?;
-        self.start.markets.push(DeclaredMarket::of_set(alloc, set))?;
+        self.start
+            .markets
+            .push(DeclaredMarket::of_set(alloc, set)?)?;
         self.take(&new)
     }
 

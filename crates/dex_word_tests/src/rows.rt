@@ -8,7 +8,7 @@ use std::test::Fail;
 
 // The number of the fault that the one row of a text has by itself; 0 where it has none.
 fn fault_of(alloc: Global, text: &[u8]) -> Result<u8, NoMemory> {
-    let mut rows = Rows::new(alloc, text)?;
+    let mut rows = Rows::new(alloc, text);
     let mut row = Fields::new();
     if !rows.next_row(&mut row)? {
         return Ok(100);

@@ -10,8 +10,8 @@ use Rattle.dex_answers.specs.Answers.{rows_told}
 use Rattle.dex_answers.proofs.PairLaws.{are-paired}
 use Rattle.dex_plain.proofs.LaneAnswerLaws.{no-run}
 use Rattle.dex_plain.specs.LaneAnswers.{AnswersRun}
-use Rattle.dex_program.specs.Told.{text_of}
-use Rattle.dex_program.proofs.Pieces.{says-more}
+use Rattle.dex_answers.specs.Told.{text_of}
+use Rattle.dex_answers.proofs.TextLaws.{pieces-say}
 use Rattle.dex_program.proofs.run.run_answer.Goals as goal
 
 pub returns-in_ok-outcome-in-Ok : goal.returns-in_ok-outcome-in-Ok
@@ -21,7 +21,7 @@ returns-in_ok-outcome-in-Ok g c =
     let left = c.in_ok-outcome-in-Ok.ensures in
     let is : IsScript script = subst IsScript c.script.view_is c.script.invariant.0 in
     let counted : c.items-items.result ≡ rows_told script = c.items-items.ensures in
-    says-more _ (AnswersRun c.args.bytes.now) _ (FitOutcome outcome) c.report_of.ensures.status c.report_of.ensures.text c.report_of.ensures.fits
+    pieces-say _ (AnswersRun c.args.bytes.now) _ (FitOutcome outcome) c.report_of.ensures.status c.report_of.ensures.text c.report_of.ensures.fits
     (λ fits. (
       script,
       outcome,

@@ -1,7 +1,7 @@
 -- A text in pieces.
 use Rattle.std.specs.Prelude.{ℕ, List}
 use Rattle.std.specs.List.{flat_map}
-use Rattle.dex_program.specs.declared.told.StatusPieces.{StatusPieces}
+use Rattle.dex_answers.specs.declared.told.StatusPieces.{StatusPieces}
 
 -- the pieces, one behind the other
 abbrev pub text_of : StatusPieces → List ℕ
