@@ -7,32 +7,16 @@ ghost use Rattle.dex_gate.specs.Seats.{IsBoard, IsWaiting, TakesTurn, MayPassOn,
 use crate::board::{Board, Place, SERVED, Top};
 use crate::journaled::Journaled;
 use crate::plays::{Look, PassOn};
-use std::{hint, thread};
+use std::hint;
 
-/// How often who is next looks at the turn before it gives its processor way. A thousand looks took some microseconds on the processor
-/// seen, which is some turns.
-const LOOKS: u32 = 300;
+/// How often who is next looks at the turn before it sleeps: some 60 microseconds on the processor seen, which is many turns, and about as
+/// long as to sleep and to be woken.
+const LOOKS: u32 = 30_000;
 
-/// How often who waits gives its processor way before it sleeps.
-const WAYS: u32 = 30;
-
-/// Whether the turn of the ticket has come, or comes while it is waited for. Who waits gives its processor way, so that others act there
-/// meanwhile, and sleeps only where that takes long: to sleep and to be woken takes longer than many turns. Where it says yes, nobody
-/// else can take the turn.
+/// Whether the turn of the ticket has come, or comes while it is looked for. Who is next looks for a while; who is further behind looks
+/// once. Where it says yes, nobody else can take the turn. Nobody gives its processor way instead: where others have work for it, the
+/// system may let it wait for milliseconds, and all who wait for its turn with it.
 pub(crate) fn comes<V: Journaled>(top: &Top<V>, ticket: u64) -> bool
-    requires { IsBoard top.now.table_id }
-{
-    for _ in 0..WAYS {
-        if is_served(top, ticket) {
-            return true;
-        }
-        thread::yield_now();
-    }
-    false
-}
-
-/// Whether the turn of the ticket has come. Who is next looks for a while; who is further behind looks once.
-fn is_served<V: Journaled>(top: &Top<V>, ticket: u64) -> bool
     requires { IsBoard top.now.table_id }
 {
     for _ in 0..LOOKS {

@@ -7,8 +7,7 @@ ghost use Rattle.dex_turns.specs.Seats.{IsSeatOf};
 
 use crate::ahead::Ahead;
 use crate::index::is_swap;
-use crate::stay::Stay;
-use dex_gate::Door;
+use crate::stay::{Doors, Stay};
 use dex_io::Pace;
 use dex_lanes::Job;
 use dex_script_facts::RowList;
@@ -16,12 +15,11 @@ use dex_turns::{Bank, LaneSeat};
 use dex_types::RowPlaces;
 use std::sync::Wait;
 
-/// What all lanes look at: the bank with a door for each of its markets, all rows with their places, and where the items of each lane
-/// begin.
+/// What all lanes look at: the bank and its doors, all rows with their places, and where the items of each lane begin.
 #[derive(Clone, Copy)]
 pub(crate) struct Lanes<'a> {
     pub(crate) bank: &'a Bank,
-    pub(crate) doors: &'a [Door],
+    pub(crate) doors: &'a Doors,
     pub(crate) rows: &'a RowList,
     pub(crate) places: &'a [RowPlaces],
     pub(crate) by_lane: &'a [Vec<usize>],
