@@ -4,6 +4,7 @@ ghost use Rattle.std.specs.Prelude.{◌≡◌, IfOk};
 ghost use Rattle.dex_answers.specs.Told.{text_of};
 
 use crate::status::Status;
+use dex_dump::Piece;
 use dex_types::NoMemory;
 use std::alloc::Global;
 
@@ -18,7 +19,7 @@ pub struct StatusText {
 #[derive(Debug, Drop)]
 pub struct StatusPieces {
     pub status: Status,
-    pub pieces: Vec<Vec<u8>>,
+    pub pieces: Vec<Piece>,
 }
 
 impl StatusText {
@@ -29,7 +30,7 @@ impl StatusText {
     {
         let StatusText { status, text } = self;
         let mut pieces = Vec::new(alloc);
-        match pieces.push(text) {
+        match pieces.push(Piece::Bytes(text)) {
             Ok(()) => Ok(StatusPieces { status, pieces }),
             Err(_) => Err(NoMemory),
         }

@@ -3,6 +3,7 @@ pub mod PieceLaws
 pub mod ReadingLaws
 pub mod AnswerLaws
 pub mod FieldLaws
+pub mod BlockLaws
 pub mod ZeroLaws
 pub mod EachRow
 pub mod PlainRows

@@ -15,7 +15,7 @@ pub use faults::{DumpError, DumpFault};
 pub use laws::{
     one_text_is_of_one_exchange, what_is_read_is_accepted, what_is_written_is_read_back,
 };
-pub use pieces::Pieces;
+pub use pieces::{Piece, Pieces};
 pub use reader::{DumpRead, read_dump, read_rows};
 pub use taking::{append_taken, into_dump, take_accounts, take_market_rows};
 pub use writing::{

@@ -1,7 +1,7 @@
 //! Writing a dump of accounts that are given up: a market is let go when its rows are written, so that the bytes of all markets and
 //! their texts are not there together. A text in pieces goes on where they stood.
 
-ghost use Rattle.std.specs.Prelude.{◌≡◌, ◌∷◌, ◌++◌, IfOk, OnOk, map};
+ghost use Rattle.std.specs.Prelude.{◌≡◌, ◌≤◌, ◌∷◌, ◌++◌, IfOk, OnOk, length, map};
 ghost use Rattle.std.specs.List.{All, flat_map};
 ghost use Rattle.dex_types.specs.Accounts.{accounts_of, market_accounts_of};
 ghost use Rattle.hex.specs.Hex.{IsBytes};
@@ -10,15 +10,16 @@ ghost use Rattle.dex_dump.specs.Answers.{IsReadAs};
 ghost use Rattle.dex_dump.specs.DumpText.{base64_text, dump_text, lines_text, market_rows};
 ghost use Rattle.dex_dump.specs.Pieces.{text_in};
 
-use crate::pieces::Pieces;
+use crate::checks::is_blank;
+use crate::pieces::{Pieces, ZEROS};
 use crate::writing::{
-    end_row, room_of_dump, write_bytes, write_front, write_market_rows, write_orders, write_terms,
-    write_word,
+    end_row, room_of_dump, write_base64, write_bytes, write_front, write_market_rows, write_orders,
+    write_terms, write_word,
 };
 use dex_types::{Accounts, MarketAccounts, NoMemory};
 use std::alloc::{AllocError, Global};
 
-/// A text goes on where an account of so many bytes or more stood.
+/// An account of so many bytes or more is written block by block. A text goes on where it stood, if its last piece has come to as many.
 const LARGE: usize = 1_048_576;
 
 /// The dump of all accounts, as `write_dump` has it.
@@ -78,8 +79,8 @@ fn take_each_market(text: &mut Pieces, markets: Vec<MarketAccounts>) -> Result<(
     Ok(())
 }
 
-/// The rows of a market, as `write_market_rows` has them. A large account is let go for the text behind it: memory that is in use
-/// already need not be taken anew.
+/// The rows of a market, as `write_market_rows` has them. A large account is let go, or, where its text is large too, given up for the
+/// text behind it: memory that is in use already need not be taken anew.
 pub fn take_market_rows(text: &mut Pieces, market: MarketAccounts) -> Result<(), AllocError>
     ensures text { OnOk result (text_in text.new
         ≡ text_in text.old ++ lines_text (market_rows (market_accounts_of market))) }
@@ -103,12 +104,32 @@ fn take_bytes(text: &mut Pieces, bytes: Vec<u8>) -> Result<(), AllocError>
     if bytes.len() < LARGE {
         return write_bytes(&mut text.last, &bytes);
     }
-    text.last.reserve_exact(room_of_bytes(bytes.len()))?;
-    write_bytes(&mut text.last, &bytes)?;
+    write_word(&mut text.last, ",")?;
+    write_blocks(text, &bytes)?;
+    if text.last.len() < LARGE {
+        return Ok(());
+    }
     text.go_on_in(bytes)
 }
 
-/// Room for a comma and for so many bytes in base64.
-fn room_of_bytes(bytes: usize) -> usize {
-    bytes.saturating_add(bytes / 3).saturating_add(8)
+/// The bytes of an account, block by block. Of a block of zeros nothing is written: it is a piece of its own.
+#[tactic(auto, unfolding(crate::specs::DumpText::base64_text))]
+fn write_blocks(text: &mut Pieces, bytes: &[u8]) -> Result<(), AllocError>
+    ensures text { OnOk result (text_in text.new ≡ text_in text.old ++ base64_text bytes.now) }
+    ensures held { OnOk result (IsBytes bytes.now) }
+{
+    'pieces: for block in bytes.chunks(ZEROS) {
+        write_block(text, block)?;
+    }
+    Ok(())
+}
+
+fn write_block(text: &mut Pieces, block: &[u8]) -> Result<(), AllocError>
+    requires { length block.now ≤ 49152 }
+    ensures { OnOk result (text_in text.new ≡ text_in text.old ++ base64_text block.now) }
+{
+    if block.len() == ZEROS && is_blank(block) {
+        return text.push_zeros();
+    }
+    write_base64(&mut text.last, block)
 }

@@ -234,13 +234,21 @@ fn push_address(text: &mut Vec<u8>, address: Address) -> Result<(), AllocError>
     }
 }
 
-/// A comma, and the bytes of an account, piece by piece.
-#[tactic(auto, unfolding(crate::specs::DumpText::base64_text))]
+/// A comma, and the bytes of an account.
 pub(crate) fn write_bytes(text: &mut Vec<u8>, bytes: &[u8]) -> Result<(), AllocError>
     ensures text { OnOk result (text.new.items ≡ text.old.items ++ (44 ∷ base64_text bytes.now)) }
     ensures held { OnOk result (IsBytes bytes.now) }
 {
     write_word(text, ",")?;
+    write_base64(text, bytes)
+}
+
+/// Bytes in base64, piece by piece.
+#[tactic(auto, unfolding(crate::specs::DumpText::base64_text))]
+pub(crate) fn write_base64(text: &mut Vec<u8>, bytes: &[u8]) -> Result<(), AllocError>
+    ensures text { OnOk result (text.new.items ≡ text.old.items ++ base64_text bytes.now) }
+    ensures held { OnOk result (IsBytes bytes.now) }
+{
     let mut symbols = [0; 1024];
     'pieces: for piece in bytes.chunks(768) {
         write_piece(text, &mut symbols, piece)?;

@@ -9,7 +9,7 @@ use crate::journaled::Journaled;
 use crate::plays::{Look, PassOn};
 use std::hint;
 
-/// How often who is next looks at the turn before it sleeps: some 60 microseconds on the processor seen, which is many turns, and about as
+/// How often who is next looks at the turn before it sleeps: some 26 microseconds on the processor seen, which is many turns, and about as
 /// long as to sleep and to be woken.
 const LOOKS: u32 = 30_000;
 

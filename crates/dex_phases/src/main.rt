@@ -11,6 +11,7 @@ use crate::bulk::Bulk;
 use crate::replay::Replayed;
 use crate::watch::ROUNDS;
 use anyhow::{Error, bail, ensure};
+use dex_dump::Piece;
 use dex_io::{StdSource, read_all};
 use dex_replay::replay;
 use dex_report::into_report_text;
@@ -95,10 +96,13 @@ fn check<R: Threads + Wait + Sync + Print + Input + Clock + AllocGlobal>(
 }
 
 /// The pieces of a text, put together.
-fn joined(alloc: Global, pieces: &[Vec<u8>]) -> Result<Vec<u8>, Error> {
+fn joined(alloc: Global, pieces: &[Piece]) -> Result<Vec<u8>, Error> {
     let mut text = Vec::new(alloc);
     for piece in pieces {
-        text.extend_from_slice(piece)?;
+        match piece {
+            Piece::Bytes(bytes) => text.extend_from_slice(bytes)?,
+            Piece::Zeros => text.extend_from_slice(&[b'A'; 65_536])?,
+        }
     }
     Ok(text)
 }

@@ -3,6 +3,7 @@
 use crate::watch::{ROUNDS, Watch};
 use anyhow::Error;
 use dex_bank::Cells;
+use dex_dump::Piece;
 use dex_replay::act_all;
 use dex_report::into_report_pieces;
 use dex_script::read_script;
@@ -47,7 +48,7 @@ pub struct Replayed {
     pub phases: Phases,
     pub rows: u32,
     pub lanes: u32,
-    pub report: Vec<Vec<u8>>,
+    pub report: Vec<Piece>,
 }
 
 /// Replays a script, phase by phase.

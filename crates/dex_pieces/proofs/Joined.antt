@@ -4,6 +4,8 @@ use Rattle.std.specs.List.{AllZip, flat_map}
 use Rattle.std.proofs.lemmas.Grind.{flat_map-append}
 use Rattle.std.proofs.lemmas.List.Elements.{All-append, All-nil}
 use Rattle.dex_dump.proofs.PieceLaws.{more}
+use Rattle.dex_dump.specs.Pieces.{piece_text}
+use Rattle.dex_dump.specs.declared.pieces.Piece.{Piece}
 use Rattle.dex_pieces.specs.Parts.{FitPart, WritesParts, part_lines, parts_in, whole}
 use Rattle.dex_pieces.specs.declared.part.Part.{Part}
 use Rattle.dex_pieces.specs.declared.writing.Writing.{Writing}
@@ -15,10 +17,7 @@ zip-behind R [] (z ∷ ys) x y all last = absurd all
 zip-behind R (w ∷ xs) [] x y all last = absurd all
 zip-behind R (w ∷ xs) (z ∷ ys) x y (first, rest) last = (first, zip-behind R xs ys x y rest last)
 
--- a piece, and a text in pieces
-abbrev pub Piece : Type 0
-Piece = Vec ℕ Global
-
+-- a text in pieces
 abbrev pub Text : Type 0
 Text = Vec Piece Global
 
@@ -54,7 +53,7 @@ all-written (b ∷ before) (a ∷ after) (t ∷ texts) (first, writes) (is, wrot
 pub whole-more : (pieces : List Piece) (texts : List Text) (text : Text) → whole pieces ≡ flat_map text_of texts
     → whole (pieces ++ text.items) ≡ flat_map text_of (texts ++ text ∷ [])
 whole-more pieces texts text so_far =
-    flat_map-append (λ (piece : Piece). piece.items) pieces text.items
+    flat_map-append piece_text pieces text.items
     ∙ ap (λ (y : List ℕ). y ++ text_of text) so_far
     ∙ sym (flat_map-append text_of texts (text ∷ []) ∙ ap (λ (y : List ℕ). flat_map text_of texts ++ y) (append-nil (text_of text)))
 

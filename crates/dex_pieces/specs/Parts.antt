@@ -5,6 +5,8 @@ use Rattle.std.specs.List.{All, flat_map}
 use Rattle.dex_types.specs.Accounts.{market_accounts_of}
 use Rattle.dex_dump.specs.Accepted.{IsHeldMarket}
 use Rattle.dex_dump.specs.DumpText.{lines_text, market_rows}
+use Rattle.dex_dump.specs.Pieces.{piece_text}
+use Rattle.dex_dump.specs.declared.pieces.Piece.{Piece}
 use Rattle.dex_report.specs.Outcomes.{market_journal_of, wallet_journal_of}
 use Rattle.dex_report.specs.Report.{market_lines, wallet_lines}
 use Rattle.dex_report.specs.Telling.{FitMarket, IsToldWallet}
@@ -33,8 +35,8 @@ abbrev pub parts_in : List (Vec Part Global) → List Part
 parts_in groups = flat_map (λ (group : Vec Part Global). group.items) groups
 
 -- pieces, one behind the other
-abbrev pub whole : List (Vec ℕ Global) → List ℕ
-whole pieces = flat_map (λ (piece : Vec ℕ Global). piece.items) pieces
+abbrev pub whole : List Piece → List ℕ
+whole pieces = flat_map piece_text pieces
 
 -- parts were written: the text is their lines, and their values fit
 pub record WritesParts (before after : Writing) : Type 0 where

@@ -36,13 +36,14 @@ impl Part {
         }
     }
 
-    /// How long it takes to write it and to let it go, told in bytes of accounts: a byte of a journal takes about as long as five of
-    /// these, and a row that is let go as long as 640.
+    /// How long it takes to write it and to let it go, told in bytes of accounts, which are mostly zeros: a byte of a market's journal
+    /// takes about as long as eight of these, one of a wallet's as five, and a row that is let go as long as 400.
     pub(crate) fn weight(&self) -> usize {
         match self {
             Part::Text(_) | Part::Rows(_) => self.size(),
-            Part::Market(_) | Part::Wallets(_) => self.size().saturating_mul(5),
-            Part::Spent(rows) => rows.len().saturating_mul(640),
+            Part::Market(_) => self.size().saturating_mul(8),
+            Part::Wallets(_) => self.size().saturating_mul(5),
+            Part::Spent(rows) => rows.len().saturating_mul(400),
         }
     }
 }

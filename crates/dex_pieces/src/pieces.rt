@@ -2,6 +2,7 @@
 
 ghost use Rattle.std.specs.Prelude.{◌≡◌, ◌++◌, IfOk, OnOk, map};
 ghost use Rattle.std.specs.List.{All, flat_map};
+ghost use Rattle.dex_dump.specs.Pieces.{piece_text};
 ghost use Rattle.dex_report.specs.Outcomes.{outcome_of};
 ghost use Rattle.dex_report.specs.Report.{report_text};
 ghost use Rattle.dex_report.specs.Telling.{FitOutcome};
@@ -10,7 +11,7 @@ ghost use Rattle.dex_pieces.specs.declared.part.Part.TheVariants as part;
 
 use crate::part::Part;
 use crate::writing::texts_of;
-use dex_dump::write_front;
+use dex_dump::{Piece, write_front};
 use dex_report::{MarketJournal, Outcome, write_head};
 use dex_types::{MarketAccounts, NoMemory, Row};
 use std::alloc::{AllocError, Global};
@@ -27,10 +28,10 @@ pub fn report_pieces<R: Threads + Sync>(
     outcome: Outcome,
     rows: u32,
     spent: Vec<Vec<Row>>,
-) -> Result<Vec<Vec<u8>>, NoMemory>
+) -> Result<Vec<Piece>, NoMemory>
     ensures fits { IfOk result (λ pieces. FitOutcome (outcome_of outcome)) }
     ensures text { IfOk result (λ pieces.
-        flat_map (λ piece. piece.items) pieces.items ≡ report_text (outcome_of outcome) rows) }
+        flat_map piece_text pieces.items ≡ report_text (outcome_of outcome) rows) }
 {
     match pieces_of(rt, alloc, outcome, rows, spent) {
         Ok(pieces) => Ok(pieces),
@@ -44,10 +45,10 @@ fn pieces_of<R: Threads + Sync>(
     outcome: Outcome,
     rows: u32,
     spent: Vec<Vec<Row>>,
-) -> Result<Vec<Vec<u8>>, AllocError>
+) -> Result<Vec<Piece>, AllocError>
     ensures fits { IfOk result (λ pieces. FitOutcome (outcome_of outcome)) }
     ensures text { IfOk result (λ pieces.
-        flat_map (λ piece. piece.items) pieces.items ≡ report_text (outcome_of outcome) rows) }
+        flat_map piece_text pieces.items ≡ report_text (outcome_of outcome) rows) }
 {
     let parts = parts_of(alloc, outcome, rows, spent)?;
     texts_of(rt, alloc, parts)

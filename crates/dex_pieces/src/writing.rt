@@ -6,7 +6,7 @@ ghost use Rattle.dex_dump.specs.Pieces.{text_in};
 ghost use Rattle.dex_pieces.specs.Parts.{FitPart, WritesParts, part_lines, parts_in, whole};
 
 use crate::part::{Part, take_part};
-use dex_dump::Pieces;
+use dex_dump::{Piece, Pieces};
 use dex_lanes::{Job, processors, run_jobs};
 use dex_report::LINE;
 use std::alloc::{AllocError, Global};
@@ -22,7 +22,7 @@ const MOST_ROOM: usize = 16_777_216;
 pub(crate) struct Writing {
     alloc: Global,
     parts: Vec<Part>,
-    text: Result<Vec<Vec<u8>>, AllocError>,
+    text: Result<Vec<Piece>, AllocError>,
 }
 
 impl Job for Writing {
@@ -37,7 +37,7 @@ impl Job for Writing {
 }
 
 /// The text of parts, each of which is let go when it is written.
-fn text_of(alloc: Global, parts: Vec<Part>) -> Result<Vec<Vec<u8>>, AllocError>
+fn text_of(alloc: Global, parts: Vec<Part>) -> Result<Vec<Piece>, AllocError>
     ensures fits { IfOk result (λ pieces. All FitPart parts.items) }
     ensures text { IfOk result (λ pieces. whole pieces.items ≡ flat_map part_lines parts.items) }
 {
@@ -64,7 +64,7 @@ pub(crate) fn texts_of<R: Threads + Sync>(
     rt: &R,
     alloc: Global,
     parts: Vec<Part>,
-) -> Result<Vec<Vec<u8>>, AllocError>
+) -> Result<Vec<Piece>, AllocError>
     ensures fits { IfOk result (λ texts. All FitPart parts.items) }
     ensures text { IfOk result (λ pieces. whole pieces.items ≡ flat_map part_lines parts.items) }
 {
@@ -156,7 +156,7 @@ fn jobs_of(alloc: Global, groups: Vec<Vec<Part>>) -> Result<Vec<Writing>, AllocE
 }
 
 /// What the jobs wrote, if each wrote its parts.
-fn written_by(alloc: Global, jobs: Vec<Writing>) -> Result<Vec<Vec<Vec<u8>>>, AllocError>
+fn written_by(alloc: Global, jobs: Vec<Writing>) -> Result<Vec<Vec<Piece>>, AllocError>
     ensures { IfOk result (λ texts. AllZip (λ job text. job.text ≡ Ok text) jobs.items texts.items) }
 {
     let mut texts = Vec::with_capacity(alloc, jobs.len())?;
@@ -168,14 +168,14 @@ fn written_by(alloc: Global, jobs: Vec<Writing>) -> Result<Vec<Vec<Vec<u8>>>, Al
 }
 
 /// What a job wrote.
-fn text_in(job: Writing) -> Result<Vec<Vec<u8>>, AllocError>
+fn text_in(job: Writing) -> Result<Vec<Piece>, AllocError>
     ensures { result ≡ job.text }
 {
     job.text
 }
 
 /// The pieces of texts, one behind the other.
-fn joined(alloc: Global, texts: Vec<Vec<Vec<u8>>>) -> Result<Vec<Vec<u8>>, AllocError>
+fn joined(alloc: Global, texts: Vec<Vec<Piece>>) -> Result<Vec<Piece>, AllocError>
     ensures { IfOk result (λ pieces. whole pieces.items ≡ flat_map (λ text. whole text.items) texts.items) }
 {
     let mut pieces = Vec::new(alloc);
@@ -185,7 +185,7 @@ fn joined(alloc: Global, texts: Vec<Vec<Vec<u8>>>) -> Result<Vec<Vec<u8>>, Alloc
     Ok(pieces)
 }
 
-fn add_each(pieces: &mut Vec<Vec<u8>>, text: Vec<Vec<u8>>) -> Result<(), AllocError>
+fn add_each(pieces: &mut Vec<Piece>, text: Vec<Piece>) -> Result<(), AllocError>
     ensures { OnOk result (pieces.new.items ≡ pieces.old.items ++ text.items) }
 {
     for piece in text {

@@ -2,6 +2,7 @@
 
 ghost use Rattle.std.specs.Prelude.{◌≡◌, ◌++◌, IfOk, OnOk};
 ghost use Rattle.std.specs.List.{flat_map};
+ghost use Rattle.dex_dump.specs.Pieces.{piece_text};
 ghost use Rattle.dex_report.specs.Outcomes.{outcome_of};
 ghost use Rattle.dex_report.specs.Report as texts;
 ghost use Rattle.dex_report.specs.Telling.{FitOutcome};
@@ -9,7 +10,7 @@ ghost use Rattle.dex_report.specs.Telling.{FitOutcome};
 use crate::lines::{LINE, write_head};
 use crate::outcome::Outcome;
 use crate::told::{take_each, write_each};
-use dex_dump::{Pieces, append_dump, append_taken, room_of_dump, take_accounts};
+use dex_dump::{Piece, Pieces, append_dump, append_taken, room_of_dump, take_accounts};
 use dex_types::NoMemory;
 use std::alloc::{AllocError, Global};
 
@@ -38,15 +39,15 @@ pub fn into_report_text(alloc: Global, outcome: Outcome, rows: u32) -> Result<Ve
     }
 }
 
-/// The same in pieces that follow each other. Those behind a large account stand where it stood.
+/// The same in pieces that follow each other. Of zeros of large accounts nothing is in memory.
 pub fn into_report_pieces(
     alloc: Global,
     outcome: Outcome,
     rows: u32,
-) -> Result<Vec<Vec<u8>>, NoMemory>
+) -> Result<Vec<Piece>, NoMemory>
     ensures fits { IfOk result (λ pieces. FitOutcome (outcome_of outcome)) }
     ensures text { IfOk result (λ pieces.
-        flat_map (λ piece. piece.items) pieces.items ≡ texts.report_text (outcome_of outcome) rows) }
+        flat_map piece_text pieces.items ≡ texts.report_text (outcome_of outcome) rows) }
 {
     match into_pieces(alloc, outcome, rows) {
         Ok(pieces) => Ok(pieces),
@@ -82,10 +83,10 @@ fn into_report(alloc: Global, outcome: Outcome, rows: u32) -> Result<Vec<u8>, Al
     Ok(text)
 }
 
-fn into_pieces(alloc: Global, outcome: Outcome, rows: u32) -> Result<Vec<Vec<u8>>, AllocError>
+fn into_pieces(alloc: Global, outcome: Outcome, rows: u32) -> Result<Vec<Piece>, AllocError>
     ensures fits { IfOk result (λ pieces. FitOutcome (outcome_of outcome)) }
     ensures text { IfOk result (λ pieces.
-        flat_map (λ piece. piece.items) pieces.items ≡ texts.report_text (outcome_of outcome) rows) }
+        flat_map piece_text pieces.items ≡ texts.report_text (outcome_of outcome) rows) }
 {
     let mut text = Pieces::with_capacity(alloc, first_room_of(&outcome))?;
     let mut line = [0; LINE];

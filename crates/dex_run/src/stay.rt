@@ -135,7 +135,7 @@ struct Run {
     markets: Option<Markets>,
 }
 
-/// The longest run from an item on, of `MOST` at most. These are the places at which a lane's items begin.
+/// The longest run from an item on, of `MOST` at most. `own` holds the places at which a lane's items begin, here and below.
 fn run_from(lanes: &Lanes<'_>, own: &[usize], first: usize) -> Run {
     let mut end = first;
     let mut markets = None;
@@ -185,7 +185,7 @@ impl Stay {
         }
     }
 
-    /// The stay that begins with an item. These are the places at which a lane's items begin.
+    /// The stay that begins with an item.
     fn from(lanes: &Lanes<'_>, own: &[usize], first: usize) -> Stay {
         let Run { end, markets } = run_from(lanes, own, first);
         if let Some(markets) = markets {

@@ -6,6 +6,7 @@ mod fault;
 mod instruction;
 mod known;
 mod laws;
+mod making;
 mod market;
 mod markets;
 mod mints;
@@ -24,6 +25,7 @@ pub use laws::{
     a_script_for_batches_is_one_for_every_command, a_script_starts_sound,
     a_script_without_swaps_is_one_for_batches, rows_of_a_script_are_in_order,
 };
+pub use making::MakeMarkets;
 pub use market::DeclaredMarket;
 pub use markets::make_markets;
 pub use reader::Reader;

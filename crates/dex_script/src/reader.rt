@@ -10,8 +10,8 @@ ghost use Rattle.dex_script.specs.Rows.{IsSetup};
 ghost use Rattle.dex_script.specs.Telling.{draft_of};
 
 use crate::draft::Draft;
+use crate::making::MakeMarkets;
 use crate::names::{Names, Stand};
-use crate::reading::ReadRows;
 use dex_rows::records::Fields;
 use dex_script_facts::Script;
 use dex_statement::{
@@ -82,14 +82,15 @@ impl Reader {
         self.draft.into_script(alloc, self.places)
     }
 
-    /// This reader, with the accounts of its markets made.
-    pub(crate) fn with_markets_by<H: ReadRows>(
+    /// This reader, with the accounts of its markets made as the last argument does.
+    pub fn with_markets_by<H: MakeMarkets>(
         self,
         alloc: Global,
-        how: &H,
+        how: &mut H,
     ) -> Result<Reader, NoMemory>
-        requires { H.ready how.now }
-        ensures { IfOk result (λ made. made ≡ self) }
+        requires { H.ready how.old }
+        ensures made { IfOk result (λ made. made ≡ self) }
+        ensures ran { H.ran how.old how.new }
     {
         let mut draft = self.draft;
         let markets = std::mem::replace(&mut draft.start.markets, Vec::new(alloc));

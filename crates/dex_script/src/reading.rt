@@ -8,7 +8,7 @@ ghost use Rattle.dex_statement.specs.Faults.{code_of, kind_number};
 ghost use Rattle.dex_rows.specs.Records.{rows_of};
 ghost use Rattle.dex_script_facts.specs.Facts.{HasNoSwap};
 ghost use Rattle.dex_script.specs.Rows.{with_row};
-ghost use Rattle.dex_script.specs.Pieces.{number_after};
+ghost use Rattle.dex_script.specs.Pieces.{IsUnderway, number_after};
 ghost use Rattle.dex_script.specs.Scripts.{begins_with_dump, draft_after, fault_in};
 ghost use Rattle.dex_script.specs.Telling.{TellsDraft, TellsFront, TellsLeft, TellsScript, TellsStart, TellsText};
 
@@ -17,6 +17,7 @@ use crate::fault::ScriptError;
 use crate::laws::{
     a_script_for_batches_has_no_swap, a_script_starts_sound, rows_of_a_script_are_in_order,
 };
+use crate::making::MakeMarkets;
 use crate::market::DeclaredMarket;
 use crate::markets::make_markets;
 use crate::reader::Reader;
@@ -28,12 +29,13 @@ use dex_statement::{FaultKind, InstructionWords, RowError};
 use dex_types::NoMemory;
 use std::alloc::Global;
 
-/// How the rows of a script are read, and its markets made.
+/// How the rows of a script are read that stand behind its first instruction row.
 pub trait ReadRows {
     /// What a way to read needs.
     ghost ready: { Self → Type 0 };
 
-    /// What is read behind the rows that are left, the first of which has this number, or the first faulty one.
+    /// What is read behind the rows that are left, the first of which has this number, or the first faulty one. The accounts of
+    /// markets that the reader has may be still to be made.
     fn read_rows(
         &self,
         alloc: Global,
@@ -41,20 +43,12 @@ pub trait ReadRows {
         number: u32,
         rows: &mut Rows<'_>,
     ) -> Result<Reader, ScriptError>
-        requires { ready self.now }
+        requires ready { ready self.now }
+        requires underway { IsUnderway reader }
         ensures { TellsDraft result (draft_after reader number rows.old) };
-
-    /// The same markets, with their accounts made.
-    fn make_markets(
-        &self,
-        alloc: Global,
-        markets: Vec<DeclaredMarket>,
-    ) -> Result<Vec<DeclaredMarket>, NoMemory>
-        requires { ready self.now }
-        ensures { IfOk result (λ made. made.items ≡ markets.items) };
 }
 
-// Rows are read one after the other, and so are markets made.
+// Markets are made first, one after the other, and then rows are read so.
 #[derive(Drop)]
 struct InTurn;
 
@@ -68,12 +62,19 @@ impl ReadRows for InTurn {
         number: u32,
         rows: &mut Rows<'_>,
     ) -> Result<Reader, ScriptError> {
+        let made = reader.with_markets_by(alloc, &mut InTurn)?;
         let mut number = number;
-        read_rows(alloc, reader, &mut number, rows)
+        read_rows(alloc, made, &mut number, rows)
     }
+}
+
+impl MakeMarkets for InTurn {
+    ghost ready = { λ how. ⊤ };
+
+    ghost ran = { λ before after. ⊤ };
 
     fn make_markets(
-        &self,
+        &mut self,
         alloc: Global,
         markets: Vec<DeclaredMarket>,
     ) -> Result<Vec<DeclaredMarket>, NoMemory> {
@@ -91,7 +92,7 @@ pub fn read_script(alloc: Global, bytes: &[u8], batch: bool) -> Result<Script, S
     read_script_by(alloc, bytes, batch, &InTurn)
 }
 
-/// The same, with rows read and markets made as the last argument does.
+/// The same, with the rows behind the first instruction row read as the last argument does.
 pub fn read_script_by<H: ReadRows>(
     alloc: Global,
     bytes: &[u8],
@@ -148,8 +149,8 @@ fn read_behind_dump<H: ReadRows>(
     read_all(alloc, Reader::of(alloc, before), number, rows, how)
 }
 
-/// What is read behind the rows that are left, the first of which has this number, or the first faulty one. The markets are made
-/// behind the first instruction row, and the rows behind that are read as the last argument does.
+/// What is read behind the rows that are left, the first of which has this number, or the first faulty one. Those behind the first
+/// instruction row are read as the last argument does.
 fn read_all<H: ReadRows>(
     alloc: Global,
     reader: Reader,
@@ -161,10 +162,9 @@ fn read_all<H: ReadRows>(
     ensures { TellsDraft result (draft_after reader number rows.old) }
 {
     let mut number = number;
-    let first = read_first(alloc, reader, &mut number, rows)?;
-    let reader = first.with_markets_by(alloc, how)?;
-    let reader = reader.with_room(bytes_left(rows))?;
+    let reader = read_first(alloc, reader, &mut number, rows)?;
     if reader.is_underway() {
+        let reader = reader.with_room(bytes_left(rows))?;
         how.read_rows(alloc, reader, number, rows)
     } else {
         Ok(reader)

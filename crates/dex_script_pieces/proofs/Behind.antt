@@ -1,5 +1,5 @@
 -- What is read behind pieces, one after the other.
-use Rattle.std.proofs.Common.{◌≡◌, ◌∙◌, ◌++◌, ◌+◌, ◌<◌, ◌≤◌, ℕ, ℤ, suc, List, [], ◌∷◌, Result, Ok, Err, IfOk, IsOkAnd, All, ap, append-nil, append_assoc, drop, drop-cons, get_or, length, refl, remove, slice_index_or, subst, sym, take}
+use Rattle.std.proofs.Common.{◌≡◌, ◌∙◌, ◌++◌, ◌+◌, ◌<◌, ◌≤◌, ℕ, ℤ, suc, List, [], ◌∷◌, Result, Ok, Err, IfOk, IsOkAnd, All, ap, append-nil, append_assoc, drop, drop-cons, get_or, length, refl, subst, sym, take}
 use Rattle.std.specs.List.{AllZip}
 use Rattle.std.proofs.lemmas.Grind.{flat_map-append}
 use Rattle.std.proofs.lemmas.List.{take-append-drop}
@@ -16,7 +16,7 @@ use Rattle.dex_script.specs.Pieces.{AreAlike, IsUnderway, bare, beside, joined, 
 use Rattle.dex_script.specs.Scripts.{Refusal, draft_after}
 use Rattle.dex_script.specs.Telling.{TellsDraft, TellsRefusal}
 use Rattle.dex_script.proofs.PieceLaws.{Stays, after-both, bare-same, read-behind, stays-behind}
-use Rattle.dex_script_pieces.specs.Pieces.{ArePieces, AreRead, HasRead, IsBeside, IsNext, ReadsPiece, rows_of}
+use Rattle.dex_script_pieces.specs.Pieces.{HasRead, IsBeside, IsNext, ReadsPiece, rows_of}
 use Rattle.dex_script_pieces.specs.declared.piece.Piece.{Piece}
 
 -- ---- rows behind rows
@@ -83,16 +83,10 @@ alike-behind draft clock number rows piece under is =
 -- ---- pieces that were read
 
 -- what was read beside the first draft was read beside any behind it
-pub has-behind : (first draft : PlainDraft) (piece : Piece) → Stays first draft → HasRead first piece → HasRead draft piece
+has-behind : (first draft : PlainDraft) (piece : Piece) → Stays first draft → HasRead first piece → HasRead draft piece
 has-behind first draft piece stays =
     subst (λ (d : PlainDraft). IfOk piece.reader (λ (read : PlainDraft). (draft_after d piece.number piece.rows ≡ Ok read) × (piece.after ≡ number_after piece.number piece.rows)))
     (sym (stays.same piece.clock))
-
-pub all-behind : (first draft : PlainDraft) (pieces : List Piece) → Stays first draft → All (HasRead first) pieces → All (HasRead draft) pieces
-all-behind first draft [] stays all = All-nil (HasRead draft)
-all-behind first draft (piece ∷ pieces) stays all =
-    All-cons (HasRead draft) piece pieces (has-behind first draft piece stays (All-head (HasRead first) piece pieces all))
-    (all-behind first draft pieces stays (All-tail (HasRead first) piece pieces all))
 
 told-ok : (reader : Result PlainDraft ScriptError) (meant : Result PlainDraft Refusal) (A : Type 0) → TellsDraft reader meant → IfOk reader (λ (read : PlainDraft). A)
     → IfOk reader (λ (read : PlainDraft). (meant ≡ Ok read) × A)
@@ -111,13 +105,14 @@ has-read draft before after is reads =
     (told-ok after.reader (draft_after (beside draft before.clock) before.number before.rows) (after.after ≡ number_after before.number before.rows)
     (told-by (beside draft before.clock) before after is reads) reads.behind)
 
-others-read : (draft : PlainDraft) (before after : List Piece) → All (IsBeside draft) before → AllZip ReadsPiece before after
+-- pieces were read
+pub pieces-read : (draft : PlainDraft) (before after : List Piece) → All (IsBeside draft) before → AllZip ReadsPiece before after
     → All (HasRead draft) after × (rows_of after ≡ rows_of before)
-others-read draft [] [] are read = (All-nil (HasRead draft), refl)
-others-read draft [] (a ∷ after) are read = absurd read
-others-read draft (b ∷ before) [] are read = absurd read
-others-read draft (b ∷ before) (a ∷ after) are (first, read) =
-    let rest = others-read draft before after (All-tail (IsBeside draft) b before are) read in (
+pieces-read draft [] [] are read = (All-nil (HasRead draft), refl)
+pieces-read draft [] (a ∷ after) are read = absurd read
+pieces-read draft (b ∷ before) [] are read = absurd read
+pieces-read draft (b ∷ before) (a ∷ after) are (first, read) =
+    let rest = pieces-read draft before after (All-tail (IsBeside draft) b before are) read in (
       All-cons (HasRead draft) a after (has-read draft b a (All-head (IsBeside draft) b before are) first) rest.0,
       ap (λ (rows : List Fields). rows ++ rows_of after) first.rows ∙ ap (λ (rows : List Fields). b.rows ++ rows) rest.1,
     )
@@ -137,26 +132,6 @@ next-read draft number piece read both under has is (at, clock, room) joins =
     (read-behind draft piece.clock piece.number piece.rows read under clock (read-of draft piece read has is).0
     (subst (λ (r : Result PlainDraft ScriptError). IsOkAnd r (λ (x : PlainDraft). draft.items + x.items ≤ 100000)) is room)
     ∙ ap (λ (d : PlainDraft). Ok d) (sym joins))
-
--- pieces of rows were read
-pub pieces-read : (draft : PlainDraft) (number : ℕ) (rows : List Fields) (before after : List Piece) → ArePieces draft number rows before
-    → AllZip ReadsPiece before after → AreRead draft number rows after
-pieces-read draft number rows [] after are read = absurd are
-pieces-read draft number rows (b ∷ before) [] are read = absurd read
-pieces-read draft number rows (b ∷ before) (a ∷ after) (reader, at, all, others) (first, read) =
-    let rest = others-read draft before after others read in (
-      rw first.rows (subst (λ (n : ℕ). TellsDraft a.reader (draft_after draft n b.rows)) at (told-by draft b a reader first)),
-      rw first.rows (subst (λ (n : ℕ). IfOk a.reader (λ (read : PlainDraft). a.after ≡ number_after n b.rows)) at first.behind),
-      ap (λ (rows : List Fields). rows ++ rows_of after) first.rows ∙ ap (λ (rows : List Fields). b.rows ++ rows) rest.1 ∙ all,
-      rest.0,
-    )
-
--- the first of them was taken out
-pub first-taken : (draft : PlainDraft) (number : ℕ) (rows : List Fields) (pieces rest : List Piece) (first : Piece) → AreRead draft number rows pieces
-    → first ≡ slice_index_or pieces 0 first → rest ≡ remove pieces 0 → AreRead draft number rows (first ∷ rest)
-first-taken draft number rows [] rest first are is left = absurd are
-first-taken draft number rows (piece ∷ pieces) rest first are is left =
-    subst (λ (p : Piece). AreRead draft number rows (p ∷ rest)) (sym is) (subst (λ (ps : List Piece). AreRead draft number rows (piece ∷ ps)) (sym left) are)
 
 -- ---- one piece more
 
@@ -207,38 +182,3 @@ module _ (first : PlainDraft) (number : ℕ) (pieces done : List Piece) (piece :
       rows-parted pieces done piece behind (parted pieces done piece so_far more next) ∙ sym (append_assoc (rows_of done) piece.rows (rows_of behind)) in
       subst (λ (rows : List Fields). TellsRefusal error (draft_after first number rows)) (sym all)
       (refused-both error first number (rows_of done ++ piece.rows) (rows_of behind) (subst (TellsRefusal error) (sym piece-behind) told))
-
--- ---- the first piece and the others
-
-module _ (draft : PlainDraft) (number : ℕ) (rows : List Fields) (first : Piece) (others : List Piece) (under : IsUnderway draft)
-    (are : AreRead draft number rows (first ∷ others)) where
-  -- a fault of the first is that of all
-  pub first-refused : (error : ScriptError) → first.reader ≡ Err error → TellsRefusal error (draft_after draft number rows)
-  first-refused error is =
-      subst (λ (all : List Fields). TellsRefusal error (draft_after draft number all)) are.2
-      (refused-both error draft number first.rows (rows_of others)
-      (subst (λ (r : Result PlainDraft ScriptError). TellsDraft r (draft_after draft number first.rows)) is are.0))
-
-  module _ (reader : PlainDraft) (is : first.reader ≡ Ok reader) where
-    first-read : draft_after draft number first.rows ≡ Ok reader
-    first-read = subst (λ (r : Result PlainDraft ScriptError). TellsDraft r (draft_after draft number first.rows)) is are.0
-
-    first-stays : Stays draft reader
-    first-stays = stays-behind draft number reader first.rows under first-read
-
-    pub first-underway : IsUnderway reader
-    first-underway = first-stays.under
-
-    pub others-behind : All (HasRead reader) others
-    others-behind = all-behind draft reader others first-stays are.3
-
-    -- what the others leave behind the first is what all rows leave
-    pub all-told : (result : Result PlainDraft ScriptError) → TellsDraft result (draft_after reader first.after (rows_of others))
-        → TellsDraft result (draft_after draft number rows)
-    all-told result told =
-        let at : first.after ≡ number_after number first.rows =
-        subst (λ (r : Result PlainDraft ScriptError). IfOk r (λ (read : PlainDraft). first.after ≡ number_after number first.rows)) is are.1 in
-        let all : draft_after draft number rows ≡ draft_after reader first.after (rows_of others) =
-        ap (draft_after draft number) (sym are.2) ∙ behind-both draft number first.rows (rows_of others) reader first-read
-        ∙ ap (λ (n : ℕ). draft_after reader n (rows_of others)) (sym at) in
-        subst (TellsDraft result) (sym all) told

@@ -1,6 +1,6 @@
 -- Pieces of rows, and what is read of them.
-use Rattle.std.specs.Prelude.{◌≡◌, ℕ, List, [], ◌∷◌, ◌+◌, ◌≤◌, Ok, IfOk, IsOkAnd}
-use Rattle.std.specs.List.{All, flat_map}
+use Rattle.std.specs.Prelude.{◌≡◌, ℕ, List, ◌+◌, ◌≤◌, Ok, IfOk, IsOkAnd}
+use Rattle.std.specs.List.{flat_map}
 use Rattle.dex_statement.specs.Words.{Fields}
 use Rattle.dex_script.specs.Drafts.{PlainDraft}
 use Rattle.dex_script.specs.Pieces.{beside, number_after}
@@ -24,12 +24,6 @@ pub record ReadsPiece (before after : Piece) : Type 0 where
 abbrev pub IsBeside : PlainDraft → Piece → Type 0
 IsBeside draft piece = piece.reader ≡ Ok (beside draft piece.clock)
 
--- the rows, the first of them of this number, as pieces that are not read yet: the draft reads the first itself
-abbrev pub ArePieces : PlainDraft → ℕ → List Fields → List Piece → Type 0
-ArePieces draft number rows [] = ⊥
-ArePieces draft number rows (first ∷ others) =
-    (first.reader ≡ Ok draft) × (first.number ≡ number) × (rows_of (first ∷ others) ≡ rows) × All (IsBeside draft) others
-
 -- where a piece was read without a fault, it has what its rows leave of a draft of the same markets and wallets
 abbrev pub HasRead : PlainDraft → Piece → Type 0
 HasRead draft piece =
@@ -40,10 +34,3 @@ HasRead draft piece =
 abbrev pub IsNext : PlainDraft → ℕ → Piece → Type 0
 IsNext draft number piece =
     (piece.number ≡ number) × (piece.clock ≡ draft.clock) × IsOkAnd piece.reader (λ read. draft.items + read.items ≤ 100000)
-
--- the rows, the first of them of this number, as pieces that were read: the first behind the draft, the others beside it
-abbrev pub AreRead : PlainDraft → ℕ → List Fields → List Piece → Type 0
-AreRead draft number rows [] = ⊥
-AreRead draft number rows (first ∷ others) =
-    TellsDraft first.reader (draft_after draft number first.rows) × IfOk first.reader (λ read. first.after ≡ number_after number first.rows)
-    × (rows_of (first ∷ others) ≡ rows) × All (HasRead draft) others

@@ -1,17 +1,110 @@
 //! Markets that several threads make.
 
-ghost use Rattle.std.specs.Prelude.{◌≡◌, IfOk, Ok, map, ⊤};
-ghost use Rattle.dex_script_pieces.specs.Making.{MakesMarket, in_jobs};
+ghost use denote.Param.Send.{IsSync};
+ghost use Rattle.std.specs.Prelude.{◌≡◌, IfOk, Ok, length, map, ⊤};
+ghost use Rattle.std.specs.List.{AllZip};
+ghost use Rattle.dex_script_pieces.specs.Making.{MakesMarket, MakesMarkets, in_jobs};
+ghost use Rattle.dex_script_pieces.specs.Pieces.{ReadsPiece};
 
+use crate::piece::Piece;
 use dex_lanes::{Job, run_jobs};
-use dex_script::{DeclaredMarket, make_markets};
+use dex_script::{DeclaredMarket, MakeMarkets, make_markets};
 use dex_types::NoMemory;
 use std::alloc::Global;
 use std::marker::Sync;
-use std::thread::Threads;
+use std::thread::{Threads, join_mut};
 
 /// Markets of fewer bytes are made one after the other.
 const FEWEST: usize = 1_048_576;
+
+/// Markets are made on threads of this runtime.
+#[derive(Drop)]
+pub(crate) struct SideBySide<'a, R> {
+    pub(crate) rt: &'a R,
+}
+
+impl<'a, R: Threads + Sync> MakeMarkets for SideBySide<'a, R> {
+    ghost ready = { λ making. IsSync R.row };
+
+    ghost ran = { λ before after. ⊤ };
+
+    fn make_markets(
+        &mut self,
+        alloc: Global,
+        markets: Vec<DeclaredMarket>,
+    ) -> Result<Vec<DeclaredMarket>, NoMemory> {
+        make_side_by_side(self.rt, alloc, markets)
+    }
+}
+
+/// The same, and pieces of rows are read meanwhile.
+#[derive(Drop)]
+pub(crate) struct BesidePieces<'a, 'b, R> {
+    pub(crate) rt: &'a R,
+    pub(crate) pieces: Vec<Piece<'b>>,
+}
+
+impl<'a, 'b, R: Threads + Sync> MakeMarkets for BesidePieces<'a, 'b, R> {
+    ghost ready = { λ making. IsSync R.row };
+
+    ghost ran = { λ before after. AllZip ReadsPiece before.pieces.items after.pieces.items };
+
+    fn make_markets(
+        &mut self,
+        alloc: Global,
+        markets: Vec<DeclaredMarket>,
+    ) -> Result<Vec<DeclaredMarket>, NoMemory> {
+        let mut making = MakingAll {
+            rt: self.rt,
+            alloc,
+            markets: Ok(markets),
+        };
+        make_and_read(self.rt, &mut making, &mut self.pieces);
+        making.markets
+    }
+}
+
+// Makes all markets on a thread of its own, and reads pieces meanwhile.
+fn make_and_read<R: Threads + Sync>(
+    rt: &R,
+    markets: &mut MakingAll<'_, R>,
+    pieces: &mut [Piece<'_>],
+)
+    ensures markets { MakesMarkets markets.old.markets markets.new.markets }
+    ensures pieces { AllZip ReadsPiece pieces.old pieces.new }
+    ensures count { length pieces.new ≡ length pieces.old }
+{
+    let mut make = ||
+        requires { IsSync R.row }
+        ensures { MakesMarkets markets.entry.now.markets markets.exit.now.markets }
+    { markets.run() };
+    let mut read = ||
+        requires { IsSync R.row }
+        ensures { AllZip ReadsPiece pieces.entry.now pieces.exit.now
+            × (length pieces.exit.now ≡ length pieces.entry.now) }
+    { run_jobs(rt, pieces) };
+    join_mut(rt, &mut make, &mut read);
+}
+
+/// All markets, which one thread has made.
+#[derive(Drop)]
+struct MakingAll<'a, R> {
+    rt: &'a R,
+    alloc: Global,
+    /// The markets, until memory is wanting.
+    markets: Result<Vec<DeclaredMarket>, NoMemory>,
+}
+
+impl<'a, R: Threads + Sync> Job for MakingAll<'a, R> {
+    ghost ready = { λ making. IsSync R.row };
+
+    ghost ran = { λ before after. MakesMarkets before.markets after.markets };
+
+    fn run(&mut self) {
+        let markets = std::mem::replace(&mut self.markets, Err(NoMemory));
+        self.markets = all_made(self.rt, self.alloc, markets);
+    }
+}
 
 /// A market that one thread makes.
 #[derive(Drop)]
@@ -33,7 +126,7 @@ impl Job for Making {
 }
 
 /// The same markets, with their accounts made. Where these are large, a thread makes each market's.
-pub(crate) fn make_side_by_side<R: Threads + Sync>(
+fn make_side_by_side<R: Threads + Sync>(
     rt: &R,
     alloc: Global,
     markets: Vec<DeclaredMarket>,
@@ -46,6 +139,17 @@ pub(crate) fn make_side_by_side<R: Threads + Sync>(
     let mut jobs = jobs_of(alloc, markets)?;
     run_jobs(rt, &mut jobs);
     made_by(alloc, jobs)
+}
+
+// The same markets, with their accounts made.
+fn all_made<R: Threads + Sync>(
+    rt: &R,
+    alloc: Global,
+    markets: Result<Vec<DeclaredMarket>, NoMemory>,
+) -> Result<Vec<DeclaredMarket>, NoMemory>
+    ensures { MakesMarkets markets result }
+{
+    make_side_by_side(rt, alloc, markets?)
 }
 
 // The same market, with its accounts made.

@@ -6,18 +6,14 @@ ghost use Rattle.dex_script_facts.specs.Facts.{HasNoSwap};
 ghost use Rattle.dex_script.specs.Pieces.{IsUnderway, number_after};
 ghost use Rattle.dex_script.specs.Scripts.{draft_after};
 ghost use Rattle.dex_script.specs.Telling.{TellsDraft, TellsScript};
-ghost use Rattle.dex_script_pieces.specs.Pieces.{ArePieces, HasRead, IsBeside, IsNext, rows_of};
+ghost use Rattle.dex_script_pieces.specs.Pieces.{HasRead, IsBeside, IsNext, rows_of};
 
 use crate::guesses::{Place, place_behind};
-use crate::making::make_side_by_side;
+use crate::making::{BesidePieces, SideBySide};
 use crate::piece::{Piece, read_behind};
-use dex_lanes::run_jobs;
 use dex_rows::plain::PlainRows;
 use dex_rows::records::Rows;
-use dex_script::{
-    DeclaredMarket, ReadRows, Reader, Script, ScriptError, read_rows, read_script_by,
-};
-use dex_types::NoMemory;
+use dex_script::{ReadRows, Reader, Script, ScriptError, read_rows, read_script_by};
 use std::alloc::{AllocError, Global};
 use std::marker::Sync;
 use std::thread::Threads;
@@ -29,7 +25,7 @@ const SHORTEST: usize = 1_048_576;
 const MOST: usize = 16;
 
 /// The script that a text is, as `read_script` of `dex_script`. Where the text has no quote, the rows behind the first
-/// instruction row are read by so many threads, 16 at most.
+/// instruction row are read in pieces, twice as many as these threads and 16 at most, while the accounts of markets are made.
 pub fn read_script<R: Threads + Sync>(
     rt: &R,
     alloc: Global,
@@ -43,7 +39,7 @@ pub fn read_script<R: Threads + Sync>(
     read_script_by(alloc, bytes, batch, &InPieces { rt, threads })
 }
 
-// Rows are read in so many pieces at most, and markets made side by side, on threads of this runtime.
+// Rows are read in pieces, at most twice as many as these threads, while markets are made, on threads of this runtime.
 #[derive(Drop)]
 struct InPieces<'a, R> {
     rt: &'a R,
@@ -60,47 +56,28 @@ impl<'a, R: Threads + Sync> ReadRows for InPieces<'a, R> {
         number: u32,
         rows: &mut Rows<'_>,
     ) -> Result<Reader, ScriptError> {
+        if let Some(plain) = rows.plain() {
+            let count = count_of(self.threads, plain.size());
+            if 2 <= count {
+                return read_in_pieces(self.rt, alloc, reader, number, plain, count);
+            }
+        }
+        let mut making = SideBySide { rt: self.rt };
+        let reader = reader.with_markets_by(alloc, &mut making)?;
         let mut number = number;
-        // Setup rows may follow: each is held against those before it.
-        if !reader.is_underway() {
-            return read_rows(alloc, reader, &mut number, rows);
-        }
-        match rows.plain() {
-            Some(plain) => read_plain(self.rt, alloc, reader, number, plain, self.threads),
-            None => read_rows(alloc, reader, &mut number, rows),
-        }
-    }
-
-    fn make_markets(
-        &self,
-        alloc: Global,
-        markets: Vec<DeclaredMarket>,
-    ) -> Result<Vec<DeclaredMarket>, NoMemory> {
-        make_side_by_side(self.rt, alloc, markets)
+        read_rows(alloc, reader, &mut number, rows)
     }
 }
 
-// What is read behind rows, the first of which has this number, in so many pieces at most.
-fn read_plain<R: Threads + Sync>(
-    rt: &R,
-    alloc: Global,
-    reader: Reader,
-    number: u32,
-    rows: PlainRows<'_>,
-    threads: usize,
-) -> Result<Reader, ScriptError>
-    requires { IsUnderway reader }
-    ensures { TellsDraft result (draft_after reader number rows.entry) }
-{
-    let count = threads.min(MOST).min(rows.size() / SHORTEST);
-    if count < 2 {
-        let mut number = number;
-        return read_behind(alloc, Ok(reader), &mut number, &rows);
+// In how many pieces rows of so many bytes are read: two for each thread, if there are several.
+fn count_of(threads: usize, bytes: usize) -> usize {
+    if threads < 2 {
+        return 1;
     }
-    read_in_pieces(rt, alloc, reader, number, rows, count)
+    threads.saturating_mul(2).min(MOST).min(bytes / SHORTEST)
 }
 
-// The same, in so many pieces.
+// What is read behind rows, the first of which has this number, in so many pieces: they are read while the markets are made.
 fn read_in_pieces<R: Threads + Sync>(
     rt: &R,
     alloc: Global,
@@ -113,63 +90,35 @@ fn read_in_pieces<R: Threads + Sync>(
     requires several { 2 ≤ count }
     ensures { TellsDraft result (draft_after reader number rows.entry) }
 {
-    let Ok(mut pieces) = pieces_of(alloc, reader, number, rows, count) else {
+    let first = Place {
+        number,
+        clock: reader.clock(),
+    };
+    let Ok(pieces) = pieces_beside(alloc, &reader, first, rows, count) else {
         return Err(ScriptError::NoMemory);
     };
-    run_jobs(rt, &mut pieces);
-    let first = pieces.remove(0);
-    let number = first.after;
-    let reader = first.into_reader()?;
-    behind_pieces(alloc, reader, number, pieces)
+    let mut making = BesidePieces { rt, pieces };
+    let reader = reader.with_markets_by(alloc, &mut making)?;
+    behind_pieces(alloc, reader, number, making.pieces)
 }
 
-// So many pieces of rows, the first of which has this number. The reader reads the first of them itself.
-fn pieces_of<'a>(
-    alloc: Global,
-    reader: Reader,
-    number: u32,
-    rows: PlainRows<'a>,
-    count: usize,
-) -> Result<Vec<Piece<'a>>, AllocError>
-    requires { 2 ≤ count }
-    ensures { IfOk result (λ pieces. ArePieces reader number rows.entry pieces.items) }
-{
-    let size = rows.size() / count;
-    let clock = reader.clock();
-    let mut front = rows;
-    let left = front.cut(size);
-    let next = place_behind(alloc, &front, Place { number, clock });
-    let mut pieces = pieces_beside(alloc, &reader, next, left, size, count)?;
-    pieces.insert(
-        0,
-        Piece {
-            alloc,
-            rows: front,
-            number,
-            clock,
-            reader: Ok(reader),
-            after: number,
-        },
-    )?;
-    Ok(pieces)
-}
-
-// Pieces of rows that begin here, one less than so many, of about this size: each with a reader beside this one.
+// So many pieces of rows that begin here, of about the same size: each with a reader beside this one.
 fn pieces_beside<'a>(
     alloc: Global,
     reader: &Reader,
     begin: Place,
     rows: PlainRows<'a>,
-    size: usize,
     count: usize,
 ) -> Result<Vec<Piece<'a>>, AllocError>
+    requires { 2 ≤ count }
     ensures rows { IfOk result (λ pieces. rows_of pieces.items ≡ rows.entry) }
     ensures beside { IfOk result (λ pieces. All (IsBeside reader.now) pieces.items) }
 {
+    let size = rows.size() / count;
     let mut at = begin;
     let mut left = rows;
     let mut pieces = Vec::with_capacity(alloc, count)?;
-    'pieces: for _ in 2..count {
+    'pieces: for _ in 1..count {
         let mut front = left;
         left = front.cut(size);
         let next = place_behind(alloc, &front, at);
