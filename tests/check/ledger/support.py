@@ -14,7 +14,7 @@ import unittest
 from dataclasses import dataclass
 from typing import IO, Any, Iterator, Optional
 
-ROOT = os.path.dirname(os.path.dirname(os.path.dirname(os.path.abspath(__file__))))
+ROOT = os.path.dirname(os.path.dirname(os.path.dirname(os.path.dirname(os.path.abspath(__file__)))))
 PROGRAM = os.environ.get("DEX_PROGRAM") or os.path.join(ROOT, "dex")
 sys.path.insert(0, ROOT)
 sys.dont_write_bytecode = True

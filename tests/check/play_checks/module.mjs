@@ -5,9 +5,9 @@ import { dirname, join } from 'node:path';
 import { fileURLToPath, pathToFileURL } from 'node:url';
 
 /** The folder of the repository. */
-export const root = join(dirname(fileURLToPath(import.meta.url)), '..', '..');
+export const root = join(dirname(fileURLToPath(import.meta.url)), '..', '..', '..');
 
-// The folder into which tests/play puts the page's own modules under names that node takes for modules, and the module's file.
+// The folder into which tests/check/play puts the page's own modules under names that node takes for modules, and the module's file.
 const [, , folder, file] = process.argv;
 const { callCommand } = await import(pathToFileURL(join(folder, 'calls.mjs')));
 const { COMMANDS, numberOfWord } = await import(pathToFileURL(join(folder, 'commands.mjs')));
