@@ -1,6 +1,7 @@
 // The layouts of accounts: each field with its name, place, length and kind, as docs/FORMATS.md has them.
 
 import { addressAt, hexAt, numberAt, textAt } from './bytes.js';
+import { LAYOUT_WORDS } from './tables.js';
 
 // What the bytes of a field are, by its name and length.
 function kindOfField(name, length) {
@@ -12,11 +13,17 @@ function kindOfField(name, length) {
   return length === 36 || length === 12 || length > 16 ? 'bytes' : 'number';
 }
 
-// A layout of fields that stand one behind the other; a field is a name, or a name and a length where it is not 8.
+// The words of a field that is there several times: a word for each.
+function repeated(word) {
+  const [, name, count, length] = word.match(/^(\w+)\*(\d+)(:\d+)?$/) || [];
+  return count === undefined ? [word] : Array.from({ length: Number(count) }, (_, at) => `${name}[${at}]${length || ''}`);
+}
+
+// A layout of fields, one after the other, of the words that LAYOUT_WORDS has.
 function layout(words) {
   const fields = [];
   let place = 0;
-  for (const word of words.split(' ')) {
+  for (const word of words.split(' ').flatMap(repeated)) {
     const [name, digits] = word.split(':');
     const length = digits === undefined ? 8 : Number(digits);
     fields.push({ name, place, length, kind: kindOfField(name, length) });
@@ -26,31 +33,9 @@ function layout(words) {
   return { fields, named, size: place };
 }
 
-// The words of a layout's repeated field.
-function repeated(name, count, length) {
-  return Array.from({ length: count }, (_, at) => `${name}[${at}]:${length}`).join(' ');
-}
-
-export const LAYOUTS = {
-  'market': layout('serum:5 account_flags own_address:32 vault_signer_nonce coin_mint:32 pc_mint:32 coin_vault:32 coin_deposits_total '
-    + 'coin_fees_accrued pc_vault:32 pc_deposits_total pc_fees_accrued pc_dust_threshold req_q:32 event_q:32 bids:32 asks:32 '
-    + 'coin_lot_size pc_lot_size fee_rate_bps referrer_rebates_accrued padding:7'),
-  'open orders': layout('serum:5 account_flags market:32 owner:32 native_coin_free native_coin_total native_pc_free native_pc_total '
-    + `free_slot_bits:16 is_bid_bits:16 ${repeated('orders', 128, 16)} ${repeated('client_order_ids', 128, 8)} `
-    + 'referrer_rebates_accrued padding:7'),
-  'request queue': layout('serum:5 account_flags head count next_seq_num'),
-  'event queue': layout('serum:5 account_flags head count seq_num'),
-  'event': layout('flags:1 owner_slot:1 fee_tier:1 padding:5 native_qty_released native_qty_paid native_fee_or_rebate order_id:16 '
-    + 'owner:32 client_order_id'),
-  'slab': layout('serum:5 account_flags bump_index free_list_len free_list_head:4 root_node:4 leaf_count'),
-  'inner node': layout('tag:4 prefix_len:4 key:16 first_child:4 second_child:4 padding:40'),
-  'leaf node': layout('tag:4 owner_slot:1 fee_tier:1 padding:2 key:16 owner:32 quantity client_order_id'),
-  'free node': layout('tag:4 next:4 padding:64'),
-  'unused node': layout('unused:72'),
-  'token account': layout('mint:32 owner:32 amount delegate:36 state:1 is_native:12 delegated_amount close_authority:36'),
-  'mint': layout('mint_authority:36 supply decimals:1 is_initialized:1 freeze_authority:36'),
-  'text at the end': layout('padding:7'),
-};
+export const LAYOUTS = Object.fromEntries(Object.entries(LAYOUT_WORDS).map(([name, words]) => [name, layout(words)]));
+LAYOUTS['unused node'] = layout('unused:72');
+LAYOUTS['text at the end'] = layout('padding:7');
 
 /** The number or address that a field of an account, or of a record of it from `base` on, holds. */
 export function valueOf(name, field, bytes, base = 0) {

@@ -1,5 +1,6 @@
 // The lines of journals: what a row was answered, and what it did to the wallets that it names.
 
+import { REFUSAL_VALUES } from './tables.js';
 import { isAddress, isNumber, isTime } from './text.js';
 
 /** What rows are answered, each with the names of its numbers. Two are no words of a line: a refusal, and a take that was held back. */
@@ -19,35 +20,40 @@ export const REPLIES = [
 export const HELD = 7;
 const REFUSED = 8;
 
-/** Refusals by their numbers: the name, the names of the values, and a sentence in which the values stand in braces. */
+// What each refusal says, from 1 on; values stand in braces.
+const SENTENCES = [
+  'The data is no instruction: it breaks rule {rule}, {rule_says}.',
+  'The market is disabled.',
+  'No account is named, the first named one is none of the market’s or not open where it has to be, '
+    + 'or a wallet that is used is not named.',
+  'The account was opened before, or the row makes a market.',
+  'The signer is not the owner of the account, who is {owner}.',
+  'The signer is not the authority of the market, which is {authority}.',
+  'A wallet holds {mint}, which is not the mint that its role asks for.',
+  'A wallet that pays, or the discount wallet, is {owner}’s, who is not the signer.',
+  'The account to be closed has {slots} slots taken, and funds of {funds} in all.',
+  'All 128 slots of the account are taken.',
+  'The base of the ask is 2^64 or more.',
+  'The next sequence number is 2^64 - 1.',
+  'The clock is {clock}, past the latest time of the order, {latest}.',
+  'The order rests on neither side.',
+  'The order rests on the other side.',
+  'The order rests for another account, {account}.',
+  'The client id is 0.',
+  'No resting order of the account has the client id.',
+  'The order would meet an own order, {order}, and has to abort.',
+  'The take would get {filled}, which is below the minimum that it names.',
+  'The row makes {events} events, and the event queue has room for {free}.',
+  'The deposit is {deposit}, and the wallet that pays holds {balance}: short by {wanting}.',
+  'A wallet holds {balance}, and {credit} more would make 2^64 or above.',
+  'The vault would hold {vault} and pending fills pay {pending}, together 2^64 or above.',
+];
+
+/** Refusals by their numbers: the name, the names of the values, and a sentence. */
 export const REFUSALS = [
   null,
-  ['BadData', 'rule', 'The data is no instruction: it breaks rule {rule}, {rule_says}.'],
-  ['MarketDisabled', '', 'The market is disabled.'],
-  ['NoAccount', '', 'No account is named, the first named one is none of the market’s or not open where it has to be, '
-    + 'or a wallet that is used is not named.'],
-  ['AccountExists', '', 'The account was opened before, or the row makes a market.'],
-  ['NotOwner', 'owner', 'The signer is not the owner of the account, who is {owner}.'],
-  ['NotAuthority', 'authority', 'The signer is not the authority of the market, which is {authority}.'],
-  ['WrongMint', 'mint', 'A wallet holds {mint}, which is not the mint that its role asks for.'],
-  ['WalletNotSigned', 'owner', 'A wallet that pays, or the discount wallet, is {owner}’s, who is not the signer.'],
-  ['NotEmpty', 'slots funds', 'The account to be closed has {slots} slots taken, and funds of {funds} in all.'],
-  ['TooManyOpenOrders', '', 'All 128 slots of the account are taken.'],
-  ['AskTooLarge', '', 'The base of the ask is 2^64 or more.'],
-  ['SequenceExhausted', '', 'The next sequence number is 2^64 - 1.'],
-  ['TimePast', 'clock latest', 'The clock is {clock}, past the latest time of the order, {latest}.'],
-  ['OrderNotFound', '', 'The order rests on neither side.'],
-  ['SideMismatch', '', 'The order rests on the other side.'],
-  ['OrderNotYours', 'owner', 'The order rests for another account, {owner}.'],
-  ['ClientIdZero', '', 'The client id is 0.'],
-  ['ClientIdNotFound', '', 'No resting order of the account has the client id.'],
-  ['WouldSelfTrade', 'order', 'The order would meet an own order, {order}, and has to abort.'],
-  ['BelowMinimum', 'got', 'The take would get {got}, which is below the minimum that it names.'],
-  ['EventQueueFull', 'needed room', 'The row makes {needed} events, and the event queue has room for {room}.'],
-  ['InsufficientFunds', 'needed balance', 'The deposit is {needed}, and the wallet that pays holds {balance}: short by {wanting}.'],
-  ['BalanceTooLarge', 'balance amount', 'A wallet holds {balance}, and {amount} more would make 2^64 or above.'],
-  ['SumTooLarge', 'vault pending', 'The vault would hold {vault} and pending fills pay {pending}, together 2^64 or above.'],
-].map((parts) => parts && { name: parts[0], values: parts[1] === '' ? [] : parts[1].split(' '), sentence: parts[2] });
+  ...REFUSAL_VALUES.map(([name, values], at) => ({ name, values: values === '' ? [] : values.split(' '), sentence: SENTENCES[at] })),
+];
 
 /** The rules that data can break, by their numbers. */
 export const DATA_RULES = [
@@ -61,7 +67,7 @@ export const DATA_RULES = [
   ['BadEnum', 'a side, a self-trade rule or an order type is none'],
 ];
 
-const ADDRESS_VALUES = ['owner', 'authority', 'mint'];
+const ADDRESS_VALUES = ['owner', 'authority', 'mint', 'account'];
 
 // Whether a word may be the value of a name.
 function isValue(name, word) {

@@ -32,7 +32,7 @@ function refusalNodes(shown, market, entry) {
   const token = refusal === 22 ? payingToken(shown, market, entry) : null;
   return fill(REFUSALS[refusal].sentence, (name) => {
     if (name === 'rule_says') return (DATA_RULES[values.rule] || ['of no name', '']).filter((text) => text !== '').join(': ');
-    if (name === 'wanting') return amountNode(values.needed - values.balance, token, market, name);
+    if (name === 'wanting') return amountNode(values.deposit - values.balance, token, market, name);
     if (name === 'order') return orderNode(shown, market, orderOf(values.order));
     if (typeof values[name] === 'string') return addressNode(shown, values[name]);
     return refusal === 22 ? amountNode(values[name], token, market, name) : numberNode(values[name], name);
