@@ -1,12 +1,15 @@
 """What the accounts of a dump say: mints, wallets, and markets with their book, pending events and open-orders accounts.
 
-The places of fields are those of docs/FORMATS.md. Accounts that a command wrote are in order, so nothing is tested here.
+The places of fields are those of docs/FORMATS.md. Accounts that a command wrote, or that were audited, are in order, so nothing is
+tested here.
 """
 
 from __future__ import annotations
 
+import csv
+import io
 from base64 import b64decode
-from collections.abc import Iterable
+from collections.abc import Iterable, Iterator
 from dataclasses import dataclass
 from functools import cached_property
 
@@ -28,6 +31,18 @@ def address_at(data: bytes, place: int) -> str:
     if 1 <= len(label) <= 24 and LABEL.issuperset(label):
         return label.decode()
     return '0x' + word.hex()
+
+
+def address_of(word: str) -> str:
+    """The address of a word of a dump: its label where it has one, also where the word is `0x` and its digits."""
+    return address_at(bytes.fromhex(word[2:]), 0) if len(word) == 66 else word
+
+
+def rows_of(dump: bytes) -> Iterator[list[str]]:
+    """The rows of a dump, of which fields may stand in quotes, without its byte-order mark and lines that are empty."""
+    # A side's account is longer than the limit that `csv` begins with.
+    csv.field_size_limit(max(csv.field_size_limit(), len(dump)))
+    return filter(None, csv.reader(io.StringIO(dump.decode('utf-8-sig'), newline='')))
 
 
 @dataclass(frozen=True, slots=True)
@@ -184,11 +199,11 @@ class Market:
     Its journal, of a report alone, is the entries of all rows on it in their order.
     """
 
-    def __init__(self, address: str, authority: str, fields: list[bytes]) -> None:
+    def __init__(self, address: str, authority: str, fields: list[str]) -> None:
         self.address = address
         self.authority = authority
         self._fields = fields
-        self._orders: list[tuple[str, bytes]] = []
+        self._orders: list[tuple[str, str]] = []
         self._lines: list[str] = []
 
     def __repr__(self) -> str:
@@ -280,22 +295,23 @@ class Accounts:
         self.markets: dict[str, Market] = {}
         self.srm: str | None = None
         self.msrm: str | None = None
-        for row in dump.splitlines():
-            self._read(row.split(b','))
+        for row in rows_of(dump):
+            self._read(row)
 
-    def _read(self, row: list[bytes]) -> None:
-        kind, names = row[0], [field.decode() for field in row[1:3]]
-        if kind == b'mint':
+    def _read(self, row: list[str]) -> None:
+        kind, *names = row[:3]
+        names = [address_of(name) for name in names[:2 if kind in ('market', 'orders') else 1]]
+        if kind == 'mint':
             data = b64decode(row[2])
             self.mints[names[0]] = Mint(names[0], number_at(data, 36), data[44])
-        elif kind == b'srm':
+        elif kind == 'srm':
             self.srm = names[0]
-        elif kind == b'msrm':
+        elif kind == 'msrm':
             self.msrm = names[0]
-        elif kind == b'wallet':
+        elif kind == 'wallet':
             data = b64decode(row[2])
             self.wallets[names[0]] = Wallet(names[0], address_at(data, 0), address_at(data, 32), number_at(data, 64))
-        elif kind == b'market':
+        elif kind == 'market':
             self.markets[names[0]] = Market(names[0], names[1], row[3:])
-        elif kind == b'orders':
+        elif kind == 'orders':
             self.markets[names[0]]._orders.append((names[1], row[3]))
