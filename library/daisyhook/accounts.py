@@ -1,6 +1,6 @@
 """What the accounts of a dump say: mints, wallets, and markets with their book, pending events and open-orders accounts.
 
-The places of fields are those of docs/FORMATS.md. Accounts that a command wrote, or that were audited, are in order, so nothing is
+The places of fields are those of tables.py. Accounts that a command wrote, or that were audited, are in order, so nothing is
 tested here.
 """
 
@@ -13,8 +13,12 @@ from collections.abc import Iterable, Iterator
 from dataclasses import dataclass
 from functools import cached_property
 
+from .tables import PLACES, SIZES
+
 LABEL = frozenset(b'abcdefghijklmnopqrstuvwxyz0123456789_')
 LOW = 2**64 - 1
+MARKET, ORDERS, QUEUE, EVENT = (PLACES[name] for name in ('market', 'open_orders', 'event_queue', 'event'))
+SLAB, INNER, LEAF, WALLET, MINT = (PLACES[name] for name in ('slab', 'inner_node', 'leaf_node', 'token_account', 'mint'))
 KINDS = {1: 'taker fill', 9: 'maker fill', 2: 'out', 18: 'releasing out'}
 BID = 4
 
@@ -140,49 +144,52 @@ class Wallet:
 
 def orders_of(address: str, data: bytes) -> OpenOrders:
     """What an open-orders account says."""
-    free = number_at(data, 109, 16)
+    free = number_at(data, ORDERS['free_slot_bits'], 16)
     is_blank = not any(data)
-    slots = {} if is_blank else {slot: number_at(data, 141 + 16 * slot, 16) for slot in range(128) if not free >> slot & 1}
-    state = {0: 'blank', 5: 'open'}.get(number_at(data, 5), 'closed')
-    return OpenOrders(
-        address, state, address_at(data, 45), coin_free=number_at(data, 77), coin_total=number_at(data, 85), pc_free=number_at(data, 93),
-        pc_total=number_at(data, 101), referrer_rebates=number_at(data, 3213), slots=slots,
-    )
+    slots = {} if is_blank else {slot: number_at(data, ORDERS['orders'] + 16 * slot, 16) for slot in range(128) if not free >> slot & 1}
+    state = {0: 'blank', 5: 'open'}.get(number_at(data, ORDERS['account_flags']), 'closed')
+    coin_free, coin_total, pc_free, pc_total, rebates = (number_at(data, ORDERS[name]) for name in (
+        'native_coin_free', 'native_coin_total', 'native_pc_free', 'native_pc_total', 'referrer_rebates_accrued'))
+    return OpenOrders(address, state, address_at(data, ORDERS['owner']), coin_free, coin_total, pc_free, pc_total, rebates, slots)
 
 
 def side_of(data: bytes, is_bid: bool) -> tuple[Order, ...]:
     """The orders of a side, best first."""
-    open_nodes = [number_at(data, 33, 4)] if number_at(data, 37) else []
+    open_nodes = [number_at(data, SLAB['root_node'], 4)] if number_at(data, SLAB['leaf_count']) else []
     found = []
     while open_nodes:
-        base = 45 + 72 * open_nodes.pop()
+        base = SIZES['slab'] + SIZES['inner_node'] * open_nodes.pop()
         if number_at(data, base, 4) == 1:
-            open_nodes += (number_at(data, base + 24, 4), number_at(data, base + 28, 4))
+            open_nodes += (number_at(data, base + INNER[name], 4) for name in ('first_child', 'second_child'))
             continue
-        key = number_at(data, base + 8, 16)
+        key = number_at(data, base + LEAF['key'], 16)
         low = key & LOW
         found.append(Order(
-            id=key, price=key >> 64, lots=number_at(data, base + 56), sequence=LOW - low if is_bid else low,
-            account=address_at(data, base + 24), slot=data[base + 4], client=number_at(data, base + 64), tier=data[base + 5],
+            id=key, price=key >> 64, lots=number_at(data, base + LEAF['quantity']), sequence=LOW - low if is_bid else low,
+            account=address_at(data, base + LEAF['owner']), slot=data[base + LEAF['owner_slot']],
+            client=number_at(data, base + LEAF['client_order_id']), tier=data[base + LEAF['fee_tier']],
         ))
     return tuple(sorted(found, key=lambda order: order.id, reverse=is_bid))
 
 
 def event_at(data: bytes, base: int) -> Event:
     """The event from a place on."""
-    flags = data[base]
-    released, paid, fee = (number_at(data, base + place) for place in (8, 16, 24))
+    flags = data[base + EVENT['flags']]
+    names = 'native_qty_released', 'native_qty_paid', 'native_fee_or_rebate'
+    released, paid, fee = (number_at(data, base + EVENT[name]) for name in names)
     return Event(
-        kind=KINDS[flags & ~BID], is_bid=bool(flags & BID), order=number_at(data, base + 32, 16), account=address_at(data, base + 48),
-        slot=data[base + 1], released=released, paid=paid, fee=fee, client=number_at(data, base + 80), tier=data[base + 2],
+        kind=KINDS[flags & ~BID], is_bid=bool(flags & BID), order=number_at(data, base + EVENT['order_id'], 16),
+        account=address_at(data, base + EVENT['owner']), slot=data[base + EVENT['owner_slot']], released=released, paid=paid, fee=fee,
+        client=number_at(data, base + EVENT['client_order_id']), tier=data[base + EVENT['fee_tier']],
     )
 
 
 def events_of(data: bytes) -> tuple[Event, ...]:
     """The pending events, the first to be consumed first."""
-    capacity = (len(data) - 44) // 88
-    head, count = number_at(data, 13), number_at(data, 21)
-    return tuple(event_at(data, 37 + 88 * ((head + place) % capacity)) for place in range(count))
+    size, front = SIZES['event'], SIZES['event_queue']
+    capacity = (len(data) - front - len(b'padding')) // size
+    head, count = number_at(data, QUEUE['head']), number_at(data, QUEUE['count'])
+    return tuple(event_at(data, front + size * ((head + place) % capacity)) for place in range(count))
 
 
 def levels_of(orders: Iterable[Order]) -> tuple[Level, ...]:
@@ -217,47 +224,47 @@ class Market:
     @cached_property
     def coin_mint(self) -> str:
         """The mint of base."""
-        return address_at(self.data, 53)
+        return address_at(self.data, MARKET['coin_mint'])
 
     @cached_property
     def pc_mint(self) -> str:
         """The mint of quote."""
-        return address_at(self.data, 85)
+        return address_at(self.data, MARKET['pc_mint'])
 
     @cached_property
     def coin_lot(self) -> int:
         """How many native units of base a coin lot is."""
-        return number_at(self.data, 349)
+        return number_at(self.data, MARKET['coin_lot_size'])
 
     @cached_property
     def pc_lot(self) -> int:
         """How many native units of quote a pc lot is."""
-        return number_at(self.data, 357)
+        return number_at(self.data, MARKET['pc_lot_size'])
 
     @cached_property
     def fee_rate_bps(self) -> int:
         """The market's fee rate as its account has it, in basis points."""
-        return number_at(self.data, 365)
+        return number_at(self.data, MARKET['fee_rate_bps'])
 
     @cached_property
     def pc_fees(self) -> int:
         """The fees that can be swept, in native quote."""
-        return number_at(self.data, 205)
+        return number_at(self.data, MARKET['pc_fees_accrued'])
 
     @cached_property
     def coin_vault(self) -> int:
         """What the vault of base holds, native."""
-        return number_at(b64decode(self._fields[1]), 64)
+        return number_at(b64decode(self._fields[1]), WALLET['amount'])
 
     @cached_property
     def pc_vault(self) -> int:
         """What the vault of quote holds, native."""
-        return number_at(b64decode(self._fields[2]), 64)
+        return number_at(b64decode(self._fields[2]), WALLET['amount'])
 
     @cached_property
     def is_disabled(self) -> bool:
         """Whether the market takes no orders any more."""
-        return number_at(self.data, 5) == 131
+        return number_at(self.data, MARKET['account_flags']) == 131
 
     @cached_property
     def events(self) -> tuple[Event, ...]:
@@ -303,14 +310,15 @@ class Accounts:
         names = [address_of(name) for name in names[:2 if kind in ('market', 'orders') else 1]]
         if kind == 'mint':
             data = b64decode(row[2])
-            self.mints[names[0]] = Mint(names[0], number_at(data, 36), data[44])
+            self.mints[names[0]] = Mint(names[0], number_at(data, MINT['supply']), data[MINT['decimals']])
         elif kind == 'srm':
             self.srm = names[0]
         elif kind == 'msrm':
             self.msrm = names[0]
         elif kind == 'wallet':
             data = b64decode(row[2])
-            self.wallets[names[0]] = Wallet(names[0], address_at(data, 0), address_at(data, 32), number_at(data, 64))
+            self.wallets[names[0]] = Wallet(
+                names[0], address_at(data, WALLET['mint']), address_at(data, WALLET['owner']), number_at(data, WALLET['amount']))
         elif kind == 'market':
             self.markets[names[0]] = Market(names[0], names[1], row[3:])
         elif kind == 'orders':

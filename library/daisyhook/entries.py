@@ -4,6 +4,8 @@ from __future__ import annotations
 
 from dataclasses import dataclass
 
+from .tables import REFUSAL_VALUES
+
 
 @dataclass(frozen=True, slots=True)
 class Reply:
@@ -81,13 +83,6 @@ REPLIES: dict[str, type[Reply]] = {
 }
 FIELDS = {'order': 6, 'take': 3, 'cancelled': 1, 'consumed': 1, 'settled': 3, 'swept': 1, 'done': 0}
 
-# The names of the values of each refusal; docs/BOOK.md tells what they are.
-VALUES = {
-    'BadData': ('rule',), 'NotOwner': ('owner',), 'NotAuthority': ('authority',), 'WrongMint': ('mint',), 'WalletNotSigned': ('owner',),
-    'NotEmpty': ('slots', 'funds'), 'TimePast': ('clock', 'latest'), 'OrderNotYours': ('account',), 'WouldSelfTrade': ('order',),
-    'BelowMinimum': ('filled',), 'EventQueueFull': ('events', 'free'), 'InsufficientFunds': ('deposit', 'balance'),
-    'BalanceTooLarge': ('balance', 'credit'), 'SumTooLarge': ('vault', 'pending'),
-}
 ADDRESSES = frozenset(('owner', 'authority', 'mint', 'account'))
 
 
@@ -128,7 +123,7 @@ class WalletEntry:
 def refusal_of(words: list[str]) -> tuple[Reply, int]:
     """The refusal that stands from the fifth word on, and how many words come before what follows."""
     number, name = int(words[4]), words[5]
-    names = VALUES.get(name, ())
+    names = REFUSAL_VALUES.get(name, ())
     values: dict[str, int | str] = {key: word if key in ADDRESSES else int(word) for key, word in zip(names, words[6:])}
     return Refused(number, name, values), 6 + len(names)
 
