@@ -22,9 +22,9 @@ abbrev pub market_address : PlainMarketAccounts → Address
 market_address accounts = accounts.address
 
 -- they are those of markets and wallets at these addresses
-pub record AreAt (names : Names) (markets wallets : List Address) : Type 0 where
-  pub markets : (address : Address) → hash.get is_same names.markets address ≡ position (is_same address) markets
-  pub wallets : (address : Address) → hash.get is_same names.wallets address ≡ position (is_same address) wallets
+pub record AreAt (names : Names) (of_markets of_wallets : List Address) : Type 0 where
+  pub markets : (address : Address) → hash.get is_same names.markets address ≡ position (is_same address) of_markets
+  pub wallets : (address : Address) → hash.get is_same names.wallets address ≡ position (is_same address) of_wallets
 
 -- where the wallet of a role stands, if it is found; the highest number of 16 bits for a role that names none
 abbrev pub role_place : (Address → Option ℕ) → Option Address → Option ℕ

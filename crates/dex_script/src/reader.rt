@@ -155,16 +155,13 @@ impl Reader {
         requires { IsSetup statement }
         ensures { (number : ℕ) → TellsAdded result self.old self.new (spec.with_statement self.old number statement) }
     {
-        let Reader {
-            mut draft,
-            places,
-            names,
-        } = std::mem::replace(self, Reader::new(alloc, false));
+        let before = std::mem::replace(self, Reader::new(alloc, false));
+        let mut draft = before.draft;
         match draft.add_setup(alloc, statement) {
             Ok(()) => {
                 *self = Reader {
                     draft,
-                    places,
+                    places: before.places,
                     names: None,
                 };
                 Ok(())
@@ -172,8 +169,8 @@ impl Reader {
             Err(RowError::Fault(kind)) => {
                 *self = Reader {
                     draft,
-                    places,
-                    names,
+                    places: before.places,
+                    names: before.names,
                 };
                 Err(RowError::Fault(kind))
             }

@@ -7,7 +7,7 @@ use Rattle.dex_script.proofs.names.places_of.Goals as goal
 
 pub loop-place-preserved : goal.loop-place-preserved
 loop-place-preserved c = λ address.
-    put-first (λ (one : Address). one) c.args.addresses.now c.loop-place.place address c.index-addresses-place.result _ _ (omega arith) (omega arith)
+    put-first (λ (one : Address). one) c.args.addresses.now c.loop-place.place address _ _ _ (omega arith) (omega arith)
     (c.loop-place.invariant address) (c.in_ok-put.ensures address)
 
 pub returns : goal.returns
