@@ -1,7 +1,7 @@
 //! The command `audit`.
 
 ghost use Rattle.std.specs.Prelude.{IfOk, length};
-ghost use Rattle.dex_lines.specs.Lines as lines;
+ghost use Rattle.dex_refusal_lines.specs.Lines as lines;
 ghost use Rattle.dex_answers.specs.Telling.{IsText};
 ghost use Rattle.dex_answers.specs.declared.status.Status.TheVariants as status;
 ghost use Rattle.dex_answers.specs.Answers.{Answers};
@@ -10,7 +10,7 @@ ghost use Rattle.dex_words.specs.declared.command.Command.TheVariants.{Audit};
 use crate::clean::{Checked, check_dump};
 use crate::status::Status;
 use crate::told::StatusText;
-use dex_lines::audit_ok_text;
+use dex_refusal_lines::audit_ok_text;
 use dex_types::{Accounts, NoMemory};
 use std::alloc::Global;
 

@@ -1,7 +1,7 @@
 //! The lines of a script or a dump that is refused, each with its status.
 
 ghost use Rattle.std.specs.Prelude.{◌≡◌, ℕ, IfOk};
-ghost use Rattle.dex_lines.specs.Lines as lines;
+ghost use Rattle.dex_refusal_lines.specs.Lines as lines;
 ghost use Rattle.dex_answers.specs.Telling.{IsText};
 ghost use Rattle.dex_answers.specs.declared.status.Status.TheVariants as status;
 
@@ -9,7 +9,7 @@ use crate::status::Status;
 use crate::told::StatusText;
 use dex_audit::Finding;
 use dex_dump::DumpFault;
-use dex_lines::{ScriptRefused, audit_failed_text, dump_refused_text, script_refused_text};
+use dex_refusal_lines::{ScriptRefused, audit_failed_text, dump_refused_text, script_refused_text};
 use dex_types::NoMemory;
 use std::alloc::Global;
 

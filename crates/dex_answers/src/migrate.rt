@@ -2,7 +2,7 @@
 
 ghost use Rattle.std.specs.Prelude.{◌≤◌, IfOk};
 ghost use Rattle.dex_dump.specs.DumpText.{dump_text};
-ghost use Rattle.dex_lines.specs.Lines as lines;
+ghost use Rattle.dex_refusal_lines.specs.Lines as lines;
 ghost use Rattle.dex_types.specs.Accounts.{accounts_of};
 ghost use Rattle.dex_words.specs.declared.command.Command.TheVariants.{Migrate};
 ghost use Rattle.dex_answers.specs.Answers.{Answers};
@@ -13,7 +13,7 @@ use crate::clean::{Checked, check_dump};
 use crate::dump::dump_of;
 use crate::status::Status;
 use crate::told::StatusText;
-use dex_lines::migrate_refused_text;
+use dex_refusal_lines::migrate_refused_text;
 use dex_migrate::{MigrateError, MigrateFault, migrate};
 use dex_types::NoMemory;
 use std::alloc::Global;

@@ -7,7 +7,7 @@ ghost use Rattle.dex_answers.specs.Telling.{TellsPlayed};
 
 use crate::lines::{audit_failed, dump_refused, script_refused};
 use crate::told::StatusText;
-use dex_lines::ScriptRefused;
+use dex_refusal_lines::ScriptRefused;
 use dex_replay::laws::without_swaps_rows_act_one_by_one;
 use dex_replay::replay;
 use dex_report::Outcome;

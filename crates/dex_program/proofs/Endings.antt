@@ -6,8 +6,8 @@ use Rattle.dex_words.specs.declared.command.Command.TheVariants.{Batch, Replay, 
 use Rattle.dex_answers.specs.declared.status.Status.{Status}
 use Rattle.dex_answers.specs.declared.status.Status.TheVariants as status
 use Rattle.dex_answers.specs.Answers.{Reported, rows_told}
-use Rattle.dex_plain.specs.Ending.{Ends, HasRead, Input, Output}
-use Rattle.dex_plain.specs.LaneAnswers.{HaveRun}
+use Rattle.dex_commands.specs.Ending.{Ends, HasRead, Input, Output}
+use Rattle.dex_commands.specs.LaneAnswers.{HaveRun}
 use Rattle.dex_report.specs.Outcomes.{PlainOutcome}
 use Rattle.dex_report.specs.Report.{report_text}
 use Rattle.dex_script_facts.specs.PlainScript.{PlainScript}

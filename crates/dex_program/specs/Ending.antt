@@ -7,7 +7,7 @@ use Rattle.dex_answers.specs.declared.status.Status.{Status}
 use Rattle.dex_answers.specs.declared.status.Status.TheVariants as status
 use Rattle.dex_answers.specs.Answers.{rows_told}
 use Rattle.dex_answers.specs.Paired.{ArePaired}
-use Rattle.dex_plain.specs.Ending.{Input, Output}
+use Rattle.dex_commands.specs.Ending.{Input, Output}
 use Rattle.dex_replay.specs.Replays.{IsReplayOf}
 use Rattle.dex_replay.specs.Runs.{IsOneOrder, IsOneOrderOfRows, IsRunOf}
 use Rattle.dex_report.specs.Outcomes.{PlainOutcome}

@@ -1,7 +1,7 @@
 //! What `batch` answers to the bytes that it read: the report of what a script's rows leave in their order.
 
 ghost use Rattle.std.specs.Prelude.{◌≤◌, IfOk};
-ghost use Rattle.dex_plain.specs.LaneAnswers.{AnswersBatch};
+ghost use Rattle.dex_commands.specs.LaneAnswers.{AnswersBatch};
 ghost use Rattle.dex_answers.specs.Told.{text_of};
 
 use crate::told::{refused, report_of};

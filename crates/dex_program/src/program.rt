@@ -5,14 +5,14 @@ ghost use Rattle.std.specs.String.{string_bytes};
 ghost use Rattle.dex_words.specs.Commands.{command_of};
 ghost use Rattle.dex_words.specs.Spelling.{IsPlain, IsWithin};
 ghost use Rattle.dex_answers.specs.Told.{text_of};
-ghost use Rattle.dex_plain.specs.Ending.{Completes, Ends, Stands, input, output};
-ghost use Rattle.dex_plain.specs.Stops.{line_of, status_of};
+ghost use Rattle.dex_commands.specs.Ending.{Completes, Ends, Stands, input, output};
+ghost use Rattle.dex_commands.specs.Stops.{line_of, status_of};
 ghost use Rattle.dex_program.specs.Ending.{ListedOrder, OneLegalHistory, OneOrder, WhereListed, WhereRun};
 
 use crate::threads::answer_on_threads;
 use dex_answers::{Status, StatusPieces};
 use dex_io::{Pace, Sink, Source};
-use dex_plain::{Stop, is_plain, plain, read_input, written, written_each};
+use dex_commands::{Stop, is_plain, plain, read_input, written, written_each};
 use dex_words::{Command, WordsError, read_words};
 use std::alloc::Global;
 use std::marker::Sync;

@@ -1,7 +1,7 @@
 //! What `run` answers to the bytes that it read: the report of what a script's lanes leave side by side.
 
 ghost use Rattle.std.specs.Prelude.{IfOk};
-ghost use Rattle.dex_plain.specs.LaneAnswers.{AnswersRun};
+ghost use Rattle.dex_commands.specs.LaneAnswers.{AnswersRun};
 ghost use Rattle.dex_answers.specs.Told.{text_of};
 
 use crate::told::{refused, report_of};

@@ -2,7 +2,7 @@
 
 ghost use Rattle.std.specs.Prelude.{IfOk};
 ghost use Rattle.dex_words.specs.Spelling.{IsPlain, IsWithin};
-ghost use Rattle.dex_plain.specs.LaneAnswers.{AnswersAll};
+ghost use Rattle.dex_commands.specs.LaneAnswers.{AnswersAll};
 ghost use Rattle.dex_answers.specs.Told.{text_of};
 
 use crate::batch::batch_answer;

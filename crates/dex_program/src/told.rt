@@ -10,7 +10,7 @@ ghost use Rattle.dex_answers.specs.Told.{text_of};
 ghost use Rattle.dex_answers.specs.declared.status.Status.TheVariants as status;
 
 use dex_answers::{Status, StatusPieces, no_script};
-use dex_pieces::report_pieces;
+use dex_report::report_pieces;
 use dex_report::Outcome;
 use dex_script::ScriptError;
 use dex_script_facts::RowList;

@@ -2,7 +2,7 @@ use Rattle.std.proofs.Common.{Err, None, ap, refl}
 use Rattle.dex_words.proofs.CommandLaws.{one-spelling}
 use Rattle.dex_words.specs.declared.command.WordsError.{WordsError}
 use Rattle.dex_answers.specs.declared.status.Status.TheVariants as status
-use Rattle.dex_plain.proofs.Endings.{ends}
+use Rattle.dex_commands.proofs.Endings.{ends}
 use Rattle.dex_program.proofs.program.by_words.Goals as goal
 
 pub plain-requires : goal.plain-requires

@@ -1,4 +1,4 @@
-use Rattle.dex_plain.proofs.Endings.{all-complete}
+use Rattle.dex_commands.proofs.Endings.{all-complete}
 use Rattle.dex_program.proofs.Endings.{legal, listed, ordered}
 use Rattle.dex_program.proofs.program.dex_main.Goals as goal
 

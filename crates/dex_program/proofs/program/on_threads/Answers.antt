@@ -1,5 +1,5 @@
 use Rattle.std.proofs.Common.{Some}
-use Rattle.dex_plain.proofs.Endings.{ends}
+use Rattle.dex_commands.proofs.Endings.{ends}
 use Rattle.dex_answers.specs.Told.{text_of}
 use Rattle.dex_program.proofs.program.on_threads.Goals as goal
 

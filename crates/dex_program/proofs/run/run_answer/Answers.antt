@@ -8,8 +8,8 @@ use Rattle.dex_script_facts.specs.PlainScript.{PlainScript}
 use Rattle.dex_script_facts.specs.Facts.{IsScript}
 use Rattle.dex_answers.specs.Answers.{rows_told}
 use Rattle.dex_answers.proofs.PairLaws.{are-paired}
-use Rattle.dex_plain.proofs.LaneAnswerLaws.{no-run}
-use Rattle.dex_plain.specs.LaneAnswers.{AnswersRun}
+use Rattle.dex_commands.proofs.LaneAnswerLaws.{no-run}
+use Rattle.dex_commands.specs.LaneAnswers.{AnswersRun}
 use Rattle.dex_answers.specs.Told.{text_of}
 use Rattle.dex_answers.proofs.TextLaws.{pieces-say}
 use Rattle.dex_program.proofs.run.run_answer.Goals as goal
