@@ -2,7 +2,9 @@
 use Rattle.std.proofs.Common.{◌≡◌, ℕ, true, false, List, refl}
 use Rattle.dex_words.specs.declared.command.Command.{Command}
 use Rattle.dex_words.specs.declared.command.Command.TheVariants.{Replay, Run, Dump, Audit, Worth, Make, Bulk, Migrate, Batch}
-use Rattle.dex_words.specs.Spelling.{IsPlain}
+use Rattle.dex_words.specs.declared.command.PlainCommand.{PlainCommand}
+use Rattle.dex_words.specs.declared.command.PlainCommand.TheVariants as plain
+use Rattle.dex_words.specs.Threads.{of_plain}
 use Rattle.dex_answers.specs.Answers.{Answers, IsNoScript}
 use Rattle.dex_answers.specs.Suits.{Suits}
 use Rattle.dex_answers.specs.declared.status.Status.{Status}
@@ -11,11 +13,15 @@ use Rattle.dex_answers.proofs.AnswerLaws.{answered, read-told}
 use Rattle.dex_commands.specs.LaneAnswers.{AnswersAll, AnswersBatch, AnswersRun}
 
 -- a command on one thread answers so as one of all
-pub plain_answers : (command : Command) (bytes : List ℕ) (stood : Status) (text : List ℕ) → IsPlain command → Answers command bytes stood text
-    → AnswersAll command bytes stood text
-plain_answers Run bytes stood text plain told = absurd plain
-plain_answers (Batch workers) bytes stood text plain told = absurd plain
-plain_answers _ bytes stood text plain told = told
+pub plain_answers : (command : PlainCommand) (bytes : List ℕ) (stood : Status) (text : List ℕ) → Answers (of_plain command) bytes stood text
+    → AnswersAll (of_plain command) bytes stood text
+plain_answers plain.Replay bytes stood text told = told
+plain_answers plain.Dump bytes stood text told = told
+plain_answers plain.Audit bytes stood text told = told
+plain_answers plain.Worth bytes stood text told = told
+plain_answers (plain.Make number rows) bytes stood text told = told
+plain_answers (plain.Bulk number rows) bytes stood text told = told
+plain_answers (plain.Migrate nodes events) bytes stood text told = told
 
 -- bytes that are no script are not run, on lanes or in a batch
 pub no-run : (bytes : List ℕ) (stood : Status) (text : List ℕ) → IsNoScript false bytes stood text → AnswersRun bytes stood text

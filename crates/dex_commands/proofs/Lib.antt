@@ -1,4 +1,5 @@
 pub mod Endings
 pub mod LaneAnswerLaws
+pub mod Listed
 mod OneOutcome
 mod Pieces

@@ -1,18 +1,21 @@
 //! A run of a command on one thread.
 
-ghost use Rattle.std.specs.Prelude.{◌≡◌, IfErr, IfOk, IsTrue, Some, false};
-ghost use Rattle.dex_words.specs.Spelling.{IsPlain, IsWithin};
+ghost use Rattle.std.specs.Prelude.{◌≡◌, IfErr, IfOk, Some};
+ghost use Rattle.dex_words.specs.declared.command.PlainCommand.{PlainCommand};
+ghost use Rattle.dex_words.specs.Spelling.{IsWithin};
+ghost use Rattle.dex_words.specs.Threads.{of_plain};
 ghost use Rattle.dex_answers.specs.Told.{text_of};
 ghost use Rattle.dex_commands.specs.Ending.{Completes, Ends, Stands, input, output};
+ghost use Rattle.dex_commands.specs.Listed.{ListedOrder, WhereListed};
 ghost use Rattle.dex_commands.specs.Stops.{line_of, status_of};
 
-use crate::input::read_input;
+use crate::answer::answer_taking;
+use crate::input::taken;
 use crate::output::{written, written_each};
 use crate::stop::Stop;
-use dex_answers::{Status, StatusPieces};
-use dex_commands::answer_taking;
+use dex_answers::{Status, StatusText};
 use dex_io::{Sink, Source};
-use dex_words::Command;
+use dex_words::{Command, PlainCommand};
 use std::alloc::Global;
 
 /// Runs one command on one thread, which waits for nobody; its numbers are within their limits.
@@ -23,9 +26,13 @@ pub fn plain<S: Source, K: Sink>(
     sink: &mut K,
 ) -> Status
     requires within { IsWithin command.now }
-    requires plain { IsPlain command.now }
+    requires plain { (plain : PlainCommand) × (of_plain plain ≡ command.now) }
     // What each status says of the source and the sink.
     ensures ends { Ends (Some command.now)
+        (input (S.left source.old) (S.left source.new) (S.faults source.old) (S.faults source.new))
+        (output (K.taken sink.old) (K.taken sink.new) (K.faults sink.old) (K.faults sink.new)) result }
+    // `replay` reports what all items leave in listed order; of each swap both legs took, or neither.
+    ensures listed_order { WhereListed ListedOrder (Some command.now)
         (input (S.left source.old) (S.left source.new) (S.faults source.old) (S.faults source.new))
         (output (K.taken sink.old) (K.taken sink.new) (K.faults sink.old) (K.faults sink.new)) result }
     // An input that suits the command is answered, where no call fails and memory is there.
@@ -44,36 +51,31 @@ fn run_plain<S: Source, K: Sink>(
     sink: &mut K,
 ) -> Status
     requires within { IsWithin command }
-    requires plain { IsPlain command }
+    requires plain { (plain : PlainCommand) × (of_plain plain ≡ command) }
     ensures { Ends (Some command)
         (input (S.left source.old) (S.left source.new) (S.faults source.old) (S.faults source.new))
         (output (K.taken sink.old) (K.taken sink.new) (K.faults sink.old) (K.faults sink.new)) result }
 {
-    match answer(alloc, command, source) {
-        Ok(built) => written_each(sink, &built.pieces, built.status),
+    match answer(alloc, command.plain().unwrap(), source) {
+        Ok(told) => written_each(sink, &told.pieces, told.status),
         Err(stop) => written(sink, stop.line(), stop.status()),
     }
 }
 
 // Reads what the command reads, and answers the text that it asks for.
 #[tactic(auto, using(crate::proofs::LaneAnswerLaws::plain_answers))]
-fn answer<S: Source>(alloc: Global, command: Command, source: &mut S) -> Result<StatusPieces, Stop>
-    requires within { IsWithin command }
-    requires plain { IsPlain command }
-    ensures built { IfOk result (λ built. Stands built.status (Some command)
+fn answer<S: Source>(
+    alloc: Global,
+    command: PlainCommand,
+    source: &mut S,
+) -> Result<StatusText, Stop>
+    requires { IsWithin (of_plain command) }
+    ensures built { IfOk result (λ built. Stands built.status (Some (of_plain command))
         (input (S.left source.old) (S.left source.new) (S.faults source.old) (S.faults source.new)) (text_of built)) }
-    ensures stopped { IfErr result (λ stop. Stands (status_of stop) (Some command)
+    ensures stopped { IfErr result (λ stop. Stands (status_of stop) (Some (of_plain command))
         (input (S.left source.old) (S.left source.new) (S.faults source.old) (S.faults source.new)) (line_of stop)) }
 {
-    let bytes = read_input(alloc, command, source)?;
+    let bytes = taken(alloc, command, source)?;
     let built = answer_taking(alloc, command, bytes)?;
     Ok(built)
-}
-
-/// Whether the command acts on one thread.
-pub fn is_plain(command: Command) -> bool
-    ensures plain { IsTrue result → IsPlain command }
-    ensures other { result ≡ false → ¬ (IsPlain command) }
-{
-    !matches!(command, Command::Run | Command::Batch { .. })
 }

@@ -5,11 +5,13 @@ ghost use Rattle.dex_dump.specs.Pieces.{text_in};
 ghost use Rattle.dex_report.specs.Parts.{FitPart, part_lines};
 
 use dex_dump::{Pieces, room_of_market, take_market_rows};
-use crate::{LINE, MarketJournal, Told, WalletJournal, write_each};
+use crate::lines::LINE;
+use crate::told::{Told, take_each};
+use dex_state::{MarketJournal, WalletJournal};
 use dex_types::{MarketAccounts, Row};
 use std::alloc::AllocError;
 
-/// What one thread writes.
+/// What is written, and let go, in one step.
 #[derive(Drop)]
 pub(crate) enum Part {
     /// What is written already.
@@ -48,6 +50,24 @@ impl Part {
     }
 }
 
+/// About how many bytes the text of all parts has.
+pub(crate) fn size_of(parts: &[Part]) -> usize {
+    let mut size: usize = 0;
+    'parts: for part in parts {
+        size = size.saturating_add(part.size());
+    }
+    size
+}
+
+/// How long all parts take.
+pub(crate) fn weight_of(parts: &[Part]) -> usize {
+    let mut weight: usize = 0;
+    'parts: for part in parts {
+        weight = weight.saturating_add(part.weight());
+    }
+    weight
+}
+
 /// About how many bytes the text of these journals has.
 fn size_of_wallets(journals: &[WalletJournal]) -> usize {
     let mut size: usize = 0;
@@ -69,7 +89,7 @@ pub(crate) fn take_part(
     match part {
         Part::Text(bytes) => text.last.extend_from_slice(&bytes),
         Part::Market(journal) => journal.write(&mut text.last, line),
-        Part::Wallets(journals) => write_each(&mut text.last, line, &journals),
+        Part::Wallets(journals) => take_each(&mut text.last, line, journals),
         Part::Rows(market) => take_market_rows(text, market),
         Part::Spent(_) => Ok(()),
     }

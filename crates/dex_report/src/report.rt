@@ -1,14 +1,14 @@
 //! The report of an outcome that is kept, in one buffer.
 
 ghost use Rattle.std.specs.Prelude.{◌≡◌, IfOk};
-ghost use Rattle.dex_report.specs.Outcomes.{outcome_of};
+ghost use Rattle.dex_state.specs.Outcomes.{outcome_of};
 ghost use Rattle.dex_report.specs.Report as texts;
 ghost use Rattle.dex_report.specs.Telling.{FitOutcome};
 
 use crate::lines::{LINE, write_head};
-use crate::outcome::Outcome;
 use crate::told::write_each;
 use dex_dump::{append_dump, room_of_dump};
+use dex_state::Outcome;
 use dex_types::NoMemory;
 use std::alloc::{AllocError, Global};
 

@@ -1,14 +1,14 @@
-//! Parts that are written side by side.
+//! Parts that are written, one after the other or side by side.
 
 ghost use Rattle.std.specs.Prelude.{◌≡◌, ◌++◌, [], Ok, IfOk, OnOk, ⊤, map};
 ghost use Rattle.std.specs.List.{All, AllZip, flat_map};
 ghost use Rattle.dex_dump.specs.Pieces.{text_in};
 ghost use Rattle.dex_report.specs.Parts.{FitPart, WritesParts, part_lines, parts_in, whole};
 
-use crate::part::{Part, take_part};
+use crate::lines::LINE;
+use crate::part::{Part, size_of, take_part, weight_of};
 use dex_dump::{Piece, Pieces};
 use dex_lanes::{Job, processors, run_jobs};
-use crate::LINE;
 use std::alloc::{AllocError, Global};
 use std::marker::Sync;
 use std::mem;
@@ -32,16 +32,21 @@ impl Job for Writing {
 
     fn run(&mut self) {
         let parts = mem::replace(&mut self.parts, Vec::new(self.alloc));
-        self.text = text_of(self.alloc, parts);
+        let room = size_of(&parts).min(MOST_ROOM);
+        self.text = text_of(self.alloc, parts, room);
     }
 }
 
-/// The text of parts, each of which is let go when it is written.
-fn text_of(alloc: Global, parts: Vec<Part>) -> Result<Vec<Piece>, AllocError>
+/// The text of parts, each of which is let go when it is written. Its first piece begins with so much room.
+pub(crate) fn text_of(
+    alloc: Global,
+    parts: Vec<Part>,
+    room: usize,
+) -> Result<Vec<Piece>, AllocError>
     ensures fits { IfOk result (λ pieces. All FitPart parts.items) }
     ensures text { IfOk result (λ pieces. whole pieces.items ≡ flat_map part_lines parts.items) }
 {
-    let mut text = Pieces::with_capacity(alloc, size_of(&parts).min(MOST_ROOM))?;
+    let mut text = Pieces::with_capacity(alloc, room)?;
     take_parts(&mut text, parts)?;
     let pieces = text.into_pieces()?;
     Ok(pieces)
@@ -74,24 +79,6 @@ pub(crate) fn texts_of<R: Threads + Sync>(
     let texts = written_by(alloc, jobs)?;
     let pieces = joined(alloc, texts)?;
     Ok(pieces)
-}
-
-/// About how many bytes the text of all parts has.
-fn size_of(parts: &[Part]) -> usize {
-    let mut size: usize = 0;
-    'parts: for part in parts {
-        size = size.saturating_add(part.size());
-    }
-    size
-}
-
-/// How long all parts take.
-fn weight_of(parts: &[Part]) -> usize {
-    let mut weight: usize = 0;
-    'parts: for part in parts {
-        weight = weight.saturating_add(part.weight());
-    }
-    weight
 }
 
 /// Whether a group is complete where a part of this weight comes next: with half of it the parts so far would weigh more than all
