@@ -14,8 +14,8 @@ use crate::clean::{Checked, check_dump};
 use crate::dump::dump_of;
 use crate::status::Status;
 use crate::told::StatusText;
-use dex_refusal_lines::migrate_refused_text;
 use dex_migrate::{MigrateError, MigrateFault, migrate};
+use dex_refusal_lines::migrate_refused_text;
 use dex_types::NoMemory;
 use std::alloc::Global;
 

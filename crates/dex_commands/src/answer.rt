@@ -17,11 +17,7 @@ use std::alloc::Global;
 
 /// What a command on one thread, whose numbers are within their limits, answers to the bytes that it read: the text, and
 /// the status under which it is written. `make` and `bulk` read none. It answers otherwise only for want of memory.
-pub fn answer_to(
-    alloc: Global,
-    command: PlainCommand,
-    bytes: &[u8],
-) -> Result<StatusText, NoMemory>
+pub fn answer_to(alloc: Global, command: PlainCommand, bytes: &[u8]) -> Result<StatusText, NoMemory>
     requires { IsWithin (of_plain command) }
     ensures { IfOk result (λ told. Answers (of_plain command) bytes.now told.status (text_of told)) }
 {

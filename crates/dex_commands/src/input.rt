@@ -50,5 +50,8 @@ fn is_reading(command: PlainCommand) -> bool
     ensures reads { IsTrue result → IsReading (of_plain command) }
     ensures other { result ≡ false → ¬ (IsReading (of_plain command)) }
 {
-    !matches!(command, PlainCommand::Make { .. } | PlainCommand::Bulk { .. })
+    !matches!(
+        command,
+        PlainCommand::Make { .. } | PlainCommand::Bulk { .. }
+    )
 }

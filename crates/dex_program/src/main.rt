@@ -15,11 +15,30 @@ mod told;
 
 use crate::process::run_process;
 use dex_io::{NoPace, StdSink, StdSource};
+use dex_words::WordsError;
 use std::env;
+use std::io::ErrorKind;
 use std::process::ExitCode;
+use std::rt::Env;
 
-/// Runs the program on the words of its process, over standard input and output, and ends with the number of the status.
+/// Runs the program on the words of its process, over standard input and standard output.
 fn main(rt: HostRuntime) -> ExitCode {
     let (mut source, mut sink) = (StdSource::new(&rt), StdSink::new(&rt));
-    ExitCode::from(run_process(&rt, rt.alloc(), env::args(&rt), &mut source, &mut sink, &NoPace))
+    ExitCode::from(run_process(
+        &rt,
+        rt.alloc(),
+        all_words(&rt),
+        &mut source,
+        &mut sink,
+        &NoPace,
+    ))
+}
+
+// All words of the process, the program's name first.
+fn all_words<R: Env + AllocGlobal>(rt: &R) -> Result<Vec<String>, WordsError> {
+    match env::args(rt) {
+        Ok(words) => Ok(words.collect(rt.alloc())?),
+        Err(why) if why.kind() == ErrorKind::InvalidData => Err(WordsError::Usage),
+        Err(_) => Err(WordsError::NoMemory),
+    }
 }

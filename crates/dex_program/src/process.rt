@@ -1,40 +1,46 @@
 //! A process of the program: the words that it begins with, and the number that it ends with.
 
+ghost use Rattle.std.specs.Prelude.{◌≡◌, drop};
+ghost use Rattle.dex_commands.specs.Ending.{input, output};
+ghost use Rattle.dex_program.specs.Process.{EndsProcess};
+
 use crate::program::dex_main;
 use dex_answers::Status;
 use dex_io::{Pace, Sink, Source};
+use dex_words::WordsError;
 use std::alloc::Global;
-use std::env::Args;
-use std::io;
-use std::io::ErrorKind;
 use std::marker::Sync;
 use std::sync::Wait;
 use std::thread::Threads;
 
-/// Runs the program on the words that a process begins with, all but the first, which is its name; the answer is the number of the
-/// status, with which the process ends. Words that are no text are no command. Where there is no memory for them, it is 7, and nothing
-/// is written.
+/// Runs the program on all words that its process began with but the first, which is its name. The answer is the number of the status,
+/// with which the process ends. Words that are no text are no command. Where there was no memory for the words it is 7, and nothing is
+/// read or written.
 pub fn run_process<R: Threads + Wait + Sync, S: Source, K: Sink, P: Pace + Sync>(
     rt: &R,
     alloc: Global,
-    words: io::Result<Args>,
+    words: Result<Vec<String>, WordsError>,
     source: &mut S,
     sink: &mut K,
     pace: &P,
 ) -> u8
+    ensures { EndsProcess words
+        (input (S.left source.old) (S.left source.new) (S.faults source.old) (S.faults source.new))
+        (output (K.taken sink.old) (K.taken sink.new) (K.faults sink.old) (K.faults sink.new)) result }
 {
-    let status = match words_of(alloc, words) {
-        Some(words) => dex_main(rt, alloc, &words, source, sink, pace),
-        None => Status::NoMemory,
-    };
-    status.code()
+    match words {
+        Ok(words) => dex_main(rt, alloc, behind_first(&words), source, sink, pace).code(),
+        Err(WordsError::Usage) => dex_main(rt, alloc, &[], source, sink, pace).code(),
+        Err(WordsError::NoMemory) => Status::NoMemory.code(),
+    }
 }
 
-/// The words behind the program's name; no words where they are no text, and nothing where there is no memory for them.
-fn words_of(alloc: Global, words: io::Result<Args>) -> Option<Vec<String>> {
+/// All words but the first.
+fn behind_first(words: &[String]) -> &[String]
+    ensures { result.now ≡ drop 1 words.now }
+{
     match words {
-        Ok(words) => words.skip(1).collect(alloc).ok(),
-        Err(why) if why.kind() == ErrorKind::InvalidData => Some(Vec::new(alloc)),
-        Err(_) => None,
+        [_, rest @ ..] => rest,
+        [] => words,
     }
 }

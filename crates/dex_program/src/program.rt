@@ -13,8 +13,8 @@ ghost use Rattle.dex_program.specs.Ending.{OneLegalHistory, OneOrder, WhereRun};
 
 use crate::threads::answer_on_threads;
 use dex_answers::{Status, StatusText};
-use dex_io::{Pace, Sink, Source};
 use dex_commands::{Stop, plain, read_input, written, written_each};
+use dex_io::{Pace, Sink, Source};
 use dex_words::{ThreadedCommand, WordsError, read_words};
 use std::alloc::Global;
 use std::marker::Sync;

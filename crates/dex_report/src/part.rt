@@ -4,9 +4,9 @@ ghost use Rattle.std.specs.Prelude.{◌≡◌, ◌++◌, OnOk};
 ghost use Rattle.dex_dump.specs.Pieces.{text_in};
 ghost use Rattle.dex_report.specs.Parts.{FitPart, part_lines};
 
-use dex_dump::{Pieces, room_of_market, take_market_rows};
 use crate::lines::LINE;
 use crate::told::{Told, take_each};
+use dex_dump::{Pieces, room_of_market, take_market_rows};
 use dex_state::{MarketJournal, WalletJournal};
 use dex_types::{MarketAccounts, Row};
 use std::alloc::AllocError;

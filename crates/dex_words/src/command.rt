@@ -89,7 +89,13 @@ impl Command {
         match self {
             Command::Run => Some(ThreadedCommand::Run),
             Command::Batch { workers } => Some(ThreadedCommand::Batch { workers }),
-            _ => None,
+            Command::Replay
+            | Command::Dump
+            | Command::Audit
+            | Command::Worth
+            | Command::Make { .. }
+            | Command::Bulk { .. }
+            | Command::Migrate { .. } => None,
         }
     }
 }
