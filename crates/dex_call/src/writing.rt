@@ -1,34 +1,23 @@
 //! A text that is written into memory that the caller has.
 
-ghost use Rattle.std.specs.Prelude.{◌≡◌, IfSome, length};
+ghost use Rattle.std.specs.Prelude.{◌≡◌, ◌+◌, ◌≤◌, ◌++◌, IfSome, drop, length, take};
 ghost use Rattle.std.specs.List.{flat_map};
-ghost use Rattle.dex_dump.specs.Pieces.{piece_text};
+ghost use Rattle.dex_dump.specs.Pieces.{piece_text, zeros_text};
 ghost use Rattle.dex_call.specs.Calls.{IsWritten};
 
+use dex_commands::{ZEROS, bytes_of};
 use dex_dump::Piece;
 
-/// The length of a piece of zeros.
-const ZEROS: usize = 65_536;
-
 /// How many bytes the pieces of a text have; none where a number cannot tell it.
+#[tactic(auto, unfolding(dex_dump::specs::Pieces::zeros_text))]
 pub(crate) fn size_of(pieces: &[Piece]) -> Option<usize>
     ensures { IfSome result (λ size. size ≡ length (flat_map piece_text pieces.now)) }
 {
     let mut size: usize = 0;
     'pieces: for piece in pieces {
-        size = size.checked_add(length_of(piece))?;
+        size = size.checked_add(bytes_of(piece, &ZEROS).len())?;
     }
     Some(size)
-}
-
-/// How many bytes a piece has.
-fn length_of(piece: &Piece) -> usize
-    ensures { result ≡ length (piece_text piece.now) }
-{
-    match piece {
-        Piece::Bytes(bytes) => bytes.len(),
-        Piece::Zeros => ZEROS,
-    }
 }
 
 /// Writes the pieces of a text of this length to the front of the room that is there, if it fits whole; else the room stays as it is.
@@ -42,25 +31,24 @@ pub(crate) fn put(pieces: &[Piece], size: usize, room: &mut [u8])
 }
 
 /// Writes pieces, one behind the other, to the front of the room.
+#[tactic(auto, unfolding(dex_dump::specs::Pieces::zeros_text))]
 fn put_each(pieces: &[Piece], room: &mut [u8])
     requires { length (flat_map piece_text pieces.now) ≤ length room.old }
     ensures { room.new ≡ flat_map piece_text pieces.now ++ drop (length (flat_map piece_text pieces.now)) room.old }
 {
     let mut place: usize = 0;
     'pieces: for piece in pieces {
-        let end = place + length_of(piece);
-        put_piece(piece, &mut room[place..end]);
-        place = end;
+        place = put_at(room, place, bytes_of(piece, &ZEROS));
     }
 }
 
-/// Writes a piece into room of its length.
-fn put_piece(piece: &Piece, room: &mut [u8])
-    requires { length (piece_text piece.now) ≡ length room.old }
-    ensures { room.new ≡ piece_text piece.now }
+/// Writes bytes to the room behind a place, and gives the place behind them.
+fn put_at(room: &mut [u8], place: usize, bytes: &[u8]) -> usize
+    requires { place + length bytes.now ≤ length room.old }
+    ensures end { result ≡ place + length bytes.now }
+    ensures written { room.new ≡ take place room.old ++ (bytes.now ++ drop (place + length bytes.now) room.old) }
 {
-    match piece {
-        Piece::Bytes(bytes) => room.copy_from_slice(bytes),
-        Piece::Zeros => room.fill(b'A'),
-    }
+    let end = place + bytes.len();
+    room[place..end].copy_from_slice(bytes);
+    end
 }

@@ -62,6 +62,10 @@ ends stood asked i o text ended stands (inr cut) =
     subst (Ends asked i o) (sym cut.0)
     (record { stood = stood; text = text; stands = stands; failed = cut.1; sent = cut.2; front = cut.3; taken = cut.4 })
 
+-- so ends a run of a command, whichever way it is named
+pub ends-as : (asked other : Option Command) (i : Input) (o : Output) (ended : Status) → other ≡ asked → Ends other i o ended → Ends asked i o ended
+ends-as asked other i o ended is end = subst (λ (x : Option Command). Ends x i o ended) is end
+
 -- ---- a run that completes
 
 -- where the source told what suits the command, what it took suits it

@@ -2,4 +2,4 @@ pub mod Endings
 pub mod LaneAnswerLaws
 pub mod Listed
 mod OneOutcome
-mod Pieces
+pub mod Pieces

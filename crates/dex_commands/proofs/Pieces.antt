@@ -46,7 +46,7 @@ front-of-text (p ∷ pieces) (suc i) piece sent inside is short =
     )
 
 -- the pieces up to one, and that one
-text-more : (pieces : List Piece) (i : ℕ) (piece : Piece) → i < length pieces → piece ≡ get_or pieces i piece
+pub text-more : (pieces : List Piece) (i : ℕ) (piece : Piece) → i < length pieces → piece ≡ get_or pieces i piece
     → text_of (take (suc i) pieces) ≡ text_of (take i pieces) ++ piece_text piece
 text-more [] i piece inside is = absurd (omega (arith, inside))
 text-more (p ∷ pieces) zero piece inside is = append-nil (piece_text p) ∙ ap piece_text (sym is)

@@ -12,6 +12,6 @@ mod worth;
 pub use answer::{answer_taking, answer_to};
 pub use input::read_input;
 pub use laws::{one_report_is_of_one_outcome, what_suits_a_command_is_answered};
-pub use output::{written, written_each};
+pub use output::{ZEROS, bytes_of, written, written_each};
 pub use running::plain;
 pub use stop::Stop;

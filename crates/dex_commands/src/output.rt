@@ -22,7 +22,7 @@ pub fn written<K: Sink>(sink: &mut K, text: &[u8], stands: Status) -> Status
 }
 
 /// The text of a piece of zeros. It stands in the program itself: the stack that a process begins with has 128 KB.
-const ZEROS: [u8; 65_536] = [b'A'; 65_536];
+pub const ZEROS: [u8; 65_536] = [b'A'; 65_536];
 
 /// Writes the pieces of a text of a status that stands, one after the other.
 #[tactic(auto, unfolding(dex_dump::specs::Pieces::zeros_text))]
@@ -41,7 +41,7 @@ pub fn written_each<K: Sink>(sink: &mut K, pieces: &[Piece], stands: Status) -> 
 }
 
 /// The bytes of a piece, where these are those of a piece of zeros.
-fn bytes_of<'a>(piece: &'a Piece, zeros: &'a [u8]) -> &'a [u8]
+pub fn bytes_of<'a>(piece: &'a Piece, zeros: &'a [u8]) -> &'a [u8]
     requires { zeros.now ≡ zeros_text }
     ensures { result.now ≡ piece_text piece.now }
 {
