@@ -27,7 +27,7 @@ use Rattle.dex_replay.specs.Replays.{IsLeftByRows, IsReplayOf}
 use Rattle.dex_replay.specs.Runs.{IsRunOf}
 use Rattle.dex_replay.specs.WorthTold.{table_told}
 use Rattle.dex_replay.specs.WorthText.{worth_text}
-use Rattle.dex_lines.specs.Lines as lines
+use Rattle.dex_refusal_lines.specs.Lines as lines
 use Rattle.dex_answers.specs.Paired.{ArePaired}
 use Rattle.dex_answers.specs.declared.status.Status.{Status}
 use Rattle.dex_answers.specs.declared.status.Status.TheVariants as status

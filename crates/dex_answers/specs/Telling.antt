@@ -11,20 +11,21 @@ use Rattle.dex_answers.specs.declared.played.Played.{Played}
 use Rattle.dex_answers.specs.declared.played.Played.TheVariants as played
 use Rattle.dex_answers.specs.declared.status.Status.{Status}
 use Rattle.dex_answers.specs.declared.told.StatusText.{StatusText}
+use Rattle.dex_answers.specs.Told.{text_of}
 use Rattle.dex_answers.specs.Answers.{IsClean, IsNoScript, IsNotClean, IsPlayed, rows_told}
 
 -- the text of a status
 pub record IsText (told : StatusText) (stood : Status) (bytes : List ℕ) : Type 0 where
   pub status : told.status ≡ stood
-  pub text : told.text.items ≡ bytes
+  pub text : text_of told ≡ bytes
 
 -- the bytes are the dump of these accounts, or the text says why they are none
 abbrev pub TellsChecked : Checked → List ℕ → Type 0
 TellsChecked (checked.Clean accounts) bytes = IsClean bytes (accounts_of accounts) × AreAccepted (accounts_of accounts)
-TellsChecked (checked.Refused told) bytes = IsNotClean bytes told.status told.text.items
+TellsChecked (checked.Refused told) bytes = IsNotClean bytes told.status (text_of told)
 
 -- the bytes are a script with this outcome, whose report tells of so many rows; or the text says why they are none
 abbrev pub TellsPlayed : Played → List ℕ → Type 0
 TellsPlayed (played.AllRows rows outcome) bytes =
     (script : PlainScript) × Reads false bytes script × IsPlayed script (outcome_of outcome) × (rows ≡ rows_told script)
-TellsPlayed (played.Refused told) bytes = IsNoScript false bytes told.status told.text.items
+TellsPlayed (played.Refused told) bytes = IsNoScript false bytes told.status (text_of told)

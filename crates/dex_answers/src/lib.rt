@@ -24,6 +24,6 @@ pub use laws::{
 pub use make::make_answer;
 pub use migrate::migrate_answer;
 pub use played::no_script;
-pub use replay::{replay_answer, replay_taken, report_of};
+pub use replay::{replay_answer, replay_taken};
 pub use status::Status;
-pub use told::{StatusPieces, StatusText};
+pub use told::StatusText;

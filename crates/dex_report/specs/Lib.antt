@@ -6,3 +6,4 @@ pub mod MadeRows
 pub mod MadeSetup
 pub mod Made
 pub mod Bulk
+pub mod Parts

@@ -8,13 +8,15 @@ mod lines;
 mod made;
 mod made_rows;
 mod made_setup;
+mod part;
+mod pieces;
 mod report;
 mod told;
+mod writing;
 
 pub use bulk::bulk_text;
 pub use dex_state::{MarketJournal, Outcome, WalletJournal};
 pub use laws::{movements_stand_from_the_front, one_reading, what_fits_is_told};
-pub use lines::{LINE, write_head};
 pub use made::make_script;
-pub use report::{into_report_pieces, into_report_text, report_text};
-pub use told::{Told, take_each, write_each};
+pub use pieces::{into_report_pieces, report_pieces};
+pub use report::report_text;
