@@ -106,8 +106,8 @@ pub fn hold(
     ensures made { map made_of wallets.new ≡ map made_of wallets.old }
 {
     let asked = Asked { row, seen, places };
-    market.idle(row, seen);
+    let reply = market.idle(row, seen);
     let entry = market.last();
     probes(wallets, &asked, &entry.moves);
-    Reply::Done
+    reply
 }

@@ -7,15 +7,14 @@ ghost use Rattle.dex_ring.specs.Ring.{IsEventQueue, ring_of};
 use crate::amounts::amounts_of;
 use crate::call_record::CallRecord;
 use crate::journal::write_down;
-use crate::payouts::{Payouts, pay};
+use crate::payouts::{Payouts, Vaults, pay};
 use dex_decide::Plan;
 use dex_meet::{PendingFills, pending_fills};
 use dex_movements::Amounts;
 use dex_ring::RingRef;
-use dex_stamps::Kept;
+use dex_stamps::{Kept, Log};
 use dex_types::{Entry, MarketAccounts, NoMemory, Refusal, Reply, Row, Seen};
-use dex_wallet::{Parcel, Share};
-use http_server::Log as CallLog;
+use dex_wallet::Parcel;
 use std::alloc::Global;
 use std::marker::Model;
 
@@ -27,10 +26,9 @@ use std::marker::Model;
 pub struct MarketCell {
     start: Kept<MarketAccounts>,
     accounts: MarketAccounts,
-    coin: Share,
-    pc: Share,
+    vaults: Vaults,
     pending: PendingFills,
-    calls: CallLog<Row, CallRecord>,
+    calls: Log<Row, CallRecord>,
     entries: Vec<Entry>,
     room: usize,
 }
@@ -56,7 +54,7 @@ fn pending_in(events: &[u8]) -> PendingFills
 }
 
 impl MarketCell {
-    ghost use Rattle.dex_types.specs.declared.replies.Reply.TheVariants.{Refused};
+    ghost use Rattle.dex_types.specs.declared.replies.Reply.TheVariants.{Done, Refused};
     ghost use Rattle.dex_types.specs.Accounts.{market_accounts_of};
     ghost use Rattle.dex_types.specs.Rows.{row_of};
     ghost use Rattle.dex_types.specs.Side.{Coin, Pc};
@@ -84,17 +82,16 @@ impl MarketCell {
         requires pc { pc ≡ held_in accounts.pc_vault.items }
         ensures { IfOk result (λ cell. cell ≡ cells.new_cell (market_accounts_of accounts) room) }
     {
-        let (coin, pc) = (Share { parcel: coin }, Share { parcel: pc });
+        let vaults = Vaults { coin, pc };
         let entries = Vec::with_capacity(alloc, room)?;
         let start = Kept::of(&accounts);
         let pending = pending_in(&accounts.events);
         Ok(MarketCell {
             start,
             accounts,
-            coin,
-            pc,
+            vaults,
             pending,
-            calls: CallLog::new(),
+            calls: Log::new(),
             entries,
             room,
         })
@@ -187,8 +184,8 @@ impl MarketCell {
         let amounts = amounts_of(plan);
         let reply = dex_step::apply(&mut self.accounts, row, seen, plan, &mut self.pending);
         let payouts = pay(
-            &mut self.coin.parcel,
-            &mut self.pc.parcel,
+            &mut self.vaults.coin,
+            &mut self.vaults.pc,
             &amounts,
             coin,
             pc,
@@ -222,15 +219,17 @@ impl MarketCell {
         self.note(row, seen, Reply::Refused(refusal));
     }
 
-    /// Writes down that a take is held back which would not be refused, for a row whose item is refused elsewhere: the journal has
-    /// one entry more, its reply is that it is done, and all accounts stay as they are, byte by byte.
-    pub fn idle(&mut self, row: &Row, seen: &Seen)
+    /// Writes down that a take is held back which would not be refused, for a row whose item is refused elsewhere, and answers
+    /// that it is done: the journal has one entry more, and all accounts stay as they are, byte by byte.
+    pub fn idle(&mut self, row: &Row, seen: &Seen) -> Reply
         requires row { IsFor row.now seen.now self.old }
         requires held { CanHold row.now seen.now self.old }
         requires spare { HasSpare self.old }
+        ensures reply { result ≡ Done }
         ensures held { HasHeld row.entry.now seen.now self.old self.new }
     {
         self.note(row, seen, Reply::Done);
+        Reply::Done
     }
 
     /// The entry of the last row.

@@ -15,6 +15,20 @@ pub struct Payouts {
     pub referrer: Option<Parcel>,
 }
 
+/// The parcels that a market's two vaults are. They are given up where its cell is dropped.
+pub(crate) struct Vaults {
+    pub(crate) coin: Parcel,
+    pub(crate) pc: Parcel,
+}
+
+impl Drop for Vaults {
+    fn drop(self) {
+        let Vaults { coin, pc } = self;
+        coin.give_up();
+        pc.give_up();
+    }
+}
+
 /// Puts what a wallet pays into a vault's parcel.
 fn bring_in(share: &mut Parcel, parcel: Option<Parcel>, amount: u64)
     requires fits { share.old.amount + amount < 2 ^ 64 }

@@ -15,10 +15,9 @@ use dex_act::{act, hold, places_in};
 use dex_cell::MarketCell;
 use dex_gate::Journaled;
 use dex_script_facts::Script;
-use dex_stamps::{Kept, Stamp};
+use dex_stamps::{Kept, Log, Stamp};
 use dex_types::{NoMemory, Reply, Row, Seen};
 use dex_wallet::WalletCell;
-use http_server::Log as StampLog;
 use std::alloc::Global;
 use std::marker::Model;
 
@@ -27,7 +26,7 @@ use std::marker::Model;
 #[derive(Drop)]
 pub struct BankMarket {
     cell: Box<MarketCell>,
-    stamps: StampLog<Stamp, ()>,
+    stamps: Log<Stamp, ()>,
     last: Stamp,
     script: Kept<Script>,
 }
@@ -75,7 +74,7 @@ impl BankMarket {
     {
         Ok(BankMarket {
             cell: Box::new(alloc, cell)?,
-            stamps: StampLog::new(),
+            stamps: Log::new(),
             last: Stamp::first(),
             script,
         })

@@ -11,10 +11,10 @@ use crate::building::bank_over;
 use crate::closing::close;
 use crate::index::places_by_lane;
 use crate::lane::{LaneJob, Lanes};
-use crate::stay::Doors;
+use crate::stay::doors_for;
 use dex_bank::Cells;
 use dex_io::Pace;
-use dex_lanes::{processors, run_jobs};
+use dex_lanes::run_jobs;
 use dex_report::Outcome;
 use dex_script_facts::{RowList, Script};
 use dex_turns::{LaneSeat, Outline};
@@ -41,7 +41,6 @@ fn jobs_of<'a, R: Wait, P: Pace>(
             lanes,
             seat,
             pace,
-            seen: 0,
         };
         add(&mut jobs, job)?;
     }
@@ -97,7 +96,7 @@ pub fn run_with_rows<R: Threads + Wait + Sync, P: Pace + Sync>(
     let by_lane = places_by_lane(alloc, outline.lanes(), &rows, &places)?;
     let (bank, seats) = bank_over(alloc, outline, cells)?;
     let (markets, _) = bank.counts();
-    let doors = Doors::new(alloc, markets, processors(rt))?;
+    let doors = doors_for(alloc, markets)?;
     let lanes = Lanes {
         bank: &bank,
         doors: &doors,

@@ -3,7 +3,9 @@
 #![tactic(auto)]
 
 mod kept;
+mod log;
 mod stamp;
 
 pub use kept::Kept;
+pub use log::Log;
 pub use stamp::Stamp;

@@ -9,10 +9,9 @@ use crate::stamped_record::StampedRecord;
 use dex_gate::Pass;
 use dex_journals::{BankMarket, BankWallet};
 use dex_script_facts::Script;
-use dex_stamps::{Kept, Stamp};
+use dex_stamps::{Kept, Log, Stamp};
 use dex_types::{NoMemory, Row};
 use dex_wallet::WalletCell;
-use http_server::Log as CallLog;
 use std::alloc::Global;
 use std::marker::Model;
 
@@ -24,7 +23,7 @@ pub struct LaneSeat {
     pub(crate) markets: Vec<Pass<BankMarket>>,
     pub(crate) wallets: Vec<Pass<BankWallet>>,
     pub(crate) hands: Vec<WalletCell>,
-    pub(crate) calls: CallLog<Row, StampedRecord>,
+    pub(crate) calls: Log<Row, StampedRecord>,
     pub(crate) last: Stamp,
     pub(crate) script: Kept<Script>,
 }
@@ -58,7 +57,7 @@ impl LaneSeat {
             markets,
             wallets,
             hands: Vec::with_capacity(alloc, 4)?,
-            calls: CallLog::new(),
+            calls: Log::new(),
             last: Stamp::first(),
             script: outline.kept(),
         })
