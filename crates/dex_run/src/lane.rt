@@ -11,7 +11,8 @@ use dex_gate::Door;
 use dex_io::Pace;
 use dex_lanes::Job;
 use dex_script_facts::RowList;
-use dex_turns::{Bank, LaneSeat};
+use dex_swap::swap_two;
+use dex_turns::{Bank, LaneSeat, PlacedRow};
 use dex_types::RowPlaces;
 use std::sync::Wait;
 
@@ -44,10 +45,13 @@ impl<'a> Lanes<'a> {
             let next = place + 1;
             let first = rows.at(place);
             let second = rows.at(next);
-            bank.submit_two_at(rt, seat, first, second, &places[place], &places[next], pace);
+            let one = PlacedRow::of(first, &places[place]);
+            let two = PlacedRow::of(second, &places[next]);
+            swap_two(rt, bank, seat, &one, &two, pace);
         } else {
             let row = rows.at(place);
-            bank.submit_at(rt, seat, row, &places[place], pace);
+            let one = PlacedRow::of(row, &places[place]);
+            bank.submit(rt, seat, &one, pace);
         }
     }
 

@@ -3,9 +3,12 @@
 
 mod acts;
 mod alone;
+mod at;
 mod bank;
 mod legs;
 mod outline;
+mod pair;
+mod placed;
 mod seat;
 mod stamped_record;
 mod submitting;
@@ -15,4 +18,6 @@ mod waiting;
 
 pub use bank::{Bank, BankParts};
 pub use outline::Outline;
+pub use pair::{Pair, plan_pair};
+pub use placed::{AsRow, PlacedRow};
 pub use seat::LaneSeat;

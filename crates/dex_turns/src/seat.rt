@@ -15,14 +15,20 @@ use dex_wallet::WalletCell;
 use std::alloc::Global;
 use std::marker::Model;
 
+/// A lane's passes for all wallets, and the cells of those whose turns it has.
+#[derive(Drop)]
+pub(crate) struct WalletPasses {
+    pub(crate) passes: Vec<Pass<BankWallet>>,
+    pub(crate) hands: Vec<WalletCell>,
+}
+
 /// A lane's seat at a bank: its passes for all markets and wallets, and what it made, which are its lane's first rows, each done
 /// once, in their order. One thread at a time uses it.
 #[derive(Drop)]
 pub struct LaneSeat {
     pub(crate) lane: u32,
     pub(crate) markets: Vec<Pass<BankMarket>>,
-    pub(crate) wallets: Vec<Pass<BankWallet>>,
-    pub(crate) hands: Vec<WalletCell>,
+    pub(crate) wallets: WalletPasses,
     pub(crate) calls: Log<Row, StampedRecord>,
     pub(crate) last: Stamp,
     pub(crate) script: Kept<Script>,
@@ -55,8 +61,10 @@ impl LaneSeat {
         Ok(LaneSeat {
             lane,
             markets,
-            wallets,
-            hands: Vec::with_capacity(alloc, 4)?,
+            wallets: WalletPasses {
+                passes: wallets,
+                hands: Vec::with_capacity(alloc, 4)?,
+            },
             calls: Log::new(),
             last: Stamp::first(),
             script: outline.kept(),
@@ -74,7 +82,7 @@ impl LaneSeat {
             wallets,
             ..
         } = self;
-        (markets, wallets)
+        (markets, wallets.passes)
     }
 
     /// The number of the lane.
