@@ -1,6 +1,5 @@
 //! A row alone, under the turns of all that it acts on.
 
-ghost use Rattle.std.specs.Prelude.{◌≡◌};
 ghost use Rattle.dex_types.specs.Rows.{row_of};
 ghost use Rattle.dex_types.specs.Wallets.{row_wallets};
 ghost use Rattle.dex_script_facts.specs.Places.{IsPlaced};
@@ -24,16 +23,6 @@ pub(crate) struct RowAlone<'a, P> {
     pub(crate) row: &'a Row,
     pub(crate) places: &'a RowPlaces,
     pub(crate) pace: &'a P,
-}
-
-impl<'a, P: Pace> RowAlone<'a, P> {
-    /// A row, and the places of its market and wallets.
-    pub(crate) fn of(row: &'a Row, places: &'a RowPlaces, pace: &'a P) -> RowAlone<'a, P>
-        ensures row { result.row.now ≡ row.now }
-        ensures places { result.places.now ≡ places.now }
-    {
-        RowAlone { row, places, pace }
-    }
 }
 
 impl<'a, P: Pace> Acts for RowAlone<'a, P> {

@@ -41,13 +41,6 @@ pub(crate) struct At<'a, R> {
 }
 
 impl<'a, R: Wait> At<'a, R> {
-    /// At a bank.
-    pub(crate) fn of(bank: &'a Bank, rt: &'a R) -> At<'a, R>
-        ensures { result.bank.now ≡ bank.now }
-    {
-        At { bank, rt }
-    }
-
     // A row acts when it has the turn of its market.
     pub(crate) fn in_market<P: Pace>(
         &self,

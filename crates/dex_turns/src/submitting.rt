@@ -19,7 +19,7 @@ use crate::seat::LaneSeat;
 use crate::stamped_record::StampedRecord;
 use dex_io::Pace;
 use dex_stage::seen_by;
-use dex_types::{Reply, Row, Seen};
+use dex_types::{Reply, Row, RowPlaces, Seen};
 use dex_wallet::WalletCell;
 use std::sync::Wait;
 
@@ -42,33 +42,37 @@ impl Bank {
         ensures kept { IsSeat seat.new }
     {
         let places = row.places(&self.outline);
-        self.submit_alone(rt, seat, &RowAlone::of(row.row(), &places, pace))
+        self.submit_at(rt, seat, row.row(), &places, pace)
     }
 
     // The same, where the places are at hand.
-    fn submit_alone<R: Wait, P: Pace>(
+    fn submit_at<R: Wait, P: Pace>(
         &self,
         rt: &R,
         seat: &mut LaneSeat,
-        item: &RowAlone<'_, P>,
+        row: &Row,
+        places: &RowPlaces,
+        pace: &P,
     ) -> Reply
         requires seat { IsSeatOf self.now seat.old }
-        requires row { IsNext (row_of item.now.row.now) seat.old }
-        requires places { IsPlaced self.now.script.start (row_of item.now.row.now) item.now.places.now }
-        ensures submitted { HasSubmitted (row_of item.now.row.now) result seat.old seat.new }
+        requires row { IsNext (row_of row.now) seat.old }
+        requires places { IsPlaced self.now.script.start (row_of row.now) places.now }
+        ensures submitted { HasSubmitted (row_of row.entry.now) result seat.old seat.new }
         ensures bank { IsSeatOf self.now seat.new }
         ensures kept { IsSeat seat.new }
     {
         let _outline = &self.outline;
-        let place = item.places.market as usize;
-        let made = At::of(self, rt).in_market(
-            item,
+        let place = places.market as usize;
+        let at = At { bank: self, rt };
+        let item = RowAlone { row, places, pace };
+        let made = at.in_market(
+            &item,
             self.market_gate(place),
             &mut seat.markets[place],
             &mut seat.wallets,
             &seat.last,
         );
-        seat.calls = seat.calls.and(item.row, &made);
+        seat.calls = seat.calls.and(row, &made);
         let StampedRecord { reply, stamp, .. } = made;
         seat.last = stamp;
         reply
@@ -117,12 +121,8 @@ impl Bank {
         ensures kept { IsSeat seat.new }
     {
         let _outline = &self.outline;
-        let made = At::of(self, rt).in_markets(
-            legs,
-            &mut seat.markets,
-            &mut seat.wallets,
-            &seat.last,
-        );
+        let at = At { bank: self, rt };
+        let made = at.in_markets(legs, &mut seat.markets, &mut seat.wallets, &seat.last);
         let TwoRecords {
             first: one,
             second: two,

@@ -57,7 +57,7 @@ impl<'a> Entrance<'a> {
     pub(crate) fn at(bank: &'a Bank, places: &RowPlaces) -> Entrance<'a>
         requires { places.now.market < length bank.now.markets }
         ensures gate { (default : GateView (Stamped Call) MarketOrigin) → result.gate.now
-            ≡ slice_index_or bank.now.markets places.now.market default }
+            ≡ slice_index_or bank.now.markets result.place default }
         ensures place { result.place ≡ places.now.market }
     {
         let place = places.market as usize;

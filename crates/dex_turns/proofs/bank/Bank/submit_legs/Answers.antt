@@ -9,53 +9,53 @@ use Rattle.dex_turns.proofs.LegNames.{legs-name}
 use Rattle.dex_turns.proofs.LegReady.{legs-ready}
 use Rattle.dex_script_facts.proofs.PlacedLaws.{market-placed}
 use Rattle.dex_turns.proofs.SeatAfter.{IsAfter, enters-at, first-ahead, passes-kept, row-fits, second-ahead}
-use Rattle.dex_turns.proofs.bank.Bank.submit_two_at.Given as given
-use Rattle.dex_turns.proofs.bank.Bank.submit_two_at.Goals.{After-and-seat-inside}
-use Rattle.dex_turns.proofs.bank.Bank.submit_two_at.Goals as goal
+use Rattle.dex_turns.proofs.bank.Bank.submit_legs.Given as given
+use Rattle.dex_turns.proofs.bank.Bank.submit_legs.Goals.{After-and-seat-inside}
+use Rattle.dex_turns.proofs.bank.Bank.submit_legs.Goals as goal
 
 pub in_markets-made-requires-clause-first : goal.in_markets-made-requires-clause-first
 in_markets-made-requires-clause-first g c =
-    enters-at c.args.self.now (row_of c.args.first.now) (seat_inside c.seat.inside) (first-ahead (row_of c.args.first.now) (row_of c.args.second.now) (seat_inside c.seat.inside) (subst (AreNext (row_of c.args.first.now) (row_of c.args.second.now)) (sym c.seat.view_is) c.requires.legs)) (subst IsBank c.self.view_is c.self.invariant.bank) (subst (IsSeatOf c.args.self.now) (sym c.seat.view_is) c.requires.seat) c.seat.invariant.seat c.args.first_places.now.market
-    (market-placed c.args.self.now.script c.args.first.now.market c.args.first_places.now.market c.requires.first.market)
+    enters-at c.args.self.now (row_of c.args.legs.now.first.now) (seat_inside c.seat.inside) (first-ahead (row_of c.args.legs.now.first.now) (row_of c.args.legs.now.second.now) (seat_inside c.seat.inside) (subst (AreNext (row_of c.args.legs.now.first.now) (row_of c.args.legs.now.second.now)) (sym c.seat.view_is) c.requires.legs)) (subst IsBank c.self.view_is c.self.invariant.bank) (subst (IsSeatOf c.args.self.now) (sym c.seat.view_is) c.requires.seat) c.seat.invariant.seat c.args.legs.now.first_places.now.market
+    (market-placed c.args.self.now.script c.args.legs.now.first.now.market c.args.legs.now.first_places.now.market c.requires.first.market)
 
 pub in_markets-made-requires-clause-second : goal.in_markets-made-requires-clause-second
 in_markets-made-requires-clause-second g c =
-    enters-at c.args.self.now (row_of c.args.second.now) (seat_inside c.seat.inside) (second-ahead (row_of c.args.first.now) (row_of c.args.second.now) (seat_inside c.seat.inside) (subst (AreNext (row_of c.args.first.now) (row_of c.args.second.now)) (sym c.seat.view_is) c.requires.legs)) (subst IsBank c.self.view_is c.self.invariant.bank) (subst (IsSeatOf c.args.self.now) (sym c.seat.view_is) c.requires.seat) c.seat.invariant.seat c.args.second_places.now.market
-    (market-placed c.args.self.now.script c.args.second.now.market c.args.second_places.now.market c.requires.second.market)
+    enters-at c.args.self.now (row_of c.args.legs.now.second.now) (seat_inside c.seat.inside) (second-ahead (row_of c.args.legs.now.first.now) (row_of c.args.legs.now.second.now) (seat_inside c.seat.inside) (subst (AreNext (row_of c.args.legs.now.first.now) (row_of c.args.legs.now.second.now)) (sym c.seat.view_is) c.requires.legs)) (subst IsBank c.self.view_is c.self.invariant.bank) (subst (IsSeatOf c.args.self.now) (sym c.seat.view_is) c.requires.seat) c.seat.invariant.seat c.args.legs.now.second_places.now.market
+    (market-placed c.args.self.now.script c.args.legs.now.second.now.market c.args.legs.now.second_places.now.market c.requires.second.market)
 
 pub in_markets-made-requires-clause-markets : goal.in_markets-made-requires-clause-markets
 in_markets-made-requires-clause-markets g c =
     AllZip-long (IsMarketPass c.seat.inside.lane (map call_made c.seat.inside.calls.items)) c.args.self.now.script.start.markets c.seat.inside.markets.items
-    (passes-kept c.args.self.now (row_of c.args.first.now) (seat_inside c.seat.inside) (first-ahead (row_of c.args.first.now) (row_of c.args.second.now) (seat_inside c.seat.inside) (subst (AreNext (row_of c.args.first.now) (row_of c.args.second.now)) (sym c.seat.view_is) c.requires.legs)) (subst IsBank c.self.view_is c.self.invariant.bank) (subst (IsSeatOf c.args.self.now) (sym c.seat.view_is) c.requires.seat) c.seat.invariant.seat c.args.first_places.now.market
-    (market-placed c.args.self.now.script c.args.first.now.market c.args.first_places.now.market c.requires.first.market))
+    (passes-kept c.args.self.now (row_of c.args.legs.now.first.now) (seat_inside c.seat.inside) (first-ahead (row_of c.args.legs.now.first.now) (row_of c.args.legs.now.second.now) (seat_inside c.seat.inside) (subst (AreNext (row_of c.args.legs.now.first.now) (row_of c.args.legs.now.second.now)) (sym c.seat.view_is) c.requires.legs)) (subst IsBank c.self.view_is c.self.invariant.bank) (subst (IsSeatOf c.args.self.now) (sym c.seat.view_is) c.requires.seat) c.seat.invariant.seat c.args.legs.now.first_places.now.market
+    (market-placed c.args.self.now.script c.args.legs.now.first.now.market c.args.legs.now.first_places.now.market c.requires.first.market))
 
 pub in_markets-made-requires-clause-named : goal.in_markets-made-requires-clause-named
 in_markets-made-requires-clause-named g c =
-    legs-name (row_of c.args.first.now) (row_of c.args.second.now) c.requires.legs.legs c.args.self.now.script
-    (row-fits c.args.self.now (row_of c.args.first.now) (seat_inside c.seat.inside) (first-ahead (row_of c.args.first.now) (row_of c.args.second.now) (seat_inside c.seat.inside) (subst (AreNext (row_of c.args.first.now) (row_of c.args.second.now)) (sym c.seat.view_is) c.requires.legs)) (subst IsBank c.self.view_is c.self.invariant.bank) (subst (IsSeatOf c.args.self.now) (sym c.seat.view_is) c.requires.seat))
-    (row-fits c.args.self.now (row_of c.args.second.now) (seat_inside c.seat.inside) (second-ahead (row_of c.args.first.now) (row_of c.args.second.now) (seat_inside c.seat.inside) (subst (AreNext (row_of c.args.first.now) (row_of c.args.second.now)) (sym c.seat.view_is) c.requires.legs)) (subst IsBank c.self.view_is c.self.invariant.bank) (subst (IsSeatOf c.args.self.now) (sym c.seat.view_is) c.requires.seat))
+    legs-name (row_of c.args.legs.now.first.now) (row_of c.args.legs.now.second.now) c.requires.legs.legs c.args.self.now.script
+    (row-fits c.args.self.now (row_of c.args.legs.now.first.now) (seat_inside c.seat.inside) (first-ahead (row_of c.args.legs.now.first.now) (row_of c.args.legs.now.second.now) (seat_inside c.seat.inside) (subst (AreNext (row_of c.args.legs.now.first.now) (row_of c.args.legs.now.second.now)) (sym c.seat.view_is) c.requires.legs)) (subst IsBank c.self.view_is c.self.invariant.bank) (subst (IsSeatOf c.args.self.now) (sym c.seat.view_is) c.requires.seat))
+    (row-fits c.args.self.now (row_of c.args.legs.now.second.now) (seat_inside c.seat.inside) (second-ahead (row_of c.args.legs.now.first.now) (row_of c.args.legs.now.second.now) (seat_inside c.seat.inside) (subst (AreNext (row_of c.args.legs.now.first.now) (row_of c.args.legs.now.second.now)) (sym c.seat.view_is) c.requires.legs)) (subst IsBank c.self.view_is c.self.invariant.bank) (subst (IsSeatOf c.args.self.now) (sym c.seat.view_is) c.requires.seat))
 
 pub in_markets-made-requires-clause-passes : goal.in_markets-made-requires-clause-passes
 in_markets-made-requires-clause-passes g c =
-    legs-ready c.args.self.now (row_of c.args.first.now) (row_of c.args.second.now) (seat_inside c.seat.inside) (subst (AreNext (row_of c.args.first.now) (row_of c.args.second.now)) (sym c.seat.view_is) c.requires.legs) (subst IsBank c.self.view_is c.self.invariant.bank) (subst (IsSeatOf c.args.self.now) (sym c.seat.view_is) c.requires.seat) c.seat.invariant.seat
+    legs-ready c.args.self.now (row_of c.args.legs.now.first.now) (row_of c.args.legs.now.second.now) (seat_inside c.seat.inside) (subst (AreNext (row_of c.args.legs.now.first.now) (row_of c.args.legs.now.second.now)) (sym c.seat.view_is) c.requires.legs) (subst IsBank c.self.view_is c.self.invariant.bank) (subst (IsSeatOf c.args.self.now) (sym c.seat.view_is) c.requires.seat) c.seat.invariant.seat
 
 -- ---- the seat behind them
 
 known : (g : given.Over) (c : After-and-seat-inside g) → IsAfter c.args.self.now
-    (HaveSubmitted (row_of c.args.first.now) (row_of c.args.second.now) (c.in_markets-made.result.first.reply, c.in_markets-made.result.second.reply)) c.args.seat.now (record {
+    (HaveSubmitted (row_of c.args.legs.now.first.now) (row_of c.args.legs.now.second.now) (c.in_markets-made.result.first.reply, c.in_markets-made.result.second.reply)) c.args.seat.now (record {
       lane = c.seat.inside.lane;
       script = c.seat.inside.script.value;
       calls = map call_made c.and-seat-inside.result.items;
       last = c.in_markets-made.result.first.stamp.number;
       markets = c.in_markets-made.new.markets.items;
-      wallets = c.in_markets-made.new.passes.items;
+      wallets = c.in_markets-made.new.wallets.passes.items;
     })
 known g c =
-    let one : Row × StampedRecord = (c.args.first.now, c.in_markets-made.result.first) in
-    let two : Row × StampedRecord = (c.args.second.now, c.in_markets-made.result.second) in
-    legs.is-after c.args.self.now (row_of c.args.first.now) (row_of c.args.second.now) (seat_inside c.seat.inside)
-    (subst (AreNext (row_of c.args.first.now) (row_of c.args.second.now)) (sym c.seat.view_is) c.requires.legs) (subst (IsSeatOf c.args.self.now) (sym c.seat.view_is) c.requires.seat) c.seat.invariant.seat
-    (call_made one) (call_made two) (refl, refl) c.in_markets-made.ensures.told c.in_markets-made.new.markets.items c.in_markets-made.ensures.markets c.in_markets-made.new.passes.items
+    let one : Row × StampedRecord = (c.args.legs.now.first.now, c.in_markets-made.result.first) in
+    let two : Row × StampedRecord = (c.args.legs.now.second.now, c.in_markets-made.result.second) in
+    legs.is-after c.args.self.now (row_of c.args.legs.now.first.now) (row_of c.args.legs.now.second.now) (seat_inside c.seat.inside)
+    (subst (AreNext (row_of c.args.legs.now.first.now) (row_of c.args.legs.now.second.now)) (sym c.seat.view_is) c.requires.legs) (subst (IsSeatOf c.args.self.now) (sym c.seat.view_is) c.requires.seat) c.seat.invariant.seat
+    (call_made one) (call_made two) (refl, refl) c.in_markets-made.ensures.told c.in_markets-made.new.markets.items c.in_markets-made.ensures.markets c.in_markets-made.new.wallets.passes.items
     c.in_markets-made.ensures.passes c.args.seat.now (map call_made c.and-seat-inside.result.items) c.in_markets-made.result.first.reply
     c.in_markets-made.result.second.reply c.seat.view_is
     (ap (map call_made) (c.and-seat-inside.ensures ∙ ap (λ (l : List _). l ++ two ∷ []) c.and.ensures ∙ append_assoc c.seat.inside.calls.items _ _)
