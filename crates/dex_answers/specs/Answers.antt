@@ -19,7 +19,7 @@ use Rattle.dex_script.specs.Scripts.{IsRefused, Reads}
 use Rattle.dex_script.specs.Scripts.Refusal.{AtRow, InAudit, InDump}
 use Rattle.dex_report.specs.Bulk.{bulk_text}
 use Rattle.dex_report.specs.Made.{made_text}
-use Rattle.dex_report.specs.Outcomes.{PlainOutcome}
+use Rattle.dex_state.specs.Outcomes.{PlainOutcome}
 use Rattle.dex_report.specs.Report.{report_text}
 use Rattle.dex_report.specs.Telling.{IsToldOutcome}
 use Rattle.dex_fold.specs.Items.{items_of}

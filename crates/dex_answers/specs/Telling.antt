@@ -1,10 +1,10 @@
 -- What the answers of calls tell, without their buffers.
 use Rattle.std.specs.Prelude.{ℕ, ◌≡◌, false, List}
 use Rattle.dex_types.specs.Accounts.{accounts_of}
-use Rattle.dex_dump.specs.Accepted.{AreAccepted}
+use Rattle.dex_state.specs.Accepted.{AreAccepted}
 use Rattle.dex_script_facts.specs.PlainScript.{PlainScript}
 use Rattle.dex_script.specs.Scripts.{Reads}
-use Rattle.dex_report.specs.Outcomes.{outcome_of}
+use Rattle.dex_state.specs.Outcomes.{outcome_of}
 use Rattle.dex_answers.specs.declared.clean.Checked.{Checked}
 use Rattle.dex_answers.specs.declared.clean.Checked.TheVariants as checked
 use Rattle.dex_answers.specs.declared.played.Played.{Played}

@@ -2,7 +2,7 @@
 
 ghost use Rattle.std.specs.Prelude.{◌≡◌, ◌∷◌, [], IfOk, IsTrue, codes, map};
 ghost use Rattle.dex_report.specs.Bulk.{IsOfMade, made_markets};
-ghost use Rattle.dex_report.specs.Outcomes.{PlainMarketJournal, outcome_of};
+ghost use Rattle.dex_state.specs.Outcomes.{PlainMarketJournal, outcome_of};
 ghost use Rattle.dex_types.specs.Accounts.{PlainMarketAccounts};
 ghost use Rattle.dex_types.specs.Addresses.{is_same};
 ghost use Rattle.dex_types.specs.Text.{label_address};
@@ -13,7 +13,8 @@ ghost use Rattle.dex_answers.specs.Answers.{Answers};
 use crate::played::{Played, play_script};
 use crate::status::Status;
 use crate::told::StatusText;
-use dex_report::{MarketJournal, Outcome, bulk_text, make_script};
+use dex_report::{bulk_text, make_script};
+use dex_state::{MarketJournal, Outcome};
 use dex_types::{Address, MarketAccounts, NoMemory};
 use std::alloc::Global;
 

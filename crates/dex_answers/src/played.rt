@@ -10,7 +10,7 @@ use crate::told::StatusText;
 use dex_lines::ScriptRefused;
 use dex_replay::laws::without_swaps_rows_act_one_by_one;
 use dex_replay::replay;
-use dex_report::Outcome;
+use dex_state::Outcome;
 use dex_script::{Script, ScriptError, read_script};
 use dex_types::NoMemory;
 use std::alloc::Global;

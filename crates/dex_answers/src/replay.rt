@@ -2,7 +2,7 @@
 
 ghost use Rattle.std.specs.Prelude.{◌≡◌, ℕ, IfOk, List};
 ghost use Rattle.dex_words.specs.declared.command.Command.TheVariants.{Replay};
-ghost use Rattle.dex_report.specs.Outcomes.{outcome_of};
+ghost use Rattle.dex_state.specs.Outcomes.{outcome_of};
 ghost use Rattle.dex_report.specs.Report.{report_text};
 ghost use Rattle.dex_report.specs.Telling.{FitOutcome};
 ghost use Rattle.dex_answers.specs.Answers.{Answers};
@@ -13,7 +13,8 @@ ghost use Rattle.dex_answers.specs.declared.status.Status.TheVariants as status;
 use crate::played::{Played, play_script, play_taken};
 use crate::status::Status;
 use crate::told::{StatusPieces, StatusText};
-use dex_report::{Outcome, into_report_pieces, into_report_text};
+use dex_report::{into_report_pieces, into_report_text};
+use dex_state::Outcome;
 use dex_types::NoMemory;
 use std::alloc::Global;
 

@@ -9,7 +9,7 @@ use crate::room::Room;
 use crate::standing::Standing;
 use crate::stepping::{act_or_wait, stepped_both};
 use dex_cell::MarketCell;
-use dex_report::Outcome;
+use dex_state::Outcome;
 use dex_script_facts::{RowList, Script};
 use dex_types::{Address, Named, NoMemory, Program, Reply, Row, RowPlaces};
 use dex_wallet::WalletCell;
@@ -41,7 +41,7 @@ impl Model for Cells {
 impl Cells {
     ghost use Rattle.dex_types.specs.Accounts.{named_of};
     ghost use Rattle.dex_types.specs.Rows.{row_of};
-    ghost use Rattle.dex_report.specs.Outcomes.{outcome_of};
+    ghost use Rattle.dex_state.specs.Outcomes.{outcome_of};
     ghost use Rattle.dex_script_facts.specs.Facts.{IsScript};
     ghost use Rattle.dex_script_facts.specs.Places.{AreBeside, ArePlaced};
     ghost use Rattle.dex_bank.specs.Cells.{AreCells, CanAct, CanActBoth};

@@ -7,13 +7,13 @@ use Rattle.std.proofs.lemmas.List.Elements.{All-cons, All-head, All-map, All-nil
 use Rattle.dex_types.specs.declared.account_bytes.MarketAccounts.{MarketAccounts}
 use Rattle.dex_types.specs.declared.rows.Row.{Row}
 use Rattle.dex_types.specs.Accounts.{PlainAccounts, PlainMarketAccounts, market_accounts_of}
-use Rattle.dex_dump.specs.Accepted.{IsHeldMarket}
+use Rattle.dex_state.specs.Held.{IsHeldMarket}
 use Rattle.dex_dump.specs.DumpText.{account_rows, dump_text, first_row, lines_text, market_rows}
 use Rattle.dex_dump.proofs.TextLaws.{lines_text-append}
 use Rattle.dex_dump.proofs.WholeLaws.{front_of, whole-text}
-use Rattle.dex_report.specs.declared.outcome.MarketJournal.{MarketJournal}
-use Rattle.dex_report.specs.declared.outcome.WalletJournal.{WalletJournal}
-use Rattle.dex_report.specs.Outcomes.{market_journal_of, wallet_journal_of}
+use Rattle.dex_state.specs.declared.outcome.MarketJournal.{MarketJournal}
+use Rattle.dex_state.specs.declared.outcome.WalletJournal.{WalletJournal}
+use Rattle.dex_state.specs.Outcomes.{market_journal_of, wallet_journal_of}
 use Rattle.dex_report.specs.Report.{market_lines, wallet_lines}
 use Rattle.dex_report.specs.Telling.{FitMarket, IsToldWallet}
 use Rattle.dex_pieces.specs.Parts.{FitPart, part_lines}

@@ -3,11 +3,11 @@ use Rattle.std.specs.Prelude.{◌≡◌, [], ℕ, List, Vec, IfOk}
 use Rattle.std.specs.declared.alloc.Global.{Global}
 use Rattle.std.specs.List.{All, flat_map}
 use Rattle.dex_types.specs.Accounts.{market_accounts_of}
-use Rattle.dex_dump.specs.Accepted.{IsHeldMarket}
+use Rattle.dex_state.specs.Held.{IsHeldMarket}
 use Rattle.dex_dump.specs.DumpText.{lines_text, market_rows}
 use Rattle.dex_dump.specs.Pieces.{piece_text}
 use Rattle.dex_dump.specs.declared.pieces.Piece.{Piece}
-use Rattle.dex_report.specs.Outcomes.{market_journal_of, wallet_journal_of}
+use Rattle.dex_state.specs.Outcomes.{market_journal_of, wallet_journal_of}
 use Rattle.dex_report.specs.Report.{market_lines, wallet_lines}
 use Rattle.dex_report.specs.Telling.{FitMarket, IsToldWallet}
 use Rattle.dex_pieces.specs.declared.part.Part.{Part}

@@ -5,7 +5,8 @@ ghost use Rattle.dex_dump.specs.Pieces.{text_in};
 ghost use Rattle.dex_pieces.specs.Parts.{FitPart, part_lines};
 
 use dex_dump::{Pieces, room_of_market, take_market_rows};
-use dex_report::{LINE, MarketJournal, Told, WalletJournal, write_each};
+use dex_report::{LINE, Told, write_each};
+use dex_state::{MarketJournal, WalletJournal};
 use dex_types::{MarketAccounts, Row};
 use std::alloc::AllocError;
 

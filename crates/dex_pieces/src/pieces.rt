@@ -3,7 +3,7 @@
 ghost use Rattle.std.specs.Prelude.{◌≡◌, ◌++◌, IfOk, OnOk, map};
 ghost use Rattle.std.specs.List.{All, flat_map};
 ghost use Rattle.dex_dump.specs.Pieces.{piece_text};
-ghost use Rattle.dex_report.specs.Outcomes.{outcome_of};
+ghost use Rattle.dex_state.specs.Outcomes.{outcome_of};
 ghost use Rattle.dex_report.specs.Report.{report_text};
 ghost use Rattle.dex_report.specs.Telling.{FitOutcome};
 ghost use Rattle.dex_pieces.specs.Parts.{FitPart, part_lines};
@@ -12,7 +12,8 @@ ghost use Rattle.dex_pieces.specs.declared.part.Part.TheVariants as part;
 use crate::part::Part;
 use crate::writing::texts_of;
 use dex_dump::{Piece, write_front};
-use dex_report::{MarketJournal, Outcome, write_head};
+use dex_report::write_head;
+use dex_state::{MarketJournal, Outcome};
 use dex_types::{MarketAccounts, NoMemory, Row};
 use std::alloc::{AllocError, Global};
 use std::marker::Sync;

@@ -1,6 +1,6 @@
 -- two outcomes that have one report are equal
 use Rattle.std.proofs.Common.{ℕ, ◌≡◌, ◌<◌, ◌^◌, ◌∙◌, Bool, false, List, sym, arith}
-use Rattle.dex_report.specs.Outcomes.{PlainOutcome}
+use Rattle.dex_state.specs.Outcomes.{PlainOutcome}
 use Rattle.dex_report.specs.Report.{report_text}
 use Rattle.dex_report.specs.Telling.{IsToldOutcome}
 use Rattle.dex_report.proofs.Journals.{report_text-injective}

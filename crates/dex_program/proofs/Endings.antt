@@ -8,7 +8,7 @@ use Rattle.dex_answers.specs.declared.status.Status.TheVariants as status
 use Rattle.dex_answers.specs.Answers.{Reported, rows_told}
 use Rattle.dex_plain.specs.Ending.{Ends, HasRead, Input, Output}
 use Rattle.dex_plain.specs.LaneAnswers.{HaveRun}
-use Rattle.dex_report.specs.Outcomes.{PlainOutcome}
+use Rattle.dex_state.specs.Outcomes.{PlainOutcome}
 use Rattle.dex_report.specs.Report.{report_text}
 use Rattle.dex_script_facts.specs.PlainScript.{PlainScript}
 use Rattle.dex_script.specs.Scripts.{Reads}

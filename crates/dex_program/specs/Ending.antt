@@ -10,7 +10,7 @@ use Rattle.dex_answers.specs.Paired.{ArePaired}
 use Rattle.dex_plain.specs.Ending.{Input, Output}
 use Rattle.dex_replay.specs.Replays.{IsReplayOf}
 use Rattle.dex_replay.specs.Runs.{IsOneOrder, IsOneOrderOfRows, IsRunOf}
-use Rattle.dex_report.specs.Outcomes.{PlainOutcome}
+use Rattle.dex_state.specs.Outcomes.{PlainOutcome}
 use Rattle.dex_report.specs.Report.{report_text}
 use Rattle.dex_report.specs.Telling.{IsToldOutcome}
 use Rattle.dex_script_facts.specs.PlainScript.{PlainScript}

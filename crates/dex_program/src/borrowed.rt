@@ -4,7 +4,8 @@
 use dex_bank::Cells;
 use dex_batch::run_batch;
 use dex_io::NoPace;
-use dex_report::{Outcome, into_report_text, report_text};
+use dex_report::{into_report_text, report_text};
+use dex_state::Outcome;
 use dex_run::{build, close, run};
 use dex_script::{Script, read_script};
 use std::alloc::Global;

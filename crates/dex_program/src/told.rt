@@ -1,7 +1,7 @@
 //! What a command on several threads answers: a text in pieces.
 
 ghost use Rattle.std.specs.Prelude.{◌≡◌, Bool, List, ℕ, IfOk};
-ghost use Rattle.dex_report.specs.Outcomes.{outcome_of};
+ghost use Rattle.dex_state.specs.Outcomes.{outcome_of};
 ghost use Rattle.dex_report.specs.Report.{report_text};
 ghost use Rattle.dex_report.specs.Telling.{FitOutcome};
 ghost use Rattle.dex_script.specs.Telling.{TellsError};
@@ -11,7 +11,7 @@ ghost use Rattle.dex_answers.specs.declared.status.Status.TheVariants as status;
 
 use dex_answers::{Status, StatusPieces, no_script};
 use dex_pieces::report_pieces;
-use dex_report::Outcome;
+use dex_state::Outcome;
 use dex_script::ScriptError;
 use dex_script_facts::RowList;
 use dex_types::NoMemory;

@@ -1,5 +1,4 @@
 pub mod Lines
-pub mod Outcomes
 pub mod Report
 pub mod Telling
 pub mod Draws

@@ -8,14 +8,13 @@ mod lines;
 mod made;
 mod made_rows;
 mod made_setup;
-mod outcome;
 mod report;
 mod told;
 
 pub use bulk::bulk_text;
+pub use dex_state::{MarketJournal, Outcome, WalletJournal};
 pub use laws::{movements_stand_from_the_front, one_reading, what_fits_is_told};
 pub use lines::{LINE, write_head};
 pub use made::make_script;
-pub use outcome::{MarketJournal, Outcome, WalletJournal};
 pub use report::{into_report_pieces, into_report_text, report_text};
 pub use told::{Told, take_each, write_each};

@@ -3,14 +3,14 @@
 ghost use Rattle.std.specs.Prelude.{◌≡◌, ◌++◌, IfOk, OnOk};
 ghost use Rattle.std.specs.List.{flat_map};
 ghost use Rattle.dex_dump.specs.Pieces.{piece_text};
-ghost use Rattle.dex_report.specs.Outcomes.{outcome_of};
+ghost use Rattle.dex_state.specs.Outcomes.{outcome_of};
 ghost use Rattle.dex_report.specs.Report as texts;
 ghost use Rattle.dex_report.specs.Telling.{FitOutcome};
 
 use crate::lines::{LINE, write_head};
-use crate::outcome::Outcome;
 use crate::told::{take_each, write_each};
 use dex_dump::{Piece, Pieces, append_dump, append_taken, room_of_dump, take_accounts};
+use dex_state::Outcome;
 use dex_types::NoMemory;
 use std::alloc::{AllocError, Global};
 

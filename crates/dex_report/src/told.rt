@@ -2,13 +2,13 @@
 
 ghost use Rattle.std.specs.Prelude.{◌≡◌, ◌≤◌, ◌++◌, ℕ, List, OnOk, Some, length};
 ghost use Rattle.std.specs.List.{All, flat_map};
-ghost use Rattle.dex_report.specs.Outcomes.{market_journal_of, wallet_journal_of};
+ghost use Rattle.dex_state.specs.Outcomes.{market_journal_of, wallet_journal_of};
 ghost use Rattle.dex_report.specs.Report as texts;
 ghost use Rattle.dex_report.specs.Telling.{FitEntry, FitMarket, FitWalletEntry, IsJournal, IsToldWallet};
 
 use crate::fitting::address_fits;
 use crate::lines::{LINE, write_entry, write_head, write_move};
-use crate::outcome::{MarketJournal, WalletJournal};
+use dex_state::{MarketJournal, WalletJournal};
 use dex_types::{Address, Entry, WalletEntry};
 use std::alloc::AllocError;
 

@@ -3,7 +3,7 @@
 ghost use Rattle.std.specs.Prelude.{◌≡◌, ◌<◌, ◌≤◌, [], All, IfOk, map, vec_capacity, vec_len};
 ghost use Rattle.std.specs.List.{AllZip};
 ghost use Rattle.dex_types.specs.Rows.{row_of};
-ghost use Rattle.dex_report.specs.Outcomes.{outcome_of};
+ghost use Rattle.dex_state.specs.Outcomes.{outcome_of};
 ghost use Rattle.dex_replay.specs.Runs.{IsOneOrder, IsRunOf};
 ghost use Rattle.dex_run.specs.Running.{CanRun, HasRun, IsJobOf};
 
@@ -15,8 +15,8 @@ use crate::stay::doors_for;
 use dex_bank::Cells;
 use dex_io::Pace;
 use dex_lanes::run_jobs;
-use dex_report::Outcome;
 use dex_script_facts::{RowList, Script};
+use dex_state::Outcome;
 use dex_turns::{LaneSeat, Outline};
 use dex_types::{NoMemory, add};
 use std::alloc::Global;

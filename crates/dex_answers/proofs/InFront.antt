@@ -5,7 +5,7 @@ use Rattle.std.proofs.lemmas.List.Elements.{All-nil, All-cons}
 use Rattle.dex_types.specs.declared.movements.Entry.{Entry}
 use Rattle.dex_types.specs.Accounts.{PlainMarketAccounts}
 use Rattle.dex_accounts.specs.Decoded.{market_in}
-use Rattle.dex_report.specs.Outcomes.{PlainMarketJournal, PlainOutcome}
+use Rattle.dex_state.specs.Outcomes.{PlainMarketJournal, PlainOutcome}
 use Rattle.dex_report.specs.Telling.{AreInFront, FitOutcome, IsToldOutcome, stand_from_front}
 use Rattle.dex_report.proofs.Fronts.{fit-told, legal-in_front}
 use Rattle.dex_script_facts.specs.PlainScript.{PlainScript}

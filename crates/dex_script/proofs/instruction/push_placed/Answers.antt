@@ -6,7 +6,7 @@ use Rattle.dex_types.specs.Rows.{PlainRow, row_of}
 use Rattle.dex_script_facts.proofs.PlacedLaws.{beside-push, placed-push}
 use Rattle.dex_statement.specs.Stated.{PlainInstruction}
 use Rattle.dex_script.specs.Rows.{instruction_row}
-use Rattle.dex_script.proofs.instruction.push.Goals as goal
+use Rattle.dex_script.proofs.instruction.push_placed.Goals as goal
 
 -- a row more behind those before
 pushed : (front : List PlainRow) (before after : List Row) (one : Row) (row : PlainRow) → after ≡ before ++ one ∷ [] → row_of one ≡ row
@@ -19,20 +19,18 @@ pushed front before after one row is told =
 pub returns-clause-placed : goal.returns-clause-placed
 returns-clause-placed c = λ start front is are.
     let row = instruction_row c.args.number c.args.now c.args.words.now in
-    let all = pushed front c.args.rows.now.items c.push-2.new.self.items c.take_row.result row
-    (c.push-2.ensures.items ∙ rw (c.unwrap.ensures, c.reserve.ensures.items) refl)
+    let all = pushed front c.args.rows.now.items c.push_reserved-2.new.self.items c.take_row.result row c.push_reserved-2.ensures.items
     (c.take_row.ensures ∙ ap (λ (time : ℤ). instruction_row c.args.number time c.args.words.now) (to_z-of_z w64 c.args.now c.ranges.now)) in
-    rw (c.in_ok-push.ensures.items, all)
+    rw (c.push_reserved.ensures.items, all)
     (placed-push start (front ++ map row_of c.args.rows.now.items) c.args.places.now.items row _ are
     (record { market = is.market; coin = is.coin.0; pc = is.pc.0; discount = is.discount.0; referrer = is.referrer.0 }))
 
 pub returns-clause-beside : goal.returns-clause-beside
 returns-clause-beside c = λ start front is are.
     let row = instruction_row c.args.number c.args.now c.args.words.now in
-    let all = pushed front c.args.rows.now.items c.push-2.new.self.items c.take_row.result row
-    (c.push-2.ensures.items ∙ rw (c.unwrap.ensures, c.reserve.ensures.items) refl)
+    let all = pushed front c.args.rows.now.items c.push_reserved-2.new.self.items c.take_row.result row c.push_reserved-2.ensures.items
     (c.take_row.ensures ∙ ap (λ (time : ℤ). instruction_row c.args.number time c.args.words.now) (to_z-of_z w64 c.args.now c.ranges.now)) in
-    rw (c.in_ok-push.ensures.items, all)
+    rw (c.push_reserved.ensures.items, all)
     (beside-push (front ++ map row_of c.args.rows.now.items) c.args.places.now.items row _ are
     (record {
       number = refl;

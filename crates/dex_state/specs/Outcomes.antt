@@ -4,9 +4,9 @@ use Rattle.dex_types.specs.declared.addresses.Address.{Address}
 use Rattle.dex_types.specs.declared.movements.Entry.{Entry}
 use Rattle.dex_types.specs.declared.movements.WalletEntry.{WalletEntry}
 use Rattle.dex_types.specs.Accounts.{PlainAccounts, accounts_of}
-use Rattle.dex_report.specs.declared.outcome.MarketJournal.{MarketJournal}
-use Rattle.dex_report.specs.declared.outcome.Outcome.{Outcome}
-use Rattle.dex_report.specs.declared.outcome.WalletJournal.{WalletJournal}
+use Rattle.dex_state.specs.declared.outcome.MarketJournal.{MarketJournal}
+use Rattle.dex_state.specs.declared.outcome.Outcome.{Outcome}
+use Rattle.dex_state.specs.declared.outcome.WalletJournal.{WalletJournal}
 
 -- a market's journal: its address and its entries
 pub record PlainMarketJournal : Type 0 where

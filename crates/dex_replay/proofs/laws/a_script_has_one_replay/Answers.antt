@@ -1,7 +1,7 @@
 use Rattle.dex_fold.specs.Items.{items_of}
 use Rattle.dex_replay.specs.Replays.{world_after}
 use Rattle.dex_replay.proofs.OneReplay.{left-alike}
-use Rattle.dex_replay.proofs.reports.a_script_has_one_replay.Goals as goal
+use Rattle.dex_replay.proofs.laws.a_script_has_one_replay.Goals as goal
 
 pub returns-clause-replay : goal.returns-clause-replay
 returns-clause-replay c = λ script one other. left-alike script (world_after script (items_of script.rows)) one other
