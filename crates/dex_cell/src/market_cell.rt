@@ -20,8 +20,8 @@ use std::marker::Model;
 
 /// A market: its accounts, the parcels that its two vaults are, and its journal.
 ///
-/// The accounts are always accepted, and those of the sound market that stands at the end of the journal, which is one legal
-/// history of the market that the cell was made with. Where a cell is dropped its parcels are given up.
+/// The accounts are always accepted, and those of the sound market that stands at the end of the journal, which is one
+/// legal history of the market that the cell was made with. Where a cell is dropped its parcels are given up.
 #[derive(Drop)]
 pub struct MarketCell {
     start: Kept<MarketAccounts>,
@@ -67,8 +67,8 @@ impl MarketCell {
     ghost use Rattle.dex_cell.specs.CellState.{answer_on, market_at, step_on};
     ghost use Rattle.dex_cell.specs.Paying.{paid_in, paid_out};
 
-    /// The cell of a market's accounts and of the parcels that its vaults are, with room for so many rows. Where there is no
-    /// memory for them, all are given up.
+    /// The cell of a market's accounts and of the parcels that its vaults are, with room for so many rows. Where there
+    /// is no memory for them, all are given up.
     pub fn new(
         alloc: Global,
         accounts: MarketAccounts,
@@ -121,8 +121,8 @@ impl MarketCell {
         &self.accounts
     }
 
-    /// Whether a row is refused, by the first reason that holds against it and with what was read for it, and what it is to do
-    /// else. It reads only.
+    /// Whether a row is refused, by the first reason that holds against it and with what was read for it, and what it
+    /// is to do else. It reads only.
     pub fn decide(&self, row: &Row, seen: &Seen) -> Result<Plan, Refusal>
         requires { IsFor row.now seen.now self.now }
         ensures { result ≡ answer_on row.entry.now seen.now self.now }
@@ -130,7 +130,7 @@ impl MarketCell {
         dex_decide::decide(&self.accounts, row, seen, &self.pending)
     }
 
-    /// The same, written where it is wanted.
+    /// Decides a row, and writes the answer where it is wanted.
     pub fn decide_into(&self, row: &Row, seen: &Seen, answer: &mut Result<Plan, Refusal>)
         requires { IsFor row.now seen.now self.now }
         ensures { answer.new ≡ answer_on row.entry.now seen.now self.now }
@@ -138,8 +138,8 @@ impl MarketCell {
         dex_decide::decide_into(&self.accounts, row, seen, &self.pending, answer);
     }
 
-    /// Does a row as it was decided, with the parcels of the plan's deposit, and answers its reply, which is no refusal, and
-    /// the parcels that it pays out. The journal has one entry more.
+    /// Does a row as it was decided, with the parcels of the plan's deposit, and answers its reply, which is no
+    /// refusal, and the parcels that it pays out. The journal has one entry more.
     pub fn apply(
         &mut self,
         row: &Row,
@@ -163,7 +163,7 @@ impl MarketCell {
         (self.last().reply, payouts)
     }
 
-    /// The same with the plan lent; its reply is that of the last entry.
+    /// Does a row as `apply` does, with the plan lent; its reply is that of the last entry.
     pub fn carry_out(
         &mut self,
         row: &Row,
@@ -206,8 +206,8 @@ impl MarketCell {
         write_down(calls, entries, row, seen, reply, &Amounts::none());
     }
 
-    /// Writes down that a row is refused, as it was decided: the journal has one entry more, and all accounts stay as they are,
-    /// byte by byte.
+    /// Writes down that a row is refused, as it was decided: the journal has one entry more, and all accounts stay as
+    /// they are, byte by byte.
     pub fn refuse(&mut self, row: &Row, seen: &Seen, refusal: Refusal)
         requires row { IsFor row.now seen.now self.old }
         requires decided { Err refusal ≡ answer_on row.now seen.now self.old }
@@ -219,8 +219,8 @@ impl MarketCell {
         self.note(row, seen, Reply::Refused(refusal));
     }
 
-    /// Writes down that a take is held back which would not be refused, for a row whose item is refused elsewhere, and answers
-    /// that it is done: the journal has one entry more, and all accounts stay as they are, byte by byte.
+    /// Writes down that a take is held back which would not be refused, for a row whose item is refused elsewhere, and
+    /// answers that it is done: the journal has one entry more, and all accounts stay as they are, byte by byte.
     pub fn idle(&mut self, row: &Row, seen: &Seen) -> Reply
         requires row { IsFor row.now seen.now self.old }
         requires held { CanHold row.now seen.now self.old }

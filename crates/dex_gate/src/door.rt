@@ -3,12 +3,12 @@ use crate::bells::Bells;
 use std::sync::Wait;
 use std::sync::atomic::{AtomicU64, Ordering};
 
-/// A door before gates. Who takes turn after turn comes in first and goes out behind the last, so that nobody else is in its way. A gate
-/// asks for no door and promises as much without one: a door is about time alone, and no clause speaks of it. At most as many may
-/// stand at a door at once as a gate has passes.
+/// A door before gates. Who takes turn after turn comes in first and goes out behind the last, so that nobody else is
+/// in its way. A gate asks for no door and promises as much without one: a door is about time alone, and no clause
+/// speaks of it. At most as many may stand at a door at once as a gate has passes.
 ///
-/// No waiter is left asleep, for the reason that `Bells` gives: who waits sets its own bell and then looks, and who goes out lets the next
-/// one in and then takes its bell back. Who waits sleeps at once, since a stay is long.
+/// No waiter is left asleep, for the reason that `Bells` gives: who waits sets its own bell and then looks, and who
+/// goes out lets the next one in and then takes its bell back. Who waits sleeps at once, since a stay is long.
 #[derive(Drop)]
 pub struct Door {
     came: AtomicU64,

@@ -11,8 +11,8 @@ use dex_stamps::{Kept, Log, Stamp};
 use dex_wallet::WalletCell;
 use std::marker::Model;
 
-/// A wallet's cell with its journal's stamps, as the value of a gate. Each lane makes at most as many entries as it has rows that
-/// name the wallet, and there is room for all rows that name it.
+/// A wallet's cell with its journal's stamps, as the value of a gate. Each lane makes at most as many entries as it has
+/// rows that name the wallet, and there is room for all rows that name it.
 #[derive(Drop)]
 pub struct BankWallet {
     cell: WalletCell,
@@ -133,8 +133,8 @@ impl WalletTrail {
         self.last.later(stamp)
     }
 
-    /// The wallet with its cell again: it has one entry more, under a stamp that is above all of the journal's, of a lane that has
-    /// a row left.
+    /// The wallet with its cell again: it has one entry more, under a stamp that is above all of the journal's, of a
+    /// lane that has a row left.
     pub fn with(self, cell: WalletCell, stamp: &Stamp) -> BankWallet
         requires entry { MayComeBack self cell }
         requires stamp { self.last < stamp.now.number }

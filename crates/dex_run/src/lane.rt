@@ -7,17 +7,18 @@ ghost use Rattle.dex_turns.specs.Seats.{IsSeatOf};
 
 use crate::index::is_swap;
 use crate::stay::Stay;
+use dex_act::PlacedRow;
 use dex_gate::Door;
 use dex_io::Pace;
 use dex_lanes::Job;
 use dex_script_facts::RowList;
 use dex_swap::swap_two;
-use dex_turns::{Bank, LaneSeat, PlacedRow};
+use dex_turns::{Bank, LaneSeat};
 use dex_types::RowPlaces;
 use std::sync::Wait;
 
-/// What all lanes look at: the bank with a door for each of its markets, all rows with their places, and where the items of each lane
-/// begin.
+/// What all lanes look at: the bank with a door for each of its markets, all rows with their places, and where the
+/// items of each lane begin.
 #[derive(Clone, Copy)]
 pub(crate) struct Lanes<'a> {
     pub(crate) bank: &'a Bank,
@@ -45,12 +46,21 @@ impl<'a> Lanes<'a> {
             let next = place + 1;
             let first = rows.at(place);
             let second = rows.at(next);
-            let one = PlacedRow::of(first, &places[place]);
-            let two = PlacedRow::of(second, &places[next]);
+            let one = PlacedRow {
+                row: first,
+                places: &places[place],
+            };
+            let two = PlacedRow {
+                row: second,
+                places: &places[next],
+            };
             swap_two(rt, bank, seat, &one, &two, pace);
         } else {
             let row = rows.at(place);
-            let one = PlacedRow::of(row, &places[place]);
+            let one = PlacedRow {
+                row,
+                places: &places[place],
+            };
             bank.submit(rt, seat, &one, pace);
         }
     }

@@ -79,8 +79,8 @@ fn run_all<R: Threads + Wait + Sync, P: Pace + Sync>(
     Ok(seats_back(jobs, room))
 }
 
-/// Lets the lanes of a script act side by side, each on a thread of its own where one can be made, and gives what is left, and the
-/// rows. The script's accounts themselves go into the outcome: none is copied.
+/// Lets the lanes of a script act side by side, each on a thread of its own where one can be made, and gives what is
+/// left, and the rows. The script's accounts themselves go into the outcome: none is copied.
 pub fn run_with_rows<R: Threads + Wait + Sync, P: Pace + Sync>(
     rt: &R,
     alloc: Global,
@@ -111,7 +111,7 @@ pub fn run_with_rows<R: Threads + Wait + Sync, P: Pace + Sync>(
     }
 }
 
-/// The same without the rows.
+/// Lets the lanes of a script act side by side, and gives what is left without the rows.
 pub fn run<R: Threads + Wait + Sync, P: Pace + Sync>(
     rt: &R,
     alloc: Global,

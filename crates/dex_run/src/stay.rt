@@ -1,12 +1,12 @@
-//! For how long a lane stays behind the doors of its items' markets. This is about time alone: each item takes all its turns by itself,
-//! with a door or without, so no clause speaks of it.
+//! For how long a lane stays behind the doors of its items' markets. This is about time alone: each item takes all its
+//! turns by itself, with a door or without, so no clause speaks of it.
 //!
-//! A lane whose next items all act on the same market, or all on the same two, comes in at the doors of these, does up to `MOST` items
-//! there, and goes out again. Meanwhile other such lanes sleep, and no turn of a market passes from one processor to another. So a door
-//! holds back but items on its market, while each item behind it acts on that market.
+//! A lane whose next items all act on the same market, or all on the same two, comes in at the doors of these, does up
+//! to `MOST` items there, and goes out again. Meanwhile other such lanes sleep, and no turn of a market passes from one
+//! processor to another. So a door holds back but items on its market, while each item behind it acts on that market.
 //!
-//! Doors are taken by rising place, and between items, where a lane has no turn. So who waits at a door has but doors of lower places,
-//! and no lanes wait in a circle.
+//! Doors are taken by rising place, and between items, where a lane has no turn. So who waits at a door has but doors
+//! of lower places, and no lanes wait in a circle.
 
 use crate::index::is_swap;
 use crate::lane::Lanes;
@@ -41,7 +41,8 @@ fn markets_of(places: &[RowPlaces], place: usize) -> Option<Markets> {
     })
 }
 
-/// The markets of an item of a lane, where it has so many. `own` holds the places at which its items begin, here and below.
+/// The markets of an item of a lane, where it has so many. `own` holds the places at which its items begin, here and
+/// below.
 fn markets_at(lanes: &Lanes<'_>, own: &[usize], item: usize) -> Option<Markets> {
     markets_of(lanes.places, *own.get(item)?)
 }

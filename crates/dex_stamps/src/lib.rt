@@ -1,5 +1,5 @@
-//! Stamps: numbers that order what is done on several journals. Only clauses read them, and they cost nothing when the program
-//! runs.
+//! Stamps: numbers that order what is done on several journals. Only clauses read them, and they cost nothing when the
+//! program runs.
 #![tactic(auto)]
 
 mod kept;

@@ -54,15 +54,16 @@ impl<'a, R: Wait> At<'a, R> {
         requires places { IsPlaced self.now.bank.now.script.start (row_of item.now.row.now) item.now.places.now }
         requires market { MayEnter self.now.bank.now.script (row_of item.now.row.now) gate.now pass.old }
         requires named { MayName self.now.bank.now.script (row_wallets (row_of item.now.row.now)) }
-        requires passes { AreReady self.now.bank.now item.now.row.now.lane (row_wallets (row_of item.now.row.now)) wallets.old.passes.items }
+        requires passes { AreReady self.now.bank.now item.now.row.now.lane (row_wallets (row_of item.now.row.now))
+            wallets.old.passes.items }
         requires hands { wallets.old.hands.items ≡ [] }
         requires room { 4 ≤ vec_capacity wallets.old.hands }
         ensures own { is_held (call_made (item.now.row.now, result)).item ≡ false }
         ensures told { IsTold self.now.bank.now.script (call_made (item.now.row.now, result)) }
         ensures later { last.now.number < result.stamp.number }
         ensures market { HasCalled (call_made (item.now.row.now, result)) gate.now.origin.start pass.old pass.new }
-        ensures passes { HaveGrown self.now.bank.now (row_wallets (row_of item.now.row.now)) (written_of (item.now.row.now, result))
-            wallets.old.passes.items wallets.new.passes.items }
+        ensures passes { HaveGrown self.now.bank.now (row_wallets (row_of item.now.row.now))
+            (written_of (item.now.row.now, result)) wallets.old.passes.items wallets.new.passes.items }
         ensures hands { wallets.new.hands.items ≡ [] }
         ensures room { vec_capacity wallets.old.hands ≤ vec_capacity wallets.new.hands }
     {
@@ -81,16 +82,19 @@ impl<'a, R: Wait> At<'a, R> {
         wallets: &mut WalletPasses,
         last: &Stamp,
     ) -> TwoRecords
-        requires placed { AreLegsPlaced self.now.bank.now.script (row_of legs.now.first.now) (row_of legs.now.second.now) legs.now.first_places.now
-            legs.now.second_places.now }
+        requires placed { AreLegsPlaced self.now.bank.now.script (row_of legs.now.first.now)
+            (row_of legs.now.second.now) legs.now.first_places.now legs.now.second_places.now }
         requires bank { IsBank self.now.bank.now }
         requires legs { AreLegs (row_of legs.now.first.now) (row_of legs.now.second.now) }
-        requires first { MayEnterAt self.now.bank.now (row_of legs.now.first.now) markets.old.items legs.now.first_places.now.market }
-        requires second { MayEnterAt self.now.bank.now (row_of legs.now.second.now) markets.old.items legs.now.second_places.now.market }
+        requires first { MayEnterAt self.now.bank.now (row_of legs.now.first.now) markets.old.items
+            legs.now.first_places.now.market }
+        requires second { MayEnterAt self.now.bank.now (row_of legs.now.second.now) markets.old.items
+            legs.now.second_places.now.market }
         requires markets { length markets.old.items ≡ length self.now.bank.now.script.start.markets }
-        requires named { MayName self.now.bank.now.script (leg_wallets (row_of legs.now.first.now) (row_of legs.now.second.now)) }
-        requires passes { AreReady self.now.bank.now legs.now.first.now.lane (leg_wallets (row_of legs.now.first.now) (row_of legs.now.second.now))
-            wallets.old.passes.items }
+        requires named { MayName self.now.bank.now.script
+            (leg_wallets (row_of legs.now.first.now) (row_of legs.now.second.now)) }
+        requires passes { AreReady self.now.bank.now legs.now.first.now.lane
+            (leg_wallets (row_of legs.now.first.now) (row_of legs.now.second.now)) wallets.old.passes.items }
         requires hands { wallets.old.hands.items ≡ [] }
         requires room { 4 ≤ vec_capacity wallets.old.hands }
         ensures told { HaveLegsTold self.now.bank.now.script last.now.number (one_made legs.now.first.now result)
@@ -98,8 +102,10 @@ impl<'a, R: Wait> At<'a, R> {
         ensures markets { AllThree (LegMarketGrows (row_of legs.now.first.now) (row_of legs.now.second.now)
             (one_made legs.now.first.now result) (two_made legs.now.second.now result))
             self.now.bank.now.script.start.markets markets.old.items markets.new.items }
-        ensures passes { HaveGrown self.now.bank.now (leg_wallets (row_of legs.now.first.now) (row_of legs.now.second.now))
-            (legs_written legs.now.first.now legs.now.second.now result) wallets.old.passes.items wallets.new.passes.items }
+        ensures passes { HaveGrown self.now.bank.now
+            (leg_wallets (row_of legs.now.first.now) (row_of legs.now.second.now))
+            (legs_written legs.now.first.now legs.now.second.now result)
+            wallets.old.passes.items wallets.new.passes.items }
         ensures hands { wallets.new.hands.items ≡ [] }
         ensures room { vec_capacity wallets.old.hands ≤ vec_capacity wallets.new.hands }
     {
@@ -139,7 +145,8 @@ impl<'a, R: Wait> At<'a, R> {
         requires named { MayName self.now.bank.now.script (A.named item.now) }
         requires ready { A.ready item.now markets.old }
         requires below { A.last item.now markets.old ≤ stamp.now.number }
-        requires hands { AreInHand self.now.bank.now.script (A.named item.now) (front others.now) wallets.old.hands.items }
+        requires hands { AreInHand self.now.bank.now.script (A.named item.now) (front others.now)
+            wallets.old.hands.items }
         requires passes { AreReady self.now.bank.now (A.lane item.now) (front others.now) wallets.old.passes.items }
         requires room { length wallets.old.hands.items + length others.now ≤ vec_capacity wallets.old.hands }
         ensures did { A.did item.now self.now.bank.now.script result markets.old markets.new }

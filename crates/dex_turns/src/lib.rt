@@ -1,4 +1,5 @@
-//! The items of lanes at a bank: each market and each wallet has a gate, and an item acts when it has the turns of all that it names.
+//! The items of lanes at a bank: each market and each wallet has a gate, and an item acts when it has the turns of all
+//! that it names.
 #![tactic(auto)]
 
 mod acts;
@@ -8,7 +9,6 @@ mod bank;
 mod legs;
 mod outline;
 mod pair;
-mod placed;
 mod seat;
 mod stamped_record;
 mod submitting;
@@ -19,5 +19,4 @@ mod waiting;
 pub use bank::{Bank, BankParts};
 pub use outline::Outline;
 pub use pair::{Pair, plan_pair};
-pub use placed::{AsRow, PlacedRow};
 pub use seat::LaneSeat;

@@ -22,8 +22,8 @@ pub(crate) struct WalletPasses {
     pub(crate) hands: Vec<WalletCell>,
 }
 
-/// A lane's seat at a bank: its passes for all markets and wallets, and what it made, which are its lane's first rows, each done
-/// once, in their order. One thread at a time uses it.
+/// A lane's seat at a bank: its passes for all markets and wallets, and what it made, which are its lane's first rows,
+/// each done once, in their order. One thread at a time uses it.
 #[derive(Drop)]
 pub struct LaneSeat {
     pub(crate) lane: u32,

@@ -2,7 +2,7 @@
 
 ghost use Rattle.dex_types.specs.Rows.{row_of};
 ghost use Rattle.dex_script_facts.specs.Places.{IsPlaced};
-ghost use Rattle.std.specs.Prelude.{◌≡◌};
+ghost use Rattle.std.specs.Prelude.{◌≡◌, IfSome};
 ghost use Rattle.std.specs.List.{All};
 ghost use Rattle.dex_fold.specs.World as world;
 ghost use Rattle.dex_act.specs.Wallets.{Fits, roles_of};
@@ -14,9 +14,9 @@ use crate::alone::RowAlone;
 use crate::at::At;
 use crate::bank::Bank;
 use crate::legs::{SwapLegs, TwoRecords};
-use crate::placed::AsRow;
 use crate::seat::LaneSeat;
 use crate::stamped_record::StampedRecord;
+use dex_act::AsRow;
 use dex_io::Pace;
 use dex_stage::seen_by;
 use dex_types::{Reply, Row, RowPlaces, Seen};
@@ -24,9 +24,10 @@ use dex_wallet::WalletCell;
 use std::sync::Wait;
 
 impl Bank {
-    /// A row of the seat's lane acts, which is a whole item: it draws and waits for the turn of its market, and then of each wallet
-    /// that it names, by rising address; it is decided and done or refused, its parcels move, and the turns are left, the wallets' and
-    /// then the market's. Where the row comes without the places of these, they are looked up. It takes no memory.
+    /// A row of the seat's lane acts, which is a whole item: it draws and waits for the turn of its market, and then of
+    /// each wallet that it names, by rising address; it is decided and done or refused, its parcels move, and the turns
+    /// are left, the wallets' and then the market's. Where the row comes without the places of these, they are looked
+    /// up. It takes no memory.
     pub fn submit<R: Wait, W: AsRow, P: Pace>(
         &self,
         rt: &R,
@@ -36,16 +37,16 @@ impl Bank {
     ) -> Reply
         requires seat { IsSeatOf self.now seat.old }
         requires row { IsNext (row_of (W.is row.now)) seat.old }
-        requires placed { W.placed row.now self.now.script.start }
+        requires placed { IfSome (W.at row.now) (IsPlaced self.now.script.start (row_of (W.is row.now))) }
         ensures submitted { HasSubmitted (row_of (W.is row.entry.now)) result seat.old seat.new }
         ensures bank { IsSeatOf self.now seat.new }
         ensures kept { IsSeat seat.new }
     {
-        let places = row.places(&self.outline);
+        let places = self.outline.places_of(row);
         self.submit_at(rt, seat, row.row(), &places, pace)
     }
 
-    // The same, where the places are at hand.
+    // A row acts, where its places are at hand.
     fn submit_at<R: Wait, P: Pace>(
         &self,
         rt: &R,
@@ -78,10 +79,11 @@ impl Bank {
         reply
     }
 
-    /// The two legs of a swap of the seat's lane act, both or neither: they draw and wait for the turns of their markets, by rising
-    /// address, and then of all wallets that they name, by rising address; both are looked at and decided before either acts; where
-    /// neither would be refused both act, and else each that would not be refused is held back; and the turns are left, the wallets'
-    /// and then the markets'. Where the legs come without the places of these, they are looked up. It takes no memory.
+    /// The two legs of a swap of the seat's lane act, both or neither: they draw and wait for the turns of their
+    /// markets, by rising address, and then of all wallets that they name, by rising address; both are looked at and
+    /// decided before either acts; where neither would be refused both act, and else each that would not be refused is
+    /// held back; and the turns are left, the wallets' and then the markets'. Where the legs come without the places of
+    /// these, they are looked up. It takes no memory.
     pub fn submit_two<R: Wait, W: AsRow, P: Pace>(
         &self,
         rt: &R,
@@ -92,19 +94,20 @@ impl Bank {
     ) -> (Reply, Reply)
         requires seat { IsSeatOf self.now seat.old }
         requires legs { AreNext (row_of (W.is first.now)) (row_of (W.is second.now)) seat.old }
-        requires placed { W.placed first.now self.now.script.start × W.placed second.now self.now.script.start }
+        requires first { IfSome (W.at first.now) (IsPlaced self.now.script.start (row_of (W.is first.now))) }
+        requires second { IfSome (W.at second.now) (IsPlaced self.now.script.start (row_of (W.is second.now))) }
         ensures submitted { HaveSubmitted (row_of (W.is first.entry.now)) (row_of (W.is second.entry.now)) result
             seat.old seat.new }
         ensures bank { IsSeatOf self.now seat.new }
         ensures kept { IsSeat seat.new }
     {
-        let one = first.places(&self.outline);
-        let two = second.places(&self.outline);
+        let one = self.outline.places_of(first);
+        let two = self.outline.places_of(second);
         let legs = SwapLegs::of(first.row(), second.row(), &one, &two, pace);
         self.submit_legs(rt, seat, &legs)
     }
 
-    // The same, where the places are at hand.
+    // Two legs act, where their places are at hand.
     fn submit_legs<R: Wait, P: Pace>(
         &self,
         rt: &R,

@@ -28,7 +28,8 @@ pub(crate) struct TwoTurns {
     pub(crate) stamp: Stamp,
 }
 
-/// Waits for the turn of the market at a place, and takes it out. The stamp is the later of this one and the market's last.
+/// Waits for the turn of the market at a place, and takes it out. The stamp is the later of this one and the market's
+/// last.
 fn take_at<R: Wait>(
     rt: &R,
     gate: &Gate<BankMarket>,
@@ -96,8 +97,8 @@ fn take_rising<R: Wait>(
     }
 }
 
-/// Waits for the turns of the markets of two legs, by rising address, and takes them out. `in_order` is whether the first leg's has the
-/// lower one.
+/// Waits for the turns of the markets of two legs, by rising address, and takes them out. `in_order` is whether the
+/// first leg's has the lower one.
 pub(crate) fn take_two<R: Wait>(
     rt: &R,
     one: Entrance<'_>,
@@ -121,7 +122,7 @@ pub(crate) fn take_two<R: Wait>(
 }
 
 impl TwoTurns {
-    /// The same, the other first.
+    /// These turns, the other market's first.
     fn exchanged(self) -> TwoTurns
         ensures markets { (result.markets.first ≡ self.markets.second) × (result.markets.second ≡ self.markets.first) }
         ensures away { (result.first ≡ self.second) × (result.second ≡ self.first) }
