@@ -8,7 +8,7 @@ ghost use Rattle.dex_journals.specs.Journals.{MarketOrigin, market_calls};
 ghost use Rattle.dex_stamps.specs.Stamped.{Stamped};
 ghost use Rattle.dex_gate.specs.GateView.{GateView};
 ghost use Rattle.dex_turns.specs.Submitted.{Where};
-ghost use Rattle.dex_turns.specs.TwoTurns.{HaveTaken};
+ghost use Rattle.dex_turns.specs.TwoTurns.{HaveTaken, exchanged};
 ghost use Rattle.dex_turns.specs.Turns.{HasSeenAt, IsAwayFor, IsBelow, IsHomeAt, IsOutAt, MayLeaveAt, left_with};
 
 use crate::bank::Bank;
@@ -124,9 +124,7 @@ pub(crate) fn take_two<R: Wait>(
 impl TwoTurns {
     /// These turns, the other market's first.
     fn exchanged(self) -> TwoTurns
-        ensures markets { (result.markets.first ≡ self.markets.second) × (result.markets.second ≡ self.markets.first) }
-        ensures away { (result.first ≡ self.second) × (result.second ≡ self.first) }
-        ensures stamp { result.stamp ≡ self.stamp }
+        ensures { result ≡ exchanged self }
     {
         let TwoTurns {
             markets: TwoMarkets { first, second },
