@@ -1,5 +1,5 @@
 -- The turns of two markets, taken in the one order and told in the other; and which order it is.
-use Rattle.std.proofs.Common.{◌≡◌, ℕ, Bool, true, false, cond, List, [], ◌∷◌, sym, ap, ◌∙◌, subst, ⊎_elim}
+use Rattle.std.proofs.Common.{◌≡◌, ℕ, Bool, true, false, cond, List, [], ◌∷◌, get_or, sym, ap, ◌∙◌, subst, ⊎_elim}
 use Rattle.std.specs.List.{All}
 use Rattle.std.proofs.lemmas.Bool.{cond-false, cond-true}
 use Rattle.dex_fold.proofs.Common.{Address, All-head, All-nil, Call, cases_Bool, is_same, is_same-refl, is_same-sym}
@@ -31,21 +31,17 @@ exchanged-taken one two place next before after last turns apart taken = record 
 
 -- ---- which of two addresses is the lower
 
-first-or : Address → List Address → Address
-first-or d [] = d
-first-or d (x ∷ xs) = x
-
-pub order-told : (a b lower : Address) (rest : List Address) (test : Bool) → is_same a b ≡ false → lower ∷ rest ≡ with_address a (with_address b []) → test ≡ is_same lower a
+pub order-told : (a b d : Address) (markets : List Address) (test : Bool) → is_same a b ≡ false → markets ≡ with_address a (with_address b []) → test ≡ is_same (get_or markets 0 d) a
     → Where test (is_lower a b ≡ true) (is_lower b a ≡ true)
-order-told a b lower rest test apart told test_is =
+order-told a b d markets test apart told test_is =
     let Told : Bool → Type 0 = λ t. Where t (is_lower a b ≡ true) (is_lower b a ≡ true) in
     let chosen : with_address a (b ∷ []) ≡ cond (is_lower a b) (a ∷ b ∷ []) (b ∷ a ∷ []) = cond-false _ _ _ apart in
     ⊎_elim
     (λ (low : is_lower a b ≡ true).
-    let first : lower ≡ a = ap (first-or a) (told ∙ chosen ∙ cond-true _ _ _ low) in
+    let first : get_or markets 0 d ≡ a = ap (λ (l : List Address). get_or l 0 d) (told ∙ chosen ∙ cond-true _ _ _ low) in
     subst Told (sym (test_is ∙ ap (λ (x : Address). is_same x a) first ∙ is_same-refl a)) low)
     (λ (high : is_lower a b ≡ false).
-    let first : lower ≡ b = ap (first-or a) (told ∙ chosen ∙ cond-false _ _ _ high) in
+    let first : get_or markets 0 d ≡ b = ap (λ (l : List Address). get_or l 0 d) (told ∙ chosen ∙ cond-false _ _ _ high) in
     let rising : AreRising (b ∷ a ∷ []) = subst AreRising (chosen ∙ cond-false _ _ _ high) (with_address-rising a (b ∷ []) (All-nil _, tt)) in
     subst Told (sym (test_is ∙ ap (λ (x : Address). is_same x a) first ∙ is_same-sym b a ∙ apart)) (All-head (λ (x : Address). is_lower b x ≡ true) a [] rising.0))
     (cases_Bool (is_lower a b))

@@ -48,7 +48,7 @@ impl<'a, P: Pace> SwapLegs<'a, P> {
         second_places: &'a RowPlaces,
         pace: &'a P,
     ) -> SwapLegs<'a, P>
-        ensures rows { (result.first.now ≡ first.now) × (result.second.now ≡ second.now) }
+        ensures rows { (result.first.now ≡ first.entry.now) × (result.second.now ≡ second.entry.now) }
         ensures first { result.first_places.now ≡ first_places.now }
         ensures second { result.second_places.now ≡ second_places.now }
     {

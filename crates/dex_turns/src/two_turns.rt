@@ -81,8 +81,8 @@ fn take_rising<R: Wait>(
     requires apart { lower.place ≡ higher.place → ⊥ }
     requires home { IsHomeAt lower.gate.now lower.place passes.old.items }
     requires home_next { IsHomeAt higher.gate.now higher.place passes.old.items }
-    ensures { HaveTaken lower.gate.now higher.gate.now lower.place higher.place passes.old.items passes.new.items
-        last.now.number result }
+    ensures { HaveTaken lower.entry.gate.now higher.entry.gate.now lower.entry.place higher.entry.place
+        passes.old.items passes.new.items last.now.number result }
 {
     let (market, away, stamp) = take_at(rt, lower.gate, passes, lower.place, last);
     let (market_next, away_next, later) = take_at(rt, higher.gate, passes, higher.place, &stamp);
@@ -111,8 +111,8 @@ pub(crate) fn take_two<R: Wait>(
     requires apart { one.place ≡ two.place → ⊥ }
     requires home { IsHomeAt one.gate.now one.place passes.old.items }
     requires home_next { IsHomeAt two.gate.now two.place passes.old.items }
-    ensures { HaveTaken one.gate.now two.gate.now one.place two.place passes.old.items passes.new.items
-        last.now.number result }
+    ensures { HaveTaken one.entry.gate.now two.entry.gate.now one.entry.place two.entry.place
+        passes.old.items passes.new.items last.now.number result }
 {
     if in_order {
         take_rising(rt, one, two, passes, last)

@@ -114,7 +114,7 @@ pub take_from_hand-cell-requires : goal.take_from_hand-cell-requires
 take_from_hand-cell-requires g t c =
     let hands_long : length c.push_reserved.new.self.items ≡ length c.args.wallets.now.hands.items + 1 =
     ap length c.push_reserved.ensures.items ∙ length-append c.args.wallets.now.hands.items (c.take_wallet-cell.result.0 ∷ []) in
-    omega (arith, hands_long, AllZip-long (HasEntry (g.A.Acts.written c.args.item.now c.with_wallets-made.result)) c.push_reserved.new.self.items c.with_wallets-made.new.hands.items c.with_wallets-made.ensures.hands)
+    omega (arith, hands_long, AllZip-long (HasEntry (g.A.Acts.written c.args.item.now c.with_wallets-made.result)) c.push_reserved.new.self.items c.with_wallets-made.new.wallets.hands.items c.with_wallets-made.ensures.hands)
 
 -- ---- behind them
 

@@ -4,6 +4,7 @@ use Rattle.dex_types.specs.declared.rows.Row.{Row}
 use Rattle.dex_fold.proofs.Common.{row_of}
 use Rattle.dex_script_facts.specs.Places.{IsPlaced}
 use Rattle.dex_turns.proofs.Common.{BankState, HasSubmitted, IsBank, IsNext, IsRowOf}
+use Rattle.dex_turns.specs.Inside.{bank_inside}
 use Rattle.dex_turns.proofs.SeatAfter.{next-ahead, row-fits}
 use Rattle.dex_turns.proofs.bank.Bank.submit.Goals as goal
 
@@ -23,7 +24,7 @@ submit_at-requires-clause-row g c = subst (λ (row : Row). IsNext (row_of row) c
 pub submit_at-requires-clause-places : goal.submit_at-requires-clause-places
 submit_at-requires-clause-places g c =
     subst (λ (bank : BankState). IsPlaced bank.script.start (row_of c.row.result.now) c.places_of-places.result) c.self.view_is
-    (subst (λ (row : Row). IsPlaced _ (row_of row) c.places_of-places.result) (sym c.row.ensures) c.places_of-places.ensures)
+    (subst (λ (row : Row). IsPlaced (bank_inside c.self.inside).script.start (row_of row) c.places_of-places.result) (sym c.row.ensures) c.places_of-places.ensures)
 
 pub returns-clause-submitted : goal.returns-clause-submitted
 returns-clause-submitted g c = subst (λ (row : Row). HasSubmitted (row_of row) c.submit_at.result c.args.seat.now c.submit_at.new.seat) c.row.ensures c.submit_at.ensures.submitted
