@@ -105,10 +105,12 @@ class Build:
         """How long all may take here: by the pace of proofs of before, or from that of a quick machine to that of a slow one."""
         file = f"{out_of(self.top)}/seconds"
         told = read_rows(file) if os.path.exists(file) else {}
-        paces = [int(words[-1]) / self.seconds[it] for it, words in told.items() if it in self.seconds]
+        known = {it: words[-1] for it, words in told.items() if it in self.seconds and words[-1].isdigit()}
+        paces = sorted(int(took) / self.seconds[it] for it, took in known.items())
         if len(paces) > 4:
-            return f"{in_minutes(self.whole * sorted(paces)[len(paces) // 2])} at this machine's pace"
-        return f"{in_minutes(self.whole)} on a quick machine, up to {round(SLOWEST * self.whole / 60) or 1} on a slow one; its first crates will tell"
+            return f"{in_minutes(self.whole * paces[len(paces) // 2])} at this machine's pace"
+        most = round(SLOWEST * self.whole / 60) or 1
+        return f"{in_minutes(self.whole)} on a quick machine, up to {most} on a slow one; the first crates will tell"
 
     def told_left(self):
         """How long what is left may take, at the pace that was seen up to now."""
@@ -134,14 +136,17 @@ class Build:
         write(f"{room}/kit", f"{self.kit}\n")
         write(f"{room}/crates.txt", "".join(f"{lines[it]}\n" for it in names))
         for it in names:
-            parts += [f"crates/{it}/{part}" for part in ("src", "specs", "proofs", "out/rlib") if os.path.isdir(f"{ROOT}/crates/{it}/{part}")]
+            own = [f"crates/{it}/{part}" for part in ("src", "specs", "proofs", "out/rlib")]
+            parts += [part for part in own if os.path.isdir(f"{ROOT}/{part}")]
         for how in ("-al", "-a"):  # further names of the files; copies, where the file system has no such names
-            copied = subprocess.run(["cp", how, "--parents", *parts, room], cwd=ROOT, stderr=subprocess.PIPE, text=True, errors="replace")
+            words = ["cp", how, "--parents", *parts, room]
+            copied = subprocess.run(words, cwd=ROOT, stderr=subprocess.PIPE, text=True, errors="replace", check=False)
             if not copied.returncode:
                 break
             shutil.rmtree(f"{room}/crates", ignore_errors=True)
         else:
-            raise Failure(f"{name} cannot be copied into crates/dex_program/out/rooms, where it would be proved: {copied.stderr.strip()[-200:]}")
+            raise Failure(f"{name} cannot be copied into crates/dex_program/out/rooms, where it would be proved"
+                          f" ({''.join(copied.stderr.splitlines()[-1:])})")
         os.makedirs(out_of(name), exist_ok=True)
         os.makedirs(f"{room}/crates/{name}/out", exist_ok=True)
         self.in_crate(name, take_in)
@@ -166,8 +171,8 @@ class Build:
     def run(self, words, folder, log):
         """Begins a command, which has the turn too, and which no key of the terminal ends but through this process."""
         with open(log, "wb") as said:
-            return subprocess.Popen(words, cwd=folder, stdin=subprocess.DEVNULL, stdout=said, stderr=subprocess.STDOUT, pass_fds=[self.turn],
-                                    preexec_fn=lambda: [signal.signal(it, signal.SIG_IGN) for it in (signal.SIGINT, signal.SIGQUIT)])
+            how = {"cwd": folder, "stdin": subprocess.DEVNULL, "stdout": said, "stderr": subprocess.STDOUT}
+            return subprocess.Popen(words, **how, pass_fds=[self.turn], preexec_fn=without_keys)
 
     def begin_ready(self, ready):
         """Begins the proofs of crates that stand on proved ones, the longest chain first, as many at once as there are processors. Those
@@ -213,7 +218,8 @@ class Build:
 
     def prove_all(self):
         """Proves all crates but the top one. Once one is not proved, or a source changes, no other is begun."""
-        graph, ready, is_open = graphlib.TopologicalSorter({it: self.uses[it] for it in self.uses if it != self.top}), [], True
+        graph = graphlib.TopologicalSorter({it: self.uses[it] for it in self.uses if it != self.top})
+        ready, is_open = [], True
         graph.prepare()
         while graph.is_active():
             for name in graph.get_ready():
@@ -246,7 +252,8 @@ class Build:
     def build(self, finish):
         """Proves what is not proved of the crates below, and has the top crate built. It raises Failure, Stopped or OSError."""
         if not shutil.which("rt"):
-            raise Failure("there is no command rt: it comes with the Rattle toolchain whose version README.md names; put its folder bin on PATH")
+            raise Failure("there is no command rt: it comes with the Rattle toolchain whose version README.md names; "
+                          "put its folder bin on PATH")
         for it in (signal.SIGINT, signal.SIGTERM, signal.SIGHUP):
             signal.signal(it, stopped)
         os.makedirs(out_of(self.top), exist_ok=True)
@@ -256,7 +263,8 @@ class Build:
         self.guess_built()
         names, self.whole = self.left()
         self.tell(f"proving {len(names)} of {len(self.order)} crates: {self.told_start()}; later only what changed")
-        self.tell("meanwhile, ./try with the same words runs the program in some 80 seconds, with nothing proved")
+        if self.name == "dex":
+            self.tell("meanwhile, ./try with the same words runs the program in some 80 seconds, with nothing proved")
         if len(names) > 1:
             self.prove_all()
             self.tell_time(f"now {self.what} itself is proved and built, two or three minutes")
@@ -300,7 +308,8 @@ class Build:
                 tell(it)
             self.tell(f"{why}{f' (above: the end of {why.log})' if why.log else ''}; {self.nothing}")
         except OSError as why:
-            self.tell(f"{os.path.relpath(os.fsdecode(why.filename or ROOT), ROOT)}: {why.strerror}; {self.nothing}")
+            name = os.path.relpath(os.fsdecode(why.filename), ROOT) if why.filename else "this folder"
+            self.tell(f"{name}: {why.strerror}; {self.nothing}")
         raise SystemExit(70)
 
     def free(self, is_built):
@@ -322,6 +331,11 @@ def remove(folder):
     took = sum(os.lstat(it).st_blocks * 512 for it in files)
     shutil.rmtree(folder)
     return took
+
+
+def without_keys():
+    for it in (signal.SIGINT, signal.SIGQUIT):
+        signal.signal(it, signal.SIG_IGN)
 
 
 def stopped(number, _):

@@ -16,16 +16,20 @@ def tell(text):
         pass
 
 
+def read(path):
+    with open(path, encoding="utf-8", errors="replace") as file:
+        return file.read()
+
+
 def holders(folder):
-    """The processes that have the lock of a folder, so far as the system tells: their numbers, and whether each was begun by another."""
+    """The processes that have the lock of a folder, so far as the system tells, each with the one that began it."""
     found, wanted = {}, os.stat(folder)
     for path in glob.glob("/proc/[0-9]*/fd/*"):
         try:
             if os.path.samestat(os.stat(path), wanted):
                 process = path.split("/")[2]
-                with open(path.replace("/fd/", "/fdinfo/"), encoding="utf-8") as told, open(f"/proc/{process}/status", encoding="utf-8") as status:
-                    if re.search(r"^lock:", told.read(), re.M):
-                        found[process] = re.search(r"^PPid:\s*(\d+)", status.read(), re.M)[1]
+                if re.search(r"^lock:", read(path.replace("/fd/", "/fdinfo/")), re.M):
+                    found[process] = re.search(r"^PPid:\s*(\d+)", read(f"/proc/{process}/status"), re.M)[1]
         except OSError:
             pass  # it ended meanwhile, or is another user's
     return found
