@@ -1,5 +1,4 @@
-"""Proves crates side by side, those with the longest chain above them first, each in a room of its own: a tree of further names of the
-same files, since a command of the toolchain keeps others out of all folders that it reads."""
+"""Proves crates side by side, those with the longest chain above them first, each in a room of its own."""
 
 import graphlib
 import os
@@ -9,42 +8,16 @@ import signal
 import subprocess
 import time
 
-from build_tools.crates import ROOT, UNKNOWN, chains, is_old, newest, read_lines, read_rows, read_uses, sources_of, time_of
+from build_tools.crates import ROOT, UNKNOWN, chains, is_old, read_lines, read_rows, read_uses, time_of
 from build_tools.locks import take_lock, tell
+from build_tools.rooms import ROOMS, Failure, in_crate, leave_room, leave_rooms, make_room, move, out_of, read, write
 
-ROOMS = f"{ROOT}/crates/dex_program/out/rooms"
 SECONDS = f"{ROOT}/tests/data/first_seconds"  # what the first proof of each crate took on a quick machine
 SLOWEST = 3  # how many times as long a machine was seen to take
 
 
-class Failure(Exception):
-    """Why a build ends without a program, and the log of which the last lines tell more."""
-
-    def __init__(self, why, log=None):
-        super().__init__(why)
-        self.log = log
-
-
 class Stopped(Exception):
     """A signal came; its status."""
-
-
-def out_of(name):
-    return f"{ROOT}/crates/{name}/out"
-
-
-def read(path):
-    """The text of a file, nothing where it is missing."""
-    try:
-        with open(path, encoding="utf-8", errors="replace") as file:
-            return file.read()
-    except FileNotFoundError:
-        return ""
-
-
-def write(path, text):
-    with open(path, "w", encoding="utf-8") as file:
-        file.write(text)
 
 
 def at_once():
@@ -56,13 +29,6 @@ def at_once():
 
 def in_minutes(seconds):
     return f"about {round(seconds / 60)} minutes" if seconds > 90 else "a minute or so"
-
-
-def move(path, to):
-    """Moves a folder or file to where another may stand."""
-    if os.path.isdir(to):
-        shutil.rmtree(to)
-    os.replace(path, to)
 
 
 class Build:
@@ -118,55 +84,12 @@ class Build:
         done = self.whole - left
         return in_minutes(left * took / done if min(done, took) > 60 else left)
 
-    # The rooms
-
-    def in_crate(self, name, does):
-        """Does something to what a crate keeps, while no other command is at work there."""
-        turn = take_lock(f"{ROOT}/crates/{name}", f"a command is at work in {name}", self.tell)
-        try:
-            does(f"{ROOMS}/{name}/crates/{name}/out", out_of(name))
-        finally:
-            os.close(turn)
-
-    def make_room(self, name):
-        """Makes a crate's room, with all that is built, and moves into it what the crate keeps for its next proof."""
-        room, lines, parts = f"{ROOMS}/{name}", read_lines(), ["HANDLES"]
-        names = [it for it in self.order if it == name or it in self.built]
-        os.makedirs(room)
-        write(f"{room}/kit", f"{self.kit}\n")
-        write(f"{room}/crates.txt", "".join(f"{lines[it]}\n" for it in names))
-        for it in names:
-            own = [f"crates/{it}/{part}" for part in ("src", "specs", "proofs", "out/rlib")]
-            parts += [part for part in own if os.path.isdir(f"{ROOT}/{part}")]
-        for how in ("-al", "-a"):  # further names of the files; copies, where the file system has no such names
-            words = ["cp", how, "--parents", *parts, room]
-            copied = subprocess.run(words, cwd=ROOT, stderr=subprocess.PIPE, text=True, errors="replace", check=False)
-            if not copied.returncode:
-                break
-            shutil.rmtree(f"{room}/crates", ignore_errors=True)
-        else:
-            raise Failure(f"{name} cannot be copied into crates/dex_program/out/rooms, where it would be proved"
-                          f" ({''.join(copied.stderr.splitlines()[-1:])})")
-        os.makedirs(out_of(name), exist_ok=True)
-        os.makedirs(f"{room}/crates/{name}/out", exist_ok=True)
-        self.in_crate(name, take_in)
-
-    def leave_room(self, name):
-        """Moves what a crate's room holds of its proof to the crate, and ends the room."""
-        if os.path.isdir(out_of(name)):
-            self.in_crate(name, take_out)
-        shutil.rmtree(f"{ROOMS}/{name}")
-
-    def leave_rooms(self):
-        for name in os.listdir(ROOMS) if os.path.isdir(ROOMS) else ():
-            self.leave_room(name)
+    # The proofs
 
     def take_turn(self):
         """Takes the turn of this folder, and what a build that was killed here left."""
         self.turn = take_lock(f"{ROOT}/crates", "another ./dex is at work in this folder", self.tell)
-        self.leave_rooms()
-
-    # The proofs
+        leave_rooms(self.tell)
 
     def run(self, words, folder, log):
         """Begins a command, which has the turn too, and which no key of the terminal ends but through this process."""
@@ -182,7 +105,7 @@ class Build:
             free = self.most - sum(jobs for _, jobs, _ in self.work.values())
             jobs = 1 if self.uses[ready[0]] else max(1, free // len(ready))
             name = ready.pop(0)
-            self.make_room(name)
+            make_room(name, [it for it in self.order if it == name or it in self.built], self.kit, self.tell)
             words = ["rt", "lib", "--jobs", str(jobs)]
             self.work[name] = self.run(words, f"{ROOMS}/{name}/crates/{name}", f"{out_of(name)}/build.log"), jobs, time.monotonic()
 
@@ -193,7 +116,7 @@ class Build:
         is_proved = process.returncode == 0 and os.path.isfile(stamp)
         if is_proved and time_of(stamp) <= time_of(own):
             move(f"{room}/kit", f"{out_of(name)}/kit")  # rt found the library as it should be
-        self.leave_room(name)
+        leave_room(name, self.tell)
         if not is_proved:
             self.failed = self.failed or name
             if self.work:
@@ -208,7 +131,8 @@ class Build:
 
     def tell_wait(self, name):
         """Says once that a crate's proof waits for that of another folder."""
-        line = read(f"{out_of(name)}/build.log").partition("\n")[0]
+        with open(f"{out_of(name)}/build.log", encoding="utf-8", errors="replace") as log:
+            line = log.readline().rstrip("\n")
         if " another copy of the repository " in line and line not in self.waits:
             self.waits.add(line)
             self.tell(line)
@@ -289,7 +213,7 @@ class Build:
             process.wait()
         self.work.clear()
         if self.turn is not None:
-            self.leave_rooms()
+            leave_rooms(self.tell)
 
     def ends_of(self, does):
         """Does a build, and ends with status 70, or that of a signal, where it comes to nothing; it says why."""
@@ -320,7 +244,7 @@ class Build:
         freed = []
         for name in read_lines():
             if os.path.isdir(f"{out_of(name)}/incremental"):
-                self.in_crate(name, lambda _, own: freed.append(remove(f"{own}/incremental")))
+                in_crate(name, lambda _, own: freed.append(remove(f"{own}/incremental")), self.tell)
         self.tell(f"removed {sum(freed) // 1_048_576} MB: what the crates kept of their proofs (crates/*/out/incremental)")
         self.tell("the program and the libraries stay; a crate that changes is proved from nothing the next time")
 
@@ -340,18 +264,3 @@ def without_keys():
 
 def stopped(number, _):
     raise Stopped(128 + number)
-
-
-def take_in(room, own):
-    """Moves what a crate keeps for its next proof into its room."""
-    if os.path.isdir(f"{own}/incremental"):
-        move(f"{own}/incremental", f"{room}/incremental")
-
-
-def take_out(room, own):
-    """Moves what a crate's room holds of its proof to the crate."""
-    if time_of(f"{room}/rlib/stamp") > time_of(f"{own}/rlib/stamp"):
-        move(f"{room}/rlib", f"{own}/rlib")
-        move(f"{os.path.dirname(os.path.dirname(os.path.dirname(room)))}/kit", f"{own}/kit")
-    if os.path.isdir(f"{room}/incremental"):
-        move(f"{room}/incremental", f"{own}/incremental")
