@@ -2,8 +2,8 @@
 """The crates of crates.txt: what each uses, how long each takes, and what it is made from. build_tools/crates.py NAME prints the crates
 that a crate stands on and itself, the lowest first; with --used before it those that it uses itself."""
 
-import argparse
 import os
+import sys
 
 ROOT = os.path.dirname(os.path.dirname(os.path.realpath(__file__)))
 UNKNOWN = 60  # seconds of a crate that no file tells
@@ -84,13 +84,11 @@ def is_old(file, names):
 
 
 def main():
-    asks = argparse.ArgumentParser(description=__doc__, formatter_class=argparse.RawDescriptionHelpFormatter)
-    asks.add_argument("--used", action="store_true")
-    asks.add_argument("name", metavar="NAME")
-    given, uses = asks.parse_args(), read_uses()
-    if given.name not in uses:
-        asks.error(f"crates.txt names no crate {given.name}")
-    print(*(uses[given.name] if given.used else read_uses(given.name)), sep="\n")
+    words, uses = sys.argv[1:], read_uses()
+    is_used = words[:1] == ["--used"]
+    if len(words) != 1 + is_used or words[-1] not in uses:
+        sys.exit("usage: build_tools/crates.py [--used] NAME, a crate of crates.txt")
+    print(*(uses[words[-1]] if is_used else read_uses(words[-1])), sep="\n")
 
 
 if __name__ == "__main__":
