@@ -13,6 +13,7 @@ from build_tools.locks import take_lock, tell
 from build_tools.rooms import ROOMS, Failure, in_crate, leave_room, leave_rooms, make_room, move, out_of, read, write
 
 SECONDS = f"{ROOT}/tests/data/first_seconds"  # what the first proof of each crate took on a quick machine
+LEAST = 1_000_000  # bytes, below which a disk is full
 SLOWEST = 3  # how many times as long a machine was seen to take
 
 
@@ -75,8 +76,9 @@ class Build:
         paces = sorted(int(took) / self.seconds[it] for it, took in known.items())
         if len(paces) > 4:
             return f"{in_minutes(self.whole * paces[len(paces) // 2])} at this machine's pace"
-        most = round(SLOWEST * self.whole / 60) or 1
-        return f"{in_minutes(self.whole)} on a quick machine, up to {most} on a slow one; the first crates will tell"
+        most = round(SLOWEST * self.whole / 60)
+        told = f" on a quick machine, up to {most} on a slow one; the first crates will tell" if most > 1 else ""
+        return in_minutes(self.whole) + told
 
     def told_left(self):
         """How long what is left may take, at the pace that was seen up to now."""
@@ -230,6 +232,8 @@ class Build:
             lines = read(f"{ROOT}/{why.log}").splitlines()[-20:] if why.log else []
             for it in lines:
                 tell(it)
+            if shutil.disk_usage(ROOT).free < LEAST:
+                self.tell("the disk is full")
             self.tell(f"{why}{f' (above: the end of {why.log})' if why.log else ''}; {self.nothing}")
         except OSError as why:
             name = os.path.relpath(os.fsdecode(why.filename), ROOT) if why.filename else "this folder"
