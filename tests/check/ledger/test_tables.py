@@ -17,7 +17,7 @@ def formats() -> str:
 
 def told_layout(name: str) -> list[tuple[int, str]]:
     """The places and names of a layout's fields as docs/FORMATS.md tells them."""
-    row = next(line for line in formats().splitlines() if re.match(rf"\| {name}( \([^|]*\))? \|", line))
+    row = next(line for line in formats().splitlines() if re.match(rf"\| ?{name}( \([^|]*\))? ?\|", line))
     cells = row.split("|")[3].split(";")[0]
     return [(int(place), text) for place, text in re.findall(r"(?:^|, )\s*(\d+) `?([a-z_]+)`?", re.sub(r"\([^)]*\)", "", cells))]
 
@@ -55,10 +55,10 @@ class Instructions(unittest.TestCase):
 
     def test_names(self) -> None:
         """Every tag of the document has places, and no other one."""
-        table = re.search(r"^\| Tag \|.*\n(?:\|.*\n)+", formats(), re.M)
+        table = re.search(r"^\| ?Tag ?\|.*\n(?:\|.*\n)+", formats(), re.M)
         assert table is not None
         told: dict[int, str] = {}
-        for tags, names in re.findall(r"^\| ([\d, ]+) \| ([A-Za-z0-9, ]+) \|", table.group(), re.M):
+        for tags, names in re.findall(r"^\| ?([\d, ]+?) ?\| ?([A-Za-z0-9, ]+?) ?\|", table.group(), re.M):
             told.update(zip(map(int, tags.split(", ")), names.split(", ")))
         self.assertEqual({tag: row.name for tag, row in INSTRUCTIONS.items() if row.places}, told)
 
