@@ -5,13 +5,16 @@ The places of fields are those of docs/FORMATS.md. Accounts that a command wrote
 
 from __future__ import annotations
 
+import struct
 from base64 import b64decode
-from collections.abc import Iterable
 from dataclasses import dataclass
 from functools import cached_property
 
 LABEL = frozenset(b'abcdefghijklmnopqrstuvwxyz0123456789_')
 LOW = 2**64 - 1
+# A node of a side: its tag, the two halves of an order's id, the lots. The upper half is the price. Tag 2 is an order's.
+NODE, ORDER = struct.Struct('<I4xQQ32xQ8x'), 2
+FIRST_NODE = 45
 KINDS = {1: 'taker fill', 9: 'maker fill', 2: 'out', 18: 'releasing out'}
 BID = 4
 
@@ -170,12 +173,17 @@ def events_of(data: bytes) -> tuple[Event, ...]:
     return tuple(event_at(data, 37 + 88 * ((head + place) % capacity)) for place in range(count))
 
 
-def levels_of(orders: Iterable[Order]) -> tuple[Level, ...]:
-    """The levels of a side."""
-    found: dict[int, list[int]] = {}
-    for order in orders:
-        found.setdefault(order.price, []).append(order.lots)
-    return tuple(Level(price, sum(lots), len(lots)) for price, lots in found.items())
+def levels_of(side: bytes, is_bid: bool) -> tuple[Level, ...]:
+    """The levels of a side, best first, from its account in base64. Only nodes that were ever used are read."""
+    used = number_at(b64decode(side[:64]), 13)
+    nodes = b64decode(side[:-(-(FIRST_NODE + used * NODE.size) // 3) * 4])[FIRST_NODE:FIRST_NODE + used * NODE.size]
+    lots_at: dict[int, int] = {}
+    orders_at: dict[int, int] = {}
+    for tag, _, price, lots in NODE.iter_unpack(nodes):
+        if tag == ORDER:
+            lots_at[price] = lots_at.get(price, 0) + lots
+            orders_at[price] = orders_at.get(price, 0) + 1
+    return tuple(Level(price, lots_at[price], orders_at[price]) for price in sorted(lots_at, reverse=is_bid))
 
 
 class Market:
@@ -262,7 +270,7 @@ class Market:
     @cached_property
     def depth(self) -> Depth:
         """The levels of both sides, best first."""
-        return Depth(levels_of(self.bids), levels_of(self.asks))
+        return Depth(levels_of(self._fields[5], True), levels_of(self._fields[6], False))
 
     @cached_property
     def open_orders(self) -> dict[str, OpenOrders]:
