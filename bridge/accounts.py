@@ -8,11 +8,13 @@ from dataclasses import dataclass
 from typing import Any, Iterable, Iterator, NamedTuple, Optional
 
 from bridge.encoding import address_of, base58_bytes, base58_of, base64_bytes, base64_text, shown
-from bridge.files import json_files, json_of, read_bytes
+from bridge.files import json_files, json_values, plain_file, read_bytes
 from bridge.refusals import Refusal
 from bridge.snapshot import Snapshot
 from bridge.tables import RENT, TOKEN_PROGRAM, rent_exempt
 
+# The most bytes of an account that are read as base58, which takes time by more than their number: the public program's largest queue.
+_MOST_BASE58 = 262156
 TOKEN_KINDS = ("mint", "wallet", "coin_vault", "pc_vault")
 
 
@@ -46,7 +48,7 @@ class _Addresses:
             remedy = f"write the addresses of the request, one a line and in its order, into {self.path}"
             raise Refusal(self._source, "an answer in it has no address", remedy)
         try:
-            return read_bytes(self.path).decode("utf-8-sig").split()
+            return read_bytes(plain_file(self.path)).decode("utf-8-sig").split()
         except UnicodeDecodeError:
             raise Refusal(self.path, "it is no text", "write one address a line") from None
 
@@ -93,9 +95,10 @@ def _decoded(text: Any, encoding: Any, where: str) -> bytes:
         if encoding == "base64":
             return base64_bytes(text)
         if encoding == "base58":
-            return base58_bytes(text)
+            return base58_bytes(text, _MOST_BASE58)
     except ValueError as fault:
-        raise Refusal(where, f"its data is no {encoding} ({fault})", "save the answer of the tool whole and as it is") from None
+        remedy = 'ask again with "encoding": "base64"' if encoding == "base58" else "save the answer of the tool whole and as it is"
+        raise Refusal(where, f"its data is no {encoding} that is read here ({fault})", remedy) from None
     raise Refusal(where, f"its data has the encoding {encoding}, which is not read here", 'ask again with "encoding": "base64"')
 
 
@@ -144,12 +147,12 @@ def _named(value: dict[str, Any], source: _Source) -> Account:
 def _with_context(value: dict[str, Any], source: _Source) -> _Source:
     """The source with the slot that an answer tells."""
     slot = value["context"].get("slot") if isinstance(value["context"], dict) else None
-    return source._replace(slot=slot if isinstance(slot, int) else None)
+    return source._replace(slot=slot if isinstance(slot, int) and not isinstance(slot, bool) else None)
 
 
 def _read_object(value: dict[str, Any], source: _Source) -> Iterator[Account]:
     """The accounts of a JSON object: an answer, one account with its address, or one without."""
-    if "error" in value and "result" not in value:
+    if value.get("error") is not None or ("error" in value and "result" not in value):
         raise Refusal(source.path, f"the node answered with an error: {json.dumps(value['error'])[:120]}", "ask again")
     if "result" in value:
         yield from _read_value(value["result"], source)
@@ -173,16 +176,24 @@ def _read_value(value: Any, source: _Source) -> Iterator[Account]:
         yield from _read_object(value, source)
     elif isinstance(value, list):
         for part in value:
-            yield from _read_value(part, source)
+            yield from _read_member(part, source)
     else:
         raise Refusal(source.path, f"{json.dumps(value)[:40]} is no account", "docs/LEDGER.md tells the forms and the commands")
+
+
+def _read_member(value: Any, source: _Source) -> Iterator[Account]:
+    """The accounts of a member of a list, which is no empty list."""
+    if value == []:
+        raise Refusal(source.path, "an empty list stands in a list", "docs/LEDGER.md tells the forms and the commands")
+    yield from _read_value(value, source)
 
 
 def accounts_of_text(data: bytes, path: str) -> list[Account]:
     """The accounts of a file's bytes."""
     addresses = _Addresses(path)
+    source = _Source(path, addresses, None)
     try:
-        accounts = list(_read_value(json_of(data, path), _Source(path, addresses, None)))
+        accounts = [account for value in json_values(data, path) for account in _read_member(value, source)]
     except RecursionError:
         raise Refusal(path, "it is no JSON of accounts: it is nested too deep", "save the answer of the tool as it is") from None
     addresses.finish()

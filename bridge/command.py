@@ -3,6 +3,7 @@
 from __future__ import annotations
 
 import argparse
+import contextlib
 import os
 import sys
 from typing import Iterable, NoReturn, Optional, Sequence
@@ -58,10 +59,23 @@ def _write(lines: Iterable[str]) -> int:
     return count
 
 
+def write_error(text: str) -> None:
+    """Writes text to standard error. Where it takes nothing or is closed, nothing more is written there, and no status changes by it."""
+    if sys.stderr is None:
+        return
+    try:
+        sys.stderr.write(text)
+        sys.stderr.flush()
+    except (OSError, ValueError):
+        with contextlib.suppress(OSError, ValueError):
+            os.dup2(os.open(os.devnull, os.O_WRONLY), sys.stderr.fileno())
+            sys.stderr.flush()
+
+
 def _tell(lines: Iterable[str]) -> None:
-    """Tells lines on standard error, where there is one."""
-    for line in lines if sys.stderr is not None else ():
-        print(f"ledger: {one_line(line)}", file=sys.stderr)
+    """Tells lines on standard error."""
+    for line in lines:
+        write_error(f"ledger: {one_line(line)}\n")
 
 
 def _authorities(words: argparse.Namespace) -> list[bytes]:
@@ -99,8 +113,7 @@ def _write_table(lines: list[str], path: Optional[str]) -> None:
     """Writes the table of a script's rows to its file, or to standard error."""
     text = "".join(line + "\n" for line in lines)
     if path is None:
-        if sys.stderr is not None:
-            sys.stderr.write(text)
+        write_error(text)
         return
     try:
         with open(path, "w", encoding="utf-8") as file:

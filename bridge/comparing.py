@@ -11,10 +11,10 @@ from bridge.dump_text import read_dump
 from bridge.encoding import shown
 from bridge.files import STANDARD_INPUT, is_json_text, name_of, read_bytes
 from bridge.layouts import address_at, field_differences
-from bridge.making import rest_name
+from bridge.making import rest_name, rest_wallet
 from bridge.queues import Difference, event_queue_differences
 from bridge.sides import side_differences
-from bridge.snapshot import PARTS, Entry, Snapshot, flags_of, is_blank, is_closed, kind_by_flags, length_fault
+from bridge.snapshot import PARTS, Entry, Snapshot, flags_of, holds_nothing, is_blank, is_closed, kind_by_flags, length_fault
 from bridge.tables import SIZES, TOKEN_PROGRAM
 
 _END_TEXT = 7
@@ -31,10 +31,11 @@ class Key(NamedTuple):
 
 @dataclass
 class Compared:
-    """One of two inputs: its accounts in order, and the words that are no account's, as far as it has them."""
+    """One of two inputs: its accounts in order, the words that are no account's, and whether they are a ledger's or a dump's."""
 
     entries: dict[Key, Entry] = field(default_factory=dict)
     words: dict[str, str] = field(default_factory=dict)
+    is_ledgers: bool = False
 
     def add(self, key: Key, entry: Entry) -> None:
         """Adds an account."""
@@ -78,7 +79,7 @@ def _kind_of(account: Account) -> str:
 
 def compared_accounts(accounts: dict[bytes, Account]) -> Compared:
     """Accounts of a ledger, to be compared."""
-    compared = Compared()
+    compared = Compared(is_ledgers=True)
     parts = {address_at("market", part, market.data): Key(market.address, part) for market in _markets_of(accounts) for part in PARTS}
     for account in accounts.values():
         key = parts.get(account.address)
@@ -101,13 +102,14 @@ def read_compared(path: str) -> Compared:
 
 
 _REST_NAMES = frozenset(rest_name(place) for place in range(_MOST_REST))
+_REST_OWNER = rest_wallet(bytes(32), 0)[32:64]
 
 
 def _is_none_on_a_ledger(entry: Entry) -> bool:
-    """Whether an account is of the dump's making: a blank or closed open-orders account, or the wallet for a mint's rest."""
+    """Whether an account of a dump is of its making: a blank or closed open-orders account, or the wallet for a mint's rest."""
     if entry.kind == "open_orders":
-        return is_blank(entry.data) or is_closed(entry.data)
-    return entry.kind == "wallet" and shown(entry.address) in _REST_NAMES
+        return is_blank(entry.data) or (is_closed(entry.data) and holds_nothing(entry.data))
+    return entry.kind == "wallet" and shown(entry.address) in _REST_NAMES and entry.data[32:64] == _REST_OWNER
 
 
 def _data_differences(kind: str, first: bytes, second: bytes, exact: bool) -> Iterator[Difference]:
@@ -136,13 +138,13 @@ def _ring_differences(first: bytes, second: bytes) -> Iterator[Difference]:
         yield f"ring_byte {start + place}", str(ours[place]), str(theirs[place])
 
 
-def _entry_differences(first: Optional[Entry], second: Optional[Entry], exact: bool) -> Iterator[str]:
-    """The lines of one account that is in either input."""
+def _entry_differences(first: Optional[Entry], second: Optional[Entry], exact: bool, passed: bool) -> Iterator[str]:
+    """The lines of one account that is in either input; `passed` is whether one that a dump alone can have is passed over."""
     one = first or second
     assert one is not None
     name = f"{one.kind} {shown(one.address)}"
     if first is None or second is None:
-        if exact or not _is_none_on_a_ledger(one):
+        if not (passed and _is_none_on_a_ledger(one)):
             yield f"{name} account {'there' if first else '-'} {'there' if second else '-'}"
     elif first.kind != second.kind:
         yield f"{name} kind {first.kind} {second.kind}"
@@ -183,7 +185,8 @@ def compare(first: Compared, second: Compared, exact: bool, notes: list[str]) ->
     ours, theirs = _by_part(first, parts), _by_part(second, parts)
     for key in list(ours) + [key for key in theirs if key not in ours]:
         one, other = ours.get(key), theirs.get(key)
-        lines = list(_entry_differences(one, other, exact))
+        holder, lacking = (first, second) if other is None else (second, first)
+        lines = list(_entry_differences(one, other, exact, not exact and lacking.is_ledgers and not holder.is_ledgers))
         yield from lines
         if one is not None and _is_told_by_none(one, other, lines):
             notes.append(f"{one.kind} {shown(one.address)}: other bytes that mean the same; --bytes tells them")

@@ -3,8 +3,10 @@
 from __future__ import annotations
 
 import csv
+import io
+import re
 from dataclasses import dataclass, field
-from typing import Iterator
+from typing import Iterator, Optional
 
 from bridge.encoding import address_of, base64_bytes, base64_text, dump_word, shown
 from bridge.refusals import Refusal
@@ -66,17 +68,24 @@ class _Reader:
         self.declare(held.address)
         self.snapshot.wallets.append(held)
 
+    def discount_mint(self, word: str, said: Optional[bytes], other: Optional[bytes], name: str) -> bytes:
+        """The mint that a row `srm` or `msrm` names."""
+        if said is not None:
+            raise self.fault(f"a second row names {name}", "keep one of the two")
+        address = self.address(word)
+        if address == other:
+            raise self.fault(f"one mint is srm and msrm, {shown(address)}")
+        if all(held.address != address for held in self.snapshot.mints):
+            raise self.fault(f"no row before it has the mint {shown(address)}")
+        return address
+
     def srm(self, fields: list[str]) -> None:
         """A row `srm`."""
-        if self.snapshot.srm is not None:
-            raise self.fault("a second row names srm", "keep one of the two")
-        self.snapshot.srm = self.address(fields[0])
+        self.snapshot.srm = self.discount_mint(fields[0], self.snapshot.srm, self.snapshot.msrm, "srm")
 
     def msrm(self, fields: list[str]) -> None:
         """A row `msrm`."""
-        if self.snapshot.msrm is not None:
-            raise self.fault("a second row names msrm", "keep one of the two")
-        self.snapshot.msrm = self.address(fields[0])
+        self.snapshot.msrm = self.discount_mint(fields[0], self.snapshot.msrm, self.snapshot.srm, "msrm")
 
     def market(self, fields: list[str]) -> None:
         """A row `market`."""
@@ -101,56 +110,128 @@ class _Reader:
 _FIELDS = {"mint": 2, "wallet": 2, "srm": 1, "msrm": 1, "market": 9, "orders": 3}
 
 
-def _fields(line: str) -> list[str]:
-    """The fields of a row, of which some may stand in quotes; none where the quotes are wrong."""
+def _records(reader: _Reader, text: str) -> Iterator[list[str]]:
+    """The rows of comma-separated values of a text, of which some fields may stand in quotes; empty lines are none."""
+    rows = csv.reader(io.StringIO(text, newline=""))
+    start = reader.row
     try:
-        return next(csv.reader([line])) if '"' in line else line.split(",")
-    except csv.Error:
-        return [""]
+        for fields in rows:
+            if fields:
+                reader.name = ""
+                yield fields
+            reader.row = start + rows.line_num
+    except csv.Error as fault:
+        raise reader.fault(f"it is no row of comma-separated values ({fault})") from None
 
 
-def _read_rows(reader: _Reader, lines: list[str], start: int) -> None:
-    """Reads the rows behind `dump` up to `enddump`."""
+def _read_row(reader: _Reader, fields: list[str]) -> None:
+    """Reads a row between `dump` and `enddump`."""
     acts = {"mint": reader.mint, "wallet": reader.wallet, "srm": reader.srm, "msrm": reader.msrm,
             "market": reader.market, "orders": reader.orders}
-    for number in range(start, len(lines)):
-        reader.row = number + 1
-        reader.name = ""
-        if not lines[number]:
-            continue
-        fields = _fields(lines[number])
+    if _FIELDS.get(fields[0]) != len(fields) - 1:
+        raise reader.fault(f"{','.join(fields)[:40]!r} is no row of a dump")
+    reader.name = f" ({fields[0]} {fields[2 if fields[0] == 'orders' else 1][:66]})"
+    acts[fields[0]](fields[1:])
+
+
+def _read_rows(reader: _Reader, text: str, behind: list[str]) -> None:
+    """Reads the rows of a dump from `dump` to `enddump`, and sees that just these rows stand behind it."""
+    records = _records(reader, text)
+    if next(records, None) != ["dump"]:
+        raise reader.fault("a dump begins with the row `dump`")
+    for fields in records:
         if fields == ["enddump"]:
-            return
-        if _FIELDS.get(fields[0]) != len(fields) - 1:
-            raise reader.fault(f"{lines[number][:40]!r} is no row of a dump")
-        reader.name = f" ({fields[0]} {fields[2 if fields[0] == 'orders' else 1]})"
-        acts[fields[0]](fields[1:])
-    reader.row = len(lines)
-    raise reader.fault("the dump is cut short: there is no row `enddump`")
+            break
+        _read_row(reader, fields)
+    else:
+        reader.name = ""
+        raise reader.fault("the dump is cut short: there is no row `enddump`")
+    rest = [fields for _, fields in zip(range(len(behind) + 1), records)]
+    if rest != [[word] for word in behind]:
+        wanted = f"`{behind[0]}` alone is" if behind else "nothing is"
+        raise reader.fault(f"{wanted} wanted behind `enddump`, and other rows stand there", "give a dump or a report whole, and nothing behind it")
 
 
-def _start_of(lines: list[str], source: str) -> int:
-    """The number of the line behind `dump`, in a dump or a report."""
-    first = lines[0] if lines else ""
-    if first == "dump":
-        return 1
-    if not first.startswith("report "):
-        what = "it is empty" if first == "" else f"it is neither a dump nor a report: it begins with {first[:60]!r}"
-        raise Refusal(source, what, "give what `dex dump`, `dex replay` or `ledger dump` printed")
-    for number, line in enumerate(lines):
+_HEAD = re.compile(r"(market|wallet) ([a-z0-9_]{1,24}|0x[0-9a-f]{64}) (0|[1-9][0-9]{0,11})")
+_REPORT = re.compile(r"report (0|[1-9][0-9]{0,11})")
+_ENTRY = re.compile(r"entry (?:0|[1-9][0-9]?) ([1-9][0-9]*) (?:ok|refused) .+")
+_MOVE = re.compile(r"move [a-z0-9_]+ (?:0|[1-9][0-9]?) ([1-9][0-9]*) (?:probe|debit|credit) [0-9]+ [0-9]+")
+
+
+@dataclass
+class _Journals:
+    """What the journals of a report say of its accounts: the addresses of its markets and wallets, and the numbers of its rows."""
+
+    names: dict[str, list[str]] = field(default_factory=lambda: {"market": [], "wallet": []})
+    rows: set[str] = field(default_factory=set)
+
+
+def _read_journal(reader: _Reader, lines: Iterator[str], kind: str, count: int) -> set[str]:
+    """Reads the lines of a journal; the numbers of their rows."""
+    form, word = (_ENTRY, "entry") if kind == "market" else (_MOVE, "move")
+    rows = set()
+    for number in range(count):
+        reader.row += 1
+        found = form.fullmatch(next(lines, ""))
+        if found is None:
+            raise reader.fault(f"a line `{word} ..` is wanted, of which {number} of {count} stand above")
+        rows.add(found[1])
+    return rows
+
+
+def _read_journals(reader: _Reader, lines: Iterator[str]) -> _Journals:
+    """Reads the journals of a report, up to its dump."""
+    journals = _Journals()
+    for line in lines:
+        reader.row += 1
+        head = _HEAD.fullmatch(line)
         if line == "dump":
-            return number + 1
-    raise Refusal(source, "the report is cut short: it has no row `dump`", _MEND)
+            return journals
+        if head is None or (head[1] == "market" and journals.names["wallet"]):
+            raise reader.fault(f"the head of a journal or `dump` is wanted, and here stands {line[:40]!r}")
+        journals.names[head[1]].append(head[2])
+        rows = _read_journal(reader, lines, head[1], int(head[3]))
+        journals.rows |= rows if head[1] == "market" else set()
+    raise reader.fault("the report is cut short: it has no row `dump`")
+
+
+def _check_journals(reader: _Reader, journals: _Journals, rows: int) -> None:
+    """Sees that a report's journals are those of its markets and wallets, and as many as its rows."""
+    reader.row, reader.name = 1, ""
+    for kind, held in (("market", [market.address for market in reader.snapshot.markets]),
+                       ("wallet", [wallet.address for wallet in reader.snapshot.wallets])):
+        if [address_of(name) for name in journals.names[kind]] != held:
+            raise reader.fault(f"the {kind}s that have a journal are not those of the dump, in its order")
+    if len(journals.rows) != rows:
+        raise reader.fault(f"it tells of {rows} rows, and its markets' journals of {len(journals.rows)}")
+
+
+def _read_report(reader: _Reader, text: str, rows: int) -> None:
+    """Reads a report."""
+    lines = iter(text.removesuffix("\n").split("\n"))
+    next(lines)
+    journals = _read_journals(reader, lines)
+    _read_rows(reader, text[text.index("\ndump\n") + 1 :], ["end"])
+    _check_journals(reader, journals, rows)
 
 
 def read_dump(data: bytes, source: str) -> Snapshot:
     """The snapshot that a dump or a report holds."""
     try:
-        lines = [line.decode("ascii") for line in data.removeprefix(b"\xef\xbb\xbf").splitlines()]
+        text = data.removeprefix(b"\xef\xbb\xbf").decode("ascii")
     except UnicodeDecodeError:
         raise Refusal(source, "it has bytes that no dump or report has", "give what `dex` printed") from None
-    reader = _Reader(source)
-    _read_rows(reader, lines, _start_of(lines, source))
+    text = text.replace("\r\n", "\n").replace("\r", "\n")
+    reader = _Reader(source, row=1)
+    first = text.lstrip("\n").split("\n", 1)[0]
+    report = _REPORT.fullmatch(first)
+    if report is not None:
+        _read_report(reader, text, int(report[1]))
+    elif first in ("dump", '"dump"'):
+        _read_rows(reader, text, [])
+    else:
+        what = "it is empty" if first == "" else f"it is neither a dump nor a report: it begins with {first[:60]!r}"
+        raise Refusal(source, what, "give what `dex dump`, `dex replay` or `ledger dump` printed")
     return reader.snapshot
 
 

@@ -19,12 +19,18 @@ _PAIRS = tuple(first + second for first in ALPHABET for second in ALPHABET)
 _SHORT = 64
 
 
+@functools.lru_cache(maxsize=64)
+def _scale(count: int) -> int:
+    """58 to a power."""
+    scale: int = 58**count
+    return scale
+
+
 def _number_of(digits: list[int]) -> int:
-    """The number of base58 digits, the highest first; long ones by halves, so that time grows less than with the square."""
+    """The number of base58 digits, the highest first; long ones in two parts, so that time grows less than with the square."""
     if len(digits) > _SHORT:
-        low = len(digits) // 2
-        scale: int = 58**low
-        return _number_of(digits[:-low]) * scale + _number_of(digits[-low:])
+        low = _SHORT << ((len(digits) - 1) // _SHORT).bit_length() - 1
+        return _number_of(digits[:-low]) * _scale(low) + _number_of(digits[-low:])
     number = 0
     for digit in digits:
         number = number * 58 + digit
@@ -44,14 +50,19 @@ def _digits_of(number: int, count: int) -> str:
     return "".join(reversed(pairs))[-count:]
 
 
-def base58_bytes(text: str) -> bytes:
-    """The bytes of base58 text. ValueError where it is none."""
+def base58_bytes(text: str, most: int) -> bytes:
+    """The bytes of base58 text, `most` at most. ValueError where it is none or has more; what is far too long is not decoded."""
+    if len(text) > most * 138 // 100 + 1:
+        raise ValueError(f"{len(text)} signs are more than {most} bytes have")
     rest = text.lstrip("1")
     try:
         number = _number_of([_DIGIT_OF[sign] for sign in rest])
     except KeyError as unknown:
         raise ValueError(f"{unknown.args[0]!r} is no sign of base58") from None
-    return bytes(len(text) - len(rest)) + number.to_bytes((number.bit_length() + 7) // 8, "big")
+    data = bytes(len(text) - len(rest)) + number.to_bytes((number.bit_length() + 7) // 8, "big")
+    if len(data) > most:
+        raise ValueError(f"{len(data)} bytes, and at most {most} are wanted")
+    return data
 
 
 def base58_text(data: bytes) -> str:
@@ -92,7 +103,7 @@ def address_of(word: str) -> bytes:
         return bytes.fromhex(word[2:])
     if not 32 <= len(word) <= 44:
         raise ValueError("it is neither base58 of 32 bytes nor 0x and 64 digits nor a label of 1 to 24 of a to z, 0 to 9 and _")
-    data = base58_bytes(word)
+    data = base58_bytes(word, len(word))
     if len(data) != ADDRESS_BYTES:
         raise ValueError(f"it is base58 of {len(data)} bytes, and an address has 32")
     return data

@@ -2,14 +2,18 @@
 
 from __future__ import annotations
 
+import collections
 import json
 import os
+import re
 import sys
-from typing import Any
+from typing import Any, Iterator, NoReturn
 
 from bridge.refusals import Refusal
 
 STANDARD_INPUT = "-"
+_SPACE = re.compile(r"[ \t\n\r]*")
+_MOST_DIGITS = 40
 
 
 def _standard_input() -> bytes:
@@ -40,12 +44,70 @@ def name_of(path: str) -> str:
     return "standard input" if path == STANDARD_INPUT else path
 
 
-def json_of(data: bytes, source: str) -> Any:
-    """The value that JSON text stands for."""
+def _members(pairs: list[tuple[str, Any]]) -> dict[str, Any]:
+    """An object of its members, of which none may stand twice."""
+    members = dict(pairs)
+    if len(members) != len(pairs):
+        twice, _ = collections.Counter(name for name, _ in pairs).most_common(1)[0]
+        raise ValueError(f"an object has the key {twice[:40]!r} twice")
+    return members
+
+
+def _number(digits: str) -> int:
+    """A whole number of JSON."""
+    if len(digits) > _MOST_DIGITS:
+        raise ValueError(f"a number has {len(digits)} digits")
+    return int(digits)
+
+
+def _no_number(word: str) -> NoReturn:
+    """Refuses a word that JSON has no number for."""
+    raise ValueError(f"{word} is no number")
+
+
+_DECODER = json.JSONDecoder(object_pairs_hook=_members, parse_int=_number, parse_constant=_no_number)
+
+
+def _behind_space(text: str, place: int) -> int:
+    """The place of the next sign that is no space."""
+    found = _SPACE.match(text, place)
+    return found.end() if found else place
+
+
+def _check_end(text: str, place: int) -> None:
+    """Refuses what stands behind a value."""
+    if _behind_space(text, place) < len(text):
+        raise ValueError(f"more stands behind its end, at place {place}")
+
+
+def _values_of_text(text: str) -> Iterator[Any]:
+    """The value of JSON text; of a list its members, each read when it is asked for."""
+    place = _behind_space(text, 0)
+    if not text.startswith("[", place):
+        value, place = _DECODER.raw_decode(text, place)
+        _check_end(text, place)
+        yield value
+        return
+    place = _behind_space(text, place + 1)
+    is_ended = text.startswith("]", place)
+    while not is_ended:
+        value, place = _DECODER.raw_decode(text, place)
+        yield value
+        place = _behind_space(text, place)
+        is_ended = text.startswith("]", place)
+        if not is_ended:
+            if not text.startswith(",", place):
+                raise ValueError(f"a list goes on without a comma, at place {place}")
+            place = _behind_space(text, place + 1)
+    _check_end(text, place + 1)
+
+
+def json_values(data: bytes, source: str) -> Iterator[Any]:
+    """The value that JSON text stands for; of a list its members, one after the other, so that a faulty one ends the reading."""
     if not data.strip():
         raise Refusal(source, "it is empty and no JSON", "save the whole answer of the tool in it")
     try:
-        return json.loads(data.decode("utf-8-sig"))
+        yield from _values_of_text(data.decode("utf-8-sig"))
     except UnicodeDecodeError:
         raise Refusal(source, "it is no JSON: its bytes are no UTF-8", "save the answer of the tool as UTF-8 text") from None
     except RecursionError:
@@ -64,4 +126,11 @@ def json_files(path: str) -> list[str]:
         raise Refusal(path, f"the folder cannot be read ({fault.strerror})", "name a folder that you may read") from None
     if not names:
         raise Refusal(path, "the folder has no file that ends with .json", "name a folder with account JSON")
-    return [os.path.join(path, name) for name in names]
+    return [plain_file(os.path.join(path, name)) for name in names]
+
+
+def plain_file(path: str) -> str:
+    """The path of a file that was not named by itself: a pipe there would be waited for without end."""
+    if os.path.exists(path) and not os.path.isfile(path):
+        raise Refusal(path, "it is no plain file", "leave pipes, sockets, devices and folders out")
+    return path

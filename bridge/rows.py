@@ -77,8 +77,11 @@ class _Maker:
     snapshot: Snapshot
     wish: Wish
     markets: dict[bytes, Market]
+    own: dict[bytes, str]
     wallets: set[bytes]
+    kinds: dict[bytes, str]
     opened: dict[bytes, bool]
+    market_of: dict[bytes, Market]
     lines: list[Line] = field(default_factory=list)
     rules: Optional[str] = None
     clock: Optional[int] = None
@@ -92,6 +95,19 @@ class _Maker:
 def _is_of_market(maker: _Maker, call: Call) -> bool:
     """Whether a call is given one of the markets."""
     return any(account in maker.markets for account in call.accounts)
+
+
+def _own_accounts(markets: dict[bytes, Market]) -> dict[bytes, str]:
+    """The markets' own accounts, each with what it is: markets, vaults, queues and sides, which no other market's instruction names."""
+    own = {address: f"the market {shown(address)}" for address in markets}
+    for address, market in markets.items():
+        own.update({market.part_address(part): f"the {part} of the market {shown(address)}" for part in PARTS})
+    return own
+
+
+def _own_in(own: dict[bytes, str], call: Call) -> Optional[str]:
+    """What a call names of the markets' own accounts: the first, in words; none where it names none."""
+    return next((f"{own[account]} at place {place}" for place, account in enumerate(call.accounts) if account in own), None)
 
 
 def _tag_of(transaction: Transaction, call: Call) -> int:
@@ -129,7 +145,8 @@ def _check_places(seen: Seen) -> None:
 
 def _seen(maker: _Maker, transaction: Transaction, call: Call) -> Optional[Seen]:
     """The instruction that a call is, where it is one of the markets' and has a form in a script."""
-    if not _is_of_market(maker, call):
+    named_own = _own_in(maker.own, call)
+    if named_own is None:
         return None
     tag = _tag_of(transaction, call)
     instruction = INSTRUCTIONS.get(tag)
@@ -139,7 +156,8 @@ def _seen(maker: _Maker, transaction: Transaction, call: Call) -> Optional[Seen]
     roles, named = _roles(transaction, call, instruction)
     market = maker.markets.get(roles["market"])
     if market is None:
-        return None
+        what = f"instruction {call.number} ({instruction.name}) names {named_own}, and at the place of its market {shown(roles['market'])}"
+        raise transaction.fault(what, _TABLE)
     if "orders" in roles:
         named = (roles["orders"],)
     seen = Seen(transaction, call, instruction, market, roles, named)
@@ -213,6 +231,9 @@ def _wallets_of_call(transaction: Transaction, call: Call, markets: Optional[lis
         return
     roles, _ = _roles(transaction, call, instruction)
     if markets is not None and roles["market"] not in markets:
+        if any(account in markets for account in call.accounts):
+            what = f"instruction {call.number} ({instruction.name}) names the market, and at its place stands {shown(roles['market'])}"
+            raise transaction.fault(what, _TABLE)
         return
     if "payer" in roles:
         roles[_paying_role(call.data)] = roles["payer"]
@@ -287,15 +308,28 @@ def _open(maker: _Maker, seen: Seen, account: bytes) -> None:
 
 
 def _reserve(maker: _Maker, seen: Seen, account: bytes) -> None:
-    """Adds a blank account to the dump for one that is opened and is not there."""
+    """Adds a blank account to the dump for one that is opened and is not there; its address may be no other account's."""
+    if account in maker.kinds:
+        raise seen.fault(f"it opens {shown(account)}, which is a {maker.kinds[account]} of the dump", "compare the dump with the ledger's accounts")
     if account not in maker.opened:
         seen.market.orders.append(Held(account, bytes(SIZES["open_orders"].least)))
+        maker.market_of[account] = seen.market
         maker.tell(f"blank {shown(account)} {shown(seen.market.address)}")
     maker.opened[account] = True
 
 
+def _check_market_of(maker: _Maker, seen: Seen) -> None:
+    """Refuses an open-orders account that is another market's."""
+    account = seen.roles.get("orders")
+    market = maker.market_of.get(account) if account is not None else None
+    if account is not None and market is not None and market is not seen.market:
+        what = f"the open-orders account {shown(account)} is of the market {shown(market.address)}"
+        raise seen.fault(what, "compare the dump with the ledger's accounts")
+
+
 def _add(maker: _Maker, seen: Seen) -> None:
     """Adds the row of an instruction."""
+    _check_market_of(maker, seen)
     _follow_rules(maker, seen)
     _follow_clock(maker, seen)
     if seen.instruction.tag == _INIT_OPEN_ORDERS:
@@ -329,6 +363,9 @@ def _follow(maker: _Maker, transaction: Transaction) -> None:
     _check_told_whole(maker, transaction)
     before = len(maker.lines)
     for call in transaction.calls:
+        if call.program in maker.own:
+            what = f"the program of instruction {call.number} is {maker.own[call.program]}"
+            raise transaction.fault(what, "save the answer of getTransaction whole and as it is")
         seen = _seen(maker, transaction, call) if call.program in maker.wish.rules_of else None
         if seen is not None:
             _add(maker, seen)
@@ -363,7 +400,10 @@ def make_script(snapshot: Snapshot, transactions: list[Transaction], wish: Wish)
     """The rows of a script, and the lines of the table that tells which row is which instruction."""
     markets = _wanted_markets(snapshot, wish)
     opened = {held.address: not is_blank(held.data) for market in snapshot.markets for held in market.orders}
-    maker = _Maker(snapshot, wish, markets, {held.address for held in snapshot.wallets}, opened)
+    market_of = {held.address: market for market in snapshot.markets for held in market.orders}
+    kinds = {entry.address: entry.kind for entry in snapshot.entries() if entry.kind != "open_orders"}
+    wallets = {held.address for held in snapshot.wallets}
+    maker = _Maker(snapshot, wish, markets, _own_accounts(markets), wallets, kinds, opened, market_of)
     for transaction in transactions:
         _follow(maker, transaction)
     rows = list(dump_rows(snapshot))

@@ -5,12 +5,13 @@ from __future__ import annotations
 from dataclasses import dataclass, field
 from typing import Iterator, NamedTuple, Optional
 
-from bridge.layouts import address_at
+from bridge.layouts import address_at, bytes_at, number_at
 from bridge.tables import CLOSED, KIND_FLAGS, SIZES
 
 PARTS = ("coin_vault", "pc_vault", "req_q", "event_q", "bids", "asks")
 VAULTS = ("coin_vault", "pc_vault")
 FLAGS_PLACE = 5
+_FUNDS = ("native_coin_free", "native_coin_total", "native_pc_free", "native_pc_total", "referrer_rebates_accrued")
 
 
 class Held(NamedTuple):
@@ -94,7 +95,13 @@ def is_blank(data: bytes) -> bool:
 
 def is_closed(data: bytes) -> bool:
     """Whether an open-orders account was closed."""
-    return len(data) == SIZES["open_orders"].least and flags_of(data) & CLOSED != 0
+    return len(data) == SIZES["open_orders"].least and flags_of(data) == CLOSED
+
+
+def holds_nothing(data: bytes) -> bool:
+    """Whether an open-orders account has neither funds nor orders, as one that was closed."""
+    has_funds = any(number_at("open_orders", name, data) for name in _FUNDS)
+    return not has_funds and bytes_at("open_orders", "free_slot_bits", data) == bytes([255]) * 16
 
 
 def kind_by_flags(data: bytes) -> Optional[str]:

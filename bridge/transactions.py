@@ -4,15 +4,18 @@ from __future__ import annotations
 
 import json
 from dataclasses import dataclass
-from typing import Any, Iterator, Optional
+from typing import Any, Iterator, NamedTuple, Optional
 
 from bridge.accounts import read_address
-from bridge.encoding import base58_bytes
-from bridge.files import json_files, json_of, read_bytes
+from bridge.encoding import base58_bytes, shown
+from bridge.files import json_files, json_values, read_bytes
 from bridge.refusals import Refusal
 
 _WHOLE = "save the answer of getTransaction whole and as it is"
 _PLAIN = 'ask again with "encoding": "json"'
+_SIGNATURE_BYTES = 64
+# The most bytes of data that one call hands to another.
+_MOST_CALL_DATA = 10240
 
 
 @dataclass(frozen=True)
@@ -68,9 +71,17 @@ class _Reader:
         return addresses[value]
 
 
-def _addresses(reader: _Reader, message: Any, meta: dict[str, Any]) -> list[bytes]:
-    """All accounts of a transaction in the order of their numbers, the loaded ones behind."""
+class _Keys(NamedTuple):
+    """All accounts of a transaction in the order of their numbers, the loaded ones behind; how many were not loaded."""
+
+    addresses: list[bytes]
+    own: int
+
+
+def _keys(reader: _Reader, message: Any, meta: dict[str, Any]) -> _Keys:
+    """The accounts of a transaction, each once."""
     words = list(reader.member(message, "accountKeys", list))
+    own = len(words)
     if any(isinstance(word, dict) for word in words):
         raise reader.fault("it has the encoding jsonParsed, which is not read here", _PLAIN)
     loaded = meta.get("loadedAddresses")
@@ -79,19 +90,28 @@ def _addresses(reader: _Reader, message: Any, meta: dict[str, Any]) -> list[byte
     elif message.get("addressTableLookups"):
         raise reader.fault("it looks accounts up in tables, and has no loadedAddresses",
                            'ask again with "maxSupportedTransactionVersion": 0')
-    return [read_address(word, reader.where) for word in words]
+    addresses = [read_address(word, reader.where) for word in words]
+    once: set[bytes] = set()
+    for address in addresses:
+        if address in once:
+            raise reader.fault(f"its account {shown(address)} stands twice")
+        once.add(address)
+    return _Keys(addresses, own)
 
 
-def _call(reader: _Reader, value: Any, addresses: list[bytes], number: str) -> Call:
+def _call(reader: _Reader, value: Any, keys: _Keys, number: str) -> Call:
     """A call from its JSON."""
     if isinstance(value, dict) and ("parsed" in value or "programId" in value):
         raise reader.fault("it has the encoding jsonParsed, which is not read here", _PLAIN)
-    program = reader.index(reader.member(value, "programIdIndex", int), addresses)
-    accounts = tuple(reader.index(place, addresses) for place in reader.member(value, "accounts", list))
+    index = reader.member(value, "programIdIndex", int)
+    program = reader.index(index, keys.addresses)
+    if "." not in number and index >= keys.own:
+        raise reader.fault(f"the program of its instruction {number} is an account that was loaded, {shown(program)}")
+    accounts = tuple(reader.index(place, keys.addresses) for place in reader.member(value, "accounts", list))
     try:
-        data = base58_bytes(reader.member(value, "data", str))
+        data = base58_bytes(reader.member(value, "data", str), _MOST_CALL_DATA)
     except ValueError as fault:
-        raise reader.fault(f"the data of its instruction {number} is no base58 ({fault})") from None
+        raise reader.fault(f"the data of its instruction {number} is no base58 that is read here ({fault})") from None
     return Call(number, program, accounts, data)
 
 
@@ -103,48 +123,90 @@ def _inner_values(reader: _Reader, meta: dict[str, Any], count: int) -> dict[int
         index = reader.member(group, "index", int)
         if not 0 <= index < count:
             raise reader.fault(f"it has inner calls of an instruction {index}, and has {count} instructions")
-        inner.setdefault(index, []).extend(reader.member(group, "instructions", list))
+        if index in inner:
+            raise reader.fault(f"the inner calls of instruction {index} (from 0) stand twice")
+        inner[index] = reader.member(group, "instructions", list)
     return inner
 
 
-def _calls(reader: _Reader, message: Any, meta: dict[str, Any], addresses: list[bytes]) -> Iterator[Call]:
+def _calls(reader: _Reader, message: Any, meta: dict[str, Any], keys: _Keys) -> Iterator[Call]:
     """The calls of a transaction in their order: each instruction, and behind it the calls that it made."""
     values = reader.member(message, "instructions", list)
     inner = _inner_values(reader, meta, len(values))
     for number, value in enumerate(values):
-        yield _call(reader, value, addresses, str(number + 1))
+        yield _call(reader, value, keys, str(number + 1))
         for place, called in enumerate(inner.get(number, []), 1):
-            yield _call(reader, called, addresses, f"{number + 1}.{place}")
+            yield _call(reader, called, keys, f"{number + 1}.{place}")
 
 
-def _signature_of(value: Any, source: str, number: int) -> str:
-    """The name of a transaction: its first signature, or its number in the file."""
+def _signature_fault(signature: Any) -> Optional[str]:
+    """Why a word is no signature, if it is none."""
+    try:
+        length = len(base58_bytes(signature, _SIGNATURE_BYTES)) if isinstance(signature, str) else 0
+    except ValueError as fault:
+        return str(fault)
+    return None if length == _SIGNATURE_BYTES else f"{length} bytes"
+
+
+def _signatures_of(value: Any, source: str, number: int) -> list[str]:
+    """The signatures of a transaction, of which the first is its name."""
+    where = f"{source}: transaction {number}"
     signatures = value.get("signatures") if isinstance(value, dict) else None
-    if isinstance(signatures, list) and signatures and isinstance(signatures[0], str):
-        return signatures[0]
-    raise Refusal(f"{source}: transaction {number}", "it has no signature in the encoding `json`", _PLAIN)
+    if not isinstance(signatures, list) or not signatures:
+        raise Refusal(where, "it has no signature in the encoding `json`", _PLAIN)
+    for signature in signatures:
+        why = _signature_fault(signature)
+        if why is not None:
+            raise Refusal(where, f"{json.dumps(signature)[:100]} is no signature, which is base58 of 64 bytes ({why})", _WHOLE)
+    return signatures
+
+
+def _has_failed(reader: _Reader, meta: dict[str, Any]) -> bool:
+    """Whether a transaction failed, which its fault tells; its older member `status` must say the same."""
+    fault = meta["err"]
+    if fault is not None and not (isinstance(fault, (str, dict)) and fault):
+        raise reader.fault(f"its `err` is {json.dumps(fault)[:40]}, which is neither null nor a fault")
+    status = meta.get("status")
+    if status is not None and (not isinstance(status, dict) or list(status) != ["Ok" if fault is None else "Err"]):
+        raise reader.fault("its `err` and its `status` do not say the same")
+    return fault is not None
+
+
+def _signers(reader: _Reader, message: Any, keys: _Keys, signatures: int) -> tuple[bytes, ...]:
+    """The accounts that signed: as many from the front as there are signatures, and none that was loaded."""
+    wanted = reader.member(reader.member(message, "header", dict), "numRequiredSignatures", int)
+    if not 1 <= wanted <= keys.own:
+        raise reader.fault(f"it wants {wanted} signatures and has {keys.own} accounts that can sign")
+    if wanted != signatures:
+        raise reader.fault(f"it wants {wanted} signatures and has {signatures}")
+    return tuple(keys.addresses[:wanted])
+
+
+def _slot_of(reader: _Reader) -> int:
+    """The slot of a transaction."""
+    slot: int = reader.member(reader.value, "slot", int)
+    if not 0 <= slot < 2**64:
+        raise reader.fault(f"its slot is {slot}")
+    return slot
 
 
 def _transaction(value: dict[str, Any], source: str, number: int) -> Transaction:
     """A transaction from its JSON."""
     body = value["transaction"]
-    signature = _signature_of(body, source, number)
-    reader = _Reader(value, f"{source}: transaction {signature}")
+    signatures = _signatures_of(body, source, number)
+    reader = _Reader(value, f"{source}: transaction {signatures[0]}")
     meta = value.get("meta")
     if not isinstance(meta, dict) or "err" not in meta:
         raise reader.fault("it has no `meta` with `err`, so nobody can tell whether it succeeded", "ask a node that keeps it")
     message = reader.member(body, "message", dict)
-    addresses = _addresses(reader, message, meta)
-    signers = reader.member(reader.member(message, "header", dict), "numRequiredSignatures", int)
+    keys = _keys(reader, message, meta)
+    signers = _signers(reader, message, keys, len(signatures))
     time = value.get("blockTime")
     if time is not None and (not isinstance(time, int) or isinstance(time, bool)):
         raise reader.fault("its `blockTime` is no number")
-    if not 1 <= signers <= len(addresses):
-        raise reader.fault(f"it wants {signers} signatures and has {len(addresses)} accounts")
-    failed = meta["err"] is not None
-    calls = () if failed else tuple(_calls(reader, message, meta, addresses))
-    return Transaction(source, signature, reader.member(value, "slot", int), time, failed, tuple(addresses[:signers]), calls,
-                       meta.get("innerInstructions") is not None)
+    failed = _has_failed(reader, meta)
+    calls = () if failed else tuple(_calls(reader, message, meta, keys))
+    return Transaction(source, signatures[0], _slot_of(reader), time, failed, signers, calls, meta.get("innerInstructions") is not None)
 
 
 def _read_value(value: Any, source: str, number: int) -> Iterator[Transaction]:
@@ -153,8 +215,8 @@ def _read_value(value: Any, source: str, number: int) -> Iterator[Transaction]:
         raise Refusal(f"{source}: transaction {number + 1}", "the node answered null: it does not have it", "ask a node that keeps it")
     if isinstance(value, list):
         for place, part in enumerate(value):
-            yield from _read_value(part, source, number + place)
-    elif isinstance(value, dict) and "error" in value and "result" not in value:
+            yield from _read_member(part, source, number + place)
+    elif isinstance(value, dict) and (value.get("error") is not None or ("error" in value and "result" not in value)):
         raise Refusal(source, f"the node answered with an error: {json.dumps(value['error'])[:120]}", "ask again")
     elif isinstance(value, dict) and "result" in value:
         yield from _read_value(value["result"], source, number)
@@ -164,10 +226,17 @@ def _read_value(value: Any, source: str, number: int) -> Iterator[Transaction]:
         raise Refusal(source, "it holds no transaction in a form that is known here", "docs/LEDGER.md tells the forms and the commands")
 
 
+def _read_member(value: Any, source: str, number: int) -> Iterator[Transaction]:
+    """The transactions of a member of a list, which is no empty list."""
+    if value == []:
+        raise Refusal(source, "an empty list stands in a list", "docs/LEDGER.md tells the forms and the commands")
+    yield from _read_value(value, source, number)
+
+
 def transactions_of_text(data: bytes, source: str) -> list[Transaction]:
     """The transactions of a file's bytes."""
     try:
-        return list(_read_value(json_of(data, source), source, 0))
+        return [one for number, value in enumerate(json_values(data, source)) for one in _read_member(value, source, number)]
     except RecursionError:
         raise Refusal(source, "it is no JSON of transactions: it is nested too deep", _WHOLE) from None
 

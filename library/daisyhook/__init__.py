@@ -21,7 +21,7 @@ from . import flow, rows
 from .accounts import Accounts, Depth, Event, Level, Market, Mint, OpenOrders, Order, Wallet
 from .commands import Exchange, accounts, audit, bulk, dump, make, migrate, replay, worth
 from .entries import Cancelled, Consumed, Done, Entry, Move, Ordered, Refused, Reply, Settled, Swept, Took, WalletEntry
-from .errors import AuditFailed, DexError, DumpRefused, Finding, MigrateRefused, OutOfLimits, OutOfMemory, ScriptRefused
+from .errors import AuditFailed, DexError, DumpRefused, Finding, InputTooLong, MigrateRefused, OutOfLimits, OutOfMemory, ScriptRefused
 from .report import Report
 from .rows import take_data
 from .summary import MarketSummary, Summary
@@ -35,5 +35,5 @@ __all__ = [
     'Reply', 'Ordered', 'Took', 'Cancelled', 'Consumed', 'Settled', 'Swept', 'Done', 'Refused',
     'Accounts', 'Market', 'Mint', 'Wallet', 'Order', 'Event', 'OpenOrders', 'Depth', 'Level',
     'Summary', 'MarketSummary', 'Worth', 'Worths',
-    'DexError', 'ScriptRefused', 'DumpRefused', 'AuditFailed', 'MigrateRefused', 'OutOfLimits', 'OutOfMemory', 'Finding',
+    'DexError', 'ScriptRefused', 'DumpRefused', 'AuditFailed', 'MigrateRefused', 'InputTooLong', 'OutOfLimits', 'OutOfMemory', 'Finding',
 ]

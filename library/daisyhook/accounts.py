@@ -1,12 +1,16 @@
 """What the accounts of a dump say: mints, wallets, and markets with their book, pending events and open-orders accounts.
 
-The places of fields are those of docs/FORMATS.md. Accounts that a command wrote are in order, so nothing is tested here.
+The places of fields are those of docs/FORMATS.md. Accounts that a command wrote, or that were audited, are in order, so nothing is
+tested here.
 """
 
 from __future__ import annotations
 
+import csv
+import io
 import struct
 from base64 import b64decode
+from collections.abc import Iterator
 from dataclasses import dataclass
 from functools import cached_property
 
@@ -31,6 +35,20 @@ def address_at(data: bytes, place: int) -> str:
     if 1 <= len(label) <= 24 and LABEL.issuperset(label):
         return label.decode()
     return '0x' + word.hex()
+
+
+def address_of(word: str) -> str:
+    """The address of a word of a dump: its label where it has one, also where the word is `0x` and its digits."""
+    return address_at(bytes.fromhex(word[2:]), 0) if len(word) == 66 else word
+
+
+def rows_of(dump: bytes) -> Iterator[list[str]]:
+    """The rows of a dump, of which fields may stand in quotes, without its byte-order mark and lines that are empty."""
+    if b'"' not in dump:
+        return (line.split(',') for line in dump.decode('utf-8-sig').splitlines() if line)
+    # A side's account is longer than the limit that `csv` begins with.
+    csv.field_size_limit(max(csv.field_size_limit(), len(dump)))
+    return filter(None, csv.reader(io.StringIO(dump.decode('utf-8-sig'), newline='')))
 
 
 @dataclass(frozen=True, slots=True)
@@ -126,6 +144,18 @@ class Wallet:
     amount: int
 
 
+def mint_of(fields: list[str]) -> Mint:
+    """What a mint's row says."""
+    data = b64decode(fields[1])
+    return Mint(address_of(fields[0]), number_at(data, 36), data[44])
+
+
+def wallet_of(fields: list[str]) -> Wallet:
+    """What a wallet's row says."""
+    data = b64decode(fields[1])
+    return Wallet(address_of(fields[0]), address_at(data, 0), address_at(data, 32), number_at(data, 64))
+
+
 def orders_of(address: str, data: bytes) -> OpenOrders:
     """What an open-orders account says."""
     free = number_at(data, 109, 16)
@@ -192,11 +222,11 @@ class Market:
     Its journal, of a report alone, is the entries of all rows on it in their order.
     """
 
-    def __init__(self, address: str, authority: str, fields: list[bytes]) -> None:
+    def __init__(self, address: str, authority: str, fields: list[str]) -> None:
         self.address = address
         self.authority = authority
         self._fields = fields
-        self._orders: list[tuple[str, bytes]] = []
+        self._orders: list[tuple[str, str]] = []
         self._lines: list[str] = []
 
     def __repr__(self) -> str:
@@ -279,31 +309,44 @@ class Market:
 
 
 class Accounts:
-    """All accounts of a dump: `mints`, `wallets` and `markets` by their addresses, and the mints of SRM and MSRM where they are named."""
+    """All accounts of a dump: `mints`, `wallets` and `markets` by their addresses, and the mints of SRM and MSRM where they are named.
+    Each kind is read when it is asked for."""
 
     def __init__(self, dump: bytes) -> None:
         self.text = dump
-        self.mints: dict[str, Mint] = {}
-        self.wallets: dict[str, Wallet] = {}
-        self.markets: dict[str, Market] = {}
-        self.srm: str | None = None
-        self.msrm: str | None = None
-        for row in dump.splitlines():
-            self._read(row.split(b','))
 
-    def _read(self, row: list[bytes]) -> None:
-        kind, names = row[0], [field.decode() for field in row[1:3]]
-        if kind == b'mint':
-            data = b64decode(row[2])
-            self.mints[names[0]] = Mint(names[0], number_at(data, 36), data[44])
-        elif kind == b'srm':
-            self.srm = names[0]
-        elif kind == b'msrm':
-            self.msrm = names[0]
-        elif kind == b'wallet':
-            data = b64decode(row[2])
-            self.wallets[names[0]] = Wallet(names[0], address_at(data, 0), address_at(data, 32), number_at(data, 64))
-        elif kind == b'market':
-            self.markets[names[0]] = Market(names[0], names[1], row[3:])
-        elif kind == b'orders':
-            self.markets[names[0]]._orders.append((names[1], row[3]))
+    @cached_property
+    def _rows(self) -> dict[str, list[list[str]]]:
+        """The rows by their kinds, each from its address on."""
+        found: dict[str, list[list[str]]] = {kind: [] for kind in ('dump', 'mint', 'srm', 'msrm', 'wallet', 'market', 'orders', 'enddump')}
+        for kind, *fields in rows_of(self.text):
+            found[kind].append(fields)
+        return found
+
+    @cached_property
+    def mints(self) -> dict[str, Mint]:
+        """The tokens."""
+        return {made.address: made for made in map(mint_of, self._rows['mint'])}
+
+    @cached_property
+    def wallets(self) -> dict[str, Wallet]:
+        """The token accounts that are no vaults."""
+        return {made.address: made for made in map(wallet_of, self._rows['wallet'])}
+
+    @cached_property
+    def markets(self) -> dict[str, Market]:
+        """The markets."""
+        found = {address_of(word): Market(address_of(word), address_of(authority), parts) for word, authority, *parts in self._rows['market']}
+        for market, account, data in self._rows['orders']:
+            found[address_of(market)]._orders.append((address_of(account), data))
+        return found
+
+    @property
+    def srm(self) -> str | None:
+        """The mint of SRM, where it is named."""
+        return next((address_of(mint) for mint, in self._rows['srm']), None)
+
+    @property
+    def msrm(self) -> str | None:
+        """The mint of MSRM, where it is named."""
+        return next((address_of(mint) for mint, in self._rows['msrm']), None)

@@ -4,9 +4,10 @@ from __future__ import annotations
 
 import re
 from functools import cached_property
+from operator import index
 
 from .accounts import Accounts
-from .errors import Finding, OutOfLimits, findings_of, refusal_of
+from .errors import Finding, InputTooLong, OutOfLimits, findings_of, refusal_of
 from .native import call
 from .report import Report
 from .summary import Summary, summary_of
@@ -18,18 +19,23 @@ Text = bytes | bytearray | memoryview | str
 PROGRAM = re.compile(rb'(?:\xef\xbb\xbf)?"?program"?,"?(serum|openbook)"?(?:\r\n?|\n|\Z)')
 CLOCK = re.compile(rb'^(?:\xef\xbb\xbf)?"?clock"?,"?([0-9]+)"?\r?$', re.MULTILINE)
 END_OF_DUMP = re.compile(rb'^"?enddump"?(?:\r\n?|\n|\Z)', re.MULTILINE)
+# The most bytes of an input, as the program reads no more.
+MOST_INPUT = 67_108_864
 
 
 def bytes_of(text: Text) -> bytes:
-    """The bytes of a text."""
-    return text.encode() if isinstance(text, str) else bytes(text)
+    """The bytes of a text. TypeError where it is none; InputTooLong where it is longer than the program reads."""
+    told = text.encode() if isinstance(text, str) else text
+    if memoryview(told).nbytes > MOST_INPUT:
+        raise InputTooLong()
+    return bytes(told)
 
 
 def within(number: int, least: int, most: int, what: str) -> int:
-    """The number, where it is within its limits, as the library takes no other."""
-    if not least <= number <= most:
+    """The number, where it is within its limits, as the library takes no other. TypeError where it is no whole number."""
+    if not least <= index(number) <= most:
         raise OutOfLimits(1, f'{what} is {number}, and {least} to {most} is wanted')
-    return number
+    return index(number)
 
 
 def done(status: int, text: bytes) -> bytes:

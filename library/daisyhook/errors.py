@@ -25,6 +25,13 @@ class OutOfLimits(DexError, ValueError):
     """A number is not within its limits: rows 1 to 20,000, nodes 1 to 65,536, events 1 to 65,535."""
 
 
+class InputTooLong(DexError, ValueError):
+    """The input has more than 67,108,864 bytes."""
+
+    def __init__(self) -> None:
+        super().__init__(6, 'input too long\n')
+
+
 class OutOfMemory(DexError, MemoryError):
     """Memory was wanting."""
 
@@ -124,6 +131,8 @@ def refusal_of(status: int, text: bytes) -> DexError:
         return ScriptRefused(told)
     if status == 3:
         return AuditFailed(told) if told.startswith('finding ') else DumpRefused(told)
+    if status == 6:
+        return InputTooLong()
     if status == 7:
         return OutOfMemory(status, 'no memory')
     if status == 8:

@@ -25,8 +25,10 @@ SPARE = 65536
 @lru_cache(maxsize=None)
 def library() -> ctypes.CDLL:
     """The shared library: the file that DAISYHOOK_LIBRARY names, else `library/out/libdex.so` beside this module."""
-    path = os.environ.get('DAISYHOOK_LIBRARY') or Path(__file__).resolve().parent.parent / 'out' / 'libdex.so'
-    if not Path(path).exists():
+    named = os.environ.get('DAISYHOOK_LIBRARY')
+    # A path without a slash would be sought among the system's libraries, so it is made whole.
+    path = Path(named).absolute() if named else Path(__file__).resolve().parent.parent / 'out' / 'libdex.so'
+    if not path.exists():
         raise FileNotFoundError(f'{path} is not there: build it with library/build, or name it by DAISYHOOK_LIBRARY')
     loaded = ctypes.CDLL(str(path))
     for name, front in FRONTS.items():

@@ -4,8 +4,11 @@ cases.py ROOT CASE.. compares each case's text and refusal with what is stored, 
 swaps, with the numbers in their text. Prints 'N passed, M failed'.
 """
 
+import os
 import pickle
+import subprocess
 import sys
+from collections.abc import Callable
 from concurrent.futures import ThreadPoolExecutor
 from pathlib import Path
 
@@ -137,6 +140,63 @@ def try_swaps() -> None:
         same('a swap on one market', repr(refusal), "ScriptRefused(row=17, kind=10, name='BadSwap')")
 
 
+def values_of(accounts: daisyhook.Accounts) -> list[object]:
+    """All that is read from accounts."""
+    markets = accounts.markets.values()
+    names = ('address', 'authority', 'coin_mint', 'pc_mint', 'coin_lot', 'pc_lot', 'coin_vault', 'pc_vault', 'pc_fees', 'events', 'bids', 'asks',
+             'open_orders')
+    return [accounts.mints, accounts.wallets, accounts.srm, accounts.msrm, [[getattr(market, name) for name in names] for market in markets]]
+
+
+def try_dumps() -> None:
+    """Dumps that an audit takes are read as it reads them: with fields in quotes, other line ends, a mark in front, and addresses in digits."""
+    dump = daisyhook.dump((root / 'examples' / 'discount_and_referrer.csv').read_bytes())
+    wanted = values_of(daisyhook.accounts(dump))
+    rows = [row.split(b',') for row in dump.splitlines()]
+    quoted = b'\n'.join(b','.join(b'"%s"' % field for field in row) for row in rows)
+    half = dump.replace(b'wallet,', b'"wall"et,').replace(b'orders,m,', b'orders,"m",')
+    digits = dump.replace(b'orders,m,', b'orders,0x6d%s,' % (b'0' * 62)).replace(b'wallet,ann_coin,', b'wallet,0x%s,' % b'ann_coin'.hex().encode().ljust(64, b'0'))
+    for name, told in (('all fields', quoted), ('some fields', half), ('line ends', dump.replace(b'\n', b'\r\n')), ('returns', dump.replace(b'\n', b'\r')),
+                       ('empty lines', dump.replace(b'\n', b'\n\n')), ('a mark', b'\xef\xbb\xbf' + dump), ('digits', digits)):
+        same(f'a dump written otherwise: {name}', values_of(daisyhook.accounts(told)), wanted)
+    large = daisyhook.migrate(dump, 5000, 10)
+    same('a dump with a large account', values_of(daisyhook.accounts(large)), wanted)
+
+
+def refused(what: str, kind: type[Exception], call: Callable[[], object]) -> None:
+    """Counts a call as passed where it raises just this exception."""
+    try:
+        found = call()
+    except Exception as fault:
+        found = type(fault)
+    same(what, found, kind)
+
+
+def try_inputs() -> None:
+    """What is no text or no whole number is refused, and an input of one byte too many is what the program says of it."""
+    for name in ('replay', 'dump', 'worth', 'audit', 'accounts', 'Exchange'):
+        for wrong in (5, 0, None, 1.5, [1, 2], True):
+            refused(f'{name}({wrong!r})', TypeError, lambda: getattr(daisyhook, name)(wrong))
+    refused('migrate of a number', TypeError, lambda: daisyhook.migrate(5, 1, 1))
+    refused('rows that are no whole number', TypeError, lambda: daisyhook.make(1, 1.0))
+    long = bytes(67_108_865)
+    for name in ('replay', 'audit', 'accounts'):
+        refused(f'{name} of 64 MiB and a byte', daisyhook.InputTooLong, lambda: getattr(daisyhook, name)(long))
+    told = daisyhook.InputTooLong()
+    same('what it says', (told.status, told.text, repr(pickle.loads(pickle.dumps(told)))), (6, 'input too long\n', repr(told)))
+    for text in (bytearray(b'enddump'), memoryview(b'enddump'), 'enddump'):
+        refused(f'a text as {type(text).__name__}', daisyhook.ScriptRefused, lambda: daisyhook.replay(text))
+
+
+def try_relative_path() -> None:
+    """A library that is named without a folder is that of the folder where the program runs."""
+    path = Path(os.environ['DAISYHOOK_LIBRARY']).resolve()
+    given = dict(os.environ, DAISYHOOK_LIBRARY=path.name, PYTHONPATH=str(root / 'library'))
+    done = subprocess.run([sys.executable, '-c', "import daisyhook; print(daisyhook.audit(b'dump\\nenddump\\n'))"], cwd=path.parent, env=given,
+                          capture_output=True, text=True, check=False)
+    same('a library named without a folder', (done.stdout, done.stderr), ('[]\n', ''))
+
+
 with ThreadPoolExecutor(4) as threads:
     for told in threads.map(try_case, sys.argv[2:] * 2):
         same(*told)
@@ -145,6 +205,10 @@ for path in (*sorted((root / 'examples').glob('*.report')), root / 'tests' / 'da
 for name in ('examples/two_traders', 'examples/deep_book', 'examples/discount_and_referrer', 'tests/data/swaps'):
     try_steps((root / f'{name}.csv').read_text())
 try_swaps()
+try_dumps()
+try_inputs()
+if 'DAISYHOOK_LIBRARY' in os.environ:
+    try_relative_path()
 traders = daisyhook.replay((root / 'examples' / 'two_traders.csv').read_text())
 same('what rests in two_traders', traders.markets['m'].depth, daisyhook.Depth((), (daisyhook.Level(50, 1, 1),)))
 same('what Ann holds', traders.wallets['ann_usd'].amount, 1500)

@@ -5,14 +5,14 @@ import unittest
 from dataclasses import replace
 from typing import Iterator
 
-from support import ROOT, Folder, changed, example, ledger, listed_accounts, stored_dumps, text_of
+from support import ROOT, Ended, Folder, changed, example, ledger, listed_accounts, named, stored_dumps, text_of
 
 from bridge.comparing import Compared, compare, compared_of
 from bridge.dump_text import read_dump
 from bridge.layouts import number_at
 from bridge.refusals import Refusal
 from bridge.sides import FREE, INNER, LAST_FREE, LEAF, Side
-from bridge.snapshot import PARTS, Held, Snapshot
+from bridge.snapshot import PARTS, Entry, Held, Snapshot
 from bridge.tables import LAYOUTS, SIZES, Field
 
 NODE_LAYOUTS = {INNER: "inner_node", LEAF: "leaf_node", FREE: "free_node", LAST_FREE: "free_node"}
@@ -199,20 +199,54 @@ class Meaning(Folder):
         self.assertTrue(told[2].endswith(" -"))
 
     def test_accounts_that_are_there_once(self) -> None:
-        """An account that one input lacks is told; a closed or blank one, and a made rest, are not on a ledger and are not told."""
+        """An account that one input lacks is told. A closed or blank one of a dump, and a made rest, are on no ledger: of these alone a
+        ledger's lack is not told."""
         snapshot = example()
         market = snapshot.markets[0]
         less = replace(snapshot, wallets=snapshot.wallets[1:], markets=[replace(market, orders=market.orders[1:])])
         self.assertEqual([line.split()[0] for line in lines_of(snapshot, less)], ["wallet", "open_orders"])
         self.assertEqual(lines_of(snapshot, less)[0].split()[2:], ["account", "there", "-"])
         self.assertEqual(lines_of(less, snapshot)[0].split()[2:], ["account", "-", "there"])
+        more = self.with_made(snapshot)
+        plain, dump = self.save("plain.json", listed_accounts(snapshot)), self.save("more.dump", text_of(more))
+        for words in ((plain, dump), (dump, plain)):
+            self.assertEqual(ledger("compare", *words), ledger("compare", plain, plain))
+            self.assertEqual(ledger("compare", "--bytes", *words).out.count("\n"), 3)
+        self.assertEqual([len(lines_of(snapshot, more)), len(lines_of(more, snapshot))], [3, 3])
+
+    def with_made(self, snapshot: Snapshot) -> Snapshot:
+        """A snapshot with what only a dump has beside it: a blank and a closed account, and a made rest."""
+        market = snapshot.markets[0]
         closed = bytearray(market.orders[0].data)
-        closed[5:13] = (256).to_bytes(8, "little")
-        rest = Held(b"rest_1".ljust(32, b"\0"), snapshot.wallets[0].data)
+        closed[5:13], closed[77:109], closed[109:125] = (256).to_bytes(8, "little"), bytes(32), bytes([255]) * 16
+        rest = Held(b"rest_1".ljust(32, b"\0"), snapshot.wallets[0].data[:32] + b"rest".ljust(32, b"\0") + snapshot.wallets[0].data[64:])
         made = [Held(b"new".ljust(32, b"\0"), bytes(3228)), Held(b"old".ljust(32, b"\0"), bytes(closed))]
-        more = replace(snapshot, wallets=snapshot.wallets + [rest], markets=[replace(market, orders=market.orders + made)])
-        self.assertEqual((lines_of(snapshot, more), lines_of(more, snapshot)), ([], []))
-        self.assertEqual(len(lines_of(snapshot, more, True)), 3)
+        return replace(snapshot, wallets=snapshot.wallets + [rest], markets=[replace(market, orders=market.orders + made)])
+
+    def test_accounts_that_a_ledger_has_alone(self) -> None:
+        """What a ledger has and the other input lacks is told, whatever its flags: it is of no dump's making."""
+        snapshot = example()
+        data = snapshot.markets[0].orders[0].data
+        odd = data[:5] + (261).to_bytes(8, "little") + data[13:101] + (10**12).to_bytes(8, "little") + data[109:]
+        plain, dump = self.save("plain.json", listed_accounts(snapshot)), self.save("plain.dump", text_of(snapshot))
+        for kind, address, account in (("open_orders", b"odd", odd), ("open_orders", b"new", bytes(3228)),
+                                       ("wallet", b"rest_1", snapshot.wallets[0].data)):
+            entry = Entry(kind, address.ljust(32, b"\0"), account)
+            more = self.save("more.json", [*listed_accounts(snapshot), named(entry)])
+            for other in (plain, dump):
+                line = f"{kind} {address.decode()} account"
+                self.assertEqual(ledger("compare", more, other), Ended(1, f"{line} there -\n", ""))
+                self.assertEqual(ledger("compare", other, more), Ended(1, f"{line} - there\n", ""))
+
+    def test_closed_with_funds(self) -> None:
+        """A closed account of a dump that still has funds is told where a ledger lacks it."""
+        snapshot = example()
+        market = snapshot.markets[0]
+        data = market.orders[0].data
+        odd = Held(b"odd".ljust(32, b"\0"), data[:5] + (256).to_bytes(8, "little") + data[13:101] + (10**12).to_bytes(8, "little") + data[109:])
+        more = self.save("more.dump", text_of(replace(snapshot, markets=[replace(market, orders=[*market.orders, odd])])))
+        told = ledger("compare", self.save("plain.json", listed_accounts(snapshot)), more)
+        self.assertEqual((told.status, told.out), (1, "open_orders odd account - there\n"))
 
     def test_sizes(self) -> None:
         """Sides and queues of other sizes tell the length, and else what they mean."""

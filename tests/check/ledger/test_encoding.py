@@ -18,7 +18,7 @@ class Base58(unittest.TestCase):
                  b"The quick brown fox jumps over the lazy dog.": "USm3fpXnKG5EUBx2ndxBDMPVciP5hGey2Jh4NDv6gmeo1LkMeiKrLJUUBk6Z",
                  bytes(32): "1" * 32}
         for data, text in known.items():
-            self.assertEqual((base58_text(data), base58_bytes(text)), (text, data))
+            self.assertEqual((base58_text(data), base58_bytes(text, 64)), (text, data))
         token = "06ddf6e1d765a193d9cbe146ceeb79ac1cb485ed5f5b37913a8cf5857eff00a9"
         self.assertEqual(TOKEN_PROGRAM.hex(), token)
 
@@ -27,13 +27,13 @@ class Base58(unittest.TestCase):
         draw = random.Random(1)
         for length in [*range(80), 255, 256, 1000, 5000]:
             data = bytes(draw.randrange(3)) + draw.randbytes(length)
-            self.assertEqual(base58_bytes(base58_text(data)), data)
+            self.assertEqual(base58_bytes(base58_text(data), len(data)), data)
 
     def test_no_base58(self) -> None:
         """Signs that base58 leaves out."""
         for text in ("0", "O", "I", "l", "ab c", "ä", "+", "1\n"):
             with self.assertRaises(ValueError):
-                base58_bytes(text)
+                base58_bytes(text, 64)
 
 
 class Base64(unittest.TestCase):

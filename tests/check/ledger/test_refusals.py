@@ -2,11 +2,13 @@
 
 import json
 import os
+import resource
 import subprocess
 import unittest
+from dataclasses import replace
 from typing import Any
 
-from support import ROOT, SERUM, Folder, answer, example, hostile, ledger, ledger_apart, listed_accounts, named, text_of, words_for, zstd_like
+from support import ROOT, SERUM, Folder, answer, dex, example, hostile, ledger, ledger_apart, listed_accounts, named, text_of, words_for, zstd_like
 
 from bridge.encoding import base58_text, base64_text, shown
 from bridge.snapshot import Entry
@@ -64,6 +66,40 @@ class BadAccounts(Folder):
         self.refused({"jsonrpc": "2.0", "error": {"code": -32602, "message": "Invalid param"}, "id": 1}, "error", "Invalid param")
         self.refused({"transaction": {}, "meta": {}}, "transaction", "ledger script")
 
+    def test_pipes(self) -> None:
+        """A pipe in a folder, or as the addresses beside a file, is refused and not waited for; as a file by itself it is read."""
+        os.mkdir(self.path("folder"))
+        os.mkfifo(self.path("folder/a.json"))
+        self.assert_refused(ledger("dump", *self.words, self.path("folder")), "folder/a.json", "no plain file")
+        os.mkfifo(self.path("given.addresses"))
+        self.refused(answer([entry["account"] for entry in self.accounts]), "given.addresses", "no plain file")
+        path = self.save("all.json", self.accounts)
+        line = " ".join([os.path.join(ROOT, "ledger"), "compare", path, f"<(cat {path})"])
+        self.assertEqual(subprocess.run(["bash", "-c", line], check=False).returncode, 0)
+
+    def test_json(self) -> None:
+        """Keys twice, words that are no numbers, numbers without end, lists of lists of nothing, and answers with an error beside the result."""
+        text = json.dumps(self.accounts[0])
+        self.refused(text.replace('"owner"', '"owner": "x", "owner"'), "given.json", "no JSON", "'owner' twice")
+        self.refused(text.replace('"lamports": 1', '"lamports": NaN'), "no JSON", "NaN")
+        self.refused(text.replace('"lamports": 1', '"lamports": ' + "1" * 5000), "no JSON", "5000 digits")
+        for wrong in ("[[], []]", "[[]]", '{"result": [[]]}'):
+            self.refused(wrong, "an empty list stands in a list")
+        for wrong in ("[1", "[1,]", "[1 2]", "[] []", "[]x", "[,]", "{} {}", "nul"):
+            self.refused(wrong, "given.json")
+        self.refused({"result": self.accounts, "error": {"code": 1}}, "answered with an error")
+        for good in (text_of(self.snapshot),):
+            for spaced in (json.dumps(self.accounts, indent=1), "\ufeff \n" + json.dumps(self.accounts) + "\r\n\t "):
+                self.assertEqual(ledger("dump", *self.words, self.save("given.json", spaced)).out, good)
+
+    def test_many_empty_lists(self) -> None:
+        """A hundred megabytes of empty lists are told within five seconds of the processor."""
+        dump = self.save("a.dump", text_of(self.snapshot))
+        for text, words in (("[" + "[]," * 33000000 + "[]]", ["dump", *self.words]), ("[]" * 50000000, ["script", dump])):
+            path, before = self.save("given.json", text), resource.getrusage(resource.RUSAGE_CHILDREN).ru_utime
+            self.assert_refused(ledger_apart(*words, path), "given.json")
+            self.assertLess(resource.getrusage(resource.RUSAGE_CHILDREN).ru_utime - before, 5)
+
     def test_no_file(self) -> None:
         """Files that are not there, and folders without JSON."""
         self.assert_refused(ledger("dump", *self.words, self.path("none.json")), "none.json", "cannot be read")
@@ -76,6 +112,8 @@ class BadAccounts(Folder):
         self.refused(self.changed("wallet", data=["A===", "base64"]), "given.json", name, "no base64")
         self.refused(self.changed("wallet", data=["0OIl", "base58"]), "given.json", name, "no base58")
         self.refused(self.changed("wallet", data="0OIl"), "given.json", name, "no base58")
+        for data in ("2" * 4000000, ["2" * 4000000, "base58"]):
+            self.refused(self.changed("wallet", data=data), name, "4000000 signs", '"encoding": "base64"')
         self.refused(self.changed("wallet", data=zstd_like(b"")), name, "base64+zstd", '"encoding": "base64"')
         self.refused(self.changed("wallet", data={"parsed": {}, "program": "spl-token", "space": 165}), name, "jsonParsed", '"encoding": "base64"')
         self.refused(self.changed("wallet", data=["AAAA", "hex"]), name, "hex")
@@ -232,6 +270,35 @@ class BadAccounts(Folder):
             done = subprocess.run(["bash", "-c", line], capture_output=True, check=False)
             self.assertEqual((done.returncode, done.stdout, done.stderr.count(b"\n")), (2, b"", 1), done.stderr)
 
+    def test_standard_error(self) -> None:
+        """Standard error that is full or closed changes no status and no output."""
+        same = self.save("same.dump", text_of(self.snapshot))
+        other = self.save("other.dump", text_of(replace(self.snapshot, wallets=self.snapshot.wallets[1:])))
+        data = self.entry("wallet").data
+        odd = self.save("odd.json", self.bytes_of("wallet", data[:72] + b"\1" + data[73:]))
+        transaction = {"slot": 1, "meta": {"err": None}, "transaction": {"signatures": [base58_text(NOBODY * 2)], "message": {
+            "header": {"numRequiredSignatures": 1}, "accountKeys": [base58_text(NOBODY)], "instructions": []}}}
+        day = self.save("day.json", transaction)
+        cases = (["compare", same, other], ["compare", same, self.path("none")], ["dump", *self.words, "--leave-out-wallets", odd],
+                 ["script", same, day], ["compare", *self.same_meaning()])
+        statuses = []
+        for words in cases:
+            line = " ".join([os.path.join(ROOT, "ledger"), *words])
+            runs = [subprocess.run(["bash", "-c", line + where], capture_output=True, check=False) for where in ("", " 2> /dev/full", " 2>&-")]
+            statuses.append(runs[0].returncode)
+            for run in runs[1:]:
+                self.assertEqual((run.returncode, run.stdout, run.stderr), (runs[0].returncode, runs[0].stdout, b""), words)
+        self.assertEqual(statuses, [1, 2, 0, 0, 0])
+
+    def same_meaning(self) -> list[str]:
+        """Two dumps that differ in a byte that nobody reads, so that a note tells it."""
+        data = bytearray(self.entry("bids").data)
+        inner = next(place for place in range(45, len(data) - 72, 72) if data[place] == 1)
+        data[inner + 8] ^= 1
+        market = self.snapshot.markets[0]
+        text = text_of(replace(self.snapshot, markets=[replace(market, parts={**market.parts, "bids": bytes(data)})]))
+        return [self.save("one.dump", text_of(self.snapshot)), self.save("two.dump", text)]
+
     def test_full_device(self) -> None:
         """Standard output that takes nothing."""
         path = self.save("given.json", self.accounts)
@@ -255,6 +322,9 @@ class BadDumps(Folder):
         self.refused("", "empty")
         self.refused("script refused row 12: 6 UnknownLabel\n", "script refused row 12", "dex dump")
         self.refused("report 5\nmarket m 0\n", "cut short")
+        self.refused(text + "ix,0,m,ann,-,-,-,-,-,AA==\n", "nothing is wanted behind `enddump`")
+        self.refused(text + text, "nothing is wanted behind `enddump`")
+        self.refused(text + "end\n", "nothing is wanted behind `enddump`")
         self.refused(text.replace("enddump\n", ""), "cut short")
         self.refused(text[: len(text) // 2], "line ")
         self.refused(text.replace("wallet,", "walet,", 1), "line 4", "no row")
@@ -264,7 +334,28 @@ class BadDumps(Folder):
         self.refused(text.replace("orders,m,", "orders,n,", 1), "line", "market n")
         self.refused("dump\n" + text.split("\n")[1] + "\n" + text.split("\n", 1)[1], "line 3", "twice")
         self.refused(text.replace("mint", "m\xefnt", 1), "no dump or report")
-        self.refused("dump\nsrm,a\nsrm,b\nenddump\n", "line 3", "srm")
+        mint = text.split("\n")[1]
+        self.refused(f"dump\n{mint}\nsrm,coin\nsrm,coin\nenddump\n", "line 4", "a second row names srm")
+        self.refused(f"dump\n{mint}\nsrm,coin\nmsrm,coin\nenddump\n", "line 4", "one mint is srm and msrm")
+        self.refused(f"dump\nsrm,coin\n{mint}\nenddump\n", "line 2", "no row before it has the mint coin")
+        self.refused(text.replace("enddump", '"enddump'), "line 14", "no row of a dump")
+
+    def test_reports(self) -> None:
+        """Reports whose journals are not those of their accounts and rows, that are not ended, or have something behind their end."""
+        with open(os.path.join(ROOT, "examples", "two_traders.report"), encoding="ascii") as file:
+            text = file.read()
+        dump = text[text.index("\ndump\n") + 1 :]
+        lines = text.splitlines(keepends=True)
+        self.assertEqual(ledger("compare", "-", self.save("a.report", text), given=text.encode()).status, 0)
+        self.refused("report 0\n" + dump, "line 1", "the markets that have a journal are not those of the dump")
+        self.refused("report 9\nmarket m 0\n" + dump, "line 1", "the wallets that have a journal")
+        self.refused(text.replace("report 9", "report 8"), "line 1", "tells of 8 rows")
+        self.refused("".join(lines[:2] + lines[3:]), "line 11", "`entry ..` is wanted, of which 8 of 9 stand above")
+        self.refused(text.replace("move m 0 12", "move m 0 x"), "line 13", "`move ..` is wanted")
+        self.refused("".join(lines[:11] + lines[:11][1:] + lines[11:]), "journal")
+        self.refused(text.removesuffix("end\n"), "`end` alone is wanted behind `enddump`")
+        for more in ("end\n", "clock,5\n", dump, text):
+            self.refused(text + more, "`end` alone is wanted behind `enddump`")
 
     def test_folders(self) -> None:
         """A folder that is not empty, or cannot be made."""
@@ -275,10 +366,13 @@ class BadDumps(Folder):
         self.assert_refused(ledger("accounts", self.path("there/in"), given=text), "there/in", "written")
 
     def test_other_texts(self) -> None:
-        """Carriage returns, a byte-order mark and quoted fields are read as the exchange reads them."""
+        """Carriage returns, a byte-order mark, empty lines and quoted fields are read as the exchange reads them."""
         text = text_of(example())
         quoted = text.replace("mint,coin,", '"mint","coin",', 1)
-        for given in (text.replace("\n", "\r\n"), "\ufeff" + text, quoted, text.replace("\n", "\n\n"), "report 0\n" + text + "end\n"):
+        every = "".join(",".join(f'"{field}"' for field in line.split(",")) + "\n" for line in text.splitlines())
+        odd = text.replace("mint,coin,", '"mi"nt,"co"in,', 1)
+        for given in (text.replace("\n", "\r\n"), text.replace("\n", "\r"), "\ufeff" + text, quoted, every, odd, text.replace("\n", "\n\n"), "\n" + text):
+            self.assertTrue(dex("audit", given).startswith("audit ok "))
             told = ledger("compare", "-", self.save("a.dump", text), given=given.encode())
             self.assertEqual((told.status, told.out, told.err), (0, "", ""), given[:20])
 

@@ -1,5 +1,7 @@
 """Scripts from transactions: each instruction's row, inner calls, other forms, and what is refused."""
 
+import json
+import os
 import unittest
 from typing import Any, Optional
 
@@ -77,7 +79,7 @@ class Script(Folder):
 
         value: dict[str, Any] = {"slot": 1000 + self.count, "blockTime": 1700000000 + self.count, "meta": {
             "err": None, "innerInstructions": [{"index": index, "instructions": list(map(written, called))} for index, called in inner]},
-            "transaction": {"signatures": [base58_text(bytes([self.count]) * 64)], "message": {
+            "transaction": {"signatures": [base58_text(bytes([self.count, number]) * 32) for number in range(3)], "message": {
                 "header": {"numRequiredSignatures": 3, "numReadonlySignedAccounts": 0, "numReadonlyUnsignedAccounts": 0},
                 "accountKeys": list(map(base58_text, keys)), "instructions": list(map(written, calls))}}}
         value.update(members)
@@ -261,6 +263,14 @@ class Accounts(Script):
             order = self.row("trader", "account", "coin_wallet - - -", self.call(10)["data"])
             self.assertEqual(rows, [self.row("trader", "account", "- - - -", b"\0\x0f\0\0\0"), order, order])
 
+    def test_opened_address_of_another_account(self) -> None:
+        """An account that is opened has no wallet's, mint's, vault's or market's address, and is no other market's."""
+        for name, kind in (("coin_wallet", "wallet"), ("coin_vault", "coin_vault"), ("market", "market"), ("bids", "bids"), ("coin_mint", "mint")):
+            value = self.transaction(self.call(15, places=f"{name} trader market rent"))
+            self.refused(value, "InitOpenOrders", f"which is a {kind} of the dump")
+            first = self.transaction(self.call(10, places=PLACES[10].replace("account", name)))
+            self.assert_refused(self.script(first, more=("--open-accounts",)), f"which is a {kind} of the dump")
+
     def test_unknown_wallets(self) -> None:
         """A wallet that the dump does not have, and a discount wallet without discount mints."""
         self.names["coin_wallet"] = bytes([51]) * 32
@@ -318,9 +328,10 @@ class Bad(Script):
         self.assert_refused(self.script(value), "given.json", "transaction 1", "signature")
 
     def test_numbers(self) -> None:
-        """Numbers of accounts that are none, and data that is no base58."""
+        """Numbers of accounts that are none, and data that is no base58 or longer than a call can have."""
         for name, wrong, told in (("programIdIndex", 99, "99"), ("programIdIndex", -1, "-1"), ("programIdIndex", "1", "programIdIndex"),
-                                  ("accounts", [99], "99"), ("accounts", None, "accounts"), ("data", "0OIl", "base58"), ("data", 5, "data")):
+                                  ("accounts", [99], "99"), ("accounts", None, "accounts"), ("data", "0OIl", "base58"), ("data", 5, "data"),
+                                  ("data", "2" * 4000000, "4000000 signs")):
             value = self.transaction(self.call(7))
             value["transaction"]["message"]["instructions"][0][name] = wrong
             self.refused(value, told)
@@ -344,6 +355,81 @@ class Bad(Script):
         value = self.transaction(self.call(7))
         value["transaction"]["message"]["instructions"][0] = {"programId": base58_text(SERUM), "accounts": [], "data": ""}
         self.refused(value, "jsonParsed")
+
+    def lying(self, path: str, value: Any, *words: str, loaded: tuple[bytes, ...] = ()) -> None:
+        """Checks that a transaction with another value at a path is refused."""
+        other = {"program": self.names["other_program"], "accounts": [self.names["market"]], "data": b""}
+        told = self.transaction(self.call(7), other, inner=[(1, [self.call(12)])], loaded=loaded)
+        self.assertEqual(len(self.rows(told)), 2)
+        part: Any = told
+        *front, last = path.split("/")
+        for name in front:
+            part = part[name]
+        part[last] = value(part.get(last)) if callable(value) else value
+        self.refused(told, *words)
+
+    def test_lies(self) -> None:
+        """Signatures, accounts, inner calls, faults and slots that do not agree with one another are refused, and not read as others."""
+        self.lying("transaction/signatures", lambda found: found[:2], "wants 3 signatures and has 2")
+        self.lying("transaction/signatures", lambda found: [*found, found[0]], "wants 3 signatures and has 4")
+        self.lying("transaction/message/header/numRequiredSignatures", 50, "wants 50 signatures")
+        self.lying("transaction/message/accountKeys", lambda found: [*found, found[3]], "stands twice")
+        self.lying("meta/innerInstructions", lambda found: found * 2, "instruction 1 (from 0) stand twice")
+        for fault in (False, True, 0, [], "", {}):
+            self.lying("meta/err", fault, "`err`")
+        self.lying("meta/status", {"Err": {"InstructionError": [0, {"Custom": 1}]}}, "`err` and its `status`")
+        self.lying("slot", -1, "slot is -1")
+
+    def test_loaded_signer(self) -> None:
+        """An account that was loaded signs nothing, and is no instruction's program."""
+        call = self.call(7)
+        value = self.transaction(call)
+        keys = value["transaction"]["message"]["accountKeys"]
+        value["transaction"]["message"]["accountKeys"] = keys[:2]
+        value["meta"]["loadedAddresses"] = {"writable": keys[2:], "readonly": []}
+        self.refused(value, "wants 3 signatures and has 2 accounts that can sign")
+        value = self.transaction(call)
+        value["transaction"]["message"]["accountKeys"] = keys[:-1]
+        value["meta"]["loadedAddresses"] = {"writable": [], "readonly": keys[-1:]}
+        self.refused(value, "an account that was loaded", base58_text(SERUM))
+
+    def test_signatures(self) -> None:
+        """A signature is base58 of 64 bytes: no text of it forges a line of the table, or cannot be written."""
+        good = base58_text(bytes([7]) * 64)
+        for wrong in (good + "\nrow 11 1 forged 1 NewOrderV3", "\ud800", "", "x" * 64, base58_text(bytes([7]) * 63), base58_text(bytes([7]) * 65),
+                      good + " ", "1" * 4000000, 5, None):
+            value = self.transaction(self.call(7))
+            for place in (0, 2):
+                value["transaction"]["signatures"] = [wrong if number == place else base58_text(bytes([number + 1]) * 64) for number in range(3)]
+                self.assert_refused(self.script(value, more=("--table", self.path("rows.txt"))), "given.json: transaction 1", "signature")
+        self.assertFalse(os.path.exists(self.path("rows.txt")))
+
+    def test_keys_twice(self) -> None:
+        """JSON with a key twice is refused, wherever it stands."""
+        text = json.dumps([self.transaction(self.call(7))])
+        for old, new in (('"err": null', '"err": null, "err": {"a": 1}'), ('"slot": ', '"slot": 5, "slot": '), ('"data": ', '"data": "", "data": ')):
+            self.assert_refused(ledger("script", self.dump, self.save("given.json", text.replace(old, new, 1))), "given.json", "twice", old[1:4])
+
+    def test_market_elsewhere(self) -> None:
+        """An instruction that names the market, or one of its accounts, and has another one at the market's place, is no other one."""
+        for tag, places in ((3, PLACES[3] + " rent"), (3, "account event_q market coin_fees pc_fees"), (7, "authority market"),
+                            (12, "rent bids asks account trader event_q"), (15, "account trader rent market")):
+            self.refused(self.transaction(self.call(tag, places=places)), "tables.json", "the market m")
+        moved = self.save("given.json", self.transaction(self.call(7, places="authority market")))
+        self.assert_refused(ledger("wallets", "--market", "m", moved), "tables.json", "names the market")
+        program = {"program": self.names["market"], "accounts": [], "data": b""}
+        other = {"program": self.names["other_program"], "accounts": [], "data": b""}
+        self.refused(self.transaction(other, inner=[(0, [program])]), "the program of instruction 1.1 is the market m")
+
+    def test_reversed_loaded_addresses(self) -> None:
+        """Loaded accounts in another order are no instruction of another market."""
+        call = self.call(3)
+        loaded = tuple(dict.fromkeys(call["accounts"]))
+        value = self.transaction(call, loaded=loaded, version=0)
+        value["meta"]["loadedAddresses"] = {"writable": list(map(base58_text, loaded)), "readonly": []}
+        self.assertEqual(len(self.rows(value)), 1)
+        value["meta"]["loadedAddresses"]["writable"].reverse()
+        self.refused(value, "ConsumeEvents", "tables.json")
 
     def test_inner_calls_not_told(self) -> None:
         """A transaction without record of inner calls is refused where another program was given the market, and only there."""

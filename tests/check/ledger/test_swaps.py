@@ -92,6 +92,12 @@ class Swaps(Script):
         self.assertEqual(self.kinds(self.transaction(first, first, second, first)), ["ix", "swap", "ix"])
         self.assertEqual(self.kinds(self.transaction(first, memo, second, second, first)), ["swap", "swap"])
 
+    def test_accounts_of_the_other_market(self) -> None:
+        """An open-orders account of the other market is named as that."""
+        self.names["account"] = self.snapshot.markets[1].orders[0].address
+        for tag in (15, 12):
+            self.refused(self.transaction(self.call(tag)), "is of the market n")
+
     def test_failed_and_other(self) -> None:
         """A transaction that failed makes no row; where one market is asked for, its take is a row alone."""
         first, second = self.takes()
