@@ -54,6 +54,8 @@ def compared_of(snapshot: Snapshot) -> Compared:
             part = entry.kind if entry.kind in PARTS else ""
             compared.add(Key(market.address if part else entry.address, part), entry)
         compared.words[f"market {shown(market.address)} authority"] = shown(market.authority)
+        for held in market.orders:
+            compared.words[f"open_orders {shown(held.address)} market_of_row"] = shown(market.address)
     for name, mint in (("srm", snapshot.srm), ("msrm", snapshot.msrm)):
         compared.words[name] = shown(mint) if mint is not None else "-"
     return compared

@@ -227,7 +227,7 @@ def read_dump(data: bytes, source: str) -> Snapshot:
     report = _REPORT.fullmatch(first)
     if report is not None:
         _read_report(reader, text, int(report[1]))
-    elif first in ("dump", '"dump"'):
+    elif next(csv.reader([first]), None) == ["dump"]:
         _read_rows(reader, text, [])
     else:
         what = "it is empty" if first == "" else f"it is neither a dump nor a report: it begins with {first[:60]!r}"

@@ -248,6 +248,16 @@ class Meaning(Folder):
         told = ledger("compare", self.save("plain.json", listed_accounts(snapshot)), more)
         self.assertEqual((told.status, told.out), (1, "open_orders odd account - there\n"))
 
+    def test_market_of_a_blank_account(self) -> None:
+        """A blank account is of the market that its row names, which no byte of it says."""
+        path = os.path.join(ROOT, "tests", "data", "swaps.report")
+        with open(path, "rb") as file:
+            snapshot = read_dump(file.read(), path)
+        blank = Held(b"new".ljust(32, b"\0"), bytes(3228))
+        one, other = ([replace(market, orders=[*market.orders, blank] if at == place else market.orders) for at, market in enumerate(snapshot.markets)]
+                      for place in (0, 1))
+        self.assertEqual(lines_of(replace(snapshot, markets=one), replace(snapshot, markets=other)), ["open_orders new market_of_row m n"])
+
     def test_sizes(self) -> None:
         """Sides and queues of other sizes tell the length, and else what they mean."""
         snapshot = example()
