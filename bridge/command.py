@@ -6,7 +6,7 @@ import argparse
 import contextlib
 import os
 import sys
-from typing import Iterable, NoReturn, Optional, Sequence
+from typing import IO, Iterable, NoReturn, Optional, Sequence
 
 from bridge.accounts import read_accounts, read_address, write_account_files
 from bridge.comparing import compare, read_compared
@@ -29,6 +29,10 @@ class _Parser(argparse.ArgumentParser):
     def error(self, message: str) -> NoReturn:
         """Refuses the words."""
         raise Words(f"{message}; `{self.prog} --help` tells the words")
+
+    def print_help(self, file: Optional[IO[str]] = None) -> None:
+        """Writes the words as all else is written."""
+        _write(self.format_help().splitlines())
 
 
 def _address(word: str, option: str) -> bytes:

@@ -8,7 +8,7 @@ import re
 from dataclasses import dataclass, field
 from typing import Iterator, Optional
 
-from bridge.encoding import address_of, base64_bytes, base64_text, dump_word, shown
+from bridge.encoding import address_of, address_of_dump, base64_bytes, base64_text, dump_word, shown
 from bridge.refusals import Refusal
 from bridge.snapshot import PARTS, Held, Market, Snapshot, length_fault
 
@@ -35,7 +35,7 @@ class _Reader:
     def address(self, word: str) -> bytes:
         """The address of a word of the row."""
         try:
-            return address_of(word)
+            return address_of_dump(word)
         except ValueError as fault:
             raise self.fault(f"{word!r} is no address: {fault}") from None
 

@@ -109,6 +109,13 @@ def address_of(word: str) -> bytes:
     return data
 
 
+def address_of_dump(word: str) -> bytes:
+    """The address of a word of a dump, which is no base58. ValueError where it is none."""
+    if not _LABEL.fullmatch(word) and not _HEXADECIMAL.fullmatch(word):
+        raise ValueError("it is neither 0x and 64 digits nor a label of 1 to 24 of a to z, 0 to 9 and _")
+    return address_of(word)
+
+
 def label_of(address: bytes) -> str | None:
     """The label that stands for an address, where there is one."""
     bare = address.rstrip(b"\0")

@@ -3,6 +3,9 @@
 import { SHORT_ANSWERS } from './faults.js';
 import { frontOf, isAddress, isNumber, LineFault } from './text.js';
 
+// Longer than any line of an answer.
+const LONGEST_ANSWER = 1000;
+
 // The forms of an answer's lines: the words that stand as they are, and names of those that differ; a name with a ? may be missing.
 const ANSWER_FORMS = {
   finding: 'finding KIND ACCOUNT PLACE FOUND WANTED',
@@ -27,6 +30,7 @@ function fits(name, word) {
 
 // The words of a line by the names of a form; null where the line has another one.
 function readForm(form, line) {
+  if (line.length > LONGEST_ANSWER) return null;
   const names = form.split(' ');
   const words = line.replace(/: /, ' : ').split(' ').filter((word) => word !== ':');
   if (words.length > names.length) return null;

@@ -2,10 +2,13 @@
 
 import { AccountFault, readEvents, readMarket, readMint, readOrders, readRequests, readSide, readToken } from './accounts.js';
 import { decodeBase64 } from './bytes.js';
-import { frontOf, isAddress, LineFault, pause } from './text.js';
+import { breathe, frontOf, isAddress, LineFault } from './text.js';
 
 // How many fields a row of a dump has, by its first one.
 const ROW_FIELDS = { mint: 3, srm: 2, msrm: 2, wallet: 3, market: 10, orders: 4 };
+
+// A row has fewer fields by far.
+const MOST_FIELDS_OF_A_ROW = 100;
 
 // Runs the reading of an account, and tells its fault at its line.
 function atLine(line, what, read) {
@@ -99,14 +102,15 @@ class DumpReader {
 
   // Reads one row.
   row(text) {
-    const fields = text.split(',');
+    const fields = text.split(',', MOST_FIELDS_OF_A_ROW);
     const wanted = Object.hasOwn(ROW_FIELDS, fields[0]) ? ROW_FIELDS[fields[0]] : undefined;
     if (wanted === undefined) {
       const words = 'mint, srm, msrm, wallet, market, orders or enddump';
       throw new LineFault(this.line, `A row of a dump begins with ${words}; here stands ${frontOf(text)}.`);
     }
     if (fields.length !== wanted) {
-      throw new LineFault(this.line, `A row ${fields[0]} has ${wanted} fields; here are ${fields.length}.`);
+      const count = fields.length < MOST_FIELDS_OF_A_ROW ? fields.length : `${MOST_FIELDS_OF_A_ROW} or more`;
+      throw new LineFault(this.line, `A row ${fields[0]} has ${wanted} fields; here are ${count}.`);
     }
     const addresses = ['market', 'orders'].includes(fields[0]) ? 2 : 1;
     const wrong = fields.slice(1, 1 + addresses).find((field) => !isAddress(field));
@@ -123,10 +127,7 @@ export async function readDump(lines, first, tell) {
     if (text === 'enddump') return { exchange: reader.exchange, next: line + 1 };
     reader.line = line;
     reader.row(text);
-    if (line % 16 === 0) {
-      tell(line);
-      await pause();
-    }
+    await breathe(tell, line, (1 + line / lines.count) / 2);
   }
   throw new LineFault(lines.count + 1, 'The text ends inside the dump: enddump is missing.');
 }

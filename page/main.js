@@ -5,9 +5,10 @@ import { element } from './elements.js';
 import { givenTexts, hearFiles } from './given.js';
 import { drawView, frame } from './navigation.js';
 import { addTexts, toldTexts } from './opening.js';
-import { notice } from './parts.js';
+import { notice, readingBar } from './parts.js';
 import { searchField } from './search.js';
 import { hearPrinting } from './table.js';
+import { Stopped } from './text.js';
 
 const told = element('p', { class: 'file' });
 const faults = element('div', { class: 'faults' });
@@ -20,15 +21,38 @@ function drawFaults(faulty) {
   frame.main.dataset.view = 'fault';
 }
 
-// Opens texts beside those that are there; reading goes in slices and tells how far it is.
-async function openTexts(given) {
-  const progress = element('p', { class: 'progress', role: 'status' }, `Reading ${given.map(({ name }) => name).join(', ')}…`);
+// Reads texts, telling how far it is, with a button that stops it; nothing where it was stopped.
+async function readWhileTold(given) {
+  const working = readingBar(`Reading ${given.map(({ name }) => name).join(', ')}…`);
   frame.shown = null;
   delete frame.main.dataset.view;
   frame.tabs.replaceChildren();
   faults.replaceChildren();
-  frame.main.replaceChildren(progress);
-  const opened = await addTexts(texts, given, (text) => { progress.textContent = text; });
+  frame.main.replaceChildren(working.node);
+  try {
+    return await addTexts(texts, given, working.tell);
+  } catch (fault) {
+    if (fault instanceof Stopped) return null;
+    throw fault;
+  }
+}
+
+// Shows what stood there before texts were read of which the reading was stopped.
+function drawStopped(given, before) {
+  frame.shown = before;
+  faults.replaceChildren(notice(`Reading ${given.map(({ name }) => name).join(', ')} was stopped.`));
+  if (before !== null) drawView();
+  else drawWelcome();
+}
+
+// Opens texts beside those that are there.
+async function openTexts(given) {
+  const before = frame.shown;
+  const opened = await readWhileTold(given);
+  if (opened === null) {
+    drawStopped(given, before);
+    return;
+  }
   // A text that cannot be read leaves nothing of what stood there before, unless others came with it.
   const isAllFaulty = opened.faulty.length === given.length;
   texts = isAllFaulty ? {} : opened.texts;
@@ -50,6 +74,12 @@ function welcome() {
   ];
 }
 
+// Shows that nothing is there yet.
+function drawWelcome() {
+  frame.main.replaceChildren(...welcome());
+  frame.main.dataset.view = 'welcome';
+}
+
 // The page's own line about itself, and its keys.
 function footNode() {
   return element('footer', {},
@@ -66,8 +96,7 @@ function begin() {
       element('strong', {}, 'Daisyhook report'), search.node,
       element('label', { for: 'file', class: 'button' }, 'Open files'), file, unitsChoice(), themeChoice()),
     told, faults, frame.tabs);
-  frame.main.replaceChildren(...welcome());
-  frame.main.dataset.view = 'welcome';
+  drawWelcome();
   document.body.replaceChildren(skipLink('To the content', frame.main), header, frame.main, footNode());
   hearFiles(file, openTexts);
   hearKeys(search.field, () => file.click());

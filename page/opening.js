@@ -17,12 +17,15 @@ function take(texts, one) {
   texts[one.kind] = one;
 }
 
-/** Reads texts one after the other and adds them to those that are there; answers them all, and those that have a fault. */
+/**
+ * Reads texts one after the other and adds them to those that are there; answers them all, and those that have a fault. `tell` takes what is
+ * read, and how much of it was read, from 0 to 1.
+ */
 export async function addTexts(old, given, tell) {
   const texts = { ...old };
   const faulty = [];
   for (const one of given) {
-    const read = await readGiven(one, (line) => tell(`Reading ${one.name}: line ${line}…`));
+    const read = await readGiven(one, (line, part) => tell(`Reading ${one.name}: line ${line}…`, part));
     if (read.fault === null) take(texts, read);
     else faulty.push(read);
   }

@@ -3,6 +3,7 @@
 import { base58Of, hexOfAddress } from './base58.js';
 import { element } from './elements.js';
 import { Table } from './table.js';
+import { Stopped } from './text.js';
 
 /** Named values as a list. */
 export function facts(pairs) {
@@ -19,6 +20,20 @@ export function addressFacts(address) {
     ['Hexadecimal', element('code', { 'data-name': 'hexadecimal' }, hex)],
     ['Base58', element('code', { 'data-name': 'base58' }, base58Of(address))],
   ];
+}
+
+/** What tells how far reading is, with a button that stops it: `tell` takes what is read and how much of it was, and throws where it was stopped. */
+export function readingBar(words) {
+  let isStopped = false;
+  const told = element('span', { role: 'status' }, words);
+  const bar = element('progress', { 'max': '1', 'value': '0', 'aria-label': 'How much was read' });
+  const stop = element('button', { 'type': 'button', 'data-key': 'stop', 'click': () => { isStopped = true; } }, 'Stop');
+  const tell = (text, part) => {
+    if (isStopped) throw new Stopped();
+    told.textContent = text;
+    bar.value = part;
+  };
+  return { node: element('p', { class: 'progress' }, told, ' ', bar, ' ', stop), tell };
 }
 
 /** A part of a view under a heading. */

@@ -12,7 +12,7 @@ const MOST_DOTS = 1500;
 function pointsOf(shown, market, journal) {
   return journal.trades.map((at, number) => {
     const { row, side, pc, lots } = tradeAt(shown, market, journal, number);
-    return { number, row, side, price: averageNumber(pc, lots, market) };
+    return { number, row: Number(row), side, price: averageNumber(pc, lots, market) };
   });
 }
 

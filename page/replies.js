@@ -1,6 +1,6 @@
 // The lines of journals: what a row was answered, and what it did to the wallets that it names.
 
-import { isAddress, isNumber, isTime } from './text.js';
+import { exactNumber, isAddress, isNumber, isTime, wordsOfLine } from './text.js';
 
 /** What rows are answered, each with the names of its numbers. Two are no words of a line: a refusal, and a take that was held back. */
 export const REPLIES = [
@@ -108,27 +108,33 @@ function takeMove(words, at) {
   return { kind, amount: BigInt(amount), before: BigInt(before), after };
 }
 
+// How many wallets a row can name: one a role.
+const MOST_WALLETS = 4;
+
+// Whether a word is the number of a lane.
+function isLane(word) { return isNumber(word) && Number(word) < 16; }
+
 /** What a line `entry LANE ROW REPLY MOVES` says; null where it is none. */
 export function readEntry(line) {
-  const words = line.split(' ');
-  if (words[0] !== 'entry' || !isNumber(words[1]) || !isNumber(words[2])) return null;
+  const words = wordsOfLine(line);
+  if (words[0] !== 'entry' || !isLane(words[1]) || !isNumber(words[2])) return null;
   let answer = null;
   if (words[3] === 'ok') answer = takeAnswer(words);
   if (words[3] === 'refused') answer = takeRefusal(words);
-  if (answer === null || (words.length - answer.next) % 4 !== 0) return null;
+  if (answer === null || (words.length - answer.next) % 4 !== 0 || words.length > answer.next + 4 * MOST_WALLETS) return null;
   const moves = [];
   for (let at = answer.next; at < words.length; at += 4) {
     const move = takeMove(words, at + 1);
     if (move === null || !isAddress(words[at])) return null;
     moves.push({ wallet: words[at], ...move });
   }
-  return { lane: Number(words[1]), row: Number(words[2]), kind: answer.kind, refusal: answer.refusal, values: answer.values, moves };
+  return { lane: Number(words[1]), row: exactNumber(words[2]), kind: answer.kind, refusal: answer.refusal, values: answer.values, moves };
 }
 
 /** What a line `move MARKET LANE ROW KIND AMOUNT BEFORE` says; null where it is none. */
 export function readMove(line) {
-  const words = line.split(' ');
-  if (words.length !== 7 || words[0] !== 'move' || !isAddress(words[1]) || !isNumber(words[2]) || !isNumber(words[3])) return null;
+  const words = wordsOfLine(line);
+  if (words.length !== 7 || words[0] !== 'move' || !isAddress(words[1]) || !isLane(words[2]) || !isNumber(words[3])) return null;
   const move = takeMove(words, 4);
-  return move && { market: words[1], lane: Number(words[2]), row: Number(words[3]), ...move };
+  return move && { market: words[1], lane: Number(words[2]), row: exactNumber(words[3]), ...move };
 }

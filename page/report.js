@@ -1,11 +1,13 @@
 // A report: the journals of markets and wallets, then a dump. Entries stay lines of the text, and are read again when they are shown.
 
 import { readDump } from './dump.js';
+import { checkMoves } from './moves.js';
 import { HELD, readEntry, readMove } from './replies.js';
 import { pairLegs } from './swaps.js';
-import { frontOf, isAddress, isNumber, LineFault, Lines, pause } from './text.js';
+import { breathe, exactNumber, frontOf, isAddress, isNumber, LineFault, linesOfText, wordsOfLine } from './text.js';
 
-const SLICE = 5000;
+// After how many lines the time is looked at.
+const SLICE = 200;
 
 /** The journal of a market: where its entries stand, and what filters go by. `named` has the first line that names each wallet. */
 class MarketJournal {
@@ -14,8 +16,11 @@ class MarketJournal {
     this.named = named;
     this.first = first;
     this.count = count;
-    this.rows = new Uint32Array(count);
+    // The rows' numbers, each as it stands.
+    this.rows = [];
     this.lanes = new Uint8Array(count);
+    // How many wallets each entry names.
+    this.moves = new Uint8Array(count);
     this.kinds = new Uint8Array(count);
     this.refusals = new Uint8Array(count);
     this.ofOrder = new Map();
@@ -29,6 +34,7 @@ class MarketJournal {
   note(at, entry) {
     this.rows[at] = entry.row;
     this.lanes[at] = entry.lane;
+    this.moves[at] = entry.moves.length;
     this.kinds[at] = entry.kind;
     this.refusals[at] = entry.refusal;
     if (entry.refusal > 0) this.refused += 1;
@@ -61,7 +67,7 @@ class WalletJournal {
     this.lines = lines;
     this.first = first;
     this.count = count;
-    this.rows = new Uint32Array(count);
+    this.rows = [];
     this.isProbe = new Uint8Array(count);
   }
 
@@ -92,16 +98,13 @@ async function readJournal(journal, told, word, read, tell) {
       throw new LineFault(first + at, `A line is wanted that reads ${FORMS[word]}; here stands ${frontOf(text)}. ${above}.`);
     }
     journal.note(at, entry);
-    if (at % SLICE === SLICE - 1) {
-      tell(first + at);
-      await pause();
-    }
+    if (at % SLICE === SLICE - 1) await breathe(tell, first + at, (1 + (first + at) / lines.count) / 2);
   }
 }
 
 // The words of a line that begins a journal: its kind, address and count.
 function headOf(text) {
-  const words = text.split(' ');
+  const words = wordsOfLine(text);
   const isHead = words.length === 3 && isAddress(words[1]) && isNumber(words[2]) && words[2].length < 8;
   return isHead ? { kind: words[0], address: words[1], count: Number(words[2]) } : { kind: '' };
 }
@@ -157,19 +160,20 @@ async function readReportLines(lines, rows, tell) {
   const dump = await readDump(lines, next, tell);
   report.exchange = dump.exchange;
   checkAccounts(report, next);
+  await checkMoves(report, tell);
   if (lines.at(dump.next) !== 'end') throw new LineFault(dump.next, `The line end is wanted; here stands ${frontOf(lines.at(dump.next))}.`);
   return { report, next: dump.next + 1 };
 }
 
 // Reads the lines of a report or of a dump alone.
 async function readLines(lines, tell) {
-  const head = lines.at(1).split(' ');
+  const head = wordsOfLine(lines.at(1));
   let read;
   if (lines.at(1) === 'dump') {
     const { exchange, next } = await readDump(lines, 1, tell);
     read = { report: { kind: 'dump', lines, rows: 0, markets: new Map(), wallets: new Map(), swaps: new Map(), exchange }, next };
   } else if (head.length === 2 && head[0] === 'report' && isNumber(head[1])) {
-    read = await readReportLines(lines, Number(head[1]), tell);
+    read = await readReportLines(lines, exactNumber(head[1]), tell);
   } else {
     throw new LineFault(1, `A report begins with report and a number of rows, a dump with dump; here stands ${frontOf(lines.at(1))}.`);
   }
@@ -182,7 +186,7 @@ async function readLines(lines, tell) {
 
 /** Reads a text as a report or as a dump alone; throws what is wrong with it, at its line. */
 export async function readText(text, tell = () => {}) {
-  const lines = new Lines(text.startsWith('\ufeff') ? text.slice(1) : text);
+  const lines = await linesOfText(text.startsWith('\ufeff') ? text.slice(1) : text, tell);
   try {
     return await readLines(lines, tell);
   } catch (fault) {

@@ -2,9 +2,11 @@
 
 import { readDump } from './dump.js';
 import { nameOfData } from './instructions.js';
-import { Lines, LineFault, pause } from './text.js';
+import { breathe, LineFault, linesOfText, MOST_LINES_OF_A_TEXT, Places } from './text.js';
 
-const ROWS_AT_ONCE = 20000;
+// How many signs of a text are looked at before the time is, and as how many a row counts besides its own.
+const SIGNS_AT_ONCE = 200000;
+const SIGNS_OF_A_ROW = 100;
 const INSTRUCTIONS = ['ix', 'do', 'swap'];
 const SETUP = ['program', 'clock', 'mint', 'srm', 'msrm', 'wallet', 'market', 'orders', 'dump', 'enddump'];
 
@@ -14,68 +16,127 @@ export function isScript(text) {
   return first !== null && [...INSTRUCTIONS, ...SETUP].includes(first[1]);
 }
 
-// The fields of a record that begins at a place of a text that has quotes, and the place behind it.
-function quotedRecord(text, from) {
-  const fields = [];
-  let field = '';
-  let at = from;
-  while (at < text.length && text[at] !== '\n' && text[at] !== '\r') {
-    if (text[at] === ',') {
-      fields.push(field);
-      field = '';
-      at += 1;
-    } else if (text[at] === '"' && field === '') {
-      let end = text.indexOf('"', at + 1);
-      while (end >= 0 && text[end + 1] === '"') end = text.indexOf('"', end + 2);
-      if (end < 0) end = text.length;
-      field += text.slice(at + 1, end).replace(/""/g, '"');
-      at = end + 1;
-    } else {
-      const rest = /[^,\r\n]*/y;
-      rest.lastIndex = at;
-      field += rest.exec(text)[0];
-      at = rest.lastIndex;
-    }
-  }
-  return { fields: [...fields, field], next: at };
+// More fields, and more quotes in one, than any row has; what stands behind is not looked at.
+const MOST_FIELDS = 100;
+const MOST_QUOTES = 1000;
+// How many signs of a field are shown.
+const MOST_OF_A_FIELD = 2000;
+const [LINE_FEED, RETURN, COMMA, QUOTE] = ['\n', '\r', ',', '"'].map((sign) => sign.charCodeAt(0));
+// Where in a record a sign stands.
+const [IN_FRONT, IN_FIELD, IN_QUOTES] = [0, 1, 2];
+
+// The place behind a field without quotes.
+function endOfField(text, from, end) {
+  const stop = /[,\r\n]/g;
+  stop.lastIndex = from;
+  const found = stop.exec(text);
+  return found === null || found.index > end ? end : found.index;
 }
 
-/** The fields of the record that begins at a place of a text. */
-export function fieldsAt(text, start) { return quotedRecord(text, start).fields; }
+// The field from a place on, and the place behind it.
+function fieldAt(text, from, end) {
+  let next = endOfField(text, from, end);
+  if (text.charCodeAt(from) !== QUOTE || from >= end) return { field: text.slice(from, next), next };
+  let field = '';
+  let at = from + 1;
+  for (let quotes = 0; quotes < MOST_QUOTES; quotes += 1) {
+    const close = text.indexOf('"', at);
+    if (close < 0 || close >= end) return { field: field + text.slice(at, end), next: end };
+    field += text.slice(at, close);
+    if (text.charCodeAt(close + 1) !== QUOTE || close + 1 >= end) {
+      next = endOfField(text, close + 1, end);
+      return { field: field + text.slice(close + 1, next), next };
+    }
+    field += '"';
+    at = close + 2;
+  }
+  return { field, next: end };
+}
+
+/** The fields of the record that begins at a place of a text and ends at another. */
+export function fieldsAt(text, start, end = text.length) {
+  const fields = [];
+  for (let at = start; fields.length < MOST_FIELDS;) {
+    const { field, next } = fieldAt(text, at, end);
+    fields.push(field);
+    if (next >= end || text.charCodeAt(next) !== COMMA) break;
+    at = next + 1;
+  }
+  return fields;
+}
+
+// The records of a text as they are found, without lines that are empty.
+class Records {
+  constructor(text) {
+    Object.assign(this, { text, at: 0, from: 0, state: IN_FRONT, starts: new Places(), ends: new Places() });
+  }
+
+  // Ends the record at a place.
+  end(place) {
+    if (place > this.from) {
+      this.starts.add(this.from);
+      this.ends.add(place);
+    }
+    this.from = place + 1;
+  }
+
+  /** Goes on for some signs; answers whether the text is at its end. */
+  step(count) {
+    const { text } = this;
+    const to = Math.min(text.length, this.at + count);
+    let { at, state } = this;
+    for (; at < to; at += 1) {
+      const sign = text.charCodeAt(at);
+      if (state === IN_QUOTES) {
+        if (sign !== QUOTE) continue;
+        if (text.charCodeAt(at + 1) === QUOTE) at += 1;
+        else state = IN_FIELD;
+      } else if (sign === LINE_FEED || sign === RETURN) {
+        this.end(at);
+        state = IN_FRONT;
+      } else if (sign === COMMA) state = IN_FRONT;
+      else state = sign === QUOTE && state === IN_FRONT ? IN_QUOTES : IN_FIELD;
+    }
+    Object.assign(this, { at, state });
+    if (at < text.length) return false;
+    this.end(text.length);
+    return true;
+  }
+}
 
 /** Where the records of a text begin, without lines that are empty. */
 export function recordStarts(text) {
-  const starts = [];
-  const isQuoted = text.includes('"');
-  const ends = text.includes('\r') ? /[\r\n]|$/g : /\n|$/g;
-  for (let at = 0; at < text.length;) {
-    let end = at;
-    if (isQuoted) end = quotedRecord(text, at).next;
-    else {
-      ends.lastIndex = at;
-      end = ends.exec(text).index;
-    }
-    if (end > at) starts.push(at);
-    at = end + 1;
+  const records = new Records(text);
+  records.step(text.length);
+  return records.starts.all;
+}
+
+// The records of a text, found in slices.
+async function recordsOfText(text, tell) {
+  const records = new Records(text);
+  while (!records.step(SIGNS_AT_ONCE)) {
+    if (records.starts.count > MOST_LINES_OF_A_TEXT) throw new LineFault(records.starts.count, 'No script has so many rows.');
+    await breathe(tell, records.starts.count, records.at / text.length / 2);
   }
-  return starts;
+  return records;
 }
 
 // The rows of a script, cut out when they are asked for. Rows count from 1.
 class Script {
-  constructor(text) {
-    this.text = text;
-    this.isQuoted = text.includes('"');
-    this.starts = Uint32Array.from(recordStarts(text));
+  constructor(records) {
+    this.text = records.text;
+    this.isQuoted = this.text.includes('"');
+    this.starts = records.starts.all;
+    this.ends = records.ends.all;
     this.count = this.starts.length;
     // Of each row, from 1: its kind of instruction row, and the places of market, of a swap's other market, of signer, first account and
     // instruction's name in `addresses`; 0 is none.
     this.kinds = new Uint8Array(this.count + 1);
-    this.names = new Uint16Array(this.count + 1);
-    this.markets = new Uint16Array(this.count + 1);
-    this.others = new Uint16Array(this.count + 1);
-    this.signers = new Uint16Array(this.count + 1);
-    this.accounts = new Uint16Array(this.count + 1);
+    this.names = new Uint32Array(this.count + 1);
+    this.markets = new Uint32Array(this.count + 1);
+    this.others = new Uint32Array(this.count + 1);
+    this.signers = new Uint32Array(this.count + 1);
+    this.accounts = new Uint32Array(this.count + 1);
     this.addresses = [null];
     this.placed = new Map();
     this.instructions = 0;
@@ -86,20 +147,19 @@ class Script {
     this.start = null;
   }
 
-  /** The fields of a row; none where there is no such row. */
-  fieldsOf(row) {
+  /** The fields of a row, each whole; none where there is no such row. */
+  wholeFieldsOf(row) {
     if (!(row >= 1 && row <= this.count)) return [];
-    return this.isQuoted ? fieldsAt(this.text, this.starts[row - 1]) : this.lineOf(row).split(',');
+    return this.isQuoted ? fieldsAt(this.text, this.starts[row - 1], this.ends[row - 1]) : this.lineOf(row).split(',', MOST_FIELDS);
+  }
+
+  /** The fields of a row, as far as they are shown. */
+  fieldsOf(row) {
+    return this.wholeFieldsOf(row).map((field) => (field.length > MOST_OF_A_FIELD ? `${field.slice(0, MOST_OF_A_FIELD)}…` : field));
   }
 
   /** The text of a row. */
-  lineOf(row) {
-    const start = this.starts[row - 1];
-    if (this.isQuoted) return this.text.slice(start, quotedRecord(this.text, start).next);
-    let end = this.text.indexOf('\n', start);
-    if (end < 0) end = this.text.length;
-    return this.text.slice(start, end).replace(/\r.*$/s, '');
-  }
+  lineOf(row) { return this.text.slice(this.starts[row - 1], this.ends[row - 1]); }
 
   // The place of an address in `addresses`.
   placeOf(address) {
@@ -173,16 +233,17 @@ class Script {
 /** Reads a text as a script, in slices. Whether its rows are in order is the program's to say. */
 export async function readScript(text, tell) {
   if (text.length > 67108864) throw new LineFault(1, 'A script has at most 67,108,864 bytes.');
-  const script = new Script(text);
+  const script = new Script(await recordsOfText(text, tell));
+  let work = 0;
   for (let row = 1; row <= script.count; row += 1) {
     script.note(row);
-    if (row % ROWS_AT_ONCE === 0) {
-      tell(row);
-      await pause();
+    work += SIGNS_OF_A_ROW + script.ends[row - 1] - script.starts[row - 1];
+    if (work >= SIGNS_AT_ONCE) {
+      work = 0;
+      await breathe(tell, row, (1 + row / script.count) / 2);
     }
   }
-  const lines = dumpLines(script);
-  if (lines !== null) script.start = (await readDump(lines, 1, tell)).exchange;
+  if (script.dumpEnd > 0) script.start = (await readDump(await linesOfText(dumpText(script), tell), 1, tell)).exchange;
   return script;
 }
 
@@ -201,9 +262,8 @@ export function mismatch(script, report) {
   return null;
 }
 
-// The dump that a script begins with, as numbered lines; null where it begins with none.
-function dumpLines(script) {
-  if (script.dumpEnd === 0) return null;
-  const rows = Array.from({ length: script.dumpEnd }, (_, at) => script.fieldsOf(at + 1).join(','));
-  return new Lines(`${rows.join('\n')}\n`);
+// The dump that a script begins with.
+function dumpText(script) {
+  const rows = Array.from({ length: script.dumpEnd }, (_, at) => script.wholeFieldsOf(at + 1).join(','));
+  return `${rows.join('\n')}\n`;
 }

@@ -3,6 +3,7 @@
 import { element } from './elements.js';
 import { linkOfAddress, linkOfOrder, linkTo, nameOf, shortAddress } from './links.js';
 import { personsOf } from './owners.js';
+import { exactNumber } from './text.js';
 
 const MOST = 24;
 
@@ -28,7 +29,7 @@ function foundNumbers(shown, text) {
   const found = [];
   for (const market of shown.exchange.markets.values()) {
     const journal = shown.report.markets.get(market.address);
-    if (journal !== undefined && text.length < 10 && journal.rows.includes(Number(text))) {
+    if (journal !== undefined && journal.rows.includes(exactNumber(text))) {
       found.push({ title: `row ${text}`, what: `journal of ${shortAddress(market.address)}`, href: linkTo('journal', market.address, { row: text }) });
     }
     const href = linkOfOrder(shown, market, BigInt(text));

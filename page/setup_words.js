@@ -4,6 +4,9 @@ import { decodeBase64, longAt, numberAt } from './bytes.js';
 import { shortAddress } from './links.js';
 import { grouped } from './units.js';
 
+// Longer than any word of a row of the setup, its data too.
+const LONGEST_WORD = 400;
+
 // The lot sizes that the data of a market row says.
 function lotsOfData(data) {
   const bytes = decodeBase64(data || '');
@@ -28,5 +31,6 @@ const SETUP_WORDS = {
 /** A row that is no instruction, in words; null where it is one, or of no known kind. */
 export function setupWords(fields) {
   const words = Object.hasOwn(SETUP_WORDS, fields[0]) ? SETUP_WORDS[fields[0]] : null;
-  return words === null ? null : words(fields.slice(1).map((field) => shortAddress(field || '')));
+  const shortened = (field = '') => (field.length > LONGEST_WORD ? `${field.slice(0, 60)}…` : shortAddress(field));
+  return words === null ? null : words(fields.slice(1).map(shortened));
 }

@@ -44,7 +44,7 @@ export function swapSection(shown, rows) {
   if (rows.length === 0) return null;
   const hasScript = shown.joined !== null;
   const [first, second] = hasScript ? ['First leg', 'Second leg'] : ['One leg', 'Other leg'];
-  const sorted = [...rows].sort((one, other) => one - other);
+  const sorted = [...rows].sort((one, other) => (one < other ? -1 : 1));
   const leg = (title) => ({ title, size: '2fr', isWide: true, lines: 3, narrowLines: 4 });
   const table = new Table({
     label: 'Swaps',

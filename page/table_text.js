@@ -28,19 +28,26 @@ export function cellKey(cell) {
 
 /** Which of two keys stands first: numbers before texts. */
 export function compareKeys(one, other) {
-  if (typeof one !== typeof other) return typeof one === 'string' ? 1 : -1;
+  const isText = typeof one === 'string';
+  if (isText !== (typeof other === 'string')) return isText ? 1 : -1;
   if (one === other) return 0;
   return one < other ? -1 : 1;
 }
 
-// A field of CSV. A text that a spreadsheet would take for a formula has a quote in front; numbers below zero have none.
+// A text that a spreadsheet may take for a formula, with a quote in front; a number is none.
+function guarded(text) { return /^[-=+@\t\r\n]/.test(text) && !/^-[0-9]+(\.[0-9]+)?$/.test(text) ? `'${text}` : text; }
+
+// A field of CSV.
 function csvField(text) {
-  const safe = /^[=+@\t]|^-(?![0-9]|$)/.test(text) ? `'${text}` : text;
+  const safe = guarded(text);
   return /[",\r\n]/.test(safe) ? `"${safe.replace(/"/g, '""')}"` : safe;
 }
 
+// A field of a text that is copied.
+function copiedField(text) { return guarded(text).replace(/[\t\r\n]/g, ' '); }
+
 /** Rows of texts as lines, their fields joined by tabs or by commas. */
 export function linesOf(rows, isCsv) {
-  const field = isCsv ? csvField : (text) => text.replace(/[\t\r\n]/g, ' ');
+  const field = isCsv ? csvField : copiedField;
   return rows.map((texts) => texts.map(field).join(isCsv ? ',' : '\t')).join(isCsv ? '\r\n' : '\n') + (isCsv ? '\r\n' : '\n');
 }

@@ -3,7 +3,7 @@
 import { isAnswer, readAnswer } from './answers.js';
 import { readText } from './report.js';
 import { isScript, readScript } from './script.js';
-import { frontOf, LineFault, Lines } from './text.js';
+import { frontOf, LineFault, linesOfText, Stopped } from './text.js';
 import { isWorth, readWorth } from './worth.js';
 
 // A text that begins as a dump does is a script where something stands behind its enddump.
@@ -25,19 +25,20 @@ export function kindOfText(text) {
 async function readKind(kind, text, tell) {
   if (kind === 'report' || kind === 'dump') return readText(text, tell);
   if (kind === 'script') return readScript(text, tell);
-  const lines = new Lines(text);
+  const lines = await linesOfText(text, tell);
   if (kind === 'worth') return readWorth(lines);
   if (kind === 'answer') return readAnswer(lines);
   throw new LineFault(1, `A report begins with report and a number of rows, a dump with dump; here stands ${frontOf(lines.at(1))}.`);
 }
 
-/** Reads a text; answers its kind with what was read, or with its fault. */
+/** Reads a text; answers its kind with what was read, or with its fault. What `tell` throws to stop the reading is thrown. */
 export async function readGiven({ name, text }, tell) {
   const own = text.startsWith('\ufeff') ? text.slice(1) : text;
   const kind = kindOfText(own);
   try {
     return { name, kind: kind || 'unknown', read: await readKind(kind, own, tell), fault: null };
   } catch (fault) {
+    if (fault instanceof Stopped) throw fault;
     return { name, kind: kind || 'unknown', read: null, fault };
   }
 }

@@ -1,6 +1,6 @@
 // The table of worth: what each account of each market is worth in coin and pc, as the command worth writes it.
 
-import { frontOf, isAddress, LineFault } from './text.js';
+import { frontOf, isAddress, LineFault, wordsOfLine } from './text.js';
 
 /** Whether a text begins as a table of worth does. */
 export function isWorth(text) { return /^worth [0-9]+\r?(\n|$)/.test(text); }
@@ -14,7 +14,7 @@ export function readWorth(lines) {
   const rows = [];
   const seen = new Set();
   for (let number = 2; number < lines.count; number += 1) {
-    const [word, market, account, coin, pc, more] = lines.at(number).split(' ');
+    const [word, market, account, coin, pc, more] = wordsOfLine(lines.at(number));
     const isRow = word === 'trader' && isAddress(market) && isAddress(account) && isSum(coin) && isSum(pc) && more === undefined;
     if (!isRow) throw new LineFault(number, `A line is wanted that reads trader MARKET ACCOUNT COIN PC; here stands ${frontOf(lines.at(number))}.`);
     if (seen.has(`${market} ${account}`)) throw new LineFault(number, `The account ${account} of ${market} stands above already.`);

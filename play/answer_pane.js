@@ -7,6 +7,7 @@ import { drawView, frame } from '../page/navigation.js';
 import { addTexts } from '../page/opening.js';
 import { notice } from '../page/parts.js';
 import { keepAsFile } from '../page/table_tools.js';
+import { Stopped } from '../page/text.js';
 import { grouped } from '../page/units.js';
 import { answerTo, faultOf, textsFor, lossWords } from './answering.js';
 import { COMMANDS, numberOfWord } from './commands.js';
@@ -145,8 +146,15 @@ export class AnswerPane {
       this.tellWords(`The answer has ${grouped(answer.text.length)} bytes, more than the views show. Save it.`);
       return;
     }
-    const opened = await addTexts({}, texts, (line) => this.working.tell(line));
-    if (round !== this.round) return;
+    const tell = (line) => {
+      if (round !== this.round) throw new Stopped();
+      this.working.tell(line);
+    };
+    const opened = await addTexts({}, texts, tell).catch((fault) => {
+      if (fault instanceof Stopped) return null;
+      throw fault;
+    });
+    if (round !== this.round || opened === null) return;
     this.told.textContent = this.toldText(command, answer);
     this.faults.replaceChildren(...opened.faulty.map(faultNode), ...(opened.shown === null ? [] : opened.shown.notices.map(notice)));
     if (opened.shown === null) frame.main.dataset.view = 'fault';

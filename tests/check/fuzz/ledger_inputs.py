@@ -214,8 +214,9 @@ def lie_of(one: Any) -> Optional[str]:
     wanted, signatures = message["header"]["numRequiredSignatures"], one["transaction"]["signatures"]
     loaded = meta.get("loadedAddresses") or {"writable": [], "readonly": []}
     keys = [*message["accountKeys"], *loaded["writable"], *loaded["readonly"]]
-    groups = [group["index"] for group in meta.get("innerInstructions") or []]
     fault = meta["err"]
+    # Of a transaction that failed no call is read.
+    groups = [group["index"] for group in meta.get("innerInstructions") or []] if fault is None else []
     lies = {
         "signatures": len(signatures) != wanted or not 1 <= wanted <= len(message["accountKeys"]),
         "a signature": any(bytes_of(signature) != 64 for signature in signatures),

@@ -68,7 +68,7 @@ class Inputs:
         """Accounts that an audit takes are those of the dump that the program writes of them."""
         text = draw.choice(changes.OF_DUMPS)(draw, draw.choice(self.dumps))
         try:
-            wanted = read(daisyhook.Accounts(daisyhook.dump(text)))
+            wanted = None if daisyhook.audit(text) else read(daisyhook.Accounts(daisyhook.dump(text)))
         except daisyhook.DexError:
             wanted = None
         return self.wrong_dump(text, wanted)
@@ -79,6 +79,4 @@ class Inputs:
             found = read(daisyhook.accounts(text))
         except daisyhook.DexError:
             found = None
-        if wanted is not None and found != wanted:
-            return "other accounts are read than those that the program wrote"
-        return None
+        return None if found == wanted else "other accounts are read than those that the program wrote"

@@ -316,6 +316,10 @@ class BadDumps(Folder):
         self.assertFalse(os.path.exists(self.path("out")))
         self.assert_refused(ledger("compare", self.save("a", text.encode("latin-1")), self.path("a")), *words)
 
+    def mint(self) -> bytes:
+        """The address of the example's first mint."""
+        return example().mints[0].address
+
     def test_texts(self) -> None:
         """What is no dump or report, or is cut or broken."""
         text = text_of(example())
@@ -330,6 +334,7 @@ class BadDumps(Folder):
         self.refused(text.replace("wallet,", "walet,", 1), "line 4", "no row")
         self.refused(text.replace("mint,coin", "mint,Coin", 1), "line 2", "Coin")
         self.refused(text.replace("mint,coin,A", "mint,coin,?", 1), "line 2", "no base64")
+        self.refused(text.replace("mint,coin,", f"mint,{base58_text(self.mint())},", 1), "line 2", "is no address")
         self.refused(text.replace("mint,coin,AAAA", "mint,coin,", 1), "line 2 (mint coin)", "79 bytes")
         self.refused(text.replace("orders,m,", "orders,n,", 1), "line", "market n")
         self.refused("dump\n" + text.split("\n")[1] + "\n" + text.split("\n", 1)[1], "line 3", "twice")

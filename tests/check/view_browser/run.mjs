@@ -7,6 +7,7 @@ import { auditCases } from './audit.mjs';
 import { scriptCases } from './script.mjs';
 import { makerCases } from './maker.mjs';
 import { auditorCases } from './auditor.mjs';
+import { hostileCases } from './hostile.mjs';
 import { largeCases } from './large.mjs';
 import { securityCases } from './security.mjs';
 import { runGroups } from './suite.mjs';
@@ -15,7 +16,7 @@ import { traderCases } from './trader.mjs';
 
 const GROUPS = {
   answers: answerCases, audit: auditCases, links: linkCases, script: scriptCases, trader: traderCases, maker: makerCases, auditor: auditorCases,
-  swaps: swapCases, security: securityCases, large: largeCases, layout: layoutCases,
+  swaps: swapCases, security: securityCases, hostile: hostileCases, large: largeCases, layout: layoutCases,
 };
 
 const [, , chromium, ...names] = process.argv;
