@@ -17,6 +17,7 @@ The commands `run` and `batch` need threads of their own and are not here: they 
 The module keeps nothing between calls, so threads may call it at once; they run side by side inside the library.
 """
 
+from . import flow, rows
 from .accounts import Accounts, Depth, Event, Level, Market, Mint, OpenOrders, Order, Wallet
 from .commands import Exchange, accounts, audit, bulk, dump, make, migrate, replay, worth
 from .entries import Cancelled, Consumed, Done, Entry, Move, Ordered, Refused, Reply, Settled, Swept, Took, WalletEntry
@@ -29,6 +30,7 @@ from .worth import Worth, Worths
 
 __all__ = [
     'replay', 'dump', 'audit', 'worth', 'migrate', 'make', 'bulk', 'accounts', 'Exchange', 'take_data',
+    'rows', 'flow',
     'Report', 'Entry', 'Move', 'WalletEntry', 'Swap', 'Leg',
     'Reply', 'Ordered', 'Took', 'Cancelled', 'Consumed', 'Settled', 'Swept', 'Done', 'Refused',
     'Accounts', 'Market', 'Mint', 'Wallet', 'Order', 'Event', 'OpenOrders', 'Depth', 'Level',

@@ -8,8 +8,9 @@ from __future__ import annotations
 
 import csv
 import io
+import struct
 from base64 import b64decode
-from collections.abc import Iterable, Iterator
+from collections.abc import Iterator
 from dataclasses import dataclass
 from functools import cached_property
 
@@ -19,6 +20,9 @@ LABEL = frozenset(b'abcdefghijklmnopqrstuvwxyz0123456789_')
 LOW = 2**64 - 1
 MARKET, ORDERS, QUEUE, EVENT = (PLACES[name] for name in ('market', 'open_orders', 'event_queue', 'event'))
 SLAB, INNER, LEAF, WALLET, MINT = (PLACES[name] for name in ('slab', 'inner_node', 'leaf_node', 'token_account', 'mint'))
+# A node of a side: its tag, the two halves of an order's id, the lots. The upper half is the price. Tag 2 is an order's.
+NODE, ORDER = struct.Struct('<I4xQQ32xQ8x'), 2
+FIRST_NODE = SIZES['slab']
 KINDS = {1: 'taker fill', 9: 'maker fill', 2: 'out', 18: 'releasing out'}
 BID = 4
 
@@ -44,6 +48,8 @@ def address_of(word: str) -> str:
 
 def rows_of(dump: bytes) -> Iterator[list[str]]:
     """The rows of a dump, of which fields may stand in quotes, without its byte-order mark and lines that are empty."""
+    if b'"' not in dump:
+        return (line.split(',') for line in dump.decode('utf-8-sig').splitlines() if line)
     # A side's account is longer than the limit that `csv` begins with.
     csv.field_size_limit(max(csv.field_size_limit(), len(dump)))
     return filter(None, csv.reader(io.StringIO(dump.decode('utf-8-sig'), newline='')))
@@ -142,6 +148,19 @@ class Wallet:
     amount: int
 
 
+def mint_of(fields: list[str]) -> Mint:
+    """What a mint's row says."""
+    data = b64decode(fields[1])
+    return Mint(address_of(fields[0]), number_at(data, MINT['supply']), data[MINT['decimals']])
+
+
+def wallet_of(fields: list[str]) -> Wallet:
+    """What a wallet's row says."""
+    data = b64decode(fields[1])
+    mint, owner = (address_at(data, WALLET[name]) for name in ('mint', 'owner'))
+    return Wallet(address_of(fields[0]), mint, owner, number_at(data, WALLET['amount']))
+
+
 def orders_of(address: str, data: bytes) -> OpenOrders:
     """What an open-orders account says."""
     free = number_at(data, ORDERS['free_slot_bits'], 16)
@@ -192,12 +211,17 @@ def events_of(data: bytes) -> tuple[Event, ...]:
     return tuple(event_at(data, front + size * ((head + place) % capacity)) for place in range(count))
 
 
-def levels_of(orders: Iterable[Order]) -> tuple[Level, ...]:
-    """The levels of a side."""
-    found: dict[int, list[int]] = {}
-    for order in orders:
-        found.setdefault(order.price, []).append(order.lots)
-    return tuple(Level(price, sum(lots), len(lots)) for price, lots in found.items())
+def levels_of(side: bytes, is_bid: bool) -> tuple[Level, ...]:
+    """The levels of a side, best first, from its account in base64. Only nodes that were ever used are read."""
+    used = number_at(b64decode(side[:64]), SLAB['bump_index'])
+    nodes = b64decode(side[:-(-(FIRST_NODE + used * NODE.size) // 3) * 4])[FIRST_NODE:FIRST_NODE + used * NODE.size]
+    lots_at: dict[int, int] = {}
+    orders_at: dict[int, int] = {}
+    for tag, _, price, lots in NODE.iter_unpack(nodes):
+        if tag == ORDER:
+            lots_at[price] = lots_at.get(price, 0) + lots
+            orders_at[price] = orders_at.get(price, 0) + 1
+    return tuple(Level(price, lots_at[price], orders_at[price]) for price in sorted(lots_at, reverse=is_bid))
 
 
 class Market:
@@ -284,7 +308,7 @@ class Market:
     @cached_property
     def depth(self) -> Depth:
         """The levels of both sides, best first."""
-        return Depth(levels_of(self.bids), levels_of(self.asks))
+        return Depth(levels_of(self._fields[5], True), levels_of(self._fields[6], False))
 
     @cached_property
     def open_orders(self) -> dict[str, OpenOrders]:
@@ -293,33 +317,44 @@ class Market:
 
 
 class Accounts:
-    """All accounts of a dump: `mints`, `wallets` and `markets` by their addresses, and the mints of SRM and MSRM where they are named."""
+    """All accounts of a dump: `mints`, `wallets` and `markets` by their addresses, and the mints of SRM and MSRM where they are named.
+    Each kind is read when it is asked for."""
 
     def __init__(self, dump: bytes) -> None:
         self.text = dump
-        self.mints: dict[str, Mint] = {}
-        self.wallets: dict[str, Wallet] = {}
-        self.markets: dict[str, Market] = {}
-        self.srm: str | None = None
-        self.msrm: str | None = None
-        for row in rows_of(dump):
-            self._read(row)
 
-    def _read(self, row: list[str]) -> None:
-        kind, *names = row[:3]
-        names = [address_of(name) for name in names[:2 if kind in ('market', 'orders') else 1]]
-        if kind == 'mint':
-            data = b64decode(row[2])
-            self.mints[names[0]] = Mint(names[0], number_at(data, MINT['supply']), data[MINT['decimals']])
-        elif kind == 'srm':
-            self.srm = names[0]
-        elif kind == 'msrm':
-            self.msrm = names[0]
-        elif kind == 'wallet':
-            data = b64decode(row[2])
-            self.wallets[names[0]] = Wallet(
-                names[0], address_at(data, WALLET['mint']), address_at(data, WALLET['owner']), number_at(data, WALLET['amount']))
-        elif kind == 'market':
-            self.markets[names[0]] = Market(names[0], names[1], row[3:])
-        elif kind == 'orders':
-            self.markets[names[0]]._orders.append((names[1], row[3]))
+    @cached_property
+    def _rows(self) -> dict[str, list[list[str]]]:
+        """The rows by their kinds, each from its address on."""
+        found: dict[str, list[list[str]]] = {kind: [] for kind in ('dump', 'mint', 'srm', 'msrm', 'wallet', 'market', 'orders', 'enddump')}
+        for kind, *fields in rows_of(self.text):
+            found[kind].append(fields)
+        return found
+
+    @cached_property
+    def mints(self) -> dict[str, Mint]:
+        """The tokens."""
+        return {made.address: made for made in map(mint_of, self._rows['mint'])}
+
+    @cached_property
+    def wallets(self) -> dict[str, Wallet]:
+        """The token accounts that are no vaults."""
+        return {made.address: made for made in map(wallet_of, self._rows['wallet'])}
+
+    @cached_property
+    def markets(self) -> dict[str, Market]:
+        """The markets."""
+        found = {address_of(word): Market(address_of(word), address_of(authority), parts) for word, authority, *parts in self._rows['market']}
+        for market, account, data in self._rows['orders']:
+            found[address_of(market)]._orders.append((address_of(account), data))
+        return found
+
+    @property
+    def srm(self) -> str | None:
+        """The mint of SRM, where it is named."""
+        return next((address_of(mint) for mint, in self._rows['srm']), None)
+
+    @property
+    def msrm(self) -> str | None:
+        """The mint of MSRM, where it is named."""
+        return next((address_of(mint) for mint, in self._rows['msrm']), None)

@@ -2,6 +2,8 @@
 
 from __future__ import annotations
 
+import re
+from functools import cached_property
 from operator import index
 
 from .accounts import Accounts
@@ -13,7 +15,10 @@ from .worth import Worths
 
 Text = bytes | bytearray | memoryview | str
 
-
+# The rows that a dump does not keep. In a script that was taken no field has a line end, so a line is a row.
+PROGRAM = re.compile(rb'(?:\xef\xbb\xbf)?"?program"?,"?(serum|openbook)"?(?:\r\n?|\n|\Z)')
+CLOCK = re.compile(rb'^(?:\xef\xbb\xbf)?"?clock"?,"?([0-9]+)"?\r?$', re.MULTILINE)
+END_OF_DUMP = re.compile(rb'^"?enddump"?(?:\r\n?|\n|\Z)', re.MULTILINE)
 # The most bytes of an input, as the program reads no more.
 MOST_INPUT = 67_108_864
 
@@ -112,24 +117,38 @@ class Exchange:
     """
 
     def __init__(self, script: Text) -> None:
-        self.report = replay(script)
+        self._script = bytes_of(script)
+        self.report = replay(self._script)
 
     @property
     def dump(self) -> bytes:
         """The accounts, as a dump."""
         return self.report.dump
 
+    @cached_property
+    def _front(self) -> bytes:
+        """The `program` and `clock` rows that the rows so far end with. A dump has neither."""
+        end = END_OF_DUMP.search(self._script) if self._script.lstrip(b'\xef\xbb\xbf"').startswith(b'dump') else None
+        rows = self._script[end.end():] if end else self._script
+        program, clocks = PROGRAM.match(rows), CLOCK.findall(rows.replace(b'\r\n', b'\n').replace(b'\r', b'\n'))
+        return (b'program,%s\n' % program[1] if program else b'') + (b'clock,%s\n' % clocks[-1] if clocks else b'')
+
     def step(self, rows: Text) -> Exchange:
         """The exchange when further instruction rows have acted.
 
-        The rows are those of a script behind a dump: `do`, `ix`, `swap` and `clock`, and a `program` row at their front where `openbook`
-        runs.
-        Each step's clock begins at 0. Rows count from the dump's first row on, so the first row here has the number `first_row`.
-        Raises ScriptRefused; then this exchange is as it was.
+        The rows are those of a script behind a dump: `do`, `ix`, `swap` and `clock`. The program and the clock go on as they are; a `program`
+        row at the front of the rows changes the program. Rows count from the dump's first row on, so the first row here has the number
+        `first_row`. Raises ScriptRefused; then this exchange is as it was.
         """
-        return Exchange(self.dump + bytes_of(rows))
+        given, front = bytes_of(rows), self._front
+        changed = PROGRAM.match(given)
+        if changed:
+            kept = PROGRAM.match(front)
+            front = changed[0].rstrip(b'\r\n') + b'\n' + front[kept.end() if kept else 0:]
+            given = given[changed.end():]
+        return Exchange(self.dump + front + given)
 
     @property
     def first_row(self) -> int:
-        """The number that reports give the first row of the next step."""
-        return self.dump.count(b'\n') + 1
+        """The number that reports give the first row of the next step: behind the dump, the `program` row and the `clock` row."""
+        return self.dump.count(b'\n') + self._front.count(b'\n') + 1
