@@ -17,6 +17,7 @@ mod writing;
 pub use bulk::bulk_text;
 pub use dex_state::{MarketJournal, Outcome, WalletJournal};
 pub use laws::{movements_stand_from_the_front, one_reading, what_fits_is_told};
+pub use lines::{LINE, write_entry, write_head};
 pub use made::make_script;
 pub use pieces::{into_report_pieces, report_pieces};
 pub use report::report_text;

@@ -16,10 +16,10 @@ use std::alloc::AllocError;
 use std::fmt::Write;
 
 /// How many bytes a line of a journal has at most, without the text of a refusal.
-pub(crate) const LINE: usize = 768;
+pub const LINE: usize = 768;
 
 /// Writes the line of an entry of a market's journal. What was written fits, as the types of its values have it.
-pub(crate) fn write_entry(
+pub fn write_entry(
     text: &mut Vec<u8>,
     line: &mut [u8; LINE],
     entry: &Entry,
@@ -63,7 +63,7 @@ pub(crate) fn write_move(
 }
 
 /// Writes a line of a word, an address where there is one, and a number.
-pub(crate) fn write_head(
+pub fn write_head(
     text: &mut Vec<u8>,
     word: &[u8],
     address: Option<Address>,
