@@ -4,6 +4,7 @@ from __future__ import annotations
 
 import argparse
 import contextlib
+import json
 import os
 import sys
 from typing import IO, Iterable, NoReturn, Optional, Sequence
@@ -14,11 +15,14 @@ from bridge.dump_text import dump_rows, read_dump
 from bridge.encoding import base58_of, dump_word
 from bridge.files import STANDARD_INPUT, is_json_text, name_of, read_bytes
 from bridge.making import Wanted, make_snapshot, names_of_markets
+from bridge.program import find_program
 from bridge.refusals import Refusal, Words, one_line
 from bridge.rows import Wish, make_script, wallets_of
+from bridge.simulating import answer_of, one_of, simulate, table_of
 from bridge.snapshot import Snapshot, is_blank
 from bridge.tables import PROGRAMS
-from bridge.transactions import read_transactions
+from bridge.transactions import Transaction, read_transactions
+from bridge.wire import read_loaded, read_unsent
 
 DONE, DIFFERENT, REFUSED = 0, 1, 2
 
@@ -137,18 +141,44 @@ def _rules_of(words: argparse.Namespace) -> dict[bytes, str]:
     return {program: words.rules or known.get(program, "serum")}
 
 
-def _script(words: argparse.Namespace) -> int:
-    """Writes the script of a dump and transactions."""
-    rules = _rules_of(words)
-    markets = [_address(word, "--market") for word in words.market] or None
+def _snapshot(words: argparse.Namespace) -> Snapshot:
+    """The accounts of the dump or report that the words name."""
     data = read_bytes(words.dump)
     if is_json_text(data):
-        raise Refusal(name_of(words.dump), "it is JSON, and a dump is wanted first", "name the dump, and the transactions behind it")
-    snapshot = read_dump(data, name_of(words.dump))
-    wish = Wish(markets, rules, words.leave_out_unknown, words.open_accounts, not words.no_swaps)
-    rows, table = make_script(snapshot, read_transactions(words.file), wish)
+        raise Refusal(name_of(words.dump), "it is JSON, and a dump is wanted first", "make one by `ledger dump`, and name it first")
+    return read_dump(data, name_of(words.dump))
+
+
+def _wish(words: argparse.Namespace, make_swaps: bool) -> Wish:
+    """What the words ask for in making rows."""
+    markets = [_address(word, "--market") for word in words.market] or None
+    return Wish(markets, _rules_of(words), words.leave_out_unknown, words.open_accounts, make_swaps)
+
+
+def _unsent(words: argparse.Namespace) -> list[Transaction]:
+    """The transactions that were not sent."""
+    return read_unsent(words.file, read_loaded(words.loaded) if words.loaded else None)
+
+
+def _script(words: argparse.Namespace) -> int:
+    """Writes the script of a dump and transactions."""
+    if words.loaded and not words.unsent:
+        raise Words("--loaded is for transactions that were not sent; say --unsent with it")
+    wish, snapshot = _wish(words, not words.no_swaps), _snapshot(words)
+    rows, table = make_script(snapshot, _unsent(words) if words.unsent else read_transactions(words.file), wish)
     _write_table(table, words.table)
     _write(rows)
+    return DONE
+
+
+def _simulate(words: argparse.Namespace) -> int:
+    """Writes what a transaction that was not sent would do."""
+    wish, snapshot = _wish(words, False), _snapshot(words)
+    transaction = one_of(_unsent(words), ", ".join(words.file), words.clock)
+    outcome = simulate(find_program(words.dex), snapshot, transaction, wish)
+    _write([json.dumps(answer_of(outcome))])
+    for line in table_of(outcome):
+        write_error(line + "\n")
     return DONE
 
 
@@ -237,9 +267,30 @@ def _add_script(parser: argparse.ArgumentParser) -> None:
     parser.add_argument("--table", metavar="FILE", help="write the table of rows to this file, not to standard error")
     parser.add_argument("--leave-out-unknown", action="store_true", help="go on without instructions that a script has no form for")
     parser.add_argument("--open-accounts", action="store_true", help="open accounts by a row before the first order that finds them blank")
+    parser.add_argument("--unsent", action="store_true", help="the transactions were not sent: texts in base64 or base58, or JSON without meta")
+    parser.add_argument("--loaded", metavar="FILE", help="with --unsent: JSON with the lists writable and readonly, what their tables hold")
     parser.add_argument("--no-swaps", action="store_true", help="make a row of each take, also of two that one transaction did together")
     parser.add_argument("dump", metavar="DUMP", help="a dump or a report; - is standard input")
     parser.add_argument("file", nargs="*", metavar="FILE", help="transaction JSON, oldest first, or a folder of such files")
+
+
+def _seconds(word: str) -> int:
+    """The time that a word tells."""
+    if not (word.isascii() and word.isdecimal()) or int(word) >= 2**63:
+        raise argparse.ArgumentTypeError(f"{word!r} is no number of seconds")
+    return int(word)
+
+
+def _add_simulate(parser: argparse.ArgumentParser) -> None:
+    """The words of `simulate`."""
+    _add_transactions(parser)
+    parser.add_argument("--loaded", metavar="FILE", help="JSON with the lists writable and readonly: what the transaction's tables hold")
+    parser.add_argument("--clock", type=_seconds, metavar="SECONDS", help="the time that the program sees; none: the transaction's blockTime")
+    parser.add_argument("--dex", metavar="PATH", help="the exchange's program; none: the one of this folder, where it is built")
+    parser.add_argument("--leave-out-unknown", action="store_true", help="go on without instructions of other programs and on other markets")
+    parser.add_argument("--open-accounts", action="store_true", help="open accounts by a row before the first order that finds them blank")
+    parser.add_argument("dump", metavar="DUMP", help="a dump or a report; - is standard input")
+    parser.add_argument("file", nargs="+", metavar="FILE", help="a transaction or a message: base64 or base58 text, or JSON of getTransaction")
 
 
 def _add_names(parser: argparse.ArgumentParser) -> None:
@@ -275,6 +326,7 @@ def _add_address(parser: argparse.ArgumentParser) -> None:
 _COMMANDS = (
     ("dump", "accounts in, a dump out", _add_dump, _dump),
     ("script", "a dump and transactions in, a script out", _add_script, _script),
+    ("simulate", "tells what a transaction that was not sent would do", _add_simulate, _simulate),
     ("accounts", "a report or a dump in, one JSON file an account out", _add_accounts, _accounts),
     ("compare", "tells each field that differs between two inputs", _add_compare, _compare),
     ("names", "tells the accounts that a market names", _add_names, _names),
