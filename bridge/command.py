@@ -15,6 +15,7 @@ from bridge.dump_text import dump_rows, read_dump
 from bridge.encoding import base58_of, dump_word
 from bridge.files import STANDARD_INPUT, is_json_text, name_of, read_bytes
 from bridge.making import Wanted, make_snapshot, names_of_markets
+from bridge.merging import merge_idle, read_kept
 from bridge.program import find_program
 from bridge.refusals import Refusal, Words, one_line
 from bridge.rows import Wish, make_script, wallets_of
@@ -111,23 +112,34 @@ def _wanted(words: argparse.Namespace) -> Wanted:
 
 def _dump(words: argparse.Namespace) -> int:
     """Writes the dump of accounts."""
+    if (words.keep or words.merged) and not words.merge_idle:
+        raise Words("--keep and --merged are of --merge-idle; say it with them")
     snapshot, notes = make_snapshot(read_accounts(words.file), _wanted(words))
+    if words.merge_idle:
+        merged = merge_idle(snapshot, read_kept(words.keep))
+        notes += merged.notes()
+        if words.merged:
+            _write_file(merged.rows, words.merged, "--merged")
     _write(dump_rows(snapshot))
     _tell(notes)
     return DONE
 
 
-def _write_table(lines: list[str], path: Optional[str]) -> None:
-    """Writes the table of a script's rows to its file, or to standard error."""
-    text = "".join(line + "\n" for line in lines)
-    if path is None:
-        write_error(text)
-        return
+def _write_file(lines: list[str], path: str, option: str) -> None:
+    """Writes lines to the file that an option names."""
     try:
         with open(path, "w", encoding="utf-8") as file:
-            file.write(text)
+            file.write("".join(line + "\n" for line in lines))
     except OSError as fault:
-        raise Refusal(path, f"it cannot be written ({fault.strerror})", "name a file that you may write for --table") from None
+        raise Refusal(path, f"it cannot be written ({fault.strerror})", f"name a file that you may write for {option}") from None
+
+
+def _write_table(lines: list[str], path: Optional[str]) -> None:
+    """Writes the table of a script's rows to its file, or to standard error."""
+    if path is None:
+        write_error("".join(line + "\n" for line in lines))
+    else:
+        _write_file(lines, path, "--table")
 
 
 def _rules_of(words: argparse.Namespace) -> dict[bytes, str]:
@@ -251,6 +263,11 @@ def _add_dump(parser: argparse.ArgumentParser) -> None:
     parser.add_argument("--no-rest", action="store_true", help="make no wallet for what no account holds of a mint")
     parser.add_argument("--blank", action="append", default=[], nargs=2, metavar=("MARKET", "ACCOUNT"),
                         help="the market of an open-orders account of zero bytes, where there are several markets")
+    parser.add_argument("--merge-idle", action="store_true",
+                        help="put accounts together that no order, slot or event is of: open-orders accounts, and the wallets of a mint")
+    parser.add_argument("--keep", action="append", default=[], metavar="FILE",
+                        help="with --merge-idle: keep what these transactions name, or these addresses, one a line")
+    parser.add_argument("--merged", metavar="FILE", help="with --merge-idle: write the rows that went, each behind the account that it went into")
     parser.add_argument("file", nargs="+", metavar="FILE", help="account JSON, or a folder of such files")
 
 

@@ -276,7 +276,7 @@ def _of_value(value: Any, source: str, number: int, loaded: Optional[Loaded]) ->
     if isinstance(body, str):
         return [_transaction(body, source, where, loaded)]
     if isinstance(body, dict):
-        return [unsent_of_json(value, source, number, loaded and (loaded.writable, loaded.readonly))]
+        return [unsent_of_json(value, source, number, (loaded.writable, loaded.readonly) if loaded else None)]
     raise Refusal(where, "it is no transaction in a form that is known here", "docs/LEDGER.md tells the forms and the commands")
 
 
