@@ -15,6 +15,26 @@ export function givenTexts(kind = 'given') {
     .filter(({ text }) => text !== '');
 }
 
+// The files of an entry that was dropped, which may be a folder, by their names; pipes and the like are none.
+async function filesOfEntry(entry) {
+  if (entry.isFile) return [await new Promise((done, fail) => { entry.file(done, fail); })];
+  const reader = entry.createReader();
+  const files = [];
+  for (;;) {
+    const some = await new Promise((done, fail) => { reader.readEntries(done, fail); });
+    if (some.length === 0) return files.sort((one, other) => (one.name < other.name ? -1 : 1));
+    for (const one of some) files.push(...await filesOfEntry(one));
+  }
+}
+
+// The files that were dropped, those of folders too. What entries there are is asked at once, before the drop ends.
+async function droppedFiles({ items, files }) {
+  const entries = [...items || []].map((item) => (item.webkitGetAsEntry ? item.webkitGetAsEntry() : null)).filter((entry) => entry !== null);
+  if (!entries.some(({ isDirectory }) => isDirectory)) return files;
+  const found = await Promise.all(entries.map(filesOfEntry));
+  return found.flat();
+}
+
 // A file as a text by its name.
 async function textOfFile(file) { return { name: file.name, text: await file.text() }; }
 
@@ -35,6 +55,6 @@ export function hearFiles(field, open, read = textOfFile) {
   document.addEventListener('drop', (event) => {
     event.preventDefault();
     document.body.classList.remove('dropping');
-    take(event.dataTransfer.files);
+    droppedFiles(event.dataTransfer).then(take);
   });
 }
