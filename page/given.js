@@ -15,24 +15,21 @@ export function givenTexts(kind = 'given') {
     .filter(({ text }) => text !== '');
 }
 
-// The files of an entry that was dropped, which may be a folder, by their names; pipes and the like are none.
-async function filesOfEntry(entry) {
-  if (entry.isFile) return [await new Promise((done, fail) => { entry.file(done, fail); })];
-  const reader = entry.createReader();
+// The files of a folder, by their names; those of folders in it too.
+async function filesOfFolder(folder) {
   const files = [];
-  for (;;) {
-    const some = await new Promise((done, fail) => { reader.readEntries(done, fail); });
-    if (some.length === 0) return files.sort((one, other) => (one.name < other.name ? -1 : 1));
-    for (const one of some) files.push(...await filesOfEntry(one));
-  }
+  for await (const one of folder.values()) files.push(...await (one.kind === 'file' ? [one.getFile()] : filesOfFolder(one)));
+  return (await Promise.all(files)).sort((one, other) => (one.name < other.name ? -1 : 1));
 }
 
-// The files that were dropped, those of folders too. What entries there are is asked at once, before the drop ends.
+// The files that were dropped, those of folders too, where the browser hands folders over. All that it holds is asked for at once, before
+// the drop ends. (The older way, by entries, reads no file of a folder in a page that is opened from disk.)
 async function droppedFiles({ items, files }) {
-  const entries = [...items || []].map((item) => (item.webkitGetAsEntry ? item.webkitGetAsEntry() : null)).filter((entry) => entry !== null);
-  if (!entries.some(({ isDirectory }) => isDirectory)) return files;
-  const found = await Promise.all(entries.map(filesOfEntry));
-  return found.flat();
+  const entries = [...items || []].map((item) => (item.webkitGetAsEntry ? item.webkitGetAsEntry() : null));
+  if (!entries.some((entry) => entry !== null && entry.isDirectory) || !items[0].getAsFileSystemHandle) return files;
+  const held = await Promise.all([...items].map((item) => item.getAsFileSystemHandle()));
+  const found = await Promise.all(held.map((one) => (one.kind === 'file' ? [one.getFile()] : filesOfFolder(one))));
+  return Promise.all(found.flat());
 }
 
 // A file as a text by its name.
