@@ -4,6 +4,7 @@ from __future__ import annotations
 
 import argparse
 import contextlib
+import json
 import os
 import sys
 from typing import IO, Iterable, NoReturn, Optional, Sequence
@@ -14,11 +15,15 @@ from bridge.dump_text import dump_rows, read_dump
 from bridge.encoding import base58_of, dump_word
 from bridge.files import STANDARD_INPUT, is_json_text, name_of, read_bytes
 from bridge.making import Wanted, make_snapshot, names_of_markets
+from bridge.merging import merge_idle, read_kept
+from bridge.program import find_program
 from bridge.refusals import Refusal, Words, one_line
 from bridge.rows import Wish, make_script, wallets_of
+from bridge.simulating import answer_of, one_of, simulate, table_of
 from bridge.snapshot import Snapshot, is_blank
 from bridge.tables import PROGRAMS
-from bridge.transactions import read_transactions
+from bridge.transactions import Transaction, read_transactions
+from bridge.wire import read_loaded, read_unsent
 
 DONE, DIFFERENT, REFUSED = 0, 1, 2
 
@@ -107,23 +112,34 @@ def _wanted(words: argparse.Namespace) -> Wanted:
 
 def _dump(words: argparse.Namespace) -> int:
     """Writes the dump of accounts."""
+    if (words.keep or words.merged) and not words.merge_idle:
+        raise Words("--keep and --merged are of --merge-idle; say it with them")
     snapshot, notes = make_snapshot(read_accounts(words.file), _wanted(words))
+    if words.merge_idle:
+        merged = merge_idle(snapshot, read_kept(words.keep))
+        notes += merged.notes()
+        if words.merged:
+            _write_file(merged.rows, words.merged, "--merged")
     _write(dump_rows(snapshot))
     _tell(notes)
     return DONE
 
 
-def _write_table(lines: list[str], path: Optional[str]) -> None:
-    """Writes the table of a script's rows to its file, or to standard error."""
-    text = "".join(line + "\n" for line in lines)
-    if path is None:
-        write_error(text)
-        return
+def _write_file(lines: list[str], path: str, option: str) -> None:
+    """Writes lines to the file that an option names."""
     try:
         with open(path, "w", encoding="utf-8") as file:
-            file.write(text)
+            file.write("".join(line + "\n" for line in lines))
     except OSError as fault:
-        raise Refusal(path, f"it cannot be written ({fault.strerror})", "name a file that you may write for --table") from None
+        raise Refusal(path, f"it cannot be written ({fault.strerror})", f"name a file that you may write for {option}") from None
+
+
+def _write_table(lines: list[str], path: Optional[str]) -> None:
+    """Writes the table of a script's rows to its file, or to standard error."""
+    if path is None:
+        write_error("".join(line + "\n" for line in lines))
+    else:
+        _write_file(lines, path, "--table")
 
 
 def _rules_of(words: argparse.Namespace) -> dict[bytes, str]:
@@ -137,18 +153,44 @@ def _rules_of(words: argparse.Namespace) -> dict[bytes, str]:
     return {program: words.rules or known.get(program, "serum")}
 
 
-def _script(words: argparse.Namespace) -> int:
-    """Writes the script of a dump and transactions."""
-    rules = _rules_of(words)
-    markets = [_address(word, "--market") for word in words.market] or None
+def _snapshot(words: argparse.Namespace) -> Snapshot:
+    """The accounts of the dump or report that the words name."""
     data = read_bytes(words.dump)
     if is_json_text(data):
-        raise Refusal(name_of(words.dump), "it is JSON, and a dump is wanted first", "name the dump, and the transactions behind it")
-    snapshot = read_dump(data, name_of(words.dump))
-    wish = Wish(markets, rules, words.leave_out_unknown, words.open_accounts, not words.no_swaps)
-    rows, table = make_script(snapshot, read_transactions(words.file), wish)
+        raise Refusal(name_of(words.dump), "it is JSON, and a dump is wanted first", "make one by `ledger dump`, and name it first")
+    return read_dump(data, name_of(words.dump))
+
+
+def _wish(words: argparse.Namespace, make_swaps: bool) -> Wish:
+    """What the words ask for in making rows."""
+    markets = [_address(word, "--market") for word in words.market] or None
+    return Wish(markets, _rules_of(words), words.leave_out_unknown, words.open_accounts, make_swaps)
+
+
+def _unsent(words: argparse.Namespace) -> list[Transaction]:
+    """The transactions that were not sent."""
+    return read_unsent(words.file, read_loaded(words.loaded) if words.loaded else None)
+
+
+def _script(words: argparse.Namespace) -> int:
+    """Writes the script of a dump and transactions."""
+    if words.loaded and not words.unsent:
+        raise Words("--loaded is for transactions that were not sent; say --unsent with it")
+    wish, snapshot = _wish(words, not words.no_swaps), _snapshot(words)
+    rows, table = make_script(snapshot, _unsent(words) if words.unsent else read_transactions(words.file), wish)
     _write_table(table, words.table)
     _write(rows)
+    return DONE
+
+
+def _simulate(words: argparse.Namespace) -> int:
+    """Writes what a transaction that was not sent would do."""
+    wish, snapshot = _wish(words, False), _snapshot(words)
+    transaction = one_of(_unsent(words), ", ".join(words.file), words.clock)
+    outcome = simulate(find_program(words.dex), snapshot, transaction, wish)
+    _write([json.dumps(answer_of(outcome))])
+    for line in table_of(outcome):
+        write_error(line + "\n")
     return DONE
 
 
@@ -221,6 +263,11 @@ def _add_dump(parser: argparse.ArgumentParser) -> None:
     parser.add_argument("--no-rest", action="store_true", help="make no wallet for what no account holds of a mint")
     parser.add_argument("--blank", action="append", default=[], nargs=2, metavar=("MARKET", "ACCOUNT"),
                         help="the market of an open-orders account of zero bytes, where there are several markets")
+    parser.add_argument("--merge-idle", action="store_true",
+                        help="put accounts together that no order, slot or event is of: open-orders accounts, and the wallets of a mint")
+    parser.add_argument("--keep", action="append", default=[], metavar="FILE",
+                        help="with --merge-idle: keep what these transactions name, or these addresses, one a line")
+    parser.add_argument("--merged", metavar="FILE", help="with --merge-idle: write the rows that went, each behind the account that it went into")
     parser.add_argument("file", nargs="+", metavar="FILE", help="account JSON, or a folder of such files")
 
 
@@ -237,9 +284,30 @@ def _add_script(parser: argparse.ArgumentParser) -> None:
     parser.add_argument("--table", metavar="FILE", help="write the table of rows to this file, not to standard error")
     parser.add_argument("--leave-out-unknown", action="store_true", help="go on without instructions that a script has no form for")
     parser.add_argument("--open-accounts", action="store_true", help="open accounts by a row before the first order that finds them blank")
+    parser.add_argument("--unsent", action="store_true", help="the transactions were not sent: texts in base64 or base58, or JSON without meta")
+    parser.add_argument("--loaded", metavar="FILE", help="with --unsent: JSON with the lists writable and readonly, what their tables hold")
     parser.add_argument("--no-swaps", action="store_true", help="make a row of each take, also of two that one transaction did together")
     parser.add_argument("dump", metavar="DUMP", help="a dump or a report; - is standard input")
     parser.add_argument("file", nargs="*", metavar="FILE", help="transaction JSON, oldest first, or a folder of such files")
+
+
+def _seconds(word: str) -> int:
+    """The time that a word tells."""
+    if not (word.isascii() and word.isdecimal()) or int(word) >= 2**63:
+        raise argparse.ArgumentTypeError(f"{word!r} is no number of seconds")
+    return int(word)
+
+
+def _add_simulate(parser: argparse.ArgumentParser) -> None:
+    """The words of `simulate`."""
+    _add_transactions(parser)
+    parser.add_argument("--loaded", metavar="FILE", help="JSON with the lists writable and readonly: what the transaction's tables hold")
+    parser.add_argument("--clock", type=_seconds, metavar="SECONDS", help="the time that the program sees; none: the transaction's blockTime")
+    parser.add_argument("--dex", metavar="PATH", help="the exchange's program; none: the one of this folder, where it is built")
+    parser.add_argument("--leave-out-unknown", action="store_true", help="go on without instructions of other programs and on other markets")
+    parser.add_argument("--open-accounts", action="store_true", help="open accounts by a row before the first order that finds them blank")
+    parser.add_argument("dump", metavar="DUMP", help="a dump or a report; - is standard input")
+    parser.add_argument("file", nargs="+", metavar="FILE", help="a transaction or a message: base64 or base58 text, or JSON of getTransaction")
 
 
 def _add_names(parser: argparse.ArgumentParser) -> None:
@@ -275,6 +343,7 @@ def _add_address(parser: argparse.ArgumentParser) -> None:
 _COMMANDS = (
     ("dump", "accounts in, a dump out", _add_dump, _dump),
     ("script", "a dump and transactions in, a script out", _add_script, _script),
+    ("simulate", "tells what a transaction that was not sent would do", _add_simulate, _simulate),
     ("accounts", "a report or a dump in, one JSON file an account out", _add_accounts, _accounts),
     ("compare", "tells each field that differs between two inputs", _add_compare, _compare),
     ("names", "tells the accounts that a market names", _add_names, _names),

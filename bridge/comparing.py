@@ -15,11 +15,12 @@ from bridge.making import rest_name, rest_wallet
 from bridge.queues import Difference, event_queue_differences
 from bridge.sides import side_differences
 from bridge.snapshot import PARTS, Entry, Snapshot, flags_of, holds_nothing, is_blank, is_closed, kind_by_flags, length_fault
-from bridge.tables import SIZES, TOKEN_PROGRAM
+from bridge.tables import NATIVE_MINT, SIZES, TOKEN_PROGRAM
 
 _END_TEXT = 7
 _WITH_END_TEXT = ("req_q", "event_q", "bids", "asks")
 _MOST_REST = 256
+_PLAIN = "0x" + "00" * 12
 
 
 class Key(NamedTuple):
@@ -152,7 +153,15 @@ def _entry_differences(first: Optional[Entry], second: Optional[Entry], exact: b
         yield f"{name} kind {first.kind} {second.kind}"
     elif first.data != second.data:
         for field_name, ours, theirs in _data_differences(first.kind, first.data, second.data, exact):
-            yield f"{name} {field_name} {ours} {theirs}"
+            if exact or not _is_native_word(first, field_name, ours, theirs):
+                yield f"{name} {field_name} {ours} {theirs}"
+
+
+def _is_native_word(entry: Entry, field_name: str, ours: str, theirs: str) -> bool:
+    """Whether a field differs in what a dump leaves out of native accounts: the word that says so, and the supply of their mint."""
+    if entry.kind == "mint":
+        return field_name == "supply" and entry.address == NATIVE_MINT and "0" in (ours, theirs)
+    return field_name == "is_native" and _PLAIN in (ours, theirs) and (ours + theirs).replace(_PLAIN, "").startswith("0x01000000")
 
 
 def _is_told_by_none(first: Optional[Entry], second: Optional[Entry], lines: list[str]) -> bool:

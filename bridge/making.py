@@ -10,9 +10,12 @@ from bridge.encoding import ADDRESS_BYTES, address_of, shown
 from bridge.layouts import address_at, number_at
 from bridge.refusals import Refusal
 from bridge.snapshot import (PARTS, VAULTS, Held, Market, Snapshot, flags_of, is_blank, is_closed, kind_by_flags, length_fault)
-from bridge.tables import INITIALIZED, KIND_FLAGS, PROGRAMS, SIZES, TOKEN_PROGRAM
+from bridge.tables import INITIALIZED, KIND_FLAGS, NATIVE_MINT, PROGRAMS, SIZES, TOKEN_PROGRAM
 
 _AMOUNT, _STATE, _BEHIND_AMOUNT = 64, 108, 72
+# Where a native token account says that it is one, and what stands there.
+_NATIVE, _BEHIND_NATIVE, _IS_NATIVE = 109, 121, b"\x01\0\0\0"
+_SUPPLY = 36
 _ASK = "get its account as JSON and name the file too"
 
 
@@ -39,6 +42,8 @@ class _Maker:
     snapshot: Snapshot = field(default_factory=Snapshot)
     used: dict[bytes, str] = field(default_factory=dict)
     left_out: dict[str, list[str]] = field(default_factory=dict)
+    native: list[Account] = field(default_factory=list)
+    counted: list[str] = field(default_factory=list)
 
     def take(self, address: bytes, kind: str, named_by: str, named_in: str = "words") -> Account:
         """The account of an address, as one of a kind; who names it, and in which file."""
@@ -58,9 +63,20 @@ class _Maker:
         """Leaves an account out, which is told at the end."""
         self.left_out.setdefault(why, []).append(f"{shown(account.address)} ({account.source})")
 
+    def plain(self, account: Account) -> bytes:
+        """The bytes of a token account. Of a native one, which stands for lamports, the word that says so is left out, and told."""
+        if account.data[_NATIVE : _NATIVE + 4] != _IS_NATIVE:
+            return account.data
+        self.native.append(account)
+        return account.data[:_NATIVE] + bytes(_BEHIND_NATIVE - _NATIVE) + account.data[_BEHIND_NATIVE:]
+
     def notes(self) -> list[str]:
-        """What was left out, one line a reason."""
-        lines = []
+        """What was left out or read otherwise, one line a reason."""
+        lines = list(self.counted)
+        if self.native:
+            first = ", ".join(shown(account.address) for account in self.native[:3])
+            others = f" and {len(self.native) - 3} more" if len(self.native) > 3 else ""
+            lines.append(f"native accounts, read as plain ones of their token amounts: {first}{others}")
         for why, names in self.left_out.items():
             more = f" and {len(names) - 3} more" if len(names) > 3 else ""
             lines.append(f"left out, {why}: {', '.join(names[:3])}{more}")
@@ -98,7 +114,7 @@ def _take_market(maker: _Maker, address: bytes, authority: bytes) -> None:
         _check_owner(account, frozenset([TOKEN_PROGRAM if part in VAULTS else market.owner]), part)
         if part not in VAULTS:
             _check_flags(account, part)
-        parts[part] = account.data
+        parts[part] = maker.plain(account) if part in VAULTS else account.data
     maker.snapshot.markets.append(Market(address, authority, market.data, parts))
 
 
@@ -144,13 +160,14 @@ def _take_wallet(maker: _Maker, account: Account) -> None:
     if maker.used.get(mint) != "mint":
         maker.leave_out(account, "wallets of a mint that is not in the dump")
         return
-    place = _odd_byte(account.data)
+    data = maker.plain(account)
+    place = _odd_byte(data)
     if place is None:
-        maker.snapshot.wallets.append(Held(account.address, account.data))
+        maker.snapshot.wallets.append(Held(account.address, data))
     elif maker.wanted.leave_out_wallets:
-        maker.leave_out(account, "wallets with a delegate, a close authority, native lamports or frozen")
+        maker.leave_out(account, "wallets with a delegate, a close authority or frozen")
     else:
-        what = f"a wallet with byte {account.data[place]} at place {place} (a delegate, a close authority, native lamports or frozen)"
+        what = f"a wallet with byte {account.data[place]} at place {place} (a delegate, a close authority or frozen)"
         raise account.fault(what, "leave its file out, or say --leave-out-wallets")
 
 
@@ -231,9 +248,24 @@ def rest_wallet(mint: bytes, amount: int) -> bytes:
     return bytes(data)
 
 
+def _count_native(maker: _Maker, place: int, mint: Held) -> None:
+    """Writes what the accounts hold of a native mint as its supply, which the ledger does not count."""
+    held = _held_of(maker.snapshot, mint.address)
+    if held >= 2**64:
+        raise maker.accounts[mint.address].fault(f"the wallets and vaults hold {held} of it", "take all accounts at one slot")
+    if held != number_at("mint", "supply", mint.data):
+        data = mint.data[:_SUPPLY] + held.to_bytes(8, "little") + mint.data[_SUPPLY + 8 :]
+        maker.snapshot.mints[place] = Held(mint.address, data)
+        maker.counted.append(f"native mint {shown(mint.address)}: its supply, which the ledger does not count, is {held} in the dump")
+
+
 def _add_rests(maker: _Maker) -> None:
-    """Adds one made wallet for each mint of which more is supplied than the accounts hold."""
-    for place, mint in enumerate(maker.snapshot.mints):
+    """Adds one made wallet for each mint of which more is supplied than the accounts hold. The supply of a native mint is what they hold."""
+    native = {address_at("token_account", "mint", account.data) for account in maker.native} | {NATIVE_MINT}
+    for place, mint in enumerate(list(maker.snapshot.mints)):
+        if mint.address in native:
+            _count_native(maker, place, mint)
+            continue
         supply, held = number_at("mint", "supply", mint.data), _held_of(maker.snapshot, mint.address)
         account, address = maker.accounts[mint.address], address_of(rest_name(place))
         if supply < held:

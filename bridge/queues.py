@@ -32,6 +32,11 @@ def pending_places(data: bytes) -> list[int]:
     return [(head + number) % capacity for number in range(count)]
 
 
+def pending_events(data: bytes) -> list[bytes]:
+    """The pending events, oldest first."""
+    return [_event(data, place) for place in pending_places(data)]
+
+
 def _event_text(event: bytes) -> str:
     """An event in one word."""
     flags = number_at("event", "flags", event)

@@ -3,7 +3,7 @@
 from __future__ import annotations
 
 from dataclasses import dataclass, field
-from typing import Iterator, Optional
+from typing import Iterator, NamedTuple, Optional
 
 from bridge.dump_text import dump_rows
 from bridge.encoding import base64_text, dump_word, shown
@@ -396,8 +396,8 @@ def _numbered(maker: _Maker, start: int, transactions: int) -> Iterator[str]:
         number += line.row is not None
 
 
-def make_script(snapshot: Snapshot, transactions: list[Transaction], wish: Wish) -> tuple[list[str], list[str]]:
-    """The rows of a script, and the lines of the table that tells which row is which instruction."""
+def _made(snapshot: Snapshot, transactions: list[Transaction], wish: Wish) -> _Maker:
+    """The lines of a script; accounts that transactions open are added to the snapshot."""
     markets = _wanted_markets(snapshot, wish)
     opened = {held.address: not is_blank(held.data) for market in snapshot.markets for held in market.orders}
     market_of = {held.address: market for market in snapshot.markets for held in market.orders}
@@ -406,8 +406,36 @@ def make_script(snapshot: Snapshot, transactions: list[Transaction], wish: Wish)
     maker = _Maker(snapshot, wish, markets, _own_accounts(markets), wallets, kinds, opened, market_of)
     for transaction in transactions:
         _follow(maker, transaction)
+    return maker
+
+
+def make_script(snapshot: Snapshot, transactions: list[Transaction], wish: Wish) -> tuple[list[str], list[str]]:
+    """The rows of a script, and the lines of the table that tells which row is which instruction."""
+    maker = _made(snapshot, transactions, wish)
     rows = list(dump_rows(snapshot))
     if maker.rules == "openbook":
         rows.append("program,openbook")
     table = list(_numbered(maker, len(rows) + 1, len(transactions)))
     return rows + [line.row for line in maker.lines if line.row is not None], table
+
+
+class Step(NamedTuple):
+    """A row that acts, and the instruction that it is: its number in the transaction, and its name."""
+
+    row: str
+    number: str
+    name: str
+
+
+def steps_of(snapshot: Snapshot, transaction: Transaction, wish: Wish) -> tuple[list[str], list[Step]]:
+    """The rows of one transaction: those that stand in front, of program and clock, and those that act."""
+    maker = _made(snapshot, [transaction], wish)
+    front = ["program,openbook"] if maker.rules == "openbook" else []
+    steps = []
+    for line in maker.lines:
+        if line.row is not None and not line.told:
+            front.append(line.row)
+        elif line.row is not None:
+            _, _, number, name = line.told.split(" ", 3)
+            steps.append(Step(line.row, number, name))
+    return front, steps

@@ -41,6 +41,16 @@ class Instruction:
     named_in_front: bool
 
 
+@dataclass(frozen=True)
+class Reason:
+    """A reason for a refusal: its number, the public program's error where it has one of its own, and its values and words."""
+
+    number: int
+    error: Optional[int]
+    values: tuple[str, ...]
+    words: str
+
+
 def _loaded() -> Any:
     """The file of tables."""
     with open(os.path.join(os.path.dirname(os.path.abspath(__file__)), "tables.json"), encoding="utf-8") as file:
@@ -72,6 +82,15 @@ CLOSED: int = _TABLES["flags"]["closed"]
 SIZES: dict[str, Size] = {kind: Size(row["layout"], row["least"], row["most"]) for kind, row in _TABLES["accounts"].items()}
 LAYOUTS: dict[str, tuple[Field, ...]] = {name: tuple(map(_field, rows)) for name, rows in _TABLES["layouts"].items()}
 INSTRUCTIONS: dict[int, Instruction] = {row["tag"]: _instruction(row) for row in _TABLES["instructions"]}
+
+
+NATIVE_MINT: bytes = address_of(_TABLES["native_mint"])
+# Programs that touch no account of a market, and the names of others that often stand beside its instructions.
+IDLE_PROGRAMS: dict[bytes, str] = {address_of(word): name for name, word in _TABLES["idle_programs"].items()}
+OTHER_PROGRAMS: dict[bytes, str] = {address_of(word): name for name, word in _TABLES["other_programs"].items()}
+REASONS: dict[str, Reason] = {name: Reason(row["number"], row.get("error"), tuple(row["values"]), row["words"])
+                              for name, row in _TABLES["errors"].items()}
+UNKNOWN_ERROR: int = _TABLES["unknown_error"]
 
 
 def rent_exempt(length: int) -> int:

@@ -7,7 +7,7 @@ from dataclasses import dataclass
 from typing import Any, Iterator, NamedTuple, Optional
 
 from bridge.accounts import read_address
-from bridge.encoding import base58_bytes, shown
+from bridge.encoding import base58_bytes, base58_of, shown
 from bridge.files import json_files, json_values, read_bytes
 from bridge.refusals import Refusal
 
@@ -30,7 +30,8 @@ class Call:
 
 @dataclass(frozen=True)
 class Transaction:
-    """A transaction: where it was read, its name, slot and time, its signers, and its calls (none where it failed)."""
+    """A transaction: where it was read, its name, slot and time, its signers, its calls (none where it failed), and
+    of one that was not sent all accounts by their numbers."""
 
     source: str
     signature: str
@@ -40,6 +41,7 @@ class Transaction:
     signers: tuple[bytes, ...]
     calls: tuple[Call, ...]
     is_told_whole: bool
+    keys: tuple[bytes, ...] = ()
 
     def fault(self, what: str, remedy: str) -> Refusal:
         """What is wrong with this transaction."""
@@ -190,6 +192,14 @@ def _slot_of(reader: _Reader) -> int:
     return slot
 
 
+def _time_of(reader: _Reader) -> Optional[int]:
+    """The time of a transaction's block, where it is told."""
+    time: Any = reader.value.get("blockTime")
+    if time is not None and (not isinstance(time, int) or isinstance(time, bool)):
+        raise reader.fault("its `blockTime` is no number")
+    return time
+
+
 def _transaction(value: dict[str, Any], source: str, number: int) -> Transaction:
     """A transaction from its JSON."""
     body = value["transaction"]
@@ -201,12 +211,27 @@ def _transaction(value: dict[str, Any], source: str, number: int) -> Transaction
     message = reader.member(body, "message", dict)
     keys = _keys(reader, message, meta)
     signers = _signers(reader, message, keys, len(signatures))
-    time = value.get("blockTime")
-    if time is not None and (not isinstance(time, int) or isinstance(time, bool)):
-        raise reader.fault("its `blockTime` is no number")
+    time = _time_of(reader)
     failed = _has_failed(reader, meta)
     calls = () if failed else tuple(_calls(reader, message, meta, keys))
     return Transaction(source, signatures[0], _slot_of(reader), time, failed, signers, calls, meta.get("innerInstructions") is not None)
+
+
+def unsent_of_json(value: dict[str, Any], source: str, number: int, loaded: Optional[tuple[tuple[bytes, ...], tuple[bytes, ...]]]) -> Transaction:
+    """A transaction that is to be tried, from the JSON of getTransaction. Where `meta` stands beside it, its inner calls and loaded
+    accounts are taken, and not what it says of the outcome; `loaded` are accounts of tables that nobody looked up yet."""
+    body = value["transaction"]
+    signatures = _signatures_of(body, source, number)
+    reader = _Reader(value, f"{source}: transaction {signatures[0]}")
+    meta = dict(reader.member(value, "meta", dict)) if value.get("meta") is not None else {}
+    if loaded is not None and "loadedAddresses" not in meta:
+        meta["loadedAddresses"] = dict(zip(("writable", "readonly"), (list(map(base58_of, part)) for part in loaded)))
+    message = reader.member(body, "message", dict)
+    keys = _keys(reader, message, meta)
+    signers = _signers(reader, message, keys, len(signatures))
+    time = _time_of(reader)
+    calls = tuple(_calls(reader, message, meta, keys))
+    return Transaction(source, signatures[0], 0, time, False, signers, calls, True, tuple(keys.addresses))
 
 
 def _read_value(value: Any, source: str, number: int) -> Iterator[Transaction]:

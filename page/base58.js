@@ -22,3 +22,19 @@ export function base58Of(address) {
   const zeros = /^(00)*/.exec(hex)[0].length / 2;
   return '1'.repeat(zeros) + text;
 }
+
+// Each letter's value.
+const LETTER_VALUES = new Map([...LETTERS].map((letter, at) => [letter, BigInt(at)]));
+
+/** The bytes of a base58 text; null where it is none. */
+export function bytesOfBase58(text) {
+  const ones = /^1*/.exec(text)[0].length;
+  let number = 0n;
+  for (const letter of text) {
+    if (!LETTER_VALUES.has(letter)) return null;
+    number = number * 58n + LETTER_VALUES.get(letter);
+  }
+  let hex = number === 0n ? '' : number.toString(16);
+  if (hex.length % 2 === 1) hex = `0${hex}`;
+  return Uint8Array.from([...Array(ones).fill(0), ...(hex.match(/../g) || []).map((pair) => parseInt(pair, 16))]);
+}

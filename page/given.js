@@ -15,6 +15,23 @@ export function givenTexts(kind = 'given') {
     .filter(({ text }) => text !== '');
 }
 
+// The files of a folder, by their names; those of folders in it too.
+async function filesOfFolder(folder) {
+  const files = [];
+  for await (const one of folder.values()) files.push(...await (one.kind === 'file' ? [one.getFile()] : filesOfFolder(one)));
+  return (await Promise.all(files)).sort((one, other) => (one.name < other.name ? -1 : 1));
+}
+
+// The files that were dropped, those of folders too, where the browser hands folders over. All that it holds is asked for at once, before
+// the drop ends. (The older way, by entries, reads no file of a folder in a page that is opened from disk.)
+async function droppedFiles({ items, files }) {
+  const entries = [...items || []].map((item) => (item.webkitGetAsEntry ? item.webkitGetAsEntry() : null));
+  if (!entries.some((entry) => entry !== null && entry.isDirectory) || !items[0].getAsFileSystemHandle) return files;
+  const held = await Promise.all([...items].map((item) => item.getAsFileSystemHandle()));
+  const found = await Promise.all(held.map((one) => (one.kind === 'file' ? [one.getFile()] : filesOfFolder(one))));
+  return Promise.all(found.flat());
+}
+
 // A file as a text by its name.
 async function textOfFile(file) { return { name: file.name, text: await file.text() }; }
 
@@ -35,6 +52,6 @@ export function hearFiles(field, open, read = textOfFile) {
   document.addEventListener('drop', (event) => {
     event.preventDefault();
     document.body.classList.remove('dropping');
-    take(event.dataTransfer.files);
+    droppedFiles(event.dataTransfer).then(take);
   });
 }

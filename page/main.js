@@ -54,7 +54,7 @@ async function openTexts(given) {
     return;
   }
   // A text that cannot be read leaves nothing of what stood there before, unless others came with it.
-  const isAllFaulty = opened.faulty.length === given.length;
+  const isAllFaulty = opened.shown === null || opened.faulty.length === given.length;
   texts = isAllFaulty ? {} : opened.texts;
   frame.shown = isAllFaulty ? null : opened.shown;
   told.textContent = isAllFaulty ? opened.faulty.map(({ name }) => name).join(', ') : toldTexts(opened.shown);
@@ -70,7 +70,7 @@ function welcome() {
   return [
     element('h1', {}, 'A report, to look at'),
     element('p', {}, 'Choose a report of replay or a dump with “Open files”, or drop one here; a script, a table of worth or what a command '
-      + 'answered may come with it, or later. Nothing leaves this computer.'),
+      + 'answered may come with it, or later. Accounts of a ledger as JSON are taken too, one or a whole folder. Nothing leaves this computer.'),
   ];
 }
 

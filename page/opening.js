@@ -1,12 +1,14 @@
 // Opening texts: one of each kind stays, a new report or dump takes the place of the old one.
 
 import { counted } from './amounts.js';
+import { LedgerFault, takeLedgerFiles } from './ledger_json.js';
 import { Shown } from './shown.js';
 import { LineFault } from './text.js';
 import { readGiven } from './texts.js';
 
 /** What is wrong with a text, as a sentence. */
 export function faultText(fault) {
+  if (fault instanceof LedgerFault) return `${fault.message[0].toUpperCase()}${fault.message.slice(1)}.`;
   return fault instanceof LineFault ? `Line ${fault.line}: ${fault.message}` : `The page failed: ${fault.message}`;
 }
 
@@ -23,8 +25,10 @@ function take(texts, one) {
  */
 export async function addTexts(old, given, tell) {
   const texts = { ...old };
-  const faulty = [];
-  for (const one of given) {
+  const { names, others, looked, faulty } = takeLedgerFiles(given, old.accounts === undefined ? [] : old.accounts.read.accounts);
+  if (looked !== null) texts.accounts = { name: names, kind: 'accounts', read: looked, fault: null };
+  if (looked !== null && looked.dump !== null) others.push({ name: `the accounts of ${names}`, text: looked.dump });
+  for (const one of others) {
     const read = await readGiven(one, (line, part) => tell(`Reading ${one.name}: line ${line}…`, part));
     if (read.fault === null) take(texts, read);
     else faulty.push(read);
@@ -39,6 +43,7 @@ export function toldTexts({ texts, report }) {
   return Object.values(texts).map(({ name, kind, read }) => {
     if (kind === 'report') return `${name}: a report of ${counted(read.rows, 'row')}, ${sizes}`;
     if (kind === 'dump') return `${name}: a dump, ${sizes}`;
+    if (kind === 'accounts') return `${name}: ${counted(read.accounts.size, 'account')} of a ledger`;
     if (kind === 'script') return `${name}: a script of ${counted(read.count, 'row')}`;
     if (kind === 'worth') return `${name}: the worth of ${counted(read.rows.length, 'account')}`;
     return `${name}: what a command answered`;

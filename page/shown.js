@@ -21,6 +21,8 @@ export class Shown {
     this.report = main === undefined ? noReport() : main.read;
     this.exchange = this.report.exchange;
     this.answer = texts.answer === undefined ? null : texts.answer.read;
+    // Accounts of a ledger as they were given, of which some may be missing.
+    this.looked = texts.accounts === undefined ? null : texts.accounts.read;
     // What could not be used, told above every view.
     this.notices = [];
     this.script = texts.script === undefined ? null : texts.script.read;

@@ -6,6 +6,7 @@ import { bookView } from './book_view.js';
 import { bytesView } from './bytes_view.js';
 import { eventsView } from './events_view.js';
 import { journalView } from './journal_view.js';
+import { lookedView } from './looked_view.js';
 import { ordersView } from './orders_view.js';
 import { overview } from './overview.js';
 import { ownersView } from './owner_view.js';
@@ -19,6 +20,7 @@ import { worthView } from './worth_view.js';
 // The views of a market are shown one market at a time. `isThere` tells whether the texts have what a view shows.
 const VIEWS = [
   { name: 'answer', title: 'Answer', show: answerView, isThere: (shown) => shown.answer !== null },
+  { name: 'accounts', title: 'Accounts', show: lookedView, isThere: (shown) => shown.looked !== null },
   { name: 'overview', title: 'Overview', show: overview },
   { name: 'book', title: 'Book', ofMarket: bookView },
   { name: 'trades', title: 'Trades', ofMarket: tradesView },

@@ -4,8 +4,9 @@ import { counted } from '../page/amounts.js';
 import { faultNode } from '../page/bar.js';
 import { choice, element } from '../page/elements.js';
 import { drawView, frame } from '../page/navigation.js';
-import { addTexts } from '../page/opening.js';
+import { addTexts, toldTexts } from '../page/opening.js';
 import { notice } from '../page/parts.js';
+import { Shown } from '../page/shown.js';
 import { keepAsFile } from '../page/table_tools.js';
 import { Stopped } from '../page/text.js';
 import { grouped } from '../page/units.js';
@@ -15,7 +16,7 @@ import { Deeds } from './deeds.js';
 import { Working } from './working.js';
 
 // The views that show answers of each kind first.
-const FIRST_VIEWS = { report: '#book', dump: '#book', answer: '#answer', script: '#script', worth: '#worth' };
+const FIRST_VIEWS = { report: '#book', dump: '#book', answer: '#answer', script: '#script', worth: '#worth', accounts: '#accounts' };
 
 // The name of the moment at which something is shown first.
 const FIRST = 'first answer';
@@ -179,6 +180,23 @@ export class AnswerPane {
       window.history.replaceState(null, '', this.left[kind] || FIRST_VIEWS[kind]);
     }
     this.isOf = kind;
+  }
+
+  /** Shows accounts of a ledger of which some are missing, and files of them that cannot be read; no command runs. */
+  showLooked({ names, looked, faulty }) {
+    this.stop();
+    this.last = null;
+    [this.saver.disabled, this.taker.hidden] = [true, true];
+    this.faults.replaceChildren(...faulty.map(faultNode));
+    if (looked === null) {
+      this.told.textContent = faulty.map(({ name }) => name).join(', ');
+      return;
+    }
+    frame.shown = new Shown({ accounts: { name: names, kind: 'accounts', read: looked } });
+    this.told.textContent = toldTexts(frame.shown);
+    this.goToView('accounts');
+    delete frame.main.dataset.stale;
+    drawView();
   }
 
   // What was answered, in a line.

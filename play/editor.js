@@ -95,14 +95,15 @@ export class Editor {
     this.draw();
   }
 
-  /** Goes to a row and selects it. */
-  goToRow(row) {
+  /** Goes to a row and selects it; without the focus the caret stands behind it. */
+  goToRow(row, isFocused = true) {
     const line = this.lineOfRow(row);
     if (line < 0) return;
     const from = this.lines[line];
     const end = this.text.indexOf('\n', from);
-    this.area.focus();
-    this.area.setSelectionRange(from, end < 0 ? this.text.length : end);
+    const behind = end < 0 ? this.text.length : end;
+    if (isFocused) this.area.focus();
+    this.area.setSelectionRange(isFocused ? from : behind, behind);
     this.area.scrollTop = Math.max(0, line * LINE_HEIGHT - this.area.clientHeight / 2);
     this.area.scrollLeft = 0;
     this.moved();

@@ -125,6 +125,9 @@ export class SourcePane {
     this.editor.goToRow(row);
   }
 
+  /** Puts the caret behind a row, without taking the focus. */
+  showRow(row) { this.editor.goToRow(row, false); }
+
   // What stands for a dump that the script begins with.
   startNodes(start, rowsBefore) {
     const leave = () => {

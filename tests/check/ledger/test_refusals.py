@@ -207,9 +207,9 @@ class BadAccounts(Folder):
         self.refused(self.bytes_of("mint", less), "given.json", shown(self.entry("mint").address), str(supply - 1), str(supply), "one slot")
 
     def test_odd_wallets(self) -> None:
-        """Wallets with a delegate, native lamports, frozen or a close authority are refused, or left out and told."""
+        """Wallets with a delegate, half a word of native lamports, frozen or a close authority are refused, or left out and told."""
         name = shown(self.entry("wallet").address)
-        for place in (72, 108, 109, 121, 129, 164):
+        for place in (72, 108, 110, 120, 121, 129, 164):
             data = self.entry("wallet").data
             data = data[:place] + bytes([data[place] + 1]) + data[place + 1 :]
             self.refused(self.bytes_of("wallet", data), "given.json", name, f"at place {place}", "--leave-out-wallets")

@@ -72,7 +72,7 @@ class Document(unittest.TestCase):
             document = file.read()
         told = ledger_apart("--help").out
         commands = re.findall(r"^    ([a-z]+) ", told, re.M)
-        self.assertEqual(len(commands), 7)
+        self.assertEqual(len(commands), 8)
         for command in commands:
             self.assertIn(f"`./ledger {command} ", document)
             for option in set(re.findall(r"--[a-z-]+", ledger_apart(command, "--help").out)) - {"--help"}:

@@ -9,11 +9,11 @@ function casesOf(folder) {
   return readdirSync(join(root, 'tests/cases', folder)).filter((name) => name.endsWith('.words')).map((name) => name.slice(0, -6)).sort();
 }
 
-// The first thing that one sees: two_traders and its report, and how long that took.
+// How long the first answer took; then the short example and its report.
 async function checkFirst(suite, player) {
   await player.open();
   const first = (await player.page.run(() => window.performance.getEntriesByName('first answer')[0].startTime)) / 1000;
-  console.log(`play: two_traders and its report stood ${first.toFixed(2)} s after the page was opened`);
+  console.log(`play: the first example and its report stood ${first.toFixed(2)} s after the page was opened`);
   suite.same('at first: the script', await player.rows(), stored('examples/two_traders.csv'));
   suite.same('at first: the report', (await player.saved()).text, stored('examples/two_traders.report'));
   suite.same('at first: the view', await player.page.run(() => document.querySelector('main').dataset.view), 'book');

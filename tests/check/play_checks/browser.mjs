@@ -4,13 +4,14 @@ import { join, resolve } from 'node:path';
 import { runGroups } from '../view_browser/suite.mjs';
 import { root } from '../view_browser/texts.mjs';
 import { answerCases } from './answers.mjs';
+import { endCases } from './ends.mjs';
 import { helpCases } from './help.mjs';
 import { inputCases } from './inputs.mjs';
 import { lookCases } from './looks.mjs';
 import { Player } from './player.mjs';
 import { swapRowCases } from './swaps.mjs';
 
-const GROUPS = { answers: answerCases, help: helpCases, swaps: swapRowCases, inputs: inputCases, looks: lookCases };
+const GROUPS = { ends: endCases, answers: answerCases, help: helpCases, swaps: swapRowCases, inputs: inputCases, looks: lookCases };
 
 const [, , chromium, file = join(root, 'play.html'), ...names] = process.argv;
 const more = (browser) => ({ file: resolve(file), player: async (width, height) => new Player(await browser.page(width, height), resolve(file)) });

@@ -9,9 +9,11 @@ export class Player {
     this.file = file;
   }
 
-  /** Opens the page and waits until it answered its first example. */
+  /** Opens the page, waits until it answered its first example, and takes the short one. */
   async open(fragment = '') {
     await this.page.open(this.file, fragment);
+    await this.calm();
+    await this.page.choose('Example', 'two_traders');
     await this.calm();
   }
 

@@ -8,6 +8,7 @@ import { scriptCases } from './script.mjs';
 import { makerCases } from './maker.mjs';
 import { auditorCases } from './auditor.mjs';
 import { hostileCases } from './hostile.mjs';
+import { ledgerCases } from './ledger.mjs';
 import { largeCases } from './large.mjs';
 import { securityCases } from './security.mjs';
 import { runGroups } from './suite.mjs';
@@ -16,7 +17,7 @@ import { traderCases } from './trader.mjs';
 
 const GROUPS = {
   answers: answerCases, audit: auditCases, links: linkCases, script: scriptCases, trader: traderCases, maker: makerCases, auditor: auditorCases,
-  swaps: swapCases, security: securityCases, hostile: hostileCases, large: largeCases, layout: layoutCases,
+  swaps: swapCases, security: securityCases, hostile: hostileCases, ledger: ledgerCases, large: largeCases, layout: layoutCases,
 };
 
 const [, , chromium, ...names] = process.argv;
