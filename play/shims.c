@@ -1,5 +1,5 @@
 /* What the library's module asks of its surroundings, for a browser: memory from the page's WebAssembly memory, and numbers of 128 bits.
- * None of it is proved. tests/play tries it in the very module that the page has, which shows these functions for that. */
+ * None of it is proved. tests/check/play tries it in the very module that the page has, which shows these functions for that. */
 typedef __UINT64_TYPE__ uint64_t;
 typedef __UINT32_TYPE__ uint32_t;
 typedef __UINTPTR_TYPE__ uintptr_t;
