@@ -3,25 +3,28 @@
 The library is the proved one where library/build made it and nothing is newer, else what native/assemble makes by this machine's C compiler.
 """
 
+from __future__ import annotations
+
 import base64
 import hashlib
 import re
 import subprocess
 import sysconfig
 import zipfile
+from collections.abc import Iterator
 from pathlib import Path
 
 HERE = Path(__file__).resolve().parent
 PLATFORM = re.sub('[-.]', '_', sysconfig.get_platform())
 
 
-def fields():
+def fields() -> dict[str, str]:
     """The fields of pyproject.toml that a wheel tells. Python has a reader of such files only from 3.11 on."""
     text = (HERE / 'pyproject.toml').read_text()
     return dict(re.findall(r'^([a-z-]+) = "(.*)"$', text, re.MULTILINE))
 
 
-def library():
+def library() -> Path:
     """The shared library's file."""
     out = HERE / 'out' / 'libdex.so'
     if out.exists() and subprocess.run([HERE / 'build', '--is-built']).returncode == 0:
@@ -32,7 +35,7 @@ def library():
     return Path(made.stdout.strip()) / 'libdex.so'
 
 
-def parts(told):
+def parts(told: dict[str, str]) -> Iterator[tuple[str, bytes]]:
     """The files of the wheel: each name with its bytes."""
     for file in sorted((HERE / 'daisyhook').glob('*.py')):
         yield f'daisyhook/{file.name}', file.read_bytes()
@@ -45,7 +48,7 @@ def parts(told):
         yield f'{told["name"]}-{told["version"]}.dist-info/{name}', text.encode()
 
 
-def build_wheel(wheel_directory, config_settings=None, metadata_directory=None):
+def build_wheel(wheel_directory: str, config_settings: object = None, metadata_directory: object = None) -> str:
     """Writes the wheel into a folder, and gives its name."""
     told = fields()
     name = f'{told["name"]}-{told["version"]}-py3-none-{PLATFORM}.whl'
