@@ -35,7 +35,8 @@ def places() -> list[Path]:
 def library() -> ctypes.CDLL:
     """The shared library: the file that DAISYHOOK_LIBRARY names, else the first that stands where one may."""
     named = os.environ.get('DAISYHOOK_LIBRARY')
-    path = next(filter(Path.exists, [Path(named)] if named else places()), None)
+    # A path without a slash would be sought among the system's libraries, so it is made whole.
+    path = next(filter(Path.exists, [Path(named).absolute()] if named else places()), None)
     if path is None:
         raise FileNotFoundError(f'{named or places()[1]} is not there: build it with library/build, or without the toolchain with '
                                 '`native/assemble library`, or name it by DAISYHOOK_LIBRARY')
