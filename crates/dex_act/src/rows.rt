@@ -20,7 +20,8 @@ use dex_cell::{MarketCell, Plan, amounts_of};
 use dex_types::{Refusal, Reply, Row, Seen};
 use dex_wallet::WalletCell;
 
-/// Does a row as it was decided: its deposits leave its wallets, its market makes its step, and its payouts enter its wallets.
+/// Does a row as it was decided: its deposits leave its wallets, its market makes its step, and its payouts enter its
+/// wallets.
 fn accept(market: &mut MarketCell, wallets: &mut [WalletCell], asked: &Asked, plan: &Plan)
     requires can { CanActAt asked.now.row.now asked.now.seen.now asked.now.places.now market.old wallets.old }
     requires decided { Ok plan.now ≡ answer_on asked.now.row.now asked.now.seen.now market.old }
@@ -81,8 +82,8 @@ pub fn act(
     entry.reply
 }
 
-/// A take is held back, for a row whose item is refused elsewhere: its market writes down that nothing was to do, and it looks at the
-/// wallets that it names. No account changes.
+/// A take is held back, for a row whose item is refused elsewhere: its market writes down that nothing was to do, and
+/// it looks at the wallets that it names. No account changes.
 pub fn hold(
     market: &mut MarketCell,
     wallets: &mut [WalletCell],
@@ -106,8 +107,8 @@ pub fn hold(
     ensures made { map made_of wallets.new ≡ map made_of wallets.old }
 {
     let asked = Asked { row, seen, places };
-    market.idle(row, seen);
+    let reply = market.idle(row, seen);
     let entry = market.last();
     probes(wallets, &asked, &entry.moves);
-    Reply::Done
+    reply
 }

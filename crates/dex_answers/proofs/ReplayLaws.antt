@@ -1,11 +1,11 @@
 -- What a replay answers where all rows acted.
 use Rattle.std.proofs.Common.{ℕ, List, ap}
 use Rattle.dex_words.specs.declared.command.Command.TheVariants.{Replay}
-use Rattle.dex_report.specs.declared.outcome.Outcome.{Outcome}
-use Rattle.dex_report.specs.Outcomes.{outcome_of}
+use Rattle.dex_state.specs.declared.outcome.Outcome.{Outcome}
+use Rattle.dex_state.specs.Outcomes.{outcome_of}
 use Rattle.dex_report.specs.Report.{report_text}
 use Rattle.dex_report.specs.Telling.{FitOutcome}
-use Rattle.dex_replay.proofs.InFront.{run-told}
+use Rattle.dex_answers.proofs.InFront.{run-told}
 use Rattle.dex_answers.specs.Answers.{Answers}
 use Rattle.dex_answers.specs.Telling.{TellsPlayed}
 use Rattle.dex_answers.specs.declared.played.Played.TheVariants.{AllRows}

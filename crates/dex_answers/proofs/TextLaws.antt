@@ -2,27 +2,18 @@
 use Rattle.std.proofs.Common.{◌≡◌, ℕ, List, Result, Ok, Err, IfOk, subst, sym}
 use Rattle.dex_answers.specs.declared.status.Status.{Status}
 use Rattle.dex_answers.specs.declared.status.Status.TheVariants as status
-use Rattle.dex_answers.specs.declared.told.StatusPieces.{StatusPieces}
 use Rattle.dex_answers.specs.declared.told.StatusText.{StatusText}
 use Rattle.dex_answers.specs.Telling.{IsText}
 use Rattle.dex_answers.specs.Told.{text_of}
 
 pub says : {E : Type 0} (result : Result StatusText E) (P : Status → List ℕ → Type 0) (stood : Status) (text : List ℕ)
-    → IfOk result (λ told. IsText told stood text) → P stood text → IfOk result (λ told. P told.status told.text.items)
+    → IfOk result (λ told. IsText told stood text) → P stood text → IfOk result (λ told. P told.status (text_of told))
 says (Ok told) P stood text is holds =
-    subst (λ (s : Status). P s told.text.items) (sym is.status) (subst (λ (t : List ℕ). P stood t) (sym is.text) holds)
+    subst (λ (s : Status). P s (text_of told)) (sym is.status) (subst (λ (t : List ℕ). P stood t) (sym is.text) holds)
 says (Err e) P stood text is holds = tt
 
 -- the same, where more is known of what was told
 pub says-more : {E : Type 0} (result : Result StatusText E) (P : Status → List ℕ → Type 0) (stood : Status) (text : List ℕ) (More : Type 0)
-    → IfOk result (λ told. IsText told stood text) → IfOk result (λ told. More) → (More → P stood text) → IfOk result (λ told. P told.status told.text.items)
+    → IfOk result (λ told. IsText told stood text) → IfOk result (λ told. More) → (More → P stood text) → IfOk result (λ told. P told.status (text_of told))
 says-more {E} (Ok told) P stood text More is more holds = says {E = E} (Ok told) P stood text is (holds more)
 says-more (Err e) P stood text More is more holds = tt
-
--- the same of a text in pieces under status 0
-pub pieces-say : {E : Type 0} (result : Result StatusPieces E) (P : Status → List ℕ → Type 0) (text : List ℕ) (More : Type 0)
-    → IfOk result (λ told. told.status ≡ status.Ok) → IfOk result (λ told. text_of told ≡ text) → IfOk result (λ told. More)
-    → (More → P status.Ok text) → IfOk result (λ told. P told.status (text_of told))
-pieces-say (Ok told) P text More stood is more holds =
-    subst (λ (s : Status). P s (text_of told)) (sym stood) (subst (P status.Ok) (sym is) (holds more))
-pieces-say (Err e) P text More stood is more holds = tt

@@ -19,7 +19,7 @@ use Rattle.dex_script.specs.Scripts.{IsRefused, Reads}
 use Rattle.dex_script.specs.Scripts.Refusal.{AtRow, InAudit, InDump}
 use Rattle.dex_report.specs.Bulk.{bulk_text}
 use Rattle.dex_report.specs.Made.{made_text}
-use Rattle.dex_report.specs.Outcomes.{PlainOutcome}
+use Rattle.dex_state.specs.Outcomes.{PlainOutcome}
 use Rattle.dex_report.specs.Report.{report_text}
 use Rattle.dex_report.specs.Telling.{IsToldOutcome}
 use Rattle.dex_fold.specs.Items.{items_of}
@@ -27,7 +27,7 @@ use Rattle.dex_replay.specs.Replays.{IsLeftByRows, IsReplayOf}
 use Rattle.dex_replay.specs.Runs.{IsRunOf}
 use Rattle.dex_replay.specs.WorthTold.{table_told}
 use Rattle.dex_replay.specs.WorthText.{worth_text}
-use Rattle.dex_lines.specs.Lines as lines
+use Rattle.dex_refusal_lines.specs.Lines as lines
 use Rattle.dex_answers.specs.Paired.{ArePaired}
 use Rattle.dex_answers.specs.declared.status.Status.{Status}
 use Rattle.dex_answers.specs.declared.status.Status.TheVariants as status

@@ -5,7 +5,7 @@ use Rattle.dex_types.specs.Rows.{PlainRow}
 use Rattle.dex_history.specs.Journal.{is_done, is_refusal, is_took}
 use Rattle.dex_fold.specs.Groups.{members}
 use Rattle.dex_fold.specs.Items.{Item, items_of}
-use Rattle.dex_report.specs.Outcomes.{PlainMarketJournal, PlainOutcome}
+use Rattle.dex_state.specs.Outcomes.{PlainMarketJournal, PlainOutcome}
 use Rattle.dex_script_facts.specs.PlainScript.{PlainScript}
 use Rattle.dex_replay.specs.Lawful.{is_answered}
 

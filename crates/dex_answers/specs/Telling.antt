@@ -1,30 +1,31 @@
 -- What the answers of calls tell, without their buffers.
 use Rattle.std.specs.Prelude.{ℕ, ◌≡◌, false, List}
 use Rattle.dex_types.specs.Accounts.{accounts_of}
-use Rattle.dex_dump.specs.Accepted.{AreAccepted}
+use Rattle.dex_state.specs.Accepted.{AreAccepted}
 use Rattle.dex_script_facts.specs.PlainScript.{PlainScript}
 use Rattle.dex_script.specs.Scripts.{Reads}
-use Rattle.dex_report.specs.Outcomes.{outcome_of}
+use Rattle.dex_state.specs.Outcomes.{outcome_of}
 use Rattle.dex_answers.specs.declared.clean.Checked.{Checked}
 use Rattle.dex_answers.specs.declared.clean.Checked.TheVariants as checked
 use Rattle.dex_answers.specs.declared.played.Played.{Played}
 use Rattle.dex_answers.specs.declared.played.Played.TheVariants as played
 use Rattle.dex_answers.specs.declared.status.Status.{Status}
 use Rattle.dex_answers.specs.declared.told.StatusText.{StatusText}
+use Rattle.dex_answers.specs.Told.{text_of}
 use Rattle.dex_answers.specs.Answers.{IsClean, IsNoScript, IsNotClean, IsPlayed, rows_told}
 
 -- the text of a status
 pub record IsText (told : StatusText) (stood : Status) (bytes : List ℕ) : Type 0 where
   pub status : told.status ≡ stood
-  pub text : told.text.items ≡ bytes
+  pub text : text_of told ≡ bytes
 
 -- the bytes are the dump of these accounts, or the text says why they are none
 abbrev pub TellsChecked : Checked → List ℕ → Type 0
 TellsChecked (checked.Clean accounts) bytes = IsClean bytes (accounts_of accounts) × AreAccepted (accounts_of accounts)
-TellsChecked (checked.Refused told) bytes = IsNotClean bytes told.status told.text.items
+TellsChecked (checked.Refused told) bytes = IsNotClean bytes told.status (text_of told)
 
 -- the bytes are a script with this outcome, whose report tells of so many rows; or the text says why they are none
 abbrev pub TellsPlayed : Played → List ℕ → Type 0
 TellsPlayed (played.AllRows rows outcome) bytes =
     (script : PlainScript) × Reads false bytes script × IsPlayed script (outcome_of outcome) × (rows ≡ rows_told script)
-TellsPlayed (played.Refused told) bytes = IsNoScript false bytes told.status told.text.items
+TellsPlayed (played.Refused told) bytes = IsNoScript false bytes told.status (text_of told)

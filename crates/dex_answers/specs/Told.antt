@@ -2,8 +2,8 @@
 use Rattle.std.specs.Prelude.{ℕ, List}
 use Rattle.std.specs.List.{flat_map}
 use Rattle.dex_dump.specs.Pieces.{piece_text}
-use Rattle.dex_answers.specs.declared.told.StatusPieces.{StatusPieces}
+use Rattle.dex_answers.specs.declared.told.StatusText.{StatusText}
 
 -- the pieces, one behind the other
-abbrev pub text_of : StatusPieces → List ℕ
+abbrev pub text_of : StatusText → List ℕ
 text_of told = flat_map piece_text told.pieces.items

@@ -1,8 +1,9 @@
 //! The command `audit`.
 
 ghost use Rattle.std.specs.Prelude.{IfOk, length};
-ghost use Rattle.dex_lines.specs.Lines as lines;
+ghost use Rattle.dex_refusal_lines.specs.Lines as lines;
 ghost use Rattle.dex_answers.specs.Telling.{IsText};
+ghost use Rattle.dex_answers.specs.Told.{text_of};
 ghost use Rattle.dex_answers.specs.declared.status.Status.TheVariants as status;
 ghost use Rattle.dex_answers.specs.Answers.{Answers};
 ghost use Rattle.dex_words.specs.declared.command.Command.TheVariants.{Audit};
@@ -10,13 +11,13 @@ ghost use Rattle.dex_words.specs.declared.command.Command.TheVariants.{Audit};
 use crate::clean::{Checked, check_dump};
 use crate::status::Status;
 use crate::told::StatusText;
-use dex_lines::audit_ok_text;
+use dex_refusal_lines::audit_ok_text;
 use dex_types::{Accounts, NoMemory};
 use std::alloc::Global;
 
 /// Tells that the accounts of a dump have no findings, or their findings, or the first faulty row of the dump.
 pub fn audit_answer(alloc: Global, bytes: &[u8]) -> Result<StatusText, NoMemory>
-    ensures { IfOk result (λ told. Answers Audit bytes.now told.status told.text.items) }
+    ensures { IfOk result (λ told. Answers Audit bytes.now told.status (text_of told)) }
 {
     match check_dump(alloc, bytes)? {
         Checked::Clean(accounts) => audit_ok(alloc, &accounts),
@@ -29,11 +30,6 @@ fn audit_ok(alloc: Global, accounts: &Accounts) -> Result<StatusText, NoMemory>
     ensures { let counted = lines.audit_ok (length accounts.now.markets.items) (length accounts.now.wallets.items) in
         IfOk result (λ told. IsText told status.Ok counted) }
 {
-    match audit_ok_text(alloc, accounts.markets.len(), accounts.wallets.len()) {
-        Ok(text) => Ok(StatusText {
-            status: Status::Ok,
-            text: text.into_bytes(),
-        }),
-        Err(_) => Err(NoMemory),
-    }
+    let text = audit_ok_text(alloc, accounts.markets.len(), accounts.wallets.len())?;
+    StatusText::of(alloc, Status::Ok, text.into_bytes())
 }

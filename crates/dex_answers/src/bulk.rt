@@ -2,18 +2,20 @@
 
 ghost use Rattle.std.specs.Prelude.{◌≡◌, ◌∷◌, [], IfOk, IsTrue, codes, map};
 ghost use Rattle.dex_report.specs.Bulk.{IsOfMade, made_markets};
-ghost use Rattle.dex_report.specs.Outcomes.{PlainMarketJournal, outcome_of};
+ghost use Rattle.dex_state.specs.Outcomes.{PlainMarketJournal, outcome_of};
 ghost use Rattle.dex_types.specs.Accounts.{PlainMarketAccounts};
 ghost use Rattle.dex_types.specs.Addresses.{is_same};
 ghost use Rattle.dex_types.specs.Text.{label_address};
 ghost use Rattle.dex_words.specs.Spelling.{AreMade};
 ghost use Rattle.dex_words.specs.declared.command.Command.TheVariants.{Bulk};
 ghost use Rattle.dex_answers.specs.Answers.{Answers};
+ghost use Rattle.dex_answers.specs.Told.{text_of};
 
 use crate::played::{Played, play_script};
 use crate::status::Status;
 use crate::told::StatusText;
-use dex_report::{MarketJournal, Outcome, bulk_text, make_script};
+use dex_report::{bulk_text, make_script};
+use dex_state::{MarketJournal, Outcome};
 use dex_types::{Address, MarketAccounts, NoMemory};
 use std::alloc::Global;
 
@@ -23,7 +25,7 @@ use std::alloc::Global;
 /// otherwise, the answer is want of memory.
 pub fn bulk_answer(alloc: Global, number: u64, rows: u32) -> Result<StatusText, NoMemory>
     requires { AreMade number rows }
-    ensures { IfOk result (λ told. Answers (Bulk number rows) [] told.status told.text.items) }
+    ensures { IfOk result (λ told. Answers (Bulk number rows) [] told.status (text_of told)) }
 {
     let script = make_script(alloc, number, rows)?;
     let Played::AllRows { rows: _, outcome } = play_script(alloc, &script)? else {
@@ -33,10 +35,7 @@ pub fn bulk_answer(alloc: Global, number: u64, rows: u32) -> Result<StatusText, 
         return Err(NoMemory);
     }
     let text = bulk_text(alloc, number, rows, &outcome)?;
-    Ok(StatusText {
-        status: Status::Ok,
-        text,
-    })
+    StatusText::of(alloc, Status::Ok, text)
 }
 
 /// Whether the journals and the accounts of an outcome are those of a made script's two markets.

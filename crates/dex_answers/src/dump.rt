@@ -6,18 +6,19 @@ ghost use Rattle.dex_types.specs.Accounts.{accounts_of};
 ghost use Rattle.dex_words.specs.declared.command.Command.TheVariants.{Dump};
 ghost use Rattle.dex_answers.specs.Answers.{Answers};
 ghost use Rattle.dex_answers.specs.Telling.{IsText};
+ghost use Rattle.dex_answers.specs.Told.{text_of};
 ghost use Rattle.dex_answers.specs.declared.status.Status.TheVariants as status;
 
 use crate::played::{Played, play_script};
 use crate::status::Status;
 use crate::told::StatusText;
-use dex_dump::into_dump;
+use dex_dump::{Pieces, room_of_dump, take_accounts};
 use dex_types::{Accounts, NoMemory};
 use std::alloc::Global;
 
 /// The dump of the accounts when all rows of a script have acted, or why the bytes are no script.
 pub fn dump_answer(alloc: Global, bytes: &[u8]) -> Result<StatusText, NoMemory>
-    ensures { IfOk result (λ told. Answers Dump bytes.now told.status told.text.items) }
+    ensures { IfOk result (λ told. Answers Dump bytes.now told.status (text_of told)) }
 {
     match play_script(alloc, bytes)? {
         Played::AllRows { rows: _, outcome } => dump_of(alloc, outcome.accounts),
@@ -25,13 +26,15 @@ pub fn dump_answer(alloc: Global, bytes: &[u8]) -> Result<StatusText, NoMemory>
     }
 }
 
-/// The dump of accounts, which are given up.
+/// The dump of accounts, each market of which is let go when it is written.
 pub(crate) fn dump_of(alloc: Global, accounts: Accounts) -> Result<StatusText, NoMemory>
     ensures { IfOk result (λ told. IsText told status.Ok (dump_text (accounts_of accounts))) }
 {
-    let text = into_dump(alloc, accounts)?;
+    let mut text = Pieces::with_capacity(alloc, room_of_dump(&accounts))?;
+    take_accounts(&mut text, accounts)?;
+    let pieces = text.into_pieces()?;
     Ok(StatusText {
         status: Status::Ok,
-        text,
+        pieces,
     })
 }

@@ -17,10 +17,13 @@ mod told;
 pub use audit::audit_answer;
 pub use bulk::{bulk_answer, is_of_made};
 pub use dump::dump_answer;
-pub use laws::{both_legs_of_a_swap_take_or_neither, what_suits_a_command_is_answered};
+pub use laws::{
+    both_legs_of_a_swap_take_or_neither, what_a_run_leaves_is_told,
+    what_suits_a_command_is_answered,
+};
 pub use make::make_answer;
 pub use migrate::migrate_answer;
 pub use played::no_script;
-pub use replay::{replay_answer, replay_taken, report_of};
+pub use replay::{replay_answer, replay_taken};
 pub use status::Status;
-pub use told::{StatusPieces, StatusText};
+pub use told::StatusText;

@@ -18,8 +18,5 @@ pub fn make_answer(alloc: Global, number: u64, rows: u32) -> Result<StatusText, 
     ensures { IfOk result (λ told. IsText told status.Ok (made_text number rows)) }
 {
     let text = make_script(alloc, number, rows)?;
-    Ok(StatusText {
-        status: Status::Ok,
-        text,
-    })
+    StatusText::of(alloc, Status::Ok, text)
 }

@@ -2,19 +2,20 @@
 
 ghost use Rattle.std.specs.Prelude.{◌≤◌, IfOk};
 ghost use Rattle.dex_dump.specs.DumpText.{dump_text};
-ghost use Rattle.dex_lines.specs.Lines as lines;
+ghost use Rattle.dex_refusal_lines.specs.Lines as lines;
 ghost use Rattle.dex_types.specs.Accounts.{accounts_of};
 ghost use Rattle.dex_words.specs.declared.command.Command.TheVariants.{Migrate};
 ghost use Rattle.dex_answers.specs.Answers.{Answers};
 ghost use Rattle.dex_answers.specs.Telling.{IsText};
+ghost use Rattle.dex_answers.specs.Told.{text_of};
 ghost use Rattle.dex_answers.specs.declared.status.Status.TheVariants as status;
 
 use crate::clean::{Checked, check_dump};
 use crate::dump::dump_of;
 use crate::status::Status;
 use crate::told::StatusText;
-use dex_lines::migrate_refused_text;
 use dex_migrate::{MigrateError, MigrateFault, migrate};
+use dex_refusal_lines::migrate_refused_text;
 use dex_types::NoMemory;
 use std::alloc::Global;
 
@@ -28,7 +29,7 @@ pub fn migrate_answer(
 ) -> Result<StatusText, NoMemory>
     requires nodes { (1 ≤ nodes) × (nodes ≤ 65536) }
     requires events { (1 ≤ events) × (events ≤ 65535) }
-    ensures { IfOk result (λ told. Answers (Migrate nodes events) bytes.now told.status told.text.items) }
+    ensures { IfOk result (λ told. Answers (Migrate nodes events) bytes.now told.status (text_of told)) }
 {
     let accounts = match check_dump(alloc, bytes)? {
         Checked::Clean(accounts) => accounts,
@@ -45,11 +46,6 @@ pub fn migrate_answer(
 fn migrate_refused(alloc: Global, fault: MigrateFault) -> Result<StatusText, NoMemory>
     ensures { IfOk result (λ told. IsText told status.MigrateRefused (lines.migrate_refused fault)) }
 {
-    match migrate_refused_text(alloc, fault) {
-        Ok(text) => Ok(StatusText {
-            status: Status::MigrateRefused,
-            text: text.into_bytes(),
-        }),
-        Err(_) => Err(NoMemory),
-    }
+    let text = migrate_refused_text(alloc, fault)?;
+    StatusText::of(alloc, Status::MigrateRefused, text.into_bytes())
 }

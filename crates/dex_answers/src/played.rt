@@ -4,14 +4,15 @@ ghost use Rattle.std.specs.Prelude.{ℕ, Bool, List, IfOk, false};
 ghost use Rattle.dex_script.specs.Telling.{TellsError, TellsScript};
 ghost use Rattle.dex_answers.specs.Answers.{IsNoScript};
 ghost use Rattle.dex_answers.specs.Telling.{TellsPlayed};
+ghost use Rattle.dex_answers.specs.Told.{text_of};
 
 use crate::lines::{audit_failed, dump_refused, script_refused};
 use crate::told::StatusText;
-use dex_lines::ScriptRefused;
+use dex_refusal_lines::ScriptRefused;
 use dex_replay::laws::without_swaps_rows_act_one_by_one;
 use dex_replay::replay;
-use dex_report::Outcome;
 use dex_script::{Script, ScriptError, read_script};
+use dex_state::Outcome;
 use dex_types::NoMemory;
 use std::alloc::Global;
 
@@ -62,7 +63,7 @@ fn play_read(alloc: Global, read: Result<Script, ScriptError>) -> Result<Played,
 /// The text that tells why bytes are no script.
 pub fn no_script(alloc: Global, error: ScriptError) -> Result<StatusText, NoMemory>
     ensures { (batch : Bool) (bytes : List ℕ) → TellsError error batch bytes
-        → IfOk result (λ told. IsNoScript batch bytes told.status told.text.items) }
+        → IfOk result (λ told. IsNoScript batch bytes told.status (text_of told)) }
 {
     match error {
         ScriptError::Row { row, kind, code } => {

@@ -1,8 +1,8 @@
 //! The command `replay`.
 
-ghost use Rattle.std.specs.Prelude.{◌≡◌, ℕ, IfOk, List};
+ghost use Rattle.std.specs.Prelude.{ℕ, IfOk, List};
 ghost use Rattle.dex_words.specs.declared.command.Command.TheVariants.{Replay};
-ghost use Rattle.dex_report.specs.Outcomes.{outcome_of};
+ghost use Rattle.dex_state.specs.Outcomes.{outcome_of};
 ghost use Rattle.dex_report.specs.Report.{report_text};
 ghost use Rattle.dex_report.specs.Telling.{FitOutcome};
 ghost use Rattle.dex_answers.specs.Answers.{Answers};
@@ -12,29 +12,30 @@ ghost use Rattle.dex_answers.specs.declared.status.Status.TheVariants as status;
 
 use crate::played::{Played, play_script, play_taken};
 use crate::status::Status;
-use crate::told::{StatusPieces, StatusText};
-use dex_report::{Outcome, into_report_pieces, into_report_text};
+use crate::told::StatusText;
+use dex_report::into_report_pieces;
+use dex_state::Outcome;
 use dex_types::NoMemory;
 use std::alloc::Global;
 
 /// The report of what is left when all rows of a script have acted, or why the bytes are no script.
 pub fn replay_answer(alloc: Global, bytes: &[u8]) -> Result<StatusText, NoMemory>
-    ensures { IfOk result (λ told. Answers Replay bytes.now told.status told.text.items) }
+    ensures { IfOk result (λ told. Answers Replay bytes.now told.status (text_of told)) }
 {
     told_of(alloc, play_script(alloc, bytes)?)
 }
 
-/// The same of bytes that are given up, in pieces.
-pub fn replay_taken(alloc: Global, bytes: Vec<u8>) -> Result<StatusPieces, NoMemory>
+/// The same of bytes that are given up.
+pub fn replay_taken(alloc: Global, bytes: Vec<u8>) -> Result<StatusText, NoMemory>
     ensures { IfOk result (λ told. Answers Replay bytes.items told.status (text_of told)) }
 {
-    told_in_pieces(alloc, play_taken(alloc, bytes)?)
+    told_of(alloc, play_taken(alloc, bytes)?)
 }
 
 /// The report of what a script came to.
 fn told_of(alloc: Global, played: Played) -> Result<StatusText, NoMemory>
     ensures { (bytes : List ℕ) → TellsPlayed played bytes
-        → IfOk result (λ told. Answers Replay bytes told.status told.text.items) }
+        → IfOk result (λ told. Answers Replay bytes told.status (text_of told)) }
 {
     match played {
         Played::AllRows { rows, outcome } => report_of(alloc, outcome, rows),
@@ -42,37 +43,13 @@ fn told_of(alloc: Global, played: Played) -> Result<StatusText, NoMemory>
     }
 }
 
-/// The same in pieces.
-fn told_in_pieces(alloc: Global, played: Played) -> Result<StatusPieces, NoMemory>
-    ensures { (bytes : List ℕ) → TellsPlayed played bytes
-        → IfOk result (λ told. Answers Replay bytes told.status (text_of told)) }
-{
-    match played {
-        Played::AllRows { rows, outcome } => pieces_of(alloc, outcome, rows),
-        Played::Refused(told) => told.into_pieces(alloc),
-    }
-}
-
 /// The report of an outcome, which is given up, that tells of so many rows. All values that it tells fit.
-pub fn report_of(alloc: Global, outcome: Outcome, rows: u32) -> Result<StatusText, NoMemory>
+fn report_of(alloc: Global, outcome: Outcome, rows: u32) -> Result<StatusText, NoMemory>
     ensures fits { IfOk result (λ told. FitOutcome (outcome_of outcome)) }
     ensures text { IfOk result (λ told. IsText told status.Ok (report_text (outcome_of outcome) rows)) }
 {
-    let text = into_report_text(alloc, outcome, rows)?;
-    Ok(StatusText {
-        status: Status::Ok,
-        text,
-    })
-}
-
-/// The same in pieces.
-fn pieces_of(alloc: Global, outcome: Outcome, rows: u32) -> Result<StatusPieces, NoMemory>
-    ensures fits { IfOk result (λ told. FitOutcome (outcome_of outcome)) }
-    ensures status { IfOk result (λ told. told.status ≡ status.Ok) }
-    ensures text { IfOk result (λ told. text_of told ≡ report_text (outcome_of outcome) rows) }
-{
     let pieces = into_report_pieces(alloc, outcome, rows)?;
-    Ok(StatusPieces {
+    Ok(StatusText {
         status: Status::Ok,
         pieces,
     })

@@ -12,14 +12,15 @@ use Rattle.dex_types.specs.Side.{Coin, Pc}
 use Rattle.dex_market.specs.MarketAccount.{market_words}
 use Rattle.dex_token.specs.MintAccount.{IsMint, mint_words}
 use Rattle.dex_accounts.specs.Decoded.{AreSound, market_in}
-use Rattle.dex_dump.specs.Accepted.{AreAccepted, HoldBytes, IsHeldMarket}
+use Rattle.dex_state.specs.Accepted.{AreAccepted}
+use Rattle.dex_state.specs.Held.{HoldBytes, IsHeldMarket}
 use Rattle.dex_audit_rules.specs.declared.market.Rule.TheVariants as rule
 use Rattle.dex_audit_rules.specs.Funds.{deposits_off, deposits_word, too_large}
 use Rattle.dex_audit_rules.specs.Lists.{numbered}
 use Rattle.dex_audit_rules.specs.RulesOf.{told_by}
-use Rattle.dex_audit.specs.Audited.{IsConserved}
+use Rattle.dex_state.specs.Conserved.{IsConserved, held_of}
 use Rattle.dex_audit.specs.Findings.{findings, fund_findings, slot_findings, told}
-use Rattle.dex_audit.specs.Supplies.{held_of, supplies_off, supply_off}
+use Rattle.dex_audit.specs.Supplies.{supplies_off, supply_off}
 use Rattle.dex_audit.proofs.AllLaws.{flat_map-nothing, none-append}
 use Rattle.dex_audit.proofs.FoundFunds.{differs-nothing, no-beyond, no-deposits-off, no-rebates, no-too-large, no-totals, no-vaults}
 use Rattle.dex_audit.proofs.FoundLaws.{no-astray, no-homeless, no-misheld, no-repeated, no-ungiven, no-unpaired}

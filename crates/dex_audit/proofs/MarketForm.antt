@@ -26,7 +26,7 @@ use Rattle.dex_slab.specs.SlabSide.{slab_side}
 use Rattle.dex_accounts.specs.Accepted.{IsAccepted}
 use Rattle.dex_accounts.specs.Decoded.{market_in}
 use Rattle.dex_orders.specs.StandsFor.{traders_of}
-use Rattle.dex_dump.specs.Accepted.{IsHeldMarket}
+use Rattle.dex_state.specs.Held.{IsHeldMarket}
 use Rattle.dex_audit.proofs.TraderFrom.{open-from}
 
 -- the accounts of a market are accepted, and no open-orders account stands twice

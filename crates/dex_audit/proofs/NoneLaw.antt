@@ -5,10 +5,11 @@ use Rattle.dex_fields.specs.declared.mint.TheConstants.{SUPPLY}
 use Rattle.dex_types.specs.Accounts.{PlainAccount, PlainAccounts, PlainMarketAccounts}
 use Rattle.dex_token.specs.MintAccount.{IsMint, mint_words}
 use Rattle.dex_accounts.specs.Decoded.{AreSound}
-use Rattle.dex_dump.specs.Accepted.{AreAccepted, HoldBytes}
-use Rattle.dex_audit.specs.Audited.{IsConserved}
+use Rattle.dex_state.specs.Accepted.{AreAccepted}
+use Rattle.dex_state.specs.Held.{HoldBytes}
+use Rattle.dex_state.specs.Conserved.{IsConserved, held_of}
 use Rattle.dex_audit.specs.Findings.{findings, fund_findings, slot_findings, told}
-use Rattle.dex_audit.specs.Supplies.{held_of, supplies_off, supply_off}
+use Rattle.dex_audit.specs.Supplies.{supplies_off, supply_off}
 use Rattle.dex_audit_rules.specs.declared.market.Rule.{Rule}
 use Rattle.dex_audit_rules.specs.declared.market.Rule.TheVariants as rule
 use Rattle.dex_audit_rules.specs.RulesOf.{told_by}

@@ -9,8 +9,8 @@ use Rattle.dex_types.specs.Soundness.{AreDistinct}
 use Rattle.dex_types.specs.Trader.{trader_at}
 use Rattle.dex_laws.proofs.TraderLaws.{is_same-refl}
 use Rattle.dex_orders.specs.StandsFor.{traders_of}
-use Rattle.dex_dump.specs.Accepted.{AreAccepted, address_of, all_of_market, times}
-use Rattle.dex_dump.specs.Reading.{market_addresses}
+use Rattle.dex_state.specs.Addresses.{address_of, all_of_market, market_addresses, times}
+use Rattle.dex_state.specs.Accepted.{AreAccepted}
 
 -- one where it is so
 abbrev one : Bool → ℕ

@@ -12,7 +12,7 @@ use Rattle.dex_types.specs.Trader.{Account, Open, balance, trader_at}
 use Rattle.dex_market.specs.MarketAccount.{market_words}
 use Rattle.dex_orders.specs.OrdersAccount.{IsOrders, account_of}
 use Rattle.dex_accounts.specs.Decoded.{market_in}
-use Rattle.dex_dump.specs.Accepted.{IsHeldMarket}
+use Rattle.dex_state.specs.Held.{IsHeldMarket}
 use Rattle.dex_audit_rules.specs.Funds.{deposits_word}
 use Rattle.dex_audit.proofs.FundLaws.{IsSmall}
 use Rattle.dex_audit.proofs.MarketForm.{IsAuditable, word-lt}

@@ -18,7 +18,7 @@ use Rattle.dex_token.specs.TokenAccount.{WalletWords, wallet_words}
 use Rattle.dex_token.specs.StandsFor.{vault_words}
 use Rattle.dex_accounts.specs.Decoded.{AreSound, market_in}
 use Rattle.dex_accounts.specs.StandsFor.{StandsFor}
-use Rattle.dex_dump.specs.Accepted.{IsHeldMarket}
+use Rattle.dex_state.specs.Held.{IsHeldMarket}
 use Rattle.dex_audit_rules.specs.Funds.{beyond_in, deposited, deposits_in, deposits_off, deposits_word, rebates_in, too_large, too_large_in, totals_in, vaults_in}
 use Rattle.dex_audit_rules.specs.Lists.{numbered}
 use Rattle.dex_tallies.specs.Reading.{is_opened}

@@ -4,8 +4,9 @@ ghost use Rattle.std.specs.Prelude.{◌≡◌, ◌↔◌, []};
 ghost use Rattle.std.specs.List.{All};
 ghost use Rattle.dex_types.specs.Accounts.{PlainAccounts};
 ghost use Rattle.dex_accounts.specs.Decoded.{AreSound};
-ghost use Rattle.dex_dump.specs.Accepted.{AreAccepted, HoldBytes};
-ghost use Rattle.dex_audit.specs.Audited.{IsConserved};
+ghost use Rattle.dex_state.specs.Accepted.{AreAccepted};
+ghost use Rattle.dex_state.specs.Held.{HoldBytes};
+ghost use Rattle.dex_state.specs.Conserved.{IsConserved};
 ghost use Rattle.dex_audit.specs.Findings.{findings};
 
 /// Accounts without findings are, market by market, those of a sound market.

@@ -6,8 +6,9 @@ ghost use Rattle.dex_types.specs.Accounts.{PlainAccount, PlainMarketAccounts, ac
 ghost use Rattle.dex_token.specs.MintAccount.{IsMint};
 ghost use Rattle.dex_token.specs.TokenAccount.{IsWallet};
 ghost use Rattle.dex_accounts.specs.Accepted.{IsAccepted};
-ghost use Rattle.dex_dump.specs.Accepted.{AreAccepted};
-ghost use Rattle.dex_audit.specs.Supplies as rules;
+ghost use Rattle.dex_state.specs.Accepted.{AreAccepted};
+ghost use Rattle.dex_state.specs.Conserved as spec;
+ghost use Rattle.dex_audit.specs.Supplies.{supply_off};
 ghost use Rattle.dex_tallies.specs.Sums.{capped};
 
 use dex_audit_rules::{Finding, tell_differs};
@@ -17,7 +18,7 @@ use dex_types::{Accounts, Address, MarketAccounts, Named, NoMemory, is_same};
 /// The amount of a token account, where it is of the mint.
 fn amount_of(mint: Address, bytes: &[u8]) -> u128
     requires { IsWallet bytes.now }
-    ensures value { result ≡ rules.amount_of mint bytes.now }
+    ensures value { result ≡ spec.amount_of mint bytes.now }
     ensures small { result < 2 ^ 64 }
 {
     let wallet = WalletRef { bytes };
@@ -31,7 +32,7 @@ fn amount_of(mint: Address, bytes: &[u8]) -> u128
 /// What wallets hold of a mint.
 fn in_wallets(mint: Address, wallets: &[Named]) -> u128
     requires { All (λ (wallet : PlainAccount). IsWallet wallet.bytes) (map named_of wallets.now) }
-    ensures { result ≡ capped (rules.in_wallets mint (map named_of wallets.now)) }
+    ensures { result ≡ capped (spec.in_wallets mint (map named_of wallets.now)) }
 {
     let mut sum: u128 = 0;
     for place in 0..wallets.len() {
@@ -45,7 +46,7 @@ fn in_wallets(mint: Address, wallets: &[Named]) -> u128
 fn in_vaults_of(mint: Address, market: &MarketAccounts) -> u128
     requires { IsAccepted (market_accounts_of market.now) }
     ensures value { result
-        ≡ rules.amount_of mint market.now.coin_vault.items + rules.amount_of mint market.now.pc_vault.items }
+        ≡ spec.amount_of mint market.now.coin_vault.items + spec.amount_of mint market.now.pc_vault.items }
     ensures small { result < 2 ^ 65 }
 {
     amount_of(mint, &market.coin_vault) + amount_of(mint, &market.pc_vault)
@@ -54,7 +55,7 @@ fn in_vaults_of(mint: Address, market: &MarketAccounts) -> u128
 /// What the vaults of markets hold of a mint.
 fn in_vaults(mint: Address, markets: &[MarketAccounts]) -> u128
     requires { All IsAccepted (map market_accounts_of markets.now) }
-    ensures { result ≡ capped (rules.in_vaults mint (map market_accounts_of markets.now)) }
+    ensures { result ≡ capped (spec.in_vaults mint (map market_accounts_of markets.now)) }
 {
     let mut sum: u128 = 0;
     for place in 0..markets.len() {
@@ -67,7 +68,7 @@ fn in_vaults(mint: Address, markets: &[MarketAccounts]) -> u128
 /// What the accounts hold of a mint.
 fn held_of(mint: Address, accounts: &Accounts) -> u128
     requires { AreAccepted (accounts_of accounts.now) }
-    ensures { result ≡ capped (rules.held_of mint (accounts_of accounts.now)) }
+    ensures { result ≡ capped (spec.held_of mint (accounts_of accounts.now)) }
 {
     let wallets = in_wallets(mint, &accounts.wallets);
     wallets.saturating_add(in_vaults(mint, &accounts.markets))
@@ -82,7 +83,7 @@ pub fn tell_supplies(
     requires mints { All (λ (mint : PlainAccount). IsMint mint.bytes) (map named_of mints.now) }
     requires accounts { AreAccepted (accounts_of accounts.now) }
     ensures { OnOk result (found.new.items ≡ found.old.items
-        ++ flat_map (rules.supply_off (accounts_of accounts.now)) (map named_of mints.now)) }
+        ++ flat_map (supply_off (accounts_of accounts.now)) (map named_of mints.now)) }
 {
     for place in 0..mints.len() {
         let mint = &mints[place];

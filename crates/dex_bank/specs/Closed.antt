@@ -3,7 +3,7 @@ use Rattle.std.specs.Prelude.{map}
 use Rattle.dex_types.specs.Accounts.{PlainAccount}
 use Rattle.dex_cell.specs.CellState.{MarketCellState, entries_of}
 use Rattle.dex_wallet.specs.CellState.{CellState}
-use Rattle.dex_report.specs.Outcomes.{PlainMarketJournal, PlainOutcome, PlainWalletJournal}
+use Rattle.dex_state.specs.Outcomes.{PlainMarketJournal, PlainOutcome, PlainWalletJournal}
 use Rattle.dex_bank.specs.Cells.{CellsState}
 
 -- the account that a wallet's cell leaves

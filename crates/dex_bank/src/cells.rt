@@ -1,6 +1,6 @@
 //! All cells of an exchange.
 
-ghost use Rattle.std.specs.Prelude.{◌≡◌, ◌≤◌, IfErr, IfOk, length, map};
+ghost use Rattle.std.specs.Prelude.{◌≡◌, ◌≤◌, IfErr, IfOk, IfSome, length, map};
 
 use crate::closing::{closed, left_by};
 use crate::copying::accounts_copy;
@@ -8,10 +8,11 @@ use crate::opening::opened;
 use crate::room::Room;
 use crate::standing::Standing;
 use crate::stepping::{act_or_wait, stepped_both};
+use dex_act::AsRow;
 use dex_cell::MarketCell;
-use dex_report::Outcome;
 use dex_script_facts::{RowList, Script};
-use dex_types::{Address, Named, NoMemory, Program, Reply, Row, RowPlaces};
+use dex_state::Outcome;
+use dex_types::{Address, Named, NoMemory, Program, Reply, RowPlaces};
 use dex_wallet::WalletCell;
 use std::alloc::Global;
 use std::marker::Model;
@@ -41,7 +42,7 @@ impl Model for Cells {
 impl Cells {
     ghost use Rattle.dex_types.specs.Accounts.{named_of};
     ghost use Rattle.dex_types.specs.Rows.{row_of};
-    ghost use Rattle.dex_report.specs.Outcomes.{outcome_of};
+    ghost use Rattle.dex_state.specs.Outcomes.{outcome_of};
     ghost use Rattle.dex_script_facts.specs.Facts.{IsScript};
     ghost use Rattle.dex_script_facts.specs.Places.{AreBeside, ArePlaced};
     ghost use Rattle.dex_bank.specs.Cells.{AreCells, CanAct, CanActBoth};
@@ -51,8 +52,8 @@ impl Cells {
     ghost use Rattle.dex_bank.specs.Places.{ArePlacedIn, ArePlacesIn};
     ghost use Rattle.dex_bank.specs.Stepped.{HasStepped, HaveBothStepped};
 
-    /// The cells with which a script starts: one for each market and each wallet, with room for an entry of each row that names it.
-    /// The script keeps its accounts: the cells have copies of them.
+    /// The cells with which a script starts: one for each market and each wallet, with room for an entry of each row
+    /// that names it. The script keeps its accounts: the cells have copies of them.
     pub fn open(alloc: Global, script: &Script) -> Result<Cells, NoMemory>
         ensures cells { IfOk result (λ cells. cells ≡ first.opened script.now) }
     {
@@ -60,8 +61,8 @@ impl Cells {
         opened(alloc, start, &script.rows, &script.places, script.program)
     }
 
-    /// The same cells, the script's rows, and where the market and the wallets of each row stand among the cells. The script's
-    /// accounts themselves go into the cells: none is copied.
+    /// The cells with which a script starts, the script's rows, and where the market and the wallets of each row stand
+    /// among the cells. The script's accounts themselves go into the cells: none is copied.
     pub fn of_script(
         alloc: Global,
         script: Script,
@@ -122,54 +123,33 @@ impl Cells {
         (mints, markets, wallets)
     }
 
-    /// A row acts on its market and on the wallets that it names, and this is its market's reply. It takes no memory.
-    pub fn step(&mut self, row: &Row) -> Reply
-        requires { CanAct (row_of row.now) self.old }
-        ensures { HasStepped (row_of row.entry.now) result self.old self.new }
+    /// A row acts on its market and on the wallets that it names, and this is its market's reply. Where it comes
+    /// without the places of these among the cells, they are looked up. It takes no memory.
+    pub fn step<W: AsRow>(&mut self, row: &W) -> Reply
+        requires row { CanAct (row_of (W.is row.now)) self.old }
+        requires placed { IfSome (W.at row.now) (ArePlacesIn self.old (row_of (W.is row.now))) }
+        ensures { HasStepped (row_of (W.is row.entry.now)) result self.old self.new }
     {
-        let standing = Standing::among(self, row);
-        act_or_wait(self, row, &standing, false)
+        let standing = Standing::of(self, row);
+        act_or_wait(self, row.row(), &standing, false)
     }
 
-    /// The same of a row whose market and wallets stand at these places.
-    pub fn step_at(&mut self, row: &Row, places: &RowPlaces) -> Reply
-        requires row { CanAct (row_of row.now) self.old }
-        requires places { ArePlacesIn self.old (row_of row.now) places.now }
-        ensures { HasStepped (row_of row.entry.now) result self.old self.new }
+    /// Two legs of one swap act, both or neither, and these are their markets' replies. Where they come without the
+    /// places of what they name, these are looked up. It takes no memory.
+    pub fn step_two<W: AsRow>(&mut self, first: &W, second: &W) -> (Reply, Reply)
+        requires rows { CanActBoth (row_of (W.is first.now)) (row_of (W.is second.now)) self.old }
+        requires first { IfSome (W.at first.now) (ArePlacesIn self.old (row_of (W.is first.now))) }
+        requires second { IfSome (W.at second.now) (ArePlacesIn self.old (row_of (W.is second.now))) }
+        ensures { HaveBothStepped (row_of (W.is first.entry.now)) (row_of (W.is second.entry.now)) result
+            self.old self.new }
     {
-        act_or_wait(self, row, &Standing::of(places), false)
+        let one = Standing::of(self, first);
+        let two = Standing::of(self, second);
+        stepped_both(self, first.row(), second.row(), &one, &two)
     }
 
-    /// Two legs of one swap act, both or neither, and these are their markets' replies. It takes no memory.
-    pub fn step_two(&mut self, first: &Row, second: &Row) -> (Reply, Reply)
-        requires { CanActBoth (row_of first.now) (row_of second.now) self.old }
-        ensures { HaveBothStepped (row_of first.entry.now) (row_of second.entry.now) result self.old self.new }
-    {
-        let one = Standing::among(self, first);
-        let two = Standing::among(self, second);
-        stepped_both(self, first, second, &one, &two)
-    }
-
-    /// The same of two legs whose markets and wallets stand at these places.
-    pub fn step_two_at(
-        &mut self,
-        first: &Row,
-        second: &Row,
-        first_places: &RowPlaces,
-        second_places: &RowPlaces,
-    ) -> (Reply, Reply)
-        requires rows { CanActBoth (row_of first.now) (row_of second.now) self.old }
-        requires places { ArePlacesIn self.old (row_of first.now) first_places.now
-            × ArePlacesIn self.old (row_of second.now) second_places.now }
-        ensures { HaveBothStepped (row_of first.entry.now) (row_of second.entry.now) result self.old self.new }
-    {
-        let one = Standing::of(first_places);
-        let two = Standing::of(second_places);
-        stepped_both(self, first, second, &one, &two)
-    }
-
-    /// The accounts and the journals of all cells, as they are. Where there is no memory for them, all cells are given back as they
-    /// were.
+    /// The accounts and the journals of all cells, as they are. Where there is no memory for them, all cells are given
+    /// back as they were.
     pub fn close(self, alloc: Global) -> Result<Outcome, Cells>
         ensures outcome { IfOk result (λ outcome. outcome_of outcome ≡ left.closed self) }
         ensures refused { IfErr result (λ cells. cells ≡ self) }

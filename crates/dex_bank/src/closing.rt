@@ -3,13 +3,13 @@
 ghost use Rattle.std.specs.Prelude.{◌≡◌, ◌≤◌, [], IfErr, IfOk, length, map, vec_len, vec_capacity};
 ghost use Rattle.dex_types.specs.Accounts.{market_accounts_of, named_of};
 ghost use Rattle.dex_cell.specs.CellState.{MarketCellState};
-ghost use Rattle.dex_report.specs.Outcomes.{market_journal_of, outcome_of, wallet_journal_of};
+ghost use Rattle.dex_state.specs.Outcomes.{market_journal_of, outcome_of, wallet_journal_of};
 ghost use Rattle.dex_bank.specs.Closed as left;
 
 use crate::cells::Cells;
 use crate::room::{OutcomeParts, Room};
 use dex_cell::MarketCell;
-use dex_report::{MarketJournal, Outcome, WalletJournal};
+use dex_state::{MarketJournal, Outcome, WalletJournal};
 use dex_types::{Accounts, MarketAccounts, Named, NoMemory};
 use dex_wallet::WalletCell;
 use std::alloc::Global;

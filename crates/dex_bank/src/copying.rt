@@ -1,4 +1,4 @@
-//! The same accounts, in buffers of their own.
+//! Copies of accounts, in buffers of their own.
 
 ghost use Rattle.std.specs.Prelude.{◌≡◌, IfOk, map};
 ghost use Rattle.dex_types.specs.Accounts.{accounts_of};
@@ -13,12 +13,12 @@ trait Copied: Drop {
 
     ghost held: { Self → Held };
 
-    /// The same, in buffers of its own.
+    /// A copy in buffers of its own.
     fn copied(&self, alloc: Global) -> Result<Self, NoMemory>
         ensures { IfOk result (λ copy. held copy ≡ held self.now) };
 }
 
-/// The same of each.
+/// A copy of each.
 fn copies<T: Copied>(alloc: Global, items: &[T]) -> Result<Vec<T>, NoMemory>
     ensures { IfOk result (λ copies. map T.held copies.items ≡ map T.held items.now) }
 {
@@ -82,7 +82,7 @@ impl Copied for MarketAccounts {
     }
 }
 
-/// The same accounts, all of them.
+/// A copy of all accounts.
 pub(crate) fn accounts_copy(alloc: Global, accounts: &Accounts) -> Result<Accounts, NoMemory>
     ensures { IfOk result (λ copy. accounts_of copy ≡ accounts_of accounts.now) }
 {

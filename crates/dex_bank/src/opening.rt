@@ -26,7 +26,8 @@ use dex_types::{Accounts, MarketAccounts, Named, NoMemory, Program, RowPlaces, a
 use dex_wallet::{Parcel, WalletCell};
 use std::alloc::Global;
 
-/// The parcel that a token account's amount is. Where the accounts are conserved, the parcels of a mint are together its supply.
+/// The parcel that a token account's amount is. Where the accounts are conserved, the parcels of a mint are together
+/// its supply.
 fn parcel_in(bytes: &[u8]) -> Parcel
     requires { IsWallet bytes.now }
     ensures { result ≡ held_in bytes.now }
@@ -101,7 +102,8 @@ fn wallet_cells(
     Ok(cells)
 }
 
-/// The cells of all markets and wallets with which a script starts, with room for its rows. The accounts themselves go into them.
+/// The cells of all markets and wallets with which a script starts, with room for its rows. The accounts themselves go
+/// into them.
 pub(crate) fn opened(
     alloc: Global,
     start: Accounts,

@@ -2,7 +2,7 @@
 
 ghost use Rattle.std.specs.Prelude.{◌≡◌, ◌≤◌, [], IfOk, vec_capacity};
 
-use dex_report::{MarketJournal, WalletJournal};
+use dex_state::{MarketJournal, WalletJournal};
 use dex_types::{MarketAccounts, Named, NoMemory};
 use std::alloc::Global;
 use std::marker::Model;

@@ -1,14 +1,14 @@
 //! Where the market and the wallets of a row stand among cells.
 
-ghost use Rattle.std.specs.Prelude.{◌≡◌, true};
+ghost use Rattle.std.specs.Prelude.{◌≡◌, IfSome, true};
 ghost use Rattle.dex_types.specs.Rows.{row_of};
 ghost use Rattle.dex_act.specs.Wallets.{wallet_places};
 ghost use Rattle.dex_bank.specs.Cells.{CanAct, is_market};
-ghost use Rattle.dex_bank.specs.Places.{StandsAt};
+ghost use Rattle.dex_bank.specs.Places.{ArePlacesIn, StandsAt};
 ghost use Rattle.dex_bank.specs.Stepping.{IsFirstAt};
 
 use crate::cells::Cells;
-use dex_act::{WalletPlaces, places_in};
+use dex_act::{AsRow, WalletPlaces, places_in};
 use dex_cell::MarketCell;
 use dex_types::{Address, Row, RowPlaces, is_same};
 
@@ -20,8 +20,20 @@ pub(crate) struct Standing {
 }
 
 impl Standing {
-    /// As the places of a row tell.
-    pub(crate) fn of(places: &RowPlaces) -> Standing
+    /// Those of a row: as it comes with them, or else looked up.
+    pub(crate) fn of<W: AsRow>(cells: &Cells, row: &W) -> Standing
+        requires row { CanAct (row_of (W.is row.now)) cells.now }
+        requires placed { IfSome (W.at row.now) (ArePlacesIn cells.now (row_of (W.is row.now))) }
+        ensures { StandsAt cells.now (row_of (W.is row.entry.now)) result.market result.wallets }
+    {
+        match row.places() {
+            Some(places) => Standing::told(&places),
+            None => Standing::among(cells, row.row()),
+        }
+    }
+
+    // As the places of a row tell.
+    fn told(places: &RowPlaces) -> Standing
         ensures { result ≡ record { market = places.now.market; wallets = wallet_places places.now } }
     {
         Standing {
@@ -30,8 +42,8 @@ impl Standing {
         }
     }
 
-    /// Looked up among all cells.
-    pub(crate) fn among(cells: &Cells, row: &Row) -> Standing
+    // Looked up among all cells.
+    fn among(cells: &Cells, row: &Row) -> Standing
         requires { CanAct (row_of row.now) cells.now }
         ensures { StandsAt cells.now (row_of row.entry.now) result.market result.wallets }
     {

@@ -2,7 +2,7 @@
 
 ghost use Rattle.std.specs.Prelude.{◌≡◌, IfOk, map};
 ghost use Rattle.dex_types.specs.Accounts.{named_of};
-ghost use Rattle.dex_report.specs.Outcomes.{outcome_of};
+ghost use Rattle.dex_state.specs.Outcomes.{outcome_of};
 ghost use Rattle.dex_replay.specs.Replays.{IsReplayOf};
 ghost use Rattle.dex_script_facts.specs.Facts.{HasNoSwap, IsScript};
 ghost use Rattle.dex_team.specs.Closing.{HaveAllActed};
@@ -10,7 +10,7 @@ ghost use Rattle.dex_stage.specs.Parts.{AreTermsOf};
 
 use dex_bank::Cells;
 use dex_cell::MarketCell;
-use dex_report::Outcome;
+use dex_state::Outcome;
 use dex_stage::Terms;
 use dex_team::Naming;
 use dex_types::{Named, NoMemory};

@@ -2,7 +2,7 @@
 
 ghost use Rattle.std.specs.Prelude.{◌≡◌, ◌≤◌, IfOk, map};
 ghost use Rattle.dex_types.specs.Rows.{row_of};
-ghost use Rattle.dex_report.specs.Outcomes.{outcome_of};
+ghost use Rattle.dex_state.specs.Outcomes.{outcome_of};
 ghost use Rattle.dex_replay.specs.Replays.{IsReplayOf};
 ghost use Rattle.dex_replay.specs.Runs.{IsRunOf};
 ghost use Rattle.dex_script_facts.specs.Facts.{HasNoSwap, IsScript};
@@ -11,7 +11,7 @@ use crate::closing::left_by;
 use dex_bank::Cells;
 use dex_io::Pace;
 use dex_replay::laws::{a_replay_is_in_one_order, what_one_order_leaves_is_a_run};
-use dex_report::Outcome;
+use dex_state::Outcome;
 use dex_script_facts::{RowList, Script, addresses_of_markets, addresses_of_wallets};
 use dex_stage::Terms;
 use dex_team::{Lists, Naming, work_all};

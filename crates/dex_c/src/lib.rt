@@ -2,7 +2,7 @@
 #![tactic(auto)]
 
 ghost use Rattle.std.specs.Prelude.{[]};
-ghost use Rattle.dex_words.specs.declared.command.Command.TheVariants.{Audit, Bulk, Dump, Make, Migrate, Replay, Worth};
+ghost use Rattle.dex_words.specs.declared.command.PlainCommand.TheVariants.{Audit, Bulk, Dump, Make, Migrate, Replay, Worth};
 ghost use Rattle.dex_call.specs.Calls.{Ends, done};
 
 use std::alloc::Global;

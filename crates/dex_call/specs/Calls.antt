@@ -1,7 +1,8 @@
 -- How a call ends that writes what a command answers into memory of its caller.
 use Rattle.std.specs.Prelude.{ℕ, ◌≡◌, ◌≤◌, ◌<◌, ◌++◌, ◌⊎◌, List, drop, length}
-use Rattle.dex_words.specs.declared.command.Command.{Command}
+use Rattle.dex_words.specs.declared.command.PlainCommand.{PlainCommand}
 use Rattle.dex_words.specs.Spelling.{IsWithin}
+use Rattle.dex_words.specs.Threads.{of_plain}
 use Rattle.dex_answers.specs.Answers.{Answers}
 use Rattle.dex_answers.specs.ExitCodes.{exit_code}
 use Rattle.dex_answers.specs.declared.status.Status.{Status}
@@ -24,10 +25,10 @@ abbrev pub done : List ℕ → List ℕ → ℕ → ℕ → Done
 done before after code size = record { before = before; after = after; code = code; size = size }
 
 -- a status and a text that the command answers to the bytes: the call gave the status' number, told the text's length, and wrote it
-pub record HasAnswered (command : Command) (bytes : List ℕ) (call : Done) : Type 0 where
+pub record HasAnswered (command : PlainCommand) (bytes : List ℕ) (call : Done) : Type 0 where
   pub stood : Status
   pub text : List ℕ
-  pub answers : Answers command bytes stood text
+  pub answers : Answers (of_plain command) bytes stood text
   pub code : call.code ≡ exit_code stood
   pub size : call.size ≡ length text
   pub written : IsWritten text call.before call.after
@@ -39,8 +40,8 @@ pub record HasStopped (stood : Status) (call : Done) : Type 0 where
   pub same : call.after ≡ call.before
 
 -- how a call of a command ends: with its answer; for want of memory; or since its numbers are not within their limits
-abbrev pub Ends : Command → List ℕ → Done → Type 0
+abbrev pub Ends : PlainCommand → List ℕ → Done → Type 0
 Ends command bytes call =
-    (IsWithin command × HasAnswered command bytes call)
+    (IsWithin (of_plain command) × HasAnswered command bytes call)
     ⊎ HasStopped status.NoMemory call
-    ⊎ (¬ (IsWithin command) × HasStopped status.Usage call)
+    ⊎ (¬ (IsWithin (of_plain command)) × HasStopped status.Usage call)

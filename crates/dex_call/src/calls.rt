@@ -3,39 +3,39 @@
 //! in these two cases; the text is written to the front of `room` where it fits, and else `room` stays as it is.
 
 ghost use Rattle.std.specs.Prelude.{[]};
-ghost use Rattle.dex_words.specs.declared.command.Command.TheVariants.{Audit, Bulk, Dump, Make, Migrate, Replay, Worth};
+ghost use Rattle.dex_words.specs.declared.command.PlainCommand.TheVariants.{Audit, Bulk, Dump, Make, Migrate, Replay, Worth};
 ghost use Rattle.dex_call.specs.Calls.{Ends, done};
 
 use crate::calling::call;
-use dex_words::Command;
+use dex_words::PlainCommand;
 use std::alloc::Global;
 
 /// The report of what is left when all rows of a script have acted, one after the other.
 pub fn replay(alloc: Global, script: &[u8], room: &mut [u8], size: &mut usize) -> u8
     ensures { Ends Replay script.now (done room.old room.new result size.new) }
 {
-    call(alloc, Command::Replay, script, room, size)
+    call(alloc, PlainCommand::Replay, script, room, size)
 }
 
 /// The dump of the accounts that a script leaves.
 pub fn dump(alloc: Global, script: &[u8], room: &mut [u8], size: &mut usize) -> u8
     ensures { Ends Dump script.now (done room.old room.new result size.new) }
 {
-    call(alloc, Command::Dump, script, room, size)
+    call(alloc, PlainCommand::Dump, script, room, size)
 }
 
 /// What an audit of a dump finds.
 pub fn audit(alloc: Global, dump: &[u8], room: &mut [u8], size: &mut usize) -> u8
     ensures { Ends Audit dump.now (done room.old room.new result size.new) }
 {
-    call(alloc, Command::Audit, dump, room, size)
+    call(alloc, PlainCommand::Audit, dump, room, size)
 }
 
 /// What each account of each market is worth when all rows of a script have acted.
 pub fn worth(alloc: Global, script: &[u8], room: &mut [u8], size: &mut usize) -> u8
     ensures { Ends Worth script.now (done room.old room.new result size.new) }
 {
-    call(alloc, Command::Worth, script, room, size)
+    call(alloc, PlainCommand::Worth, script, room, size)
 }
 
 /// The dump of the same accounts with sides of so many nodes and event queues for so many events.
@@ -49,7 +49,7 @@ pub fn migrate(
 ) -> u8
     ensures { Ends (Migrate nodes events) dump.now (done room.old room.new result size.new) }
 {
-    let command = Command::Migrate { nodes, events };
+    let command = PlainCommand::Migrate { nodes, events };
     call(alloc, command, dump, room, size)
 }
 
@@ -57,12 +57,12 @@ pub fn migrate(
 pub fn make(alloc: Global, number: u64, rows: u32, room: &mut [u8], size: &mut usize) -> u8
     ensures { Ends (Make number rows) [] (done room.old room.new result size.new) }
 {
-    call(alloc, Command::Make { number, rows }, &[], room, size)
+    call(alloc, PlainCommand::Make { number, rows }, &[], room, size)
 }
 
 /// The summary of what that script leaves.
 pub fn bulk(alloc: Global, number: u64, rows: u32, room: &mut [u8], size: &mut usize) -> u8
     ensures { Ends (Bulk number rows) [] (done room.old room.new result size.new) }
 {
-    call(alloc, Command::Bulk { number, rows }, &[], room, size)
+    call(alloc, PlainCommand::Bulk { number, rows }, &[], room, size)
 }

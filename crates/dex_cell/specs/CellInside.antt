@@ -19,8 +19,8 @@ abbrev pub cell_inside : Inside → MarketCellState
 cell_inside inside = record {
   start = market_accounts_of inside.start.value;
   accounts = market_accounts_of inside.accounts;
-  coin = inside.coin.parcel;
-  pc = inside.pc.parcel;
+  coin = inside.vaults.coin;
+  pc = inside.vaults.pc;
   calls = map call_of inside.calls.items;
   room = inside.room;
 }

@@ -8,13 +8,13 @@ ghost use Rattle.dex_movements.specs.Entries.{entry_by};
 
 use crate::call_record::CallRecord;
 use dex_movements::{Amounts, put_moves};
+use dex_stamps::Log;
 use dex_types::{Entry, Reply, Row, Seen};
-use http_server::Log as CallLog;
 
-/// Writes the entry of a row with this reply that moves these amounts behind the others, where room for it is reserved. Its
-/// movements are put where they stay.
+/// Writes the entry of a row with this reply that moves these amounts behind the others, where room for it is reserved.
+/// Its movements are put where they stay.
 pub(crate) fn write_down(
-    calls: &mut CallLog<Row, CallRecord>,
+    calls: &mut Log<Row, CallRecord>,
     entries: &mut Vec<Entry>,
     row: &Row,
     seen: &Seen,

@@ -7,30 +7,28 @@ ghost use Rattle.dex_ring.specs.Ring.{IsEventQueue, ring_of};
 use crate::amounts::amounts_of;
 use crate::call_record::CallRecord;
 use crate::journal::write_down;
-use crate::payouts::{Payouts, pay};
+use crate::payouts::{Payouts, Vaults, pay};
 use dex_decide::Plan;
 use dex_meet::{PendingFills, pending_fills};
 use dex_movements::Amounts;
 use dex_ring::RingRef;
-use dex_stamps::Kept;
+use dex_stamps::{Kept, Log};
 use dex_types::{Entry, MarketAccounts, NoMemory, Refusal, Reply, Row, Seen};
-use dex_wallet::{Parcel, Share};
-use http_server::Log as CallLog;
+use dex_wallet::Parcel;
 use std::alloc::Global;
 use std::marker::Model;
 
 /// A market: its accounts, the parcels that its two vaults are, and its journal.
 ///
-/// The accounts are always accepted, and those of the sound market that stands at the end of the journal, which is one legal
-/// history of the market that the cell was made with. Where a cell is dropped its parcels are given up.
+/// The accounts are always accepted, and those of the sound market that stands at the end of the journal, which is one
+/// legal history of the market that the cell was made with. Where a cell is dropped its parcels are given up.
 #[derive(Drop)]
 pub struct MarketCell {
     start: Kept<MarketAccounts>,
     accounts: MarketAccounts,
-    coin: Share,
-    pc: Share,
+    vaults: Vaults,
     pending: PendingFills,
-    calls: CallLog<Row, CallRecord>,
+    calls: Log<Row, CallRecord>,
     entries: Vec<Entry>,
     room: usize,
 }
@@ -56,7 +54,7 @@ fn pending_in(events: &[u8]) -> PendingFills
 }
 
 impl MarketCell {
-    ghost use Rattle.dex_types.specs.declared.replies.Reply.TheVariants.{Refused};
+    ghost use Rattle.dex_types.specs.declared.replies.Reply.TheVariants.{Done, Refused};
     ghost use Rattle.dex_types.specs.Accounts.{market_accounts_of};
     ghost use Rattle.dex_types.specs.Rows.{row_of};
     ghost use Rattle.dex_types.specs.Side.{Coin, Pc};
@@ -69,8 +67,8 @@ impl MarketCell {
     ghost use Rattle.dex_cell.specs.CellState.{answer_on, market_at, step_on};
     ghost use Rattle.dex_cell.specs.Paying.{paid_in, paid_out};
 
-    /// The cell of a market's accounts and of the parcels that its vaults are, with room for so many rows. Where there is no
-    /// memory for them, all are given up.
+    /// The cell of a market's accounts and of the parcels that its vaults are, with room for so many rows. Where there
+    /// is no memory for them, all are given up.
     pub fn new(
         alloc: Global,
         accounts: MarketAccounts,
@@ -84,17 +82,16 @@ impl MarketCell {
         requires pc { pc ≡ held_in accounts.pc_vault.items }
         ensures { IfOk result (λ cell. cell ≡ cells.new_cell (market_accounts_of accounts) room) }
     {
-        let (coin, pc) = (Share { parcel: coin }, Share { parcel: pc });
+        let vaults = Vaults { coin, pc };
         let entries = Vec::with_capacity(alloc, room)?;
         let start = Kept::of(&accounts);
         let pending = pending_in(&accounts.events);
         Ok(MarketCell {
             start,
             accounts,
-            coin,
-            pc,
+            vaults,
             pending,
-            calls: CallLog::new(),
+            calls: Log::new(),
             entries,
             room,
         })
@@ -124,8 +121,8 @@ impl MarketCell {
         &self.accounts
     }
 
-    /// Whether a row is refused, by the first reason that holds against it and with what was read for it, and what it is to do
-    /// else. It reads only.
+    /// Whether a row is refused, by the first reason that holds against it and with what was read for it, and what it
+    /// is to do else. It reads only.
     pub fn decide(&self, row: &Row, seen: &Seen) -> Result<Plan, Refusal>
         requires { IsFor row.now seen.now self.now }
         ensures { result ≡ answer_on row.entry.now seen.now self.now }
@@ -133,7 +130,7 @@ impl MarketCell {
         dex_decide::decide(&self.accounts, row, seen, &self.pending)
     }
 
-    /// The same, written where it is wanted.
+    /// Decides a row, and writes the answer where it is wanted.
     pub fn decide_into(&self, row: &Row, seen: &Seen, answer: &mut Result<Plan, Refusal>)
         requires { IsFor row.now seen.now self.now }
         ensures { answer.new ≡ answer_on row.entry.now seen.now self.now }
@@ -141,8 +138,8 @@ impl MarketCell {
         dex_decide::decide_into(&self.accounts, row, seen, &self.pending, answer);
     }
 
-    /// Does a row as it was decided, with the parcels of the plan's deposit, and answers its reply, which is no refusal, and
-    /// the parcels that it pays out. The journal has one entry more.
+    /// Does a row as it was decided, with the parcels of the plan's deposit, and answers its reply, which is no
+    /// refusal, and the parcels that it pays out. The journal has one entry more.
     pub fn apply(
         &mut self,
         row: &Row,
@@ -166,7 +163,7 @@ impl MarketCell {
         (self.last().reply, payouts)
     }
 
-    /// The same with the plan lent; its reply is that of the last entry.
+    /// Does a row as `apply` does, with the plan lent; its reply is that of the last entry.
     pub fn carry_out(
         &mut self,
         row: &Row,
@@ -187,8 +184,8 @@ impl MarketCell {
         let amounts = amounts_of(plan);
         let reply = dex_step::apply(&mut self.accounts, row, seen, plan, &mut self.pending);
         let payouts = pay(
-            &mut self.coin.parcel,
-            &mut self.pc.parcel,
+            &mut self.vaults.coin,
+            &mut self.vaults.pc,
             &amounts,
             coin,
             pc,
@@ -209,8 +206,8 @@ impl MarketCell {
         write_down(calls, entries, row, seen, reply, &Amounts::none());
     }
 
-    /// Writes down that a row is refused, as it was decided: the journal has one entry more, and all accounts stay as they are,
-    /// byte by byte.
+    /// Writes down that a row is refused, as it was decided: the journal has one entry more, and all accounts stay as
+    /// they are, byte by byte.
     pub fn refuse(&mut self, row: &Row, seen: &Seen, refusal: Refusal)
         requires row { IsFor row.now seen.now self.old }
         requires decided { Err refusal ≡ answer_on row.now seen.now self.old }
@@ -222,15 +219,17 @@ impl MarketCell {
         self.note(row, seen, Reply::Refused(refusal));
     }
 
-    /// Writes down that a take is held back which would not be refused, for a row whose item is refused elsewhere: the journal has
-    /// one entry more, its reply is that it is done, and all accounts stay as they are, byte by byte.
-    pub fn idle(&mut self, row: &Row, seen: &Seen)
+    /// Writes down that a take is held back which would not be refused, for a row whose item is refused elsewhere, and
+    /// answers that it is done: the journal has one entry more, and all accounts stay as they are, byte by byte.
+    pub fn idle(&mut self, row: &Row, seen: &Seen) -> Reply
         requires row { IsFor row.now seen.now self.old }
         requires held { CanHold row.now seen.now self.old }
         requires spare { HasSpare self.old }
+        ensures reply { result ≡ Done }
         ensures held { HasHeld row.entry.now seen.now self.old self.new }
     {
         self.note(row, seen, Reply::Done);
+        Reply::Done
     }
 
     /// The entry of the last row.

@@ -6,13 +6,28 @@ ghost use Rattle.dex_cell.specs.Paying.{CanMoveShare, moved_share, parcel_of};
 use dex_movements::Amounts;
 use dex_wallet::Parcel;
 
-/// The parcels that a row pays out, each None exactly where it pays nothing: the `coin` wallet's in the market's base mint, the
+/// The parcels that a row pays out, each None exactly where it pays nothing: the `coin` wallet's in the market's base
+/// mint, the
 /// `pc` wallet's and the `referrer` wallet's in its quote mint.
 #[derive(Debug)]
 pub struct Payouts {
     pub coin: Option<Parcel>,
     pub pc: Option<Parcel>,
     pub referrer: Option<Parcel>,
+}
+
+/// The parcels that a market's two vaults are. They are given up where its cell is dropped.
+pub(crate) struct Vaults {
+    pub(crate) coin: Parcel,
+    pub(crate) pc: Parcel,
+}
+
+impl Drop for Vaults {
+    fn drop(self) {
+        let Vaults { coin, pc } = self;
+        coin.give_up();
+        pc.give_up();
+    }
 }
 
 /// Puts what a wallet pays into a vault's parcel.

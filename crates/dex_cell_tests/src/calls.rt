@@ -1,5 +1,5 @@
-//! Public calls of the step crates by their own names, on the accounts of a sound market. Rows make their twins, which are handed
-//! the sums of what is pending, or go by the slots of an account.
+//! Public calls of the step crates by their own names, on the accounts of a sound market. Rows make their twins, which
+//! are handed the sums of what is pending, or go by the slots of an account.
 
 ghost use Rattle.dex_accounts.specs.Decoded.{AreSound};
 ghost use Rattle.dex_accounts.specs.Parts.{HasOpen, parts_of};
@@ -155,7 +155,8 @@ fn cancel_on_bytes(
     Ok((decided, taken))
 }
 
-/// A cancel is decided, and done where it is not refused: how many orders were to be taken off the book, and how many were.
+/// A cancel is decided, and done where it is not refused: how many orders were to be taken off the book, and how many
+/// were.
 pub(crate) fn cancel(
     accounts: &mut MarketAccounts,
     owner: Address,

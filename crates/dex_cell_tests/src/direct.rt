@@ -13,8 +13,8 @@ use std::alloc::Global;
 use std::process::Abort;
 use std::test::Fail;
 
-/// An ask of `amy` and a bid of `ben` rest, and `ben` has met the ask but for one lot: its fill, his own fill and his out are
-/// pending.
+/// An ask of `amy` and a bid of `ben` rest, and `ben` has met the ask but for one lot: its fill, his own fill and his
+/// out are pending.
 const ROWS: &[u8] = b"do,0,m,ann,amy,ann_coin,-,-,-,new ask 50 4 1 decrement limit 7 10
 do,1,m,bob,ben,-,bob_usd,-,-,new bid 40 2 1000 decrement limit 5 10
 do,1,m,bob,ben,-,bob_usd,-,-,new bid 60 3 2000 decrement ioc 8 10

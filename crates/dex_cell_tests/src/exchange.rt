@@ -24,8 +24,8 @@ pub(crate) struct Exchange {
     number: u32,
 }
 
-/// What no test is to come to: a row of another market, no room for a row more, a row that is no wallet's and no instruction, and a row
-/// without an entry.
+/// What no test is to come to: a row of another market, no room for a row more, a row that is no wallet's and no
+/// instruction, and a row without an entry.
 #[derive(Debug, Drop)]
 pub(crate) enum Unfit {
     OtherMarket,

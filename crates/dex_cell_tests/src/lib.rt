@@ -1,4 +1,5 @@
-//! Tests of a market's cell: calls of the step crates by their own names beside what rows come to, and what a row leaves as it was.
+//! Tests of a market's cell: calls of the step crates by their own names beside what rows come to, and what a row
+//! leaves as it was.
 #![tactic(auto)]
 
 #[cfg(test)]

@@ -32,8 +32,8 @@ pub(crate) fn labelled(label: [u8; 5]) -> Address
     Address(bytes)
 }
 
-/// The market `m` of base `coin` and quote `usd`, signed for by `admin`: base lots of 100, quote lots of 10, 909 nodes on each
-/// side, and 16 events.
+/// The market `m` of base `coin` and quote `usd`, signed for by `admin`: base lots of 100, quote lots of 10, 909 nodes
+/// on each side, and 16 events.
 fn set() -> MarketSet
     ensures set { IsMarketSet result }
     ensures trades { CanTrade result }

@@ -8,26 +8,27 @@ ghost use Rattle.dex_words.specs.declared.command.Command.TheVariants.{Worth};
 ghost use Rattle.dex_replay.specs.Lawful.{IsLawful};
 ghost use Rattle.dex_replay.specs.WorthText.{worth_text};
 ghost use Rattle.dex_replay.specs.WorthTold.{table_told};
-ghost use Rattle.dex_report.specs.Outcomes.{outcome_of};
+ghost use Rattle.dex_state.specs.Outcomes.{outcome_of};
 ghost use Rattle.dex_script_facts.specs.PlainScript.{PlainScript};
 ghost use Rattle.dex_script_facts.specs.Facts.{IsScript};
 ghost use Rattle.dex_worth.specs.Rows.{plain_row};
 ghost use Rattle.dex_answers.specs.Answers.{Answers};
 ghost use Rattle.dex_answers.specs.Telling.{IsText};
+ghost use Rattle.dex_answers.specs.Told.{text_of};
 ghost use Rattle.dex_answers.specs.declared.status.Status.TheVariants as status;
 
 use dex_answers::{Status, StatusText, no_script};
 use dex_replay::laws::without_swaps_rows_act_one_by_one;
 use dex_replay::replay_with_rows;
-use dex_report::Outcome;
 use dex_script::read_script;
+use dex_state::Outcome;
 use dex_types::{NoMemory, Row};
 use dex_worth::{WorthRow, worth_table, worth_text};
 use std::alloc::Global;
 
 /// The worth of each account when all rows of a script have acted, or why the bytes are no script.
 pub(crate) fn worth_answer(alloc: Global, bytes: &[u8]) -> Result<StatusText, NoMemory>
-    ensures { IfOk result (λ told. Answers Worth bytes.now told.status told.text.items) }
+    ensures { IfOk result (λ told. Answers Worth bytes.now told.status (text_of told)) }
 {
     match read_script(alloc, bytes, false) {
         Ok(script) => {
@@ -54,18 +55,13 @@ fn table_of(
         (worth_text markets (table_told script (outcome_of outcome.now)))) }
 {
     let table = worth_table(alloc, rows, outcome)?;
-    text_of(alloc, markets, &table)
+    table_text(alloc, markets, &table)
 }
 
 /// The text of a table of so many markets.
-fn text_of(alloc: Global, markets: usize, table: &[WorthRow]) -> Result<StatusText, NoMemory>
+fn table_text(alloc: Global, markets: usize, table: &[WorthRow]) -> Result<StatusText, NoMemory>
     ensures { IfOk result (λ told. IsText told status.Ok (worth_text markets (map plain_row table.now))) }
 {
-    match worth_text(alloc, markets, table) {
-        Ok(text) => Ok(StatusText {
-            status: Status::Ok,
-            text: text.into_bytes(),
-        }),
-        Err(_) => Err(NoMemory),
-    }
+    let text = worth_text(alloc, markets, table)?;
+    StatusText::of(alloc, Status::Ok, text.into_bytes())
 }

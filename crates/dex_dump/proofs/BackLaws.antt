@@ -17,21 +17,23 @@ use Rattle.dex_token.specs.MintAccount.{IsMint}
 use Rattle.dex_token.specs.TokenAccount.{IsWallet, wallet_words}
 use Rattle.dex_token.proofs.TokenRules.{none_from_mint}
 use Rattle.dex_accounts.specs.Accepted.{IsAccepted, NamesMarket}
-use Rattle.dex_dump.specs.Accepted.{AreAccepted, AreApart as NamesApart, HasMints, HoldBytes, IsAddress, IsHeld, IsHeldMarket, IsMintOf, address_of, all_of_market, times}
+use Rattle.dex_state.specs.Addresses.{address_of, all_of_market, market_addresses, parts_of, times}
+use Rattle.dex_state.specs.Accepted.{AreAccepted, AreApart as NamesApart, HasMints, IsMintOf}
+use Rattle.dex_state.specs.Held.{HoldBytes, IsAddress, IsHeld, IsHeldMarket}
 use Rattle.dex_dump.specs.Answers.{Answers, AnswersDump, AnswersText, AreReadAs, IsReadAs, PlainDump, next_number}
 use Rattle.dex_dump.specs.Answers.Ends.{AtEnd}
 use Rattle.dex_dump.specs.Checks.{AllHold, checks}
 use Rattle.dex_dump.specs.DumpText.{account_rows, dump_rows, dump_text, first_row, last_row, market_row, market_rows, mint_row, named_rows, orders_row, wallet_row}
 use Rattle.dex_dump_rows.specs.Lines.{Fields, PlainLine, is_first_row, line_of}
 use Rattle.dex_dump_rows.specs.Lines.PlainLine.{Mint, Srm, Msrm, Wallet, Market, Orders, End}
-use Rattle.dex_dump.specs.Reading.{PlainReading, after_line, has_room, is_allowed, is_among, is_name, market_addresses, parts_of, start, with_orders}
+use Rattle.dex_dump.specs.Reading.{PlainReading, after_line, has_room, is_allowed, is_among, is_name, start, with_orders}
 use Rattle.dex_dump.proofs.AnswerLaws.{stated-allowed}
 use Rattle.dex_dump.proofs.CheckLaws.{IsMarketHere}
 use Rattle.dex_dump.proofs.OneAnswer.{dump-once, text-once}
 use Rattle.dex_dump.proofs.PassLaws.{market_passes, orders_pass, side_passes, vault_passes, wallet_passes}
 use Rattle.dex_dump.proofs.RowLaws.{rows_of-dump}
 use Rattle.dex_dump.proofs.StatedLaws.{last_stated, market_stated, mint_stated, msrm_stated, orders_stated, srm_stated, wallet_stated}
-use Rattle.dex_dump.proofs.TakenLaws.{one, times-append, times-cons}
+use Rattle.dex_state.proofs.Times.{one, times-append, times-cons}
 
 -- ---- addresses that are left
 

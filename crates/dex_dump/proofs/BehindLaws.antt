@@ -6,7 +6,7 @@ use Rattle.std.proofs.lemmas.Bool.Decides.{nat_tests}
 use Rattle.std.proofs.lemmas.List.Folds.{list_all-append}
 use Rattle.dex_types.specs.Accounts.{PlainAccounts}
 use Rattle.dex_dump_rows.specs.Lines.{Fields}
-use Rattle.dex_dump.specs.Accepted.{HoldBytes}
+use Rattle.dex_state.specs.Held.{HoldBytes}
 use Rattle.dex_dump.specs.DumpText.{account_rows, behind_first, dump_text, first_row, last_row, line_text, lines_text}
 use Rattle.dex_dump.proofs.EachRow.{AreAll, EachRow, all_accounts}
 use Rattle.dex_dump.proofs.FieldLaws.{all-implies, is_plain}

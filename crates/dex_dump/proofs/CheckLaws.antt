@@ -32,9 +32,10 @@ use Rattle.dex_slab.specs.StandsFor.{IsSideAccount}
 use Rattle.dex_token.specs.Faults.{token_fault, wallet_fault}
 use Rattle.dex_token.specs.TokenAccount.{IsWallet, wallet_words}
 use Rattle.dex_token.proofs.TokenRules.{wallet_from_none}
-use Rattle.dex_dump.specs.Accepted.{IsMintOf}
+use Rattle.dex_state.specs.Accepted.{IsMintOf}
 use Rattle.dex_dump.specs.Checks.{address_rule, comes_before, declared_rule, lower, market_others, market_rule, orders_others, orders_rule, parts_rule, side_flags_rule, side_rule, side_size_rule, taken_rule, text_rule, token_differs, vault_others, vault_rule, wallet_others, wallet_rule, with_others, word_differs}
-use Rattle.dex_dump.specs.Reading.{PlainReading, is_among, is_mint}
+use Rattle.dex_state.specs.Addresses.{is_mint}
+use Rattle.dex_dump.specs.Reading.{PlainReading, is_among}
 
 -- ---- no fault of two
 

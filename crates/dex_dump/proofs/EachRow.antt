@@ -5,7 +5,7 @@ use Rattle.dex_types.specs.declared.addresses.Address.{Address}
 use Rattle.dex_types.specs.Accounts.{PlainAccount, PlainAccounts, PlainMarketAccounts}
 use Rattle.dex_types.specs.Text.{address_text}
 use Rattle.dex_dump_rows.specs.Lines.{Fields}
-use Rattle.dex_dump.specs.Accepted.{HoldBytes, IsAddress, IsHeld, IsHeldMarket}
+use Rattle.dex_state.specs.Held.{HoldBytes, IsAddress, IsHeld, IsHeldMarket}
 use Rattle.dex_dump.specs.DumpText.{account_rows, market_row, market_rows, mint_row, named_rows, orders_row, wallet_row}
 
 -- a fact of each row of what holds bytes

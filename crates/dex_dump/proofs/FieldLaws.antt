@@ -19,7 +19,7 @@ use Rattle.dex_rows.proofs.AddressLaws.{address_of-digits, address_of-label, dig
 use Rattle.base64.specs.GeneralPurpose.{decoded_of}
 use Rattle.base64.proofs.RoundTrip.{decode-encode}
 use Rattle.dex_rows.specs.Base64.{base64_of}
-use Rattle.dex_dump.specs.Accepted.{IsAddress}
+use Rattle.dex_state.specs.Held.{IsAddress}
 use Rattle.dex_dump.specs.DumpText.{base64_text}
 
 -- ---- bytes that a field may have

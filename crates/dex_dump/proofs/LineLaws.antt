@@ -17,7 +17,7 @@ use Rattle.hex.proofs.HexLemmas.{decode_of-ok, decode_sized-ok, decode_sized-twi
 use Rattle.dex_rows.specs.Addresses.{address_of, digits_address, is_lower_hexdigit, prefixed_address}
 use Rattle.dex_rows.specs.Base64.{base64_of}
 use Rattle.dex_rows.specs.Printable.{is_printable, is_printable_byte, row_is_printable}
-use Rattle.dex_dump.specs.Accepted.{IsAddress, IsHeld, IsHeldMarket}
+use Rattle.dex_state.specs.Held.{IsAddress, IsHeld, IsHeldMarket}
 use Rattle.dex_dump_rows.specs.Lines.{Fields, PlainLine, ◌>>=◌, account_at, end_of, field_at, form_of, line_of, market_of, mint_of, msrm_of, orders_of, srm_of, wallet_of}
 use Rattle.dex_dump_rows.specs.Lines.PlainLine.{Mint, Srm, Msrm, Wallet, Market, Orders, End}
 use Rattle.dex_dump.proofs.ByteLaws.{base64_of-bytes, bytes-append, bytes-cons}

@@ -3,7 +3,7 @@ use Rattle.std.proofs.Common.{◌≡◌, ◌∷◌, ◌++◌, ◌∙◌, [], Lis
 use Rattle.std.specs.List.{flat_map}
 use Rattle.dex_types.specs.declared.addresses.Address.{Address}
 use Rattle.dex_types.specs.Accounts.{PlainAccount, PlainAccounts, PlainMarketAccounts}
-use Rattle.dex_dump.specs.Accepted.{HoldBytes, IsAddress, IsHeld, IsHeldMarket}
+use Rattle.dex_state.specs.Held.{HoldBytes, IsAddress, IsHeld, IsHeldMarket}
 use Rattle.dex_dump.specs.DumpText.{account_rows, dump_rows, dump_text, last_row, market_rows, mint_row, named_rows, orders_row, wallet_row}
 use Rattle.dex_dump_rows.specs.Lines.{Fields, PlainLine, line_of}
 use Rattle.dex_dump_rows.specs.Lines.PlainLine.{Mint, Srm, Msrm, Wallet, Market, Orders}

@@ -9,7 +9,7 @@ use Rattle.dex_types.specs.Accounts.{PlainAccounts}
 use Rattle.dex_rows.specs.Records.{rows_of}
 use Rattle.dex_rows.proofs.RowLaws.{rows_of-written, strip_bom-none}
 use Rattle.dex_dump_rows.specs.Lines.{Fields}
-use Rattle.dex_dump.specs.Accepted.{HoldBytes}
+use Rattle.dex_state.specs.Held.{HoldBytes}
 use Rattle.dex_dump.specs.DumpText.{account_rows, behind_first, dump_rows, dump_text, first_row, last_row, line_text, lines_text}
 use Rattle.dex_dump.proofs.EachRow.{AreAll, EachRow, all_accounts, all_append}
 use Rattle.dex_dump.proofs.FieldLaws.{unquoted}

@@ -24,17 +24,20 @@ use Rattle.dex_accounts.specs.Accepted.{IsAccepted, NamesMarket}
 use Rattle.dex_rows.specs.Records.{rows_of}
 use Rattle.dex_dump.specs.declared.faults.DumpError.{DumpError}
 use Rattle.dex_dump.specs.declared.reader.DumpRead.{DumpRead}
-use Rattle.dex_dump.specs.Accepted.{AreAccepted, AreApart as NamesApart, HasMints, HoldBytes, IsHeld, IsHeldMarket, IsMintOf, addresses_of, times}
+use Rattle.dex_state.specs.Addresses.{addresses_of, is_mint, market_addresses, parts_of, times}
+use Rattle.dex_state.specs.Accepted.{AreAccepted, AreApart as NamesApart, HasMints, IsMintOf}
+use Rattle.dex_state.specs.Held.{HoldBytes, IsHeld, IsHeldMarket}
 use Rattle.dex_dump.specs.Answers.{Adds, Answers, AnswersDump, AnswersText, Ends, PlainAnswer, PlainDump, if_allowed, if_over, next_number, with_end}
 use Rattle.dex_dump.specs.Answers.Ends.{AtEnd, AtRow, AtAccount}
 use Rattle.dex_dump.specs.Checks.{AllHold, checks}
 use Rattle.dex_dump_rows.specs.Lines.{Fields, PlainLine, line_of}
 use Rattle.dex_dump_rows.specs.Lines.PlainLine.{Mint, Srm, Msrm, Wallet, Market, Orders, End}
-use Rattle.dex_dump.specs.Reading.{PlainReading, has_room, is_allowed, is_among, is_mint, is_name, market_addresses, parts_of, start, taken_by, with_line, with_orders}
+use Rattle.dex_dump.specs.Reading.{PlainReading, has_room, is_allowed, is_among, is_name, start, taken_by, with_line, with_orders}
 use Rattle.dex_dump.specs.Telling.{TellsAccounts, plain_dump}
 use Rattle.dex_dump.proofs.CheckLaws.{IsMarketHere, market_held, orders_held, side_held, vault_held, wallet_held}
 use Rattle.dex_dump.proofs.LineLaws.{IsRead, line-read}
-use Rattle.dex_dump.proofs.TakenLaws.{AreApart, AreFree, line-adds, times-append, times-new}
+use Rattle.dex_state.proofs.Times.{times-append}
+use Rattle.dex_dump.proofs.TakenLaws.{AreApart, AreFree, line-adds, times-new}
 
 -- the accounts so far are accepted, and their addresses are those that are taken
 pub record IsSoFar (reading : PlainReading) : Type 0 where

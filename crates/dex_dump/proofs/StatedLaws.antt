@@ -6,7 +6,7 @@ use Rattle.dex_types.specs.declared.addresses.Address.{Address}
 use Rattle.dex_types.specs.Accounts.{PlainAccount, PlainMarketAccounts}
 use Rattle.dex_types.specs.Text.{address_text}
 use Rattle.dex_rows.specs.Printable.{is_printable, row_is_printable}
-use Rattle.dex_dump.specs.Accepted.{IsAddress, IsHeld, IsHeldMarket}
+use Rattle.dex_state.specs.Held.{IsAddress, IsHeld, IsHeldMarket}
 use Rattle.dex_dump.specs.DumpText.{first_row, last_row, market_row, mint_row, orders_row, wallet_row}
 use Rattle.dex_dump_rows.specs.Lines.{Fields, account_at, end_of, form_of, line_of, market_of, mint_of, msrm_of, orders_of, srm_of, wallet_of}
 use Rattle.dex_dump_rows.specs.Lines.PlainLine.{Mint, Srm, Msrm, Wallet, Market, Orders, End}

@@ -1,33 +1,18 @@
 -- How often an address stands among the addresses of accounts, and what a line adds.
-use Rattle.std.proofs.Common.{◌≡◌, ◌≤◌, ◌+◌, ◌∷◌, ◌++◌, ◌∙◌, ◌⊎◌, [], ℕ, List, true, false, not, cond, arith, refl, ap, inl, inr, map}
+use Rattle.std.proofs.Common.{◌≡◌, ◌≤◌, ◌+◌, ◌∷◌, ◌++◌, ◌∙◌, ◌⊎◌, [], ℕ, List, true, false, not, arith, refl, ap, inl, inr, map}
 use Rattle.std.specs.List.{flat_map}
 use Rattle.std.proofs.lemmas.Bool.{and_parts, cases_Bool, false≢true, or_parts}
 use Rattle.std.proofs.lemmas.List.{map-append}
 use Rattle.std.proofs.lemmas.List.Concat.{flat_map-append}
-use Rattle.std.proofs.lemmas.List.Sums.{sum_by-append, sum_by-cons}
 use Rattle.dex_types.specs.declared.addresses.Address.{Address}
 use Rattle.dex_types.specs.Accounts.{PlainAccount, PlainAccounts, PlainMarketAccounts}
 use Rattle.dex_types.specs.Addresses.{is_same}
-use Rattle.dex_laws.proofs.TraderLaws.{is_same-true}
-use Rattle.dex_dump.specs.Accepted.{address_of, addresses_of, all_of_market, times}
+use Rattle.dex_state.specs.Addresses.{address_of, addresses_of, all_of_market, market_addresses, times}
+use Rattle.dex_state.proofs.Times.{one, times-append, times-cons, times-same}
 use Rattle.dex_dump_rows.specs.Lines.{PlainLine}
 use Rattle.dex_dump_rows.specs.Lines.PlainLine.{Mint, Srm, Msrm, Wallet, Market, Orders, End}
-use Rattle.dex_dump.specs.Reading.{PlainReading, has_room, is_allowed, is_among, market_addresses, taken_by, with_line, with_orders}
+use Rattle.dex_dump.specs.Reading.{PlainReading, has_room, is_allowed, is_among, taken_by, with_line, with_orders}
 use Rattle.dex_dump.proofs.LineLaws.{IsRead}
-
--- ---- counting
-
-abbrev pub one : Address → Address → ℕ
-one address other = cond (is_same address other) 1 0
-
-pub times-append : (address : Address) (xs ys : List Address) → times address (xs ++ ys) ≡ times address xs + times address ys
-times-append address xs ys = sum_by-append (one address) xs ys
-
-pub times-cons : (address x : Address) (xs : List Address) → times address (x ∷ xs) ≡ one address x + times address xs
-times-cons address x xs = sum_by-cons (one address) x xs
-
-pub times-same : (address other : Address) (xs : List Address) → is_same address other ≡ true → times address xs ≡ times other xs
-times-same address other xs same = ap (λ (a : Address). times a xs) (is_same-true address other same)
 
 pub times-none : (address : Address) (xs : List Address) → is_among address xs ≡ false → times address xs ≡ 0
 times-none address [] h = refl

@@ -3,7 +3,8 @@ use Rattle.std.proofs.Common.{◌≡◌, ◌++◌, ◌∷◌, ◌∙◌, [], ℕ
 use Rattle.std.specs.List.{flat_map}
 use Rattle.dex_types.specs.Accounts.{PlainAccounts}
 use Rattle.dex_dump_rows.specs.Lines.{Fields}
-use Rattle.dex_dump.specs.Accepted.{AreAccepted, HoldBytes, IsHeldMarket}
+use Rattle.dex_state.specs.Accepted.{AreAccepted}
+use Rattle.dex_state.specs.Held.{HoldBytes, IsHeldMarket}
 use Rattle.dex_dump.specs.Answers.{IsReadAs}
 use Rattle.dex_dump.specs.DumpText.{account_rows, behind_first, dump_text, first_row, last_row, lines_text, market_rows}
 use Rattle.dex_dump.proofs.BackLaws.{text-read}

@@ -26,7 +26,8 @@ use Rattle.dex_slab_check.specs.Faults.{IsFault}
 use Rattle.dex_slab.specs.Slab.{IsSlab}
 use Rattle.dex_dump_rows.specs.Lines.{PlainLine}
 use Rattle.dex_dump_rows.specs.Lines.PlainLine.{Mint, Wallet, Market, Orders}
-use Rattle.dex_dump.specs.Reading.{PlainReading, is_among, is_mint}
+use Rattle.dex_state.specs.Addresses.{is_mint}
+use Rattle.dex_dump.specs.Reading.{PlainReading, is_among}
 
 -- ---- the lower of two faults of one account
 

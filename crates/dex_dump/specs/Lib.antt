@@ -4,5 +4,4 @@ pub mod DumpText
 pub mod Reading
 pub mod Checks
 pub mod Answers
-pub mod Accepted
 pub mod Telling

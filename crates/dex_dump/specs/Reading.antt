@@ -4,7 +4,7 @@ use Rattle.std.specs.List.{list_any}
 use Rattle.dex_types.specs.declared.addresses.Address.{Address}
 use Rattle.dex_types.specs.Accounts.{PlainAccount, PlainAccounts, PlainMarketAccounts}
 use Rattle.dex_types.specs.Addresses.{is_same}
-use Rattle.dex_market.specs.MarketAccount.{MarketTerms, market_words}
+use Rattle.dex_state.specs.Addresses.{is_mint, market_addresses}
 use Rattle.dex_dump_rows.specs.Lines.{PlainLine}
 use Rattle.dex_dump_rows.specs.Lines.PlainLine.{Mint, Srm, Msrm, Wallet, Market, Orders, End}
 
@@ -20,18 +20,6 @@ start = record { accounts = record { mints = []; srm = None; msrm = None; wallet
 -- an address is one of these
 abbrev pub is_among : Address → List Address → Bool
 is_among address addresses = list_any (is_same address) addresses
-
--- a mint has this address
-abbrev pub is_mint : PlainAccounts → Address → Bool
-is_mint accounts address = list_any (λ (mint : PlainAccount). is_same address mint.address) accounts.mints
-
--- the vaults, queues and sides that a market's account names, in their order
-abbrev pub parts_of : MarketTerms → List Address
-parts_of terms = terms.coin_vault ∷ terms.pc_vault ∷ terms.req_q ∷ terms.event_q ∷ terms.bids ∷ terms.asks ∷ []
-
--- a market and its parts
-abbrev pub market_addresses : PlainMarketAccounts → List Address
-market_addresses market = market.address ∷ parts_of (market_words market.market).terms
 
 -- ---- what a row may say
 

@@ -2,7 +2,8 @@
 
 ghost use Rattle.std.specs.Prelude.{◌≡◌, IfOk};
 ghost use Rattle.dex_types.specs.Accounts.{accounts_of};
-ghost use Rattle.dex_dump.specs.Accepted.{AreAccepted, HoldBytes};
+ghost use Rattle.dex_state.specs.Accepted.{AreAccepted};
+ghost use Rattle.dex_state.specs.Held.{HoldBytes};
 ghost use Rattle.dex_dump.specs.Answers as spec;
 ghost use Rattle.dex_dump.specs.Telling.{TellsAccounts, TellsDump, TellsRow, TellsText, plain_reading};
 

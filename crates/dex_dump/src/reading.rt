@@ -5,6 +5,7 @@ ghost use Rattle.std.specs.List.{list_any};
 ghost use Rattle.dex_types.specs.Accounts.{accounts_of, market_accounts_of, named_of, orders_account_of};
 ghost use Rattle.dex_types.specs.Addresses as addresses;
 ghost use Rattle.dex_market.specs.MarketAccount.{market_terms};
+ghost use Rattle.dex_state.specs.Addresses as state;
 ghost use Rattle.dex_dump.specs.Reading as spec;
 ghost use Rattle.dex_dump_rows.specs.Lines.PlainLine.{Market, Mint, Orders, Wallet};
 ghost use Rattle.dex_dump.specs.Telling.{TakesLine, plain_reading};
@@ -63,7 +64,7 @@ pub fn is_among(address: Address, taken: &[Address]) -> bool
 /// Whether a mint has this address.
 #[tactic(auto, using(crate::proofs::ReadingLaws::list_any_map))]
 pub fn is_mint(accounts: &Accounts, address: Address) -> bool
-    ensures { result ≡ spec.is_mint (accounts_of accounts.now) address }
+    ensures { result ≡ state.is_mint (accounts_of accounts.now) address }
 {
     is_named(&accounts.mints, address)
 }
@@ -236,7 +237,7 @@ fn add_orders(
 /// The addresses of a market's vaults, queues and sides are taken.
 fn take_parts(taken: &mut Vec<Address>, bytes: &[u8]) -> Result<(), AllocFailed<Address>>
     requires { length bytes.now ≡ 388 }
-    ensures { OnOk result (taken.new.items ≡ taken.old.items ++ spec.parts_of (market_terms bytes.now)) }
+    ensures { OnOk result (taken.new.items ≡ taken.old.items ++ state.parts_of (market_terms bytes.now)) }
 {
     taken.push(address_in(bytes, market::COIN_VAULT))?;
     taken.push(address_in(bytes, market::PC_VAULT))?;

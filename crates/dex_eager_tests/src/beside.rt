@@ -4,7 +4,7 @@ ghost use Rattle.std.specs.Prelude.{◌≡◌, ◌+◌, ◌^◌, ◌<◌, ◌≤
 
 use dex_eager_market::EagerMarket;
 use dex_replay::replay_with_rows;
-use dex_report::Outcome;
+use dex_state::Outcome;
 use dex_script::{Script, read_script};
 use dex_types::{Entry, NoMemory, Program, Reply, Row, Seen};
 use dex_worth::{Worth, WorthRow, worth_table};

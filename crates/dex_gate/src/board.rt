@@ -1,5 +1,5 @@
-//! The table that the passes share. Word 0 counts the tickets drawn and word 1 the turns passed on, both from the length of the
-//! opening list. The slot holds the value, or nothing while a turn is out.
+//! The table that the passes share. Word 0 counts the tickets drawn and word 1 the turns passed on, both from the
+//! length of the opening list. The slot holds the value, or nothing while a turn is out.
 use crate::journaled::Journaled;
 use crate::stage::Stage;
 use atomic_table::{Seat, Shared, Table, TableRule};
@@ -13,7 +13,8 @@ pub(crate) const DRAWN: usize = 0;
 /// The word that counts the turns passed on.
 pub(crate) const SERVED: usize = 1;
 
-/// What stays of one pass's number: the numbers that it may hand out, what it has seen and what it made. No value of it is made.
+/// What stays of one pass's number: the numbers that it may hand out, what it has seen and what it made. No value of it
+/// is made.
 pub struct Card<E, O> {
     pub number: u64,
     /// The first number to hand out, where it is below `until`.

@@ -55,8 +55,8 @@ impl<V: Journaled + Drop> Drop for Gate<V> {
 impl<V: Journaled> Gate<V> {
     ghost use Rattle.dex_gate.specs.Seats.{shown_card};
 
-    /// Opens a gate over a value. There may be as many passes as stated, of which this gives the first one, of number 0. On
-    /// refusal the value is dropped.
+    /// Opens a gate over a value. There may be as many passes as stated, of which this gives the first one, of number
+    /// 0. On refusal the value is dropped.
     pub fn open(alloc: Global, value: V, passes: u32) -> Result<(Gate<V>, Pass<V>), NoMemory>
     where
         V: Drop,

@@ -1,8 +1,9 @@
-//! The gate that gives one thread its turn: tickets and turns over one value, in which every turn adds one entry to one history.
+//! The gate that gives one thread its turn: tickets and turns over one value, in which every turn adds one entry to one
+//! history.
 //!
-//! A gate has one value, and passes. Who holds a pass draws a ticket, waits until the ticket's turn has come, has the value to
-//! itself, and gives it back with exactly one more entry of the pass's own number. What a pass has seen is a beginning of the
-//! one history, and the entries of its number there are those that it made itself, each once.
+//! A gate has one value, and passes. Who holds a pass draws a ticket, waits until the ticket's turn has come, has the
+//! value to itself, and gives it back with exactly one more entry of the pass's own number. What a pass has seen is a
+//! beginning of the one history, and the entries of its number there are those that it made itself, each once.
 #![tactic(auto)]
 
 mod bells;

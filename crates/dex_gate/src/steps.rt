@@ -9,13 +9,13 @@ use crate::journaled::Journaled;
 use crate::plays::{Look, PassOn};
 use std::hint;
 
-/// How often who is next looks at the turn before it sleeps: some 26 microseconds on the processor seen, which is many turns, and about as
-/// long as to sleep and to be woken.
+/// How often who is next looks at the turn before it sleeps: some 26 microseconds on the processor seen, which is many
+/// turns, and about as long as to sleep and to be woken.
 const LOOKS: u32 = 30_000;
 
-/// Whether the turn of the ticket has come, or comes while it is looked for. Who is next looks for a while; who is further behind looks
-/// once. Where it says yes, nobody else can take the turn. Nobody gives its processor way instead: where others have work for it, the
-/// system may let it wait for milliseconds, and all who wait for its turn with it.
+/// Whether the turn of the ticket has come, or comes while it is looked for. Who is next looks for a while; who is
+/// further behind looks once. Where it says yes, nobody else can take the turn. Nobody gives its processor way instead:
+/// where others have work for it, the system may let it wait for milliseconds, and all who wait for its turn with it.
 pub(crate) fn comes<V: Journaled>(top: &Top<V>, ticket: u64) -> bool
     requires { IsBoard top.now.table_id }
 {

@@ -1,4 +1,5 @@
-//! A turn: the value, for one pass alone. The value may be taken out, and has to be put back before the turn can be left.
+//! A turn: the value, for one pass alone. The value may be taken out, and has to be put back before the turn can be
+//! left.
 ghost use Rattle.std.specs.Prelude.{◌≡◌};
 ghost use Rattle.std.specs.Borrow.{Lends, sem};
 ghost use Rattle.dex_gate.specs.contracts.turn.Turn.{the_row};
@@ -8,8 +9,8 @@ use crate::pass::Pass;
 use std::marker::Model;
 use std::snapshot::Snapshot;
 
-/// The value while a turn is out. It is not `Drop`: give it back by `Gate::leave`. Between the two, `take` gives the value itself,
-/// and `Away::put` makes the turn again of it.
+/// The value while a turn is out. It is not `Drop`: give it back by `Gate::leave`. Between the two, `take` gives the
+/// value itself, and `Away::put` makes the turn again of it.
 pub struct Turn<V: Journaled> {
     pub(crate) value: V,
     pub(crate) start: Snapshot<V>,

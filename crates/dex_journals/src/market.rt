@@ -15,19 +15,19 @@ use dex_act::{act, hold, places_in};
 use dex_cell::MarketCell;
 use dex_gate::Journaled;
 use dex_script_facts::Script;
-use dex_stamps::{Kept, Stamp};
+use dex_stamps::{Kept, Log, Stamp};
 use dex_types::{NoMemory, Reply, Row, Seen};
 use dex_wallet::WalletCell;
-use http_server::Log as StampLog;
 use std::alloc::Global;
 use std::marker::Model;
 
-/// A market's cell with its journal's stamps, as the value of a gate. Each lane makes at most as many calls as it has rows on
-/// the market, and there is room for all rows on it. The cell stays where it is when the market goes into a turn and out of it.
+/// A market's cell with its journal's stamps, as the value of a gate. Each lane makes at most as many calls as it has
+/// rows on the market, and there is room for all rows on it. The cell stays where it is when the market goes into a
+/// turn and out of it.
 #[derive(Drop)]
 pub struct BankMarket {
     cell: Box<MarketCell>,
-    stamps: StampLog<Stamp, ()>,
+    stamps: Log<Stamp, ()>,
     last: Stamp,
     script: Kept<Script>,
 }
@@ -75,7 +75,7 @@ impl BankMarket {
     {
         Ok(BankMarket {
             cell: Box::new(alloc, cell)?,
-            stamps: StampLog::new(),
+            stamps: Log::new(),
             last: Stamp::first(),
             script,
         })
@@ -97,8 +97,9 @@ impl BankMarket {
         self.last.later(stamp)
     }
 
-    /// A row acts on the market and on the cells of the wallets that it names, as `dex_act::act` says, under a stamp that is above
-    /// all of the journal's; and the journal has one call more, of a lane that has a row left. It takes no memory.
+    /// A row acts on the market and on the cells of the wallets that it names, as `dex_act::act` says, under a stamp
+    /// that is above all of the journal's; and the journal has one call more, of a lane that has a row left. It takes
+    /// no memory.
     pub fn act(
         &mut self,
         wallets: &mut [WalletCell],
@@ -123,8 +124,8 @@ impl BankMarket {
         reply
     }
 
-    /// A take is held back on the market, as `dex_act::hold` says, since another row of its item would be refused; under a stamp and
-    /// of a lane as a row that acts. It takes no memory.
+    /// A take is held back on the market, as `dex_act::hold` says, since another row of its item would be refused;
+    /// under a stamp and of a lane as a row that acts. It takes no memory.
     pub fn hold(
         &mut self,
         wallets: &mut [WalletCell],

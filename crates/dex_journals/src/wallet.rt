@@ -7,17 +7,16 @@ ghost use Rattle.dex_journals.specs.Journals.{IsBankWallet, MayComeBack, left_by
 use crate::items::{StampedEntry, WalletStart};
 use dex_gate::Journaled;
 use dex_script_facts::Script;
-use dex_stamps::{Kept, Stamp};
+use dex_stamps::{Kept, Log, Stamp};
 use dex_wallet::WalletCell;
-use http_server::Log as StampLog;
 use std::marker::Model;
 
-/// A wallet's cell with its journal's stamps, as the value of a gate. Each lane makes at most as many entries as it has rows that
-/// name the wallet, and there is room for all rows that name it.
+/// A wallet's cell with its journal's stamps, as the value of a gate. Each lane makes at most as many entries as it has
+/// rows that name the wallet, and there is room for all rows that name it.
 #[derive(Drop)]
 pub struct BankWallet {
     cell: WalletCell,
-    stamps: StampLog<Stamp, ()>,
+    stamps: Log<Stamp, ()>,
     last: Stamp,
     script: Kept<Script>,
 }
@@ -55,7 +54,7 @@ impl Journaled for BankWallet {
 #[derive(Drop)]
 pub struct WalletTrail {
     before: Kept<WalletCell>,
-    stamps: StampLog<Stamp, ()>,
+    stamps: Log<Stamp, ()>,
     last: Stamp,
     script: Kept<Script>,
 }
@@ -80,7 +79,7 @@ impl BankWallet {
     {
         BankWallet {
             cell,
-            stamps: StampLog::new(),
+            stamps: Log::new(),
             last: Stamp::first(),
             script,
         }
@@ -134,8 +133,8 @@ impl WalletTrail {
         self.last.later(stamp)
     }
 
-    /// The wallet with its cell again: it has one entry more, under a stamp that is above all of the journal's, of a lane that has
-    /// a row left.
+    /// The wallet with its cell again: it has one entry more, under a stamp that is above all of the journal's, of a
+    /// lane that has a row left.
     pub fn with(self, cell: WalletCell, stamp: &Stamp) -> BankWallet
         requires entry { MayComeBack self cell }
         requires stamp { self.last < stamp.now.number }

@@ -3,7 +3,8 @@ use Rattle.std.proofs.Common.{◌≡◌, ℕ, ◌+◌, List, [], ◌∷◌, ◌+
 use Rattle.std.specs.List.{AllZip, flat_map}
 use Rattle.dex_accounts.specs.Decoded.{market_in}
 use Rattle.dex_audit.specs.Findings.{findings, fund_findings, slot_findings}
-use Rattle.dex_audit.specs.Supplies.{amount_of, held_of, supplies_off, supply_off}
+use Rattle.dex_state.specs.Conserved.{amount_of, held_of}
+use Rattle.dex_audit.specs.Supplies.{supplies_off, supply_off}
 use Rattle.dex_audit_rules.specs.declared.finding.Finding.{Finding}
 use Rattle.dex_audit_rules.specs.Funds.{beyond_in, deposits_in, differs, deposits_off, rebates_in, too_large_in, totals_in, vaults_in}
 use Rattle.dex_audit_rules.specs.Slots.{astray_in, homeless_in, misheld_in, repeated_in, ungiven_in, unpaired_in}

@@ -13,7 +13,8 @@ use Rattle.dex_types.specs.Soundness.{IsSound}
 use Rattle.dex_accounts.specs.Accepted.{IsAccepted}
 use Rattle.dex_ring.specs.Ring.{Ring}
 use Rattle.dex_accounts.specs.StandsFor.{StandsFor}
-use Rattle.dex_dump.specs.Accepted.{AreAccepted, HasMints, address_of, addresses_of, all_of_market, times}
+use Rattle.dex_state.specs.Addresses.{address_of, addresses_of, all_of_market, times}
+use Rattle.dex_state.specs.Accepted.{AreAccepted, HasMints}
 use Rattle.dex_slab.specs.Nodes.{room_of}
 use Rattle.dex_migrate.specs.Migrated.{AreMigrated, IsMigrated, with_capacities}
 use Rattle.dex_migrate.specs.TooSmall.{Fits}

@@ -1,7 +1,7 @@
 //! Accounts of another size.
 
 ghost use Rattle.std.specs.Prelude.{◌≡◌, ◌≤◌, IfOk, MatchResult, Some, None};
-ghost use Rattle.dex_dump.specs.Accepted.{AreAccepted};
+ghost use Rattle.dex_state.specs.Accepted.{AreAccepted};
 ghost use Rattle.dex_migrate.specs.Migrated.{AreMigrated};
 ghost use Rattle.dex_migrate.specs.Answers.{Answers};
 ghost use Rattle.dex_types.specs.Accounts.{accounts_of};

@@ -8,7 +8,7 @@ use Rattle.dex_history.proofs.BalanceLaws.{IsOneWith, agree-one, agree-one_back}
 use Rattle.dex_history.proofs.MoveLaws.{AreOneWith, IsIn, coin-one, pc-one, referrer-one}
 use Rattle.dex_act.specs.Wallets.{any_hit, hits}
 use Rattle.dex_act.proofs.Sights.{named-hit}
-use Rattle.dex_dump.specs.Accepted.{times}
+use Rattle.dex_state.specs.Addresses.{times}
 use Rattle.dex_stamps.specs.Stamped.{items_of}
 use Rattle.dex_order.proofs.Acts.{Acts}
 use Rattle.dex_order.proofs.CallEntries.{entries-made}

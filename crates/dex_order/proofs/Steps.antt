@@ -7,7 +7,7 @@ use Rattle.std.specs.List.{All}
 use Rattle.std.proofs.lemmas.List.{append-nil, append_assoc}
 use Rattle.dex_history.proofs.HistoryLaws.{IsLegal-append}
 use Rattle.dex_fold.specs.World.{market_at}
-use Rattle.dex_dump.specs.Accepted.{times}
+use Rattle.dex_state.specs.Addresses.{times}
 use Rattle.dex_stamps.specs.Stamped.{items_of}
 use Rattle.dex_order.proofs.Acts.{Acts, acted_row, acted_row-market, acted_row-sees, stands-acts}
 use Rattle.dex_order.proofs.CallEntries.{entries-made}

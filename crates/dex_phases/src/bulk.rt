@@ -1,15 +1,16 @@
 //! The phases of a made script and its summary.
 
 ghost use Rattle.std.specs.Prelude.{◌≤◌};
-ghost use Rattle.dex_report.specs.Outcomes.{outcome_of};
-ghost use Rattle.dex_dump.specs.Accepted.{AreAccepted};
+ghost use Rattle.dex_state.specs.Outcomes.{outcome_of};
+ghost use Rattle.dex_state.specs.Accepted.{AreAccepted};
 
 use crate::watch::{ROUNDS, Watch};
 use anyhow::{Error, bail};
 use dex_answers::is_of_made;
 use dex_replay::replay;
-use dex_report::{Outcome, bulk_text, make_script};
+use dex_report::{bulk_text, make_script};
 use dex_script::read_script;
+use dex_state::Outcome;
 use std::alloc::Global;
 use std::mem::drop;
 use std::time::Clock;

@@ -14,7 +14,7 @@ use anyhow::{Error, bail, ensure};
 use dex_dump::Piece;
 use dex_io::{StdSource, read_all};
 use dex_replay::replay;
-use dex_report::into_report_text;
+use dex_report::report_text;
 use dex_script::read_script;
 use std::alloc::Global;
 use std::env;
@@ -80,7 +80,7 @@ fn check<R: Threads + Wait + Sync + Print + Input + Clock + AllocGlobal>(
     } = replay::round(rt, &bytes)?;
     let script = read_script(alloc, &bytes, false)?;
     let report = joined(alloc, &report)?;
-    let whole = into_report_text(alloc, replay(alloc, script)?, rows)?;
+    let whole = report_text(alloc, &replay(alloc, script)?, rows)?;
     let told = report.len();
     println!(rt; "{rows} rows in {lanes} lanes: a report of {told} bytes")?;
     println!(rt; "the report of replay: {}", report == whole)?;

@@ -4,7 +4,7 @@ use crate::watch::{ROUNDS, Watch};
 use anyhow::Error;
 use dex_io::NoPace;
 use dex_lanes::processors;
-use dex_pieces::report_pieces;
+use dex_report::report_pieces;
 use dex_run::run_with_rows;
 use dex_script_pieces::read_script;
 use std::marker::Sync;

@@ -1,18 +1,18 @@
 -- What a script leaves that was run, from how the run ended.
-use Rattle.std.proofs.Common.{◌≡◌, ◌∙◌, ℕ, Bool, true, false, List, Option, Some, ap, subst}
+use Rattle.std.proofs.Common.{◌≡◌, ◌∙◌, ℕ, false, List, Option, Some, ap, subst}
 use Rattle.std.specs.Io.KnownBytes.{append_known}
 use Rattle.dex_words.specs.declared.command.Command.{Command}
-use Rattle.dex_words.specs.declared.command.Command.TheVariants.{Batch, Replay, Run}
+use Rattle.dex_words.specs.declared.command.Command.TheVariants.{Run}
 use Rattle.dex_answers.specs.declared.status.Status.{Status}
 use Rattle.dex_answers.specs.declared.status.Status.TheVariants as status
-use Rattle.dex_answers.specs.Answers.{Reported, rows_told}
-use Rattle.dex_plain.specs.Ending.{Ends, HasRead, Input, Output}
-use Rattle.dex_plain.specs.LaneAnswers.{HaveRun}
-use Rattle.dex_report.specs.Outcomes.{PlainOutcome}
+use Rattle.dex_answers.specs.Answers.{rows_told}
+use Rattle.dex_commands.specs.Ending.{Ends, Input, Output}
+use Rattle.dex_commands.specs.LaneAnswers.{HaveRun}
+use Rattle.dex_state.specs.Outcomes.{PlainOutcome}
 use Rattle.dex_report.specs.Report.{report_text}
 use Rattle.dex_script_facts.specs.PlainScript.{PlainScript}
 use Rattle.dex_script.specs.Scripts.{Reads}
-use Rattle.dex_program.specs.Ending.{IsListed, ListedOrder, OneLegalHistory, OneOrder, WhereListed, WhereRun}
+use Rattle.dex_program.specs.Ending.{OneLegalHistory, OneOrder, WhereRun}
 
 -- what a run of lanes answered, where its source told these bytes
 record RunAnswer (bytes : List ℕ) (o : Output) : Type 0 where
@@ -48,31 +48,3 @@ pub ordered : (asked : Option Command) (i : Input) (o : Output) (ended : Status)
 ordered asked i o ended end run done bytes told =
     let t = told-run asked i o ended end run done bytes told in
     record { script = t.script; outcome = t.outcome; reads = t.reads; run = t.left.run; order = t.left.order; rows = t.left.rows; told = t.left.told; taken = t.taken }
-
--- ---- a script in its listed order
-
--- what was written of what was read, where the source told these bytes
-listed-end : (batch : Bool) (i : Input) (o : Output) (bytes all text : List ℕ) → HasRead i bytes → Reported batch bytes text
-    → o.taken_after ≡ append_known o.taken text → i.left ≡ Some all → ListedOrder batch all o
-listed-end batch i o bytes all text read a taken told =
-    let same : bytes ≡ all = rw told at read.told in
-    record {
-      script = a.0;
-      outcome = a.1;
-      reads = subst (λ (b : List ℕ). Reads batch b a.0) same a.2;
-      replay = a.3.replay;
-      run = a.3.run;
-      paired = a.3.paired;
-      told = a.4;
-      taken = taken ∙ ap (append_known o.taken) a.5;
-    }
-
-listed-ok : (batch : Bool) (asked : Option Command) (i : Input) (o : Output) → Ends asked i o status.Ok → IsListed batch asked → (bytes : List ℕ)
-    → i.left ≡ Some bytes → ListedOrder batch bytes o
-listed-ok false (Some Replay) i o end is bytes told = listed-end false i o end.stands.0 bytes end.text end.stands.1 end.stands.2 end.taken told
-listed-ok true (Some (Batch workers)) i o end is bytes told = listed-end true i o end.stands.0 bytes end.text end.stands.1 end.stands.2 end.taken told
-listed-ok batch asked i o end is bytes told = absurd is
-
-pub listed : (asked : Option Command) (i : Input) (o : Output) (ended : Status) → Ends asked i o ended → WhereListed ListedOrder asked i o ended
-listed asked i o ended end batch is done bytes told =
-    listed-ok batch asked i o (subst (λ (s : Status). Ends asked i o s) done end) is bytes told

@@ -1,11 +1,11 @@
 //! What `batch` answers to the bytes that it read: the report of what a script's rows leave in their order.
 
 ghost use Rattle.std.specs.Prelude.{◌≤◌, IfOk};
-ghost use Rattle.dex_plain.specs.LaneAnswers.{AnswersBatch};
+ghost use Rattle.dex_commands.specs.LaneAnswers.{AnswersBatch};
 ghost use Rattle.dex_answers.specs.Told.{text_of};
 
-use crate::told::{refused, report_of};
-use dex_answers::StatusPieces;
+use crate::told::report_of;
+use dex_answers::{StatusText, no_script};
 use dex_batch::run_batch_with_rows;
 use dex_io::Pace;
 use dex_replay::laws::without_swaps_rows_act_one_by_one;
@@ -24,7 +24,7 @@ pub fn batch_answer<R: Threads + Wait + Sync, P: Pace + Sync>(
     bytes: &[u8],
     workers: u32,
     pace: &P,
-) -> Result<StatusPieces, NoMemory>
+) -> Result<StatusText, NoMemory>
     requires { (1 ≤ workers) × (workers ≤ 16) }
     ensures { IfOk result (λ told. AnswersBatch bytes.now told.status (text_of told)) }
 {
@@ -37,6 +37,6 @@ pub fn batch_answer<R: Threads + Wait + Sync, P: Pace + Sync>(
             without_swaps_rows_act_one_by_one();
             report_of(rt, alloc, outcome, items, rows)
         }
-        Err(error) => refused(alloc, error),
+        Err(error) => no_script(alloc, error),
     }
 }

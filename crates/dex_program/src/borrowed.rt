@@ -4,9 +4,10 @@
 use dex_bank::Cells;
 use dex_batch::run_batch;
 use dex_io::NoPace;
-use dex_report::{Outcome, into_report_text, report_text};
+use dex_report::report_text;
 use dex_run::{build, close, run};
 use dex_script::{Script, read_script};
+use dex_state::Outcome;
 use std::alloc::Global;
 use std::test::Fail;
 
@@ -52,10 +53,7 @@ fn cells_are_opened(rt: HostRuntime) -> Result<(), Fail> {
     let alloc = rt.alloc();
     let script = script(alloc)?;
     let outcome = left(alloc, Cells::open(alloc, &script)?)?;
-    assert_eq!(rt;
-        into_report_text(alloc, outcome, 0)?,
-        wanted(alloc, script)?
-    );
+    assert_eq!(rt; report_text(alloc, &outcome, 0)?, wanted(alloc, script)?);
     Ok(())
 }
 
@@ -68,10 +66,7 @@ fn a_bank_is_built(rt: HostRuntime) -> Result<(), Fail> {
     let Ok(outcome) = close(alloc, bank, seats) else {
         return Err(Fail::new("no memory"));
     };
-    assert_eq!(rt;
-        into_report_text(alloc, outcome, 0)?,
-        wanted(alloc, script)?
-    );
+    assert_eq!(rt; report_text(alloc, &outcome, 0)?, wanted(alloc, script)?);
     Ok(())
 }
 
@@ -79,7 +74,7 @@ fn a_bank_is_built(rt: HostRuntime) -> Result<(), Fail> {
 fn lanes_run_and_give_no_rows(rt: HostRuntime) -> Result<(), Fail> {
     let alloc = rt.alloc();
     let outcome = run(&rt, alloc, script(alloc)?, &NoPace)?;
-    let text = into_report_text(alloc, outcome, 3)?;
+    let text = report_text(alloc, &outcome, 3)?;
     assert!(rt; text.starts_with(b"report 3\nmarket m 3\n"));
     Ok(())
 }
@@ -91,7 +86,7 @@ fn a_batch_runs_and_gives_no_rows(rt: HostRuntime) -> Result<(), Fail> {
         return Err(Fail::new("no script"));
     };
     let outcome = run_batch(&rt, alloc, script, 2, &NoPace)?;
-    let text = into_report_text(alloc, outcome, 3)?;
+    let text = report_text(alloc, &outcome, 3)?;
     assert!(rt; text.starts_with(b"report 3\nmarket m 3\n"));
     Ok(())
 }

@@ -5,6 +5,7 @@
 mod batch;
 #[cfg(test)]
 mod borrowed;
+mod process;
 mod program;
 mod run;
 #[cfg(test)]
@@ -12,41 +13,32 @@ mod tests;
 mod threads;
 mod told;
 
-use crate::program::dex_main;
-use dex_answers::Status;
+use crate::process::run_process;
 use dex_io::{NoPace, StdSink, StdSource};
-use dex_types::NoMemory;
+use dex_words::WordsError;
 use std::env;
 use std::io::ErrorKind;
 use std::process::ExitCode;
 use std::rt::Env;
 
-/// Ends with the status of the run as exit status. Where there is no memory for the words, it ends with 7 and writes
-/// nothing.
+/// Runs the program on the words of its process, over standard input and standard output.
 fn main(rt: HostRuntime) -> ExitCode {
-    let status = match words(&rt) {
-        Ok(words) => dex_main(
-            &rt,
-            rt.alloc(),
-            &words,
-            &mut StdSource::new(&rt),
-            &mut StdSink::new(&rt),
-            &NoPace,
-        ),
-        Err(_) => Status::NoMemory,
-    };
-    ExitCode::from(status.code())
+    let (mut source, mut sink) = (StdSource::new(&rt), StdSink::new(&rt));
+    ExitCode::from(run_process(
+        &rt,
+        rt.alloc(),
+        all_words(&rt),
+        &mut source,
+        &mut sink,
+        &NoPace,
+    ))
 }
 
-// The words after the program's name. Words that are no text are no command, so then there are none.
-fn words<R: Env + AllocGlobal>(rt: &R) -> Result<Vec<String>, NoMemory> {
-    let words = match env::args(rt) {
-        Ok(words) => words,
-        Err(why) if why.kind() == ErrorKind::InvalidData => return Ok(Vec::new(rt.alloc())),
-        Err(_) => return Err(NoMemory),
-    };
-    match words.skip(1).collect(rt.alloc()) {
-        Ok(words) => Ok(words),
-        Err(_) => Err(NoMemory),
+// All words of the process, the program's name first.
+fn all_words<R: Env + AllocGlobal>(rt: &R) -> Result<Vec<String>, WordsError> {
+    match env::args(rt) {
+        Ok(words) => Ok(words.collect(rt.alloc())?),
+        Err(why) if why.kind() == ErrorKind::InvalidData => Err(WordsError::Usage),
+        Err(_) => Err(WordsError::NoMemory),
     }
 }

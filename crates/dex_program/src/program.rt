@@ -3,17 +3,19 @@
 ghost use Rattle.std.specs.Prelude.{IfErr, IfOk, Some, map};
 ghost use Rattle.std.specs.String.{string_bytes};
 ghost use Rattle.dex_words.specs.Commands.{command_of};
-ghost use Rattle.dex_words.specs.Spelling.{IsPlain, IsWithin};
+ghost use Rattle.dex_words.specs.Spelling.{IsWithin};
+ghost use Rattle.dex_words.specs.Threads.{of_threaded};
 ghost use Rattle.dex_answers.specs.Told.{text_of};
-ghost use Rattle.dex_plain.specs.Ending.{Completes, Ends, Stands, input, output};
-ghost use Rattle.dex_plain.specs.Stops.{line_of, status_of};
-ghost use Rattle.dex_program.specs.Ending.{ListedOrder, OneLegalHistory, OneOrder, WhereListed, WhereRun};
+ghost use Rattle.dex_commands.specs.Ending.{Completes, Ends, Stands, input, output};
+ghost use Rattle.dex_commands.specs.Stops.{line_of, status_of};
+ghost use Rattle.dex_commands.specs.Listed.{ListedOrder, WhereListed};
+ghost use Rattle.dex_program.specs.Ending.{OneLegalHistory, OneOrder, WhereRun};
 
 use crate::threads::answer_on_threads;
-use dex_answers::{Status, StatusPieces};
+use dex_answers::{Status, StatusText};
+use dex_commands::{Stop, plain, read_input, written, written_each};
 use dex_io::{Pace, Sink, Source};
-use dex_plain::{Stop, is_plain, plain, read_input, written, written_each};
-use dex_words::{Command, WordsError, read_words};
+use dex_words::{ThreadedCommand, WordsError, read_words};
 use std::alloc::Global;
 use std::marker::Sync;
 use std::sync::Wait;
@@ -69,13 +71,10 @@ fn by_words<R: Threads + Wait + Sync, S: Source, K: Sink, P: Pace + Sync>(
         (output (K.taken sink.old) (K.taken sink.new) (K.faults sink.old) (K.faults sink.new)) result }
 {
     match read_words(alloc, words) {
-        Ok(command) => {
-            if is_plain(command) {
-                plain(alloc, &command, source, sink)
-            } else {
-                on_threads(rt, alloc, command, source, sink, pace)
-            }
-        }
+        Ok(command) => match command.threaded() {
+            Some(threaded) => on_threads(rt, alloc, threaded, source, sink, pace),
+            None => plain(alloc, &command, source, sink),
+        },
         Err(WordsError::Usage) => written(sink, Stop::Usage.line(), Status::Usage),
         Err(WordsError::NoMemory) => written(sink, Stop::NoMemory.line(), Status::NoMemory),
     }
@@ -85,19 +84,18 @@ fn by_words<R: Threads + Wait + Sync, S: Source, K: Sink, P: Pace + Sync>(
 fn on_threads<R: Threads + Wait + Sync, S: Source, K: Sink, P: Pace + Sync>(
     rt: &R,
     alloc: Global,
-    command: Command,
+    command: ThreadedCommand,
     source: &mut S,
     sink: &mut K,
     pace: &P,
 ) -> Status
-    requires within { IsWithin command }
-    requires threads { ¬ (IsPlain command) }
-    ensures { Ends (Some command)
+    requires { IsWithin (of_threaded command) }
+    ensures { Ends (Some (of_threaded command))
         (input (S.left source.old) (S.left source.new) (S.faults source.old) (S.faults source.new))
         (output (K.taken sink.old) (K.taken sink.new) (K.faults sink.old) (K.faults sink.new)) result }
 {
     match threads_answer(rt, alloc, command, source, pace) {
-        Ok(report) => written_each(sink, &report.pieces, report.status),
+        Ok(told) => written_each(sink, &told.pieces, told.status),
         Err(stop) => written(sink, stop.line(), stop.status()),
     }
 }
@@ -106,18 +104,17 @@ fn on_threads<R: Threads + Wait + Sync, S: Source, K: Sink, P: Pace + Sync>(
 fn threads_answer<R: Threads + Wait + Sync, S: Source, P: Pace + Sync>(
     rt: &R,
     alloc: Global,
-    command: Command,
+    command: ThreadedCommand,
     source: &mut S,
     pace: &P,
-) -> Result<StatusPieces, Stop>
-    requires within { IsWithin command }
-    requires threads { ¬ (IsPlain command) }
-    ensures built { IfOk result (λ built. Stands built.status (Some command)
+) -> Result<StatusText, Stop>
+    requires { IsWithin (of_threaded command) }
+    ensures built { IfOk result (λ built. Stands built.status (Some (of_threaded command))
         (input (S.left source.old) (S.left source.new) (S.faults source.old) (S.faults source.new)) (text_of built)) }
-    ensures stopped { IfErr result (λ stop. Stands (status_of stop) (Some command)
+    ensures stopped { IfErr result (λ stop. Stands (status_of stop) (Some (of_threaded command))
         (input (S.left source.old) (S.left source.new) (S.faults source.old) (S.faults source.new)) (line_of stop)) }
 {
-    let bytes = read_input(alloc, command, source)?;
+    let bytes = read_input(alloc, source)?;
     let built = answer_on_threads(rt, alloc, command, &bytes, pace)?;
     Ok(built)
 }

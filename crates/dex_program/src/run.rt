@@ -1,11 +1,11 @@
 //! What `run` answers to the bytes that it read: the report of what a script's lanes leave side by side.
 
 ghost use Rattle.std.specs.Prelude.{IfOk};
-ghost use Rattle.dex_plain.specs.LaneAnswers.{AnswersRun};
+ghost use Rattle.dex_commands.specs.LaneAnswers.{AnswersRun};
 ghost use Rattle.dex_answers.specs.Told.{text_of};
 
-use crate::told::{refused, report_of};
-use dex_answers::StatusPieces;
+use crate::told::report_of;
+use dex_answers::{StatusText, no_script};
 use dex_io::Pace;
 use dex_lanes::processors;
 use dex_replay::laws::without_swaps_rows_act_one_by_one;
@@ -24,7 +24,7 @@ pub fn run_answer<R: Threads + Wait + Sync, P: Pace + Sync>(
     alloc: Global,
     bytes: &[u8],
     pace: &P,
-) -> Result<StatusPieces, NoMemory>
+) -> Result<StatusText, NoMemory>
     ensures { IfOk result (λ told. AnswersRun bytes.now told.status (text_of told)) }
 {
     match read_script(rt, alloc, bytes, false, processors(rt)) {
@@ -36,6 +36,6 @@ pub fn run_answer<R: Threads + Wait + Sync, P: Pace + Sync>(
             without_swaps_rows_act_one_by_one();
             report_of(rt, alloc, outcome, items, rows)
         }
-        Err(error) => refused(alloc, error),
+        Err(error) => no_script(alloc, error),
     }
 }

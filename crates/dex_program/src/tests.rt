@@ -71,21 +71,23 @@ fn a_report_is_written_whole(rt: HostRuntime) -> Result<(), Fail> {
     Ok(())
 }
 
-/// Two markets, each with a trader and a lane of its own: rows that share nothing.
+/// Two markets and two wallets, each with a trader and a lane of its own: rows that share nothing.
 const APART: &[u8] = b"mint,coin,6
 mint,usd,6
+wallet,ann_coin,coin,ann,1000
+wallet,bob_coin,coin,bob,1000
 market,m,coin,usd,admin,5,5,8,AAAAAABkAAAAAAAAAAoAAAAAAAAAAAAAAAAAAAAAAAEAAAAAAAAA
 market,n,coin,usd,admin,5,5,8,AAAAAABkAAAAAAAAAAoAAAAAAAAAAAAAAAAAAAAAAAEAAAAAAAAA
 orders,m,amy
 orders,n,ben
-do,0,m,ann,amy,-,-,-,-,init
-do,1,n,bob,ben,-,-,-,-,init
+do,0,m,ann,amy,ann_coin,-,-,-,init
+do,1,n,bob,ben,bob_coin,-,-,-,init
 ";
 
 /// How often a row gives way before it gives up.
 const MOST_YIELDS: u32 = 1_000_000;
 
-// Holds each row until another is inside, or until it gives up.
+// Holds each row, with the turns of its market and its wallet, until another is inside, or until it gives up.
 #[derive(Drop)]
 struct Meets {
     inside: AtomicU64,

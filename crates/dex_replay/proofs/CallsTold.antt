@@ -13,7 +13,7 @@ use Rattle.dex_types.specs.Rows.{PlainRow}
 use Rattle.dex_accounts.specs.Decoded.{market_in}
 use Rattle.dex_sound.proofs.KeepLaws.{step-keeps}
 use Rattle.dex_history.specs.Journal.{Asked, Call, IsLegal, acted_of, asked_of, step_of}
-use Rattle.dex_report.specs.Outcomes.{PlainMarketJournal, PlainOutcome}
+use Rattle.dex_state.specs.Outcomes.{PlainMarketJournal, PlainOutcome}
 use Rattle.dex_script_facts.specs.PlainScript.{PlainScript}
 use Rattle.dex_script_facts.specs.Facts.{IsScript}
 use Rattle.dex_script_facts.specs.Firsts.{first_of}

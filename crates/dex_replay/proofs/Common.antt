@@ -7,12 +7,13 @@ pub use Rattle.dex_bank.specs.Cells.{AreCells, CanAct, CellsState, is_market, ma
 pub use Rattle.dex_bank.specs.Closed.{account_in, closed, market_journal_in, wallet_journal_in}
 pub use Rattle.dex_bank.specs.Opened.{market_opened, opened, rows_naming, rows_on, wallet_opened}
 pub use Rattle.dex_cell.specs.CellState.{IsMarketCell, MarketCellState, call_on, entries_of, step_on}
-pub use Rattle.dex_dump.specs.Accepted.{AreAccepted, address_of, addresses_of, all_of_market}
+pub use Rattle.dex_state.specs.Addresses.{address_of, addresses_of, all_of_market}
+pub use Rattle.dex_state.specs.Accepted.{AreAccepted}
 pub use Rattle.dex_market.specs.MarketAccount.{market_words}
 pub use Rattle.dex_replay.specs.Lawful.{AllThree, IsAllOrNone, IsLawful, IsLawfulMarket, IsLawfulWallet, IsSight, IsWalletSeen, Origin, is_answered, origin_of_entry, origin_of_row, rows_of_market, rows_of_wallet, was_held}
 pub use Rattle.dex_replay.specs.Replays.{IsLeftBy, IsReplayOf, market_state, start_world, wallet_state, with_amounts, world_after}
 pub use Rattle.dex_replay.specs.Runs.{IsOneOrder, IsRunOf, KeepsLanes}
-pub use Rattle.dex_report.specs.Outcomes.{PlainMarketJournal, PlainOutcome, PlainWalletJournal, outcome_of}
+pub use Rattle.dex_state.specs.Outcomes.{PlainMarketJournal, PlainOutcome, PlainWalletJournal, outcome_of}
 pub use Rattle.dex_script_facts.specs.PlainScript.{PlainScript}
 pub use Rattle.dex_script_facts.specs.Facts.{AreLegs, AreRows, HasNoSwap, IsRowOf, IsScript, IsStart, lanes_of}
 pub use Rattle.dex_script_facts.specs.Known.{has_account, has_market, is_known_role}

@@ -9,8 +9,8 @@ use Rattle.dex_sound.specs.Kept.{KeepsMarket}
 use Rattle.dex_history.proofs.BalanceLaws.{ArePaid, amount-le}
 use Rattle.dex_history.proofs.MintLaws.{AreOfMints, IsOfMint}
 use Rattle.dex_history.proofs.StepConserves.{row-paid}
-use Rattle.dex_dump.specs.Accepted.{times}
-use Rattle.dex_dump.proofs.TakenLaws.{one, times-cons}
+use Rattle.dex_state.specs.Addresses.{times}
+use Rattle.dex_state.proofs.Times.{one, times-cons}
 use Rattle.dex_fold.specs.World.{market_at}
 use Rattle.dex_replay.proofs.Sights.{AreOnce, address_in, found-address}
 

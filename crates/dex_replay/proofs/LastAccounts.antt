@@ -7,8 +7,8 @@ use Rattle.std.specs.List.{All}
 use Rattle.std.specs.Option.{IfSome}
 use Rattle.dex_token.specs.MintAccount.{IsMint}
 use Rattle.dex_accounts.specs.Decoded.{listing_in}
-use Rattle.dex_dump.specs.Accepted.{AreApart, HasMints, IsMintOf, times}
-use Rattle.dex_dump.specs.Reading.{market_addresses}
+use Rattle.dex_state.specs.Addresses.{market_addresses, times}
+use Rattle.dex_state.specs.Accepted.{AreApart, HasMints, IsMintOf}
 use Rattle.dex_replay.proofs.MappedLists.{All-unmap, flat_map-agree, map-map}
 use Rattle.dex_replay.proofs.Starts.{AreOfScript, start_account, wallet-addresses}
 

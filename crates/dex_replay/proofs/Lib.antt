@@ -20,7 +20,6 @@ mod Sights
 pub mod Singles
 pub mod Starts
 mod OneReplay
-pub mod InFront
 mod CallsTold
 mod Finding
 mod SightTold

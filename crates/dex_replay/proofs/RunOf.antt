@@ -6,8 +6,7 @@ use Rattle.dex_accounts.specs.Decoded.{market_in}
 use Rattle.std.specs.List.{All}
 use Rattle.dex_accounts.proofs.Decoded.{AreSound-of}
 use Rattle.dex_accounts.proofs.Decoded as decoded
-use Rattle.dex_audit.specs.Audited.{IsConserved}
-use Rattle.dex_audit.specs.Supplies.{amount_of, held_of, in_vaults, in_wallets}
+use Rattle.dex_state.specs.Conserved.{IsConserved, amount_of, held_of, in_vaults, in_wallets}
 use Rattle.dex_fold.specs.Items.{Item, items_of}
 use Rattle.dex_replay.proofs.Ends.{is-left}
 use Rattle.dex_replay.proofs.Holdings.{in_market, in_wallet}

@@ -10,7 +10,7 @@ use Rattle.dex_history.proofs.HistoryLaws.{IsLegal-one, IsWalletLegal-one}
 use Rattle.dex_history.proofs.PriceLaws.{calls-sound}
 use Rattle.dex_history.proofs.StepMints.{row-of}
 use Rattle.dex_history.proofs.StepMoves.{row-moves}
-use Rattle.dex_dump.specs.Accepted.{times}
+use Rattle.dex_state.specs.Addresses.{times}
 use Rattle.dex_fold.specs.World.{market_at}
 use Rattle.dex_replay.proofs.LastAccounts.{listing-in, market_after-listing}
 use Rattle.dex_replay.proofs.MappedLists.{Any-map, filter-push_no, filter-push_yes, zip-map}

@@ -4,7 +4,7 @@ use Rattle.std.specs.List.{AllZip}
 use Rattle.dex_types.specs.Accounts.{PlainMarketAccounts}
 use Rattle.dex_types.specs.Market.{Market}
 use Rattle.dex_accounts.specs.StandsFor.{StandsFor}
-use Rattle.dex_report.specs.Outcomes.{PlainOutcome}
+use Rattle.dex_state.specs.Outcomes.{PlainOutcome}
 
 -- the accounts are those of one market at one time. They may differ in which tree node holds which order, and in bytes that stand
 -- for nothing

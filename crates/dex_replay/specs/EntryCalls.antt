@@ -13,7 +13,7 @@ use Rattle.dex_types.specs.Rows.{PlainRow}
 use Rattle.dex_accounts.specs.Decoded.{market_in}
 use Rattle.dex_accounts.specs.StandsFor.{StandsFor}
 use Rattle.dex_history.specs.Journal.{Call, IsLegal, Stands, asked_of, front, market_after}
-use Rattle.dex_report.specs.Outcomes.{PlainMarketJournal}
+use Rattle.dex_state.specs.Outcomes.{PlainMarketJournal}
 use Rattle.dex_replay.specs.Lawful.{IsSight}
 use Rattle.dex_script_facts.specs.PlainScript.{PlainScript}
 use Rattle.dex_script_facts.specs.Firsts.{first_of}

@@ -18,7 +18,7 @@ use Rattle.dex_fold.specs.Groups.{members}
 use Rattle.dex_fold.specs.Items.{Item, items_of, rows_of_lane}
 pub use Rattle.dex_fold.specs.Lists.{AllThree}
 pub use Rattle.dex_fold.specs.RowsOf.{rows_of_market, rows_of_wallet}
-use Rattle.dex_report.specs.Outcomes.{PlainMarketJournal, PlainOutcome, PlainWalletJournal}
+use Rattle.dex_state.specs.Outcomes.{PlainMarketJournal, PlainOutcome, PlainWalletJournal}
 use Rattle.dex_script_facts.specs.PlainScript.{PlainScript}
 pub use Rattle.dex_script_facts.specs.Sight.{IsSight, IsWalletSeen}
 use Rattle.dex_token.specs.TokenAccount.{with_amount}

@@ -5,11 +5,12 @@ use Rattle.dex_types.specs.Accounts.{PlainAccount, PlainMarketAccounts}
 use Rattle.dex_types.specs.Rows.{PlainRow}
 use Rattle.dex_accounts.specs.StandsFor.{StandsFor}
 use Rattle.dex_cell.specs.CellState.{AreOfOneMarket}
-use Rattle.dex_dump.specs.Accepted.{AreAccepted, address_of}
+use Rattle.dex_state.specs.Addresses.{address_of}
+use Rattle.dex_state.specs.Accepted.{AreAccepted}
 use Rattle.dex_fold.specs.Fold.{fold}
 use Rattle.dex_fold.specs.Items.{Item, fold_items, items_of}
 use Rattle.dex_fold.specs.World.{MarketState, WalletState, World}
-use Rattle.dex_report.specs.Outcomes.{PlainMarketJournal, PlainOutcome, PlainWalletJournal}
+use Rattle.dex_state.specs.Outcomes.{PlainMarketJournal, PlainOutcome, PlainWalletJournal}
 use Rattle.dex_script_facts.specs.PlainScript.{PlainScript}
 pub use Rattle.dex_script_facts.specs.Starts.{market_state, start_world, wallet_state}
 use Rattle.dex_wallet.specs.CellState.{balance_of}

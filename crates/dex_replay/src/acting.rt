@@ -12,6 +12,7 @@ ghost use Rattle.dex_script_facts.specs.Facts.{IsScript};
 ghost use Rattle.dex_replay.specs.Acting.{HaveActed, IsNext};
 ghost use Rattle.dex_replay.specs.Replays.{world_after};
 
+use dex_act::PlacedRow;
 use dex_bank::Cells;
 use dex_types::{Row, RowPlaces};
 
@@ -34,11 +35,16 @@ fn act_item(
 {
     if let Some(second) = behind {
         if second.number == row.number {
-            cells.step_two_at(row, second, at, at_behind);
+            let one = PlacedRow { row, places: at };
+            let two = PlacedRow {
+                row: second,
+                places: at_behind,
+            };
+            cells.step_two(&one, &two);
             return 2;
         }
     }
-    cells.step_at(row, at);
+    cells.step(&PlacedRow { row, places: at });
     1
 }
 

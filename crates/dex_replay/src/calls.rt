@@ -6,7 +6,7 @@ ghost use Rattle.dex_types.specs.Accounts.{PlainMarketAccounts};
 ghost use Rattle.dex_types.specs.Market.{Market};
 ghost use Rattle.dex_types.specs.Rows.{PlainRow};
 ghost use Rattle.dex_history.specs.Journal.{Call};
-ghost use Rattle.dex_report.specs.Outcomes.{PlainMarketJournal, PlainOutcome};
+ghost use Rattle.dex_state.specs.Outcomes.{PlainMarketJournal, PlainOutcome};
 ghost use Rattle.dex_replay.specs.Lawful.{AllThree, IsLawful, IsLawfulMarket};
 ghost use Rattle.dex_script_facts.specs.PlainScript.{PlainScript};
 ghost use Rattle.dex_script_facts.specs.Facts.{IsScript};

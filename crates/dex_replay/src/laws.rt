@@ -8,13 +8,14 @@ ghost use Rattle.dex_types.specs.declared.movements.WalletEntry.{WalletEntry};
 ghost use Rattle.dex_types.specs.Accounts.{PlainAccount, PlainMarketAccounts};
 ghost use Rattle.dex_types.specs.Rows.{PlainRow};
 ghost use Rattle.dex_fold.specs.Groups.{alone};
-ghost use Rattle.dex_fold.specs.Items.{items_of};
-ghost use Rattle.dex_report.specs.Outcomes.{PlainMarketJournal, PlainOutcome, PlainWalletJournal};
+ghost use Rattle.dex_fold.specs.Items.{Item, items_of};
+ghost use Rattle.dex_state.specs.Outcomes.{PlainMarketJournal, PlainOutcome, PlainWalletJournal};
 ghost use Rattle.dex_script_facts.specs.PlainScript.{PlainScript};
 ghost use Rattle.dex_script_facts.specs.Facts.{AreRows, HasNoSwap, IsScript};
+ghost use Rattle.dex_replay.specs.Alike.{AreAlike};
 ghost use Rattle.dex_replay.specs.Lawful.{IsLawful, IsLawfulMarket, IsLawfulWallet, rows_of_market, rows_of_wallet};
 ghost use Rattle.dex_replay.specs.Lawful.{was_held};
-ghost use Rattle.dex_replay.specs.Replays.{IsLeftByRows, IsReplayOf};
+ghost use Rattle.dex_replay.specs.Replays.{IsLeftBy, IsLeftByRows, IsReplayOf};
 ghost use Rattle.dex_replay.specs.Runs.{IsOneOrder, IsOneOrderOfRows, IsRunOf};
 
 /// What is left when a script's items act one after the other, in an order that keeps each lane's, is lawful, its
@@ -59,4 +60,13 @@ pub fn each_row_has_one_entry()
         → AllPairs (λ (one other : PlainRow). one.number < other.number) (rows_of_market lane address script.rows) }
     ensures rising_of_wallet { (script : PlainScript) (lane : ℕ) (address : Address) → AreRows script
         → AllPairs (λ (one other : PlainRow). one.number < other.number) (rows_of_wallet lane address script.rows) }
+{}
+
+/// A replay is a function of its script: two outcomes of one script have the same journals, the same mints and the same bytes
+/// of wallets, and their accounts of each market stand for one market. So it is of items in any one order.
+pub fn a_script_has_one_replay()
+    ensures replay { (script : PlainScript) (one other : PlainOutcome) → IsReplayOf script one
+        → IsReplayOf script other → AreAlike one other }
+    ensures order { (script : PlainScript) (order : List Item) (one other : PlainOutcome) → IsLeftBy script order one
+        → IsLeftBy script order other → AreAlike one other }
 {}

@@ -5,7 +5,6 @@ mod acting;
 pub mod calls;
 pub mod laws;
 mod replaying;
-pub mod reports;
 
 pub use acting::act_all;
 pub use replaying::{replay, replay_with_rows};

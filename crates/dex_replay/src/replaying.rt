@@ -2,14 +2,14 @@
 
 ghost use Rattle.std.specs.Prelude.{◌≡◌, IfOk, map};
 ghost use Rattle.dex_types.specs.Rows.{row_of};
-ghost use Rattle.dex_report.specs.Outcomes.{outcome_of};
+ghost use Rattle.dex_state.specs.Outcomes.{outcome_of};
 ghost use Rattle.dex_replay.specs.Replays.{IsReplayOf};
 ghost use Rattle.dex_replay.specs.Runs.{IsRunOf};
 
 use crate::acting::{act_all, use_up};
 use dex_bank::Cells;
-use dex_report::Outcome;
 use dex_script_facts::Script;
+use dex_state::Outcome;
 use dex_types::{NoMemory, Row};
 use std::alloc::Global;
 

@@ -14,7 +14,7 @@ use Rattle.dex_types.specs.declared.movements.Movement.{Movement}
 use Rattle.dex_types.specs.declared.movements.WalletEntry.{WalletEntry}
 use Rattle.dex_types.specs.MovementText.{kind_text}
 use Rattle.dex_types.specs.Text.{address_text, reply_text, spaced}
-use Rattle.dex_dump.specs.Accepted.{IsAddress}
+use Rattle.dex_state.specs.Held.{IsAddress}
 use Rattle.dex_dump.proofs.EachRow.{first_of, others_of}
 use Rattle.dex_report.specs.Report.{entry_line, move_line, move_text}
 use Rattle.dex_report.specs.Telling.{FitMove, FitWalletEntry, IsTold, stand_from_front}

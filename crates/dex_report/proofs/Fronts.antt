@@ -7,7 +7,7 @@ use Rattle.dex_types.specs.declared.movements.Movement.{Movement}
 use Rattle.dex_types.specs.Market.{Market}
 use Rattle.dex_types.specs.Wallets.{movements}
 use Rattle.dex_history.specs.Journal.{Call, IsLegal, step_of}
-use Rattle.dex_report.specs.Outcomes.{PlainOutcome}
+use Rattle.dex_state.specs.Outcomes.{PlainOutcome}
 use Rattle.dex_report.specs.Telling.{AreInFront, FitOutcome, IsToldOutcome, stand_from_front}
 
 -- in a front of four empty places none is taken

@@ -8,11 +8,11 @@ use Rattle.dex_types.specs.declared.movements.Entry.{Entry}
 use Rattle.dex_types.specs.declared.movements.WalletEntry.{WalletEntry}
 use Rattle.dex_types.specs.Accounts.{PlainAccounts}
 use Rattle.dex_types.specs.Text.{address_text, spaced}
-use Rattle.dex_dump.specs.Accepted.{IsAddress}
+use Rattle.dex_state.specs.Held.{IsAddress}
 use Rattle.dex_dump.specs.DumpText.{behind_first, dump_text, lines_text}
 use Rattle.dex_dump.proofs.OneText.{dump_text-injective}
 use Rattle.dex_report.specs.Lines.{line}
-use Rattle.dex_report.specs.Outcomes.{PlainMarketJournal, PlainOutcome, PlainWalletJournal}
+use Rattle.dex_state.specs.Outcomes.{PlainMarketJournal, PlainOutcome, PlainWalletJournal}
 use Rattle.dex_report.specs.Report.{entry_line, market_lines, move_line, report_text, wallet_lines}
 use Rattle.dex_report.specs.Telling.{FitWalletEntry, IsTold, IsToldMarket, IsToldOutcome, IsToldWallet}
 use Rattle.dex_report.proofs.Entries.{entry-back, from32, from64, move-back, same-address, same-number}

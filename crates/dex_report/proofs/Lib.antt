@@ -9,3 +9,5 @@ pub mod Journals
 pub mod Written
 pub mod Fronts
 mod Whole
+mod Joined
+mod Listed

@@ -14,7 +14,7 @@ use Rattle.dex_rows.specs.Addresses.{address_of, is_lower_hexdigit}
 use Rattle.dex_rows.specs.Numbers.{is_numeral, number_of}
 use Rattle.dex_rows.proofs.AddressLaws.{digits_lower}
 use Rattle.dex_rows.proofs.NumberLaws.{number_of-decimal}
-use Rattle.dex_dump.specs.Accepted.{IsAddress}
+use Rattle.dex_state.specs.Held.{IsAddress}
 use Rattle.dex_dump.proofs.FieldLaws.{address_of-text, all-implies}
 use Rattle.dex_report.proofs.Words.{is_inner, is_word}
 

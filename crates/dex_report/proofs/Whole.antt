@@ -4,12 +4,12 @@ use Rattle.std.specs.List.{flat_map}
 use Rattle.std.proofs.lemmas.List.Elements.{All-map}
 use Rattle.std.proofs.lemmas.List.Folds.{flat_map-map}
 use Rattle.dex_types.specs.Accounts.{PlainAccounts}
-use Rattle.dex_dump.specs.Accepted.{HoldBytes}
+use Rattle.dex_state.specs.Held.{HoldBytes}
 use Rattle.dex_dump.specs.DumpText.{dump_text}
-use Rattle.dex_report.specs.declared.outcome.MarketJournal.{MarketJournal}
-use Rattle.dex_report.specs.declared.outcome.WalletJournal.{WalletJournal}
+use Rattle.dex_state.specs.declared.outcome.MarketJournal.{MarketJournal}
+use Rattle.dex_state.specs.declared.outcome.WalletJournal.{WalletJournal}
 use Rattle.dex_report.specs.Lines.{line}
-use Rattle.dex_report.specs.Outcomes.{market_journal_of, wallet_journal_of}
+use Rattle.dex_state.specs.Outcomes.{market_journal_of, wallet_journal_of}
 use Rattle.dex_report.specs.Report.{head_line, market_lines, report_text, wallet_lines}
 use Rattle.dex_report.specs.Telling.{FitMarket, FitOutcome, IsToldWallet}
 

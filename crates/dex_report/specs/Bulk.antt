@@ -14,7 +14,7 @@ use Rattle.dex_report.specs.declared.bulk.BookCounts.{BookCounts}
 use Rattle.dex_report.specs.declared.bulk.MarketFunds.{MarketFunds}
 use Rattle.dex_report.specs.declared.bulk.MarketSummary.{MarketSummary}
 use Rattle.dex_report.specs.Lines.{line}
-use Rattle.dex_report.specs.Outcomes.{PlainMarketJournal, PlainOutcome}
+use Rattle.dex_state.specs.Outcomes.{PlainMarketJournal, PlainOutcome}
 
 -- how many rows of a journal were refused
 abbrev pub refused_in : PlainMarketJournal → ℕ

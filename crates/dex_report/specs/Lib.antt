@@ -1,5 +1,4 @@
 pub mod Lines
-pub mod Outcomes
 pub mod Report
 pub mod Telling
 pub mod Draws
@@ -7,3 +6,4 @@ pub mod MadeRows
 pub mod MadeSetup
 pub mod Made
 pub mod Bulk
+pub mod Parts

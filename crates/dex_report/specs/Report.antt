@@ -10,7 +10,7 @@ use Rattle.dex_types.specs.MovementText.{kind_text, movement_text}
 use Rattle.dex_types.specs.Text.{address_text, reply_text, spaced}
 use Rattle.dex_dump.specs.DumpText.{dump_text}
 use Rattle.dex_report.specs.Lines.{line}
-use Rattle.dex_report.specs.Outcomes.{PlainMarketJournal, PlainOutcome, PlainWalletJournal}
+use Rattle.dex_state.specs.Outcomes.{PlainMarketJournal, PlainOutcome, PlainWalletJournal}
 
 -- a movement behind a space, where one stands
 abbrev pub move_text : Option Movement → List ℕ

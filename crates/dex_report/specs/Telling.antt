@@ -11,8 +11,8 @@ use Rattle.dex_types.specs.declared.refusals.Refusal.{Refusal}
 use Rattle.dex_types.specs.declared.refusals.Refusal.TheVariants as refusal
 use Rattle.dex_types.specs.declared.replies.Reply.{Reply}
 use Rattle.dex_types.specs.declared.replies.Reply.TheVariants.{Ordered, Took, Cancelled, Consumed, Settled, Swept, Done, Refused}
-use Rattle.dex_dump.specs.Accepted.{HoldBytes, IsAddress}
-use Rattle.dex_report.specs.Outcomes.{PlainMarketJournal, PlainOutcome, PlainWalletJournal}
+use Rattle.dex_state.specs.Held.{HoldBytes, IsAddress}
+use Rattle.dex_state.specs.Outcomes.{PlainMarketJournal, PlainOutcome, PlainWalletJournal}
 
 -- the movements stand from the front: behind an empty place there is none
 abbrev pub stand_from_front : List (Option Movement) → Bool

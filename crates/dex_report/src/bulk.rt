@@ -13,12 +13,12 @@ ghost use Rattle.dex_ring.specs.Ring.{IsEventQueue, ring_of};
 ghost use Rattle.dex_slab.specs.Slab.{IsSlab, resting};
 ghost use Rattle.dex_token.specs.TokenAccount.{IsWallet, wallet_words};
 ghost use Rattle.dex_report.specs.Bulk as summaries;
-ghost use Rattle.dex_report.specs.Outcomes.{market_journal_of, outcome_of};
+ghost use Rattle.dex_state.specs.Outcomes.{market_journal_of, outcome_of};
 
-use crate::outcome::{MarketJournal, Outcome};
 use dex_market::MarketRef;
 use dex_ring::RingRef;
 use dex_slab::SlabRef;
+use dex_state::{MarketJournal, Outcome};
 use dex_token::WalletRef;
 use dex_types::{Address, Entry, MarketAccounts, NoMemory, Reply, Side, SideRead};
 use std::alloc::{AllocError, Global};

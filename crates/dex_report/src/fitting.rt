@@ -1,6 +1,6 @@
 //! What the types of an entry's parts say of them. No code stands here.
 
-ghost use Rattle.dex_dump.specs.Accepted.{IsAddress};
+ghost use Rattle.dex_state.specs.Held.{IsAddress};
 ghost use Rattle.dex_report.specs.Telling.{FitEntry, FitMove, FitRefusal, FitReply};
 
 use dex_types::{Address, Entry, Movement, Refusal, Reply};

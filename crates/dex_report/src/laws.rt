@@ -5,7 +5,7 @@ ghost use Rattle.std.specs.List.{All};
 ghost use Rattle.dex_types.specs.declared.movements.Entry.{Entry};
 ghost use Rattle.dex_types.specs.Market.{Market};
 ghost use Rattle.dex_history.specs.Journal.{Call, IsLegal};
-ghost use Rattle.dex_report.specs.Outcomes.{PlainOutcome};
+ghost use Rattle.dex_state.specs.Outcomes.{PlainOutcome};
 ghost use Rattle.dex_report.specs.Report as texts;
 ghost use Rattle.dex_report.specs.Telling.{AreInFront, FitOutcome, IsToldOutcome, stand_from_front};
 

@@ -19,7 +19,7 @@ use std::fmt::Write;
 pub const LINE: usize = 768;
 
 /// Writes the line of an entry of a market's journal. What was written fits, as the types of its values have it.
-pub(crate) fn write_entry(
+pub fn write_entry(
     text: &mut Vec<u8>,
     line: &mut [u8; LINE],
     entry: &Entry,

@@ -2,18 +2,18 @@
 
 ghost use Rattle.std.specs.Prelude.{◌≡◌, ◌≤◌, ◌++◌, ℕ, List, OnOk, Some, length};
 ghost use Rattle.std.specs.List.{All, flat_map};
-ghost use Rattle.dex_report.specs.Outcomes.{market_journal_of, wallet_journal_of};
+ghost use Rattle.dex_state.specs.Outcomes.{market_journal_of, wallet_journal_of};
 ghost use Rattle.dex_report.specs.Report as texts;
 ghost use Rattle.dex_report.specs.Telling.{FitEntry, FitMarket, FitWalletEntry, IsJournal, IsToldWallet};
 
 use crate::fitting::address_fits;
 use crate::lines::{LINE, write_entry, write_head, write_move};
-use crate::outcome::{MarketJournal, WalletJournal};
+use dex_state::{MarketJournal, WalletJournal};
 use dex_types::{Address, Entry, WalletEntry};
 use std::alloc::AllocError;
 
 /// What a report tells of in lines of its own.
-pub trait Told {
+pub(crate) trait Told {
     /// Its values fit, as their types have it.
     ghost fits: { Self → Type 0 };
 
@@ -85,7 +85,7 @@ fn write_journal<T: Told>(
 }
 
 /// Writes the lines of each.
-pub fn write_each<T: Told>(
+pub(crate) fn write_each<T: Told>(
     text: &mut Vec<u8>,
     line: &mut [u8; LINE],
     told: &[T],
@@ -100,7 +100,7 @@ pub fn write_each<T: Told>(
 }
 
 /// Writes the lines of each, and lets it go.
-pub fn take_each<T: Told + Drop>(
+pub(crate) fn take_each<T: Told + Drop>(
     text: &mut Vec<u8>,
     line: &mut [u8; LINE],
     told: Vec<T>,

@@ -7,7 +7,7 @@ use Rattle.dex_cell.specs.CellState.{MarketCellState}
 use Rattle.dex_gate.specs.GateView.{GateView}
 use Rattle.dex_gate.specs.PassView.{PassView}
 use Rattle.dex_history.specs.Journal.{Call}
-use Rattle.dex_report.specs.Outcomes.{PlainOutcome}
+use Rattle.dex_state.specs.Outcomes.{PlainOutcome}
 use Rattle.dex_script_facts.specs.PlainScript.{PlainScript}
 use Rattle.dex_fold.specs.Lists.{AllThree}
 use Rattle.dex_wallet.specs.CellState.{CellState}

@@ -114,7 +114,8 @@ fn seats_of(
 
 // ---- the bank
 
-/// The bank of a script's cells, and one seat for each lane, by their numbers. The cells themselves go behind the gates.
+/// The bank of a script's cells, and one seat for each lane, by their numbers. The cells themselves go behind the
+/// gates.
 pub(crate) fn bank_over(
     alloc: Global,
     outline: Outline,

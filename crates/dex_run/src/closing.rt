@@ -2,7 +2,7 @@
 
 ghost use Rattle.std.specs.Prelude.{◌≡◌, List, All, IfErr, IfOk, IfSome, length, map, vec_len};
 ghost use Rattle.std.specs.List.{range_with_len};
-ghost use Rattle.dex_report.specs.Outcomes.{PlainOutcome, outcome_of};
+ghost use Rattle.dex_state.specs.Outcomes.{PlainOutcome, outcome_of};
 ghost use Rattle.dex_script_facts.specs.PlainScript.{PlainScript};
 ghost use Rattle.dex_replay.specs.Runs.{IsOneOrder, IsRunOf};
 ghost use Rattle.dex_turns.specs.Bank.{IsBank};
@@ -18,7 +18,7 @@ use dex_gate::Pass;
 use dex_journals::{BankMarket, BankWallet};
 use dex_order::laws::what_lanes_leave_is_a_replay;
 use dex_replay::laws::what_one_order_leaves_is_a_run;
-use dex_report::Outcome;
+use dex_state::Outcome;
 use dex_turns::{Bank, BankParts, LaneSeat};
 use dex_wallet::WalletCell;
 use std::alloc::Global;
@@ -115,8 +115,8 @@ fn closed(bank: Bank, seats: Vec<LaneSeat>, room: ClosingRoom) -> Outcome
     Cells::of(mints, srm, msrm, market_cells, wallet_cells, program).close_into(left)
 }
 
-/// What lanes leave when their rows are done is what all items leave one after the other, in some order that keeps the order of
-/// each lane; so it is a run of their script.
+/// What lanes leave when their rows are done is what all items leave one after the other, in some order that keeps the
+/// order of each lane; so it is a run of their script.
 fn what_closes_is_a_run()
     ensures one_order { (script : PlainScript) (seats : List SeatState) (outcome : PlainOutcome)
         → ClosesAs script seats outcome → IsOneOrder script outcome }
@@ -127,8 +127,8 @@ fn what_closes_is_a_run()
     what_one_order_leaves_is_a_run();
 }
 
-/// Takes all seats back, by the numbers of their lanes, and gives what is left: where all their rows are done, the journals
-/// hold just the calls of these seats. Where there is no memory for it, all come back untouched.
+/// Takes all seats back, by the numbers of their lanes, and gives what is left: where all their rows are done, the
+/// journals hold just the calls of these seats. Where there is no memory for it, all come back untouched.
 pub fn close(
     alloc: Global,
     bank: Bank,

@@ -12,7 +12,8 @@ use dex_script_facts::RowList;
 use dex_types::{NoMemory, RowPlaces, add};
 use std::alloc::Global;
 
-/// Whether the row at a place and the one behind it are the legs of one swap: they have one number, as what stands beside them tells.
+/// Whether the row at a place and the one behind it are the legs of one swap: they have one number, as what stands
+/// beside them tells.
 pub(crate) fn is_swap(places: &[RowPlaces], place: usize) -> bool
     requires { place < length places.now }
     ensures yes { result ≡ true → OfRows places.now (λ rows. IsSwapAt rows place) }
@@ -21,7 +22,8 @@ pub(crate) fn is_swap(places: &[RowPlaces], place: usize) -> bool
     places.len() - place > 1 && places[place].number == places[place + 1].number
 }
 
-/// For each lane of a script the places at which its items begin, by one pass over what stands beside the rows. Asks memory.
+/// For each lane of a script the places at which its items begin, by one pass over what stands beside the rows. Asks
+/// memory.
 pub(crate) fn places_by_lane(
     alloc: Global,
     lanes: u32,

@@ -5,21 +5,24 @@ ghost use Rattle.dex_run.specs.LaneItems.{IsItemOf, IsRestAt};
 ghost use Rattle.dex_run.specs.Running.{AreRowsOf, CanRun, HasRun};
 ghost use Rattle.dex_turns.specs.Seats.{IsSeatOf};
 
-use crate::ahead::Ahead;
 use crate::index::is_swap;
-use crate::stay::{Doors, Stay};
+use crate::stay::Stay;
+use dex_act::PlacedRow;
+use dex_gate::Door;
 use dex_io::Pace;
 use dex_lanes::Job;
 use dex_script_facts::RowList;
+use dex_swap::swap_two;
 use dex_turns::{Bank, LaneSeat};
 use dex_types::RowPlaces;
 use std::sync::Wait;
 
-/// What all lanes look at: the bank and its doors, all rows with their places, and where the items of each lane begin.
+/// What all lanes look at: the bank with a door for each of its markets, all rows with their places, and where the
+/// items of each lane begin.
 #[derive(Clone, Copy)]
 pub(crate) struct Lanes<'a> {
     pub(crate) bank: &'a Bank,
-    pub(crate) doors: &'a Doors,
+    pub(crate) doors: &'a [Door],
     pub(crate) rows: &'a RowList,
     pub(crate) places: &'a [RowPlaces],
     pub(crate) by_lane: &'a [Vec<usize>],
@@ -43,15 +46,27 @@ impl<'a> Lanes<'a> {
             let next = place + 1;
             let first = rows.at(place);
             let second = rows.at(next);
-            bank.submit_two_at(rt, seat, first, second, &places[place], &places[next], pace);
+            let one = PlacedRow {
+                row: first,
+                places: &places[place],
+            };
+            let two = PlacedRow {
+                row: second,
+                places: &places[next],
+            };
+            swap_two(rt, bank, seat, &one, &two, pace);
         } else {
             let row = rows.at(place);
-            bank.submit_at(rt, seat, row, &places[place], pace);
+            let one = PlacedRow {
+                row,
+                places: &places[place],
+            };
+            bank.submit(rt, seat, &one, pace);
         }
     }
 
-    /// The items of the seat's lane act, in their order. Gives the sum of what was seen ahead.
-    fn submit_all<R: Wait, P: Pace>(&self, rt: &R, seat: &mut LaneSeat, pace: &P) -> usize
+    /// The items of the seat's lane act, in their order.
+    fn submit_all<R: Wait, P: Pace>(&self, rt: &R, seat: &mut LaneSeat, pace: &P)
         requires { CanRun self.now seat.old }
         ensures { HasRun self.now.bank.now seat.old seat.new }
     {
@@ -59,14 +74,11 @@ impl<'a> Lanes<'a> {
         let by_lane = self.by_lane;
         let own = &by_lane[lane];
         let mut stay = Stay::none();
-        let mut ahead = Ahead::none();
         for item in 0..own.len() {
             stay.before(rt, self, own, item);
-            ahead.before(self, own, item);
             self.submit_item(rt, seat, own[item], pace);
             stay.behind(self.doors, item);
         }
-        ahead.seen()
     }
 }
 
@@ -77,8 +89,6 @@ pub(crate) struct LaneJob<'a, R, P> {
     pub(crate) lanes: Lanes<'a>,
     pub(crate) seat: LaneSeat,
     pub(crate) pace: &'a P,
-    /// The sum of what was seen ahead. Nobody asks for it ([`Ahead`]).
-    pub(crate) seen: usize,
 }
 
 impl<'a, R: Wait, P: Pace> Job for LaneJob<'a, R, P> {
@@ -88,6 +98,6 @@ impl<'a, R: Wait, P: Pace> Job for LaneJob<'a, R, P> {
 
     fn run(&mut self) {
         let lanes = self.lanes;
-        self.seen = lanes.submit_all(self.rt, &mut self.seat, self.pace);
+        lanes.submit_all(self.rt, &mut self.seat, self.pace);
     }
 }

@@ -1,7 +1,7 @@
-//! A script's lanes side by side: the bank of the script and its lanes' seats, each lane on a thread of its own, and what they leave.
+//! A script's lanes side by side: the bank of the script and its lanes' seats, each lane on a thread of its own, and
+//! what they leave.
 #![tactic(auto)]
 
-mod ahead;
 mod building;
 mod closing;
 mod columns;

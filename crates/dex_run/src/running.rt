@@ -3,7 +3,7 @@
 ghost use Rattle.std.specs.Prelude.{◌≡◌, ◌<◌, ◌≤◌, [], All, IfOk, map, vec_capacity, vec_len};
 ghost use Rattle.std.specs.List.{AllZip};
 ghost use Rattle.dex_types.specs.Rows.{row_of};
-ghost use Rattle.dex_report.specs.Outcomes.{outcome_of};
+ghost use Rattle.dex_state.specs.Outcomes.{outcome_of};
 ghost use Rattle.dex_replay.specs.Runs.{IsOneOrder, IsRunOf};
 ghost use Rattle.dex_run.specs.Running.{CanRun, HasRun, IsJobOf};
 
@@ -11,12 +11,12 @@ use crate::building::bank_over;
 use crate::closing::close;
 use crate::index::places_by_lane;
 use crate::lane::{LaneJob, Lanes};
-use crate::stay::Doors;
+use crate::stay::doors_for;
 use dex_bank::Cells;
 use dex_io::Pace;
-use dex_lanes::{processors, run_jobs};
-use dex_report::Outcome;
+use dex_lanes::run_jobs;
 use dex_script_facts::{RowList, Script};
+use dex_state::Outcome;
 use dex_turns::{LaneSeat, Outline};
 use dex_types::{NoMemory, add};
 use std::alloc::Global;
@@ -41,7 +41,6 @@ fn jobs_of<'a, R: Wait, P: Pace>(
             lanes,
             seat,
             pace,
-            seen: 0,
         };
         add(&mut jobs, job)?;
     }
@@ -80,8 +79,8 @@ fn run_all<R: Threads + Wait + Sync, P: Pace + Sync>(
     Ok(seats_back(jobs, room))
 }
 
-/// Lets the lanes of a script act side by side, each on a thread of its own where one can be made, and gives what is left, and the
-/// rows. The script's accounts themselves go into the outcome: none is copied.
+/// Lets the lanes of a script act side by side, each on a thread of its own where one can be made, and gives what is
+/// left, and the rows. The script's accounts themselves go into the outcome: none is copied.
 pub fn run_with_rows<R: Threads + Wait + Sync, P: Pace + Sync>(
     rt: &R,
     alloc: Global,
@@ -97,7 +96,7 @@ pub fn run_with_rows<R: Threads + Wait + Sync, P: Pace + Sync>(
     let by_lane = places_by_lane(alloc, outline.lanes(), &rows, &places)?;
     let (bank, seats) = bank_over(alloc, outline, cells)?;
     let (markets, _) = bank.counts();
-    let doors = Doors::new(alloc, markets, processors(rt))?;
+    let doors = doors_for(alloc, markets)?;
     let lanes = Lanes {
         bank: &bank,
         doors: &doors,
@@ -112,7 +111,7 @@ pub fn run_with_rows<R: Threads + Wait + Sync, P: Pace + Sync>(
     }
 }
 
-/// The same without the rows.
+/// Lets the lanes of a script act side by side, and gives what is left without the rows.
 pub fn run<R: Threads + Wait + Sync, P: Pace + Sync>(
     rt: &R,
     alloc: Global,

@@ -1,14 +1,12 @@
-//! For how long a lane stays behind the doors of its items' markets. This is about time alone: each item takes all its turns by itself,
-//! with a door or without, so no clause speaks of it.
+//! For how long a lane stays behind the doors of its items' markets. This is about time alone: each item takes all its
+//! turns by itself, with a door or without, so no clause speaks of it.
 //!
-//! A lane whose next items all act on the same one or two markets comes in at the doors of these, does up to `MOST` items there, and goes
-//! out again. Meanwhile other such lanes sleep, and no turn of a market passes from one processor to another.
+//! A lane whose next items all act on the same market, or all on the same two, comes in at the doors of these, does up
+//! to `MOST` items there, and goes out again. Meanwhile other such lanes sleep, and no turn of a market passes from one
+//! processor to another. So a door holds back but items on its market, while each item behind it acts on that market.
 //!
-//! Behind these doors, or where the next items go to and fro between more markets, a lane comes in at the hall's, which has a place for
-//! each processor. So who has a turn is at work, and whoever waits for it does not wait for a processor too.
-//!
-//! Doors are taken by rising place, the hall's last, and between items, where a lane has no turn. So who waits at a door has but doors
-//! before it, and no lanes wait in a circle.
+//! Doors are taken by rising place, and between items, where a lane has no turn. So who waits at a door has but doors
+//! of lower places, and no lanes wait in a circle.
 
 use crate::index::is_swap;
 use crate::lane::Lanes;
@@ -22,158 +20,55 @@ const MOST: usize = 1024;
 /// Fewer items are not worth a door.
 const FEW: usize = 32;
 
-/// One market, or two by rising place. Of one, both places are its own.
+/// The markets of an item: one, or two by rising place. Of one, both places are its own.
 #[derive(Clone, Copy)]
 struct Markets {
     lower: usize,
     higher: usize,
 }
 
-impl Markets {
-    /// These and another, if they are no more than two.
-    fn and(self, market: usize) -> Option<Markets> {
-        let Markets { lower, higher } = self;
-        if market == lower || market == higher {
-            return Some(self);
-        }
-        if lower != higher {
-            return None;
-        }
-        Some(Markets {
-            lower: lower.min(market),
-            higher: higher.max(market),
-        })
-    }
-}
-
-/// The market of the row at a place, and these, if they are no more than two.
-fn with_row(places: &[RowPlaces], place: usize, before: Option<Markets>) -> Option<Markets> {
-    let market = places.get(place)?.market as usize;
-    match before {
-        Some(markets) => markets.and(market),
-        None => Some(Markets {
-            lower: market,
-            higher: market,
-        }),
-    }
-}
-
-/// The markets of the item that begins at a place, and these, if they are no more than two.
-fn with_item(lanes: &Lanes<'_>, place: usize, before: Option<Markets>) -> Option<Markets> {
-    let markets = with_row(lanes.places, place, before)?;
-    if place < lanes.places.len() && is_swap(lanes.places, place) {
-        with_row(lanes.places, place.wrapping_add(1), Some(markets))
+/// The markets of the item that begins at a place, where one does.
+fn markets_of(places: &[RowPlaces], place: usize) -> Option<Markets> {
+    let first = places.get(place)?.market as usize;
+    let second = if place < places.len() && is_swap(places, place) {
+        places.get(place.wrapping_add(1))?.market as usize
     } else {
-        Some(markets)
+        first
+    };
+    Some(Markets {
+        lower: first.min(second),
+        higher: first.max(second),
+    })
+}
+
+/// The markets of an item of a lane, where it has so many. `own` holds the places at which its items begin, here and
+/// below.
+fn markets_at(lanes: &Lanes<'_>, own: &[usize], item: usize) -> Option<Markets> {
+    markets_of(lanes.places, *own.get(item)?)
+}
+
+/// Whether an item of a lane acts on just these markets.
+fn acts_on(lanes: &Lanes<'_>, own: &[usize], item: usize, markets: Markets) -> bool {
+    match markets_at(lanes, own, item) {
+        Some(other) => other.lower == markets.lower && other.higher == markets.higher,
+        None => false,
     }
 }
 
-/// The doors that lanes share: one for each market, behind which one lane is at a time, and the hall's.
-#[derive(Drop)]
-pub(crate) struct Doors {
-    markets: Vec<Door>,
-    hall: Door,
+/// A door for each market. Asks memory.
+pub(crate) fn doors_for(alloc: Global, markets: usize) -> Result<Vec<Door>, NoMemory> {
+    let mut doors = Vec::new(alloc);
+    for _ in 0..markets {
+        add(&mut doors, Door::new())?;
+    }
+    Ok(doors)
 }
 
-impl Doors {
-    /// Doors for so many markets, and a hall for so many lanes. Asks memory.
-    pub(crate) fn new(alloc: Global, markets: usize, lanes: usize) -> Result<Doors, NoMemory> {
-        let mut doors = Vec::new(alloc);
-        for _ in 0..markets {
-            add(&mut doors, Door::new(1))?;
-        }
-        Ok(Doors {
-            markets: doors,
-            hall: Door::new(lanes),
-        })
-    }
-
-    /// Comes in where some items are done.
-    fn come_in<R: Wait>(&self, rt: &R, place: Place) {
-        match place {
-            Place::Anywhere => {}
-            Place::Hall => self.hall.come_in(rt),
-            Place::At(Markets { lower, higher }) => {
-                come_in_at(rt, &self.markets, lower);
-                if higher != lower {
-                    come_in_at(rt, &self.markets, higher);
-                }
-                self.hall.come_in(rt);
-            }
-        }
-    }
-
-    /// Goes out from there.
-    fn go_out(&self, place: Place) {
-        match place {
-            Place::Anywhere => {}
-            Place::Hall => self.hall.go_out(),
-            Place::At(Markets { lower, higher }) => {
-                self.hall.go_out();
-                if higher != lower {
-                    go_out_at(&self.markets, higher);
-                }
-                go_out_at(&self.markets, lower);
-            }
-        }
-    }
-}
-
-/// Where a lane does items: behind no door; in the hall; or there, behind the doors of the markets on which all of them act.
-#[derive(Clone, Copy)]
-enum Place {
-    Anywhere,
-    Hall,
-    At(Markets),
-}
-
-/// Items of a lane that act on one or two markets: before which item they end, and the markets, where the items are not too few for a
-/// door.
-#[derive(Drop)]
-struct Run {
-    end: usize,
-    markets: Option<Markets>,
-}
-
-/// The longest run from an item on, of `MOST` at most. `own` holds the places at which a lane's items begin, here and below.
-fn run_from(lanes: &Lanes<'_>, own: &[usize], first: usize) -> Run {
-    let mut end = first;
-    let mut markets = None;
-    for _ in 0..MOST {
-        let Some(place) = own.get(end) else {
-            break;
-        };
-        let Some(more) = with_item(lanes, *place, markets) else {
-            break;
-        };
-        markets = Some(more);
-        end = end.wrapping_add(1);
-    }
-    if end.wrapping_sub(first) < FEW {
-        markets = None;
-    }
-    Run { end, markets }
-}
-
-/// Before which item a lane that goes to and fro ends, or comes to a run that is worth a door, or has done `MOST`. Its first items end
-/// before a given one.
-fn mixed_end(lanes: &Lanes<'_>, own: &[usize], first: usize, few: usize) -> usize {
-    let mut end = few;
-    for _ in 0..MOST {
-        let run = run_from(lanes, own, end);
-        if run.markets.is_some() || run.end <= end || run.end.wrapping_sub(first) > MOST {
-            break;
-        }
-        end = run.end;
-    }
-    end
-}
-
-/// Items of a lane up to one, and where they are done.
+/// Items of a lane up to one, and the markets behind whose doors they are done, if they are.
 #[derive(Drop)]
 pub(crate) struct Stay {
     until: usize,
-    place: Place,
+    markets: Option<Markets>,
 }
 
 impl Stay {
@@ -181,26 +76,30 @@ impl Stay {
     pub(crate) fn none() -> Stay {
         Stay {
             until: 0,
-            place: Place::Anywhere,
+            markets: None,
         }
     }
 
-    /// The stay that begins with an item.
+    /// The items from one on that act on the same markets as this one.
     fn from(lanes: &Lanes<'_>, own: &[usize], first: usize) -> Stay {
-        let Run { end, markets } = run_from(lanes, own, first);
-        if let Some(markets) = markets {
+        let mut until = first.wrapping_add(1);
+        let Some(markets) = markets_at(lanes, own, first) else {
             return Stay {
-                until: end,
-                place: Place::At(markets),
+                until,
+                markets: None,
             };
-        }
-        let until = mixed_end(lanes, own, first, end);
-        let place = if until.wrapping_sub(first) < FEW {
-            Place::Anywhere
-        } else {
-            Place::Hall
         };
-        Stay { until, place }
+        for _ in 1..MOST {
+            if !acts_on(lanes, own, until, markets) {
+                break;
+            }
+            until = until.wrapping_add(1);
+        }
+        let worth = until.wrapping_sub(first) >= FEW;
+        Stay {
+            until,
+            markets: if worth { Some(markets) } else { None },
+        }
     }
 
     /// Before an item: comes in where a stay begins with it.
@@ -213,14 +112,30 @@ impl Stay {
     ) {
         if self.until <= item {
             *self = Stay::from(lanes, own, item);
-            lanes.doors.come_in(rt, self.place);
+            self.come_in(rt, lanes.doors);
+        }
+    }
+
+    /// Comes in at the doors of its markets.
+    fn come_in<R: Wait>(&self, rt: &R, doors: &[Door]) {
+        if let Some(Markets { lower, higher }) = self.markets {
+            come_in_at(rt, doors, lower);
+            if higher != lower {
+                come_in_at(rt, doors, higher);
+            }
         }
     }
 
     /// Behind an item: goes out where the stay ends with it.
-    pub(crate) fn behind(&self, doors: &Doors, item: usize) {
-        if item.wrapping_add(1) == self.until {
-            doors.go_out(self.place);
+    pub(crate) fn behind(&self, doors: &[Door], item: usize) {
+        if item.wrapping_add(1) != self.until {
+            return;
+        }
+        if let Some(Markets { lower, higher }) = self.markets {
+            if higher != lower {
+                go_out_at(doors, higher);
+            }
+            go_out_at(doors, lower);
         }
     }
 }

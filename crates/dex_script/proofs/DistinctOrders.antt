@@ -9,9 +9,8 @@ use Rattle.dex_types.specs.Soundness.{AreDistinct}
 use Rattle.dex_types.specs.Trader.{trader_at}
 use Rattle.dex_laws.proofs.TraderLaws.{is_same-refl}
 use Rattle.dex_orders.specs.StandsFor.{traders_of}
-use Rattle.dex_dump.specs.Accepted.{address_of, addresses_of, all_of_market, times}
-use Rattle.dex_dump.specs.Reading.{market_addresses}
-use Rattle.dex_dump.proofs.TakenLaws.{one, times-append, times-cons}
+use Rattle.dex_state.specs.Addresses.{address_of, addresses_of, all_of_market, market_addresses, times}
+use Rattle.dex_state.proofs.Times.{one, times-append, times-cons}
 
 -- an address that does not stand there has no trader
 none-at : (address : Address) (accounts : List PlainAccount) → times address (map address_of accounts) ≡ 0 → trader_at address (traders_of accounts) ≡ None

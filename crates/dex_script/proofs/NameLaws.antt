@@ -8,11 +8,13 @@ use Rattle.dex_types.specs.declared.addresses.Address.{Address}
 use Rattle.dex_types.specs.Accounts.{PlainAccount, PlainAccounts, PlainMarketAccounts}
 use Rattle.dex_types.specs.Addresses.{is_same}
 use Rattle.dex_laws.proofs.TraderLaws.{is_same-sym}
+use Rattle.dex_state.specs.Addresses.{address_of}
 use Rattle.dex_statement.specs.Stated.{PlainParties}
 use Rattle.dex_script_facts.specs.Known.{has_market, is_known_role}
 use Rattle.dex_script_facts.specs.Places.{market_place, wallet_place}
+use Rattle.dex_script.specs.declared.names.Names.{Names}
 use Rattle.dex_script.specs.declared.names.Stand.{Stand}
-use Rattle.dex_script.specs.Names.{IsRoleAt, StandAt, all_places, places_of, role_place}
+use Rattle.dex_script.specs.Names.{AreAt, AreNames, IsRoleAt, StandAt, all_places, market_address, places_of, role_place}
 use Rattle.dex_script.specs.Rows.{is_unknown}
 
 -- ---- the first place, from the last item to the first
@@ -51,6 +53,20 @@ pub from-first : {X Y : Type 0} (test : Y → Bool) (f : X → Y) (xs : List X) 
     → position_from (λ x. test (f x)) place (drop place xs) ≡ position test (map f xs)
 from-first test f xs place none =
     ap (λ (n : ℕ). position_from (λ x. test (f x)) n (drop n xs)) none ∙ sym (position-map test f 0 xs) ∙ sym (position_from-zero test (map f xs))
+
+-- ---- names of accounts
+
+-- where the first of an address stands is told by the addresses
+pub by-address : {X : Type 0} (of : X → Address) (test : Address → Bool) (xs : List X) → position test (map of xs) ≡ position (λ x. test (of x)) xs
+by-address of test xs = position_from-zero test (map of xs) ∙ position-map test of 0 xs ∙ sym (position_from-zero (λ x. test (of x)) xs)
+
+-- names of these addresses are those of all accounts that have them
+pub are-names : (names : Names) (start : PlainAccounts) (markets wallets : List Address) → AreAt names markets wallets
+    → markets ≡ map market_address start.markets → wallets ≡ map address_of start.wallets → AreNames names start
+are-names names start markets wallets at markets_are wallets_are = record {
+  markets = λ address. at.markets address ∙ ap (position (is_same address)) markets_are ∙ by-address market_address (is_same address) start.markets;
+  wallets = λ address. at.wallets address ∙ ap (position (is_same address)) wallets_are ∙ by-address address_of (is_same address) start.wallets;
+}
 
 -- ---- a place is found where a test passes
 

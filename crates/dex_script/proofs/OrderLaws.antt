@@ -7,7 +7,8 @@ use Rattle.std.proofs.lemmas.List.Quantifiers.{all_pairs_push}
 use Rattle.dex_types.specs.Accounts.{PlainAccounts}
 use Rattle.dex_types.specs.Rows.{PlainRow}
 use Rattle.dex_rows.specs.Records.{rows_of}
-use Rattle.dex_dump.specs.Accepted.{AreAccepted, HoldBytes}
+use Rattle.dex_state.specs.Accepted.{AreAccepted}
+use Rattle.dex_state.specs.Held.{HoldBytes}
 use Rattle.dex_dump.specs.Answers.{AnswersDump, PlainAnswer, next_number}
 use Rattle.dex_dump.proofs.SoFarLaws.{dump-read}
 use Rattle.dex_audit.specs.Findings.{findings}
@@ -47,7 +48,7 @@ below-more : (number next : ℕ) (rows : List PlainRow) → number ≤ next → 
 below-more number next rows later below = λ k d within. let one = below k d within in omega arith
 
 -- what known names and limits that are not passed say of a row
-known-row : (start : PlainAccounts) (number : ℕ) (draft : PlainDraft) (words : PlainInstruction) → is_unknown start words.parties ≡ false
+pub known-row : (start : PlainAccounts) (number : ℕ) (draft : PlainDraft) (words : PlainInstruction) → is_unknown start words.parties ≡ false
     → exceeds_row words ≡ false → IsRowOf start (instruction_row number draft.clock words)
 known-row start number draft words known within =
     let parties = words.parties in
@@ -77,7 +78,7 @@ in-order : (script : PlainScript) → AreRows script → AreInOrder script.start
 in-order script are = record { each = are.each; rising = are.rising; legs = are.legs; two = are.two }
 
 -- a row of this number behind the others
-push-new : (number : ℕ) (draft : PlainDraft) (one : PlainRow) → IsGood number draft → one.number ≡ number → IsRowOf draft.script.start one
+pub push-new : (number : ℕ) (draft : PlainDraft) (one : PlainRow) → IsGood number draft → one.number ≡ number → IsRowOf draft.script.start one
     → AreInOrder draft.script.start (draft.script.rows ++ one ∷ [])
 push-new number draft one good is of_start =
     push-row draft.script.start draft.script.rows one (in-order draft.script good.rows) of_start
@@ -86,7 +87,7 @@ push-new number draft one good is of_start =
     (λ place row within. let less = good.below place row (omega (arith, within)) in omega (arith, less, is))
 
 -- and one more of it, the second leg
-push-second : (number : ℕ) (draft : PlainDraft) (one other : PlainRow) → IsGood number draft → one.number ≡ number → other.number ≡ number
+pub push-second : (number : ℕ) (draft : PlainDraft) (one other : PlainRow) → IsGood number draft → one.number ≡ number → other.number ≡ number
     → IsRowOf draft.script.start one → IsRowOf draft.script.start other → AreLegs one other
     → AreInOrder draft.script.start (draft.script.rows ++ one ∷ other ∷ [])
 push-second number draft one other good is other_is of_start other_of_start legs =
@@ -104,7 +105,7 @@ push-second number draft one other good is other_is of_start other_of_start legs
     subst (AreInOrder draft.script.start) (append_assoc rows (one ∷ []) (other ∷ [])) both
 
 -- the rows of one item behind the others: `few` tells that there is room
-item-good : (number : ℕ) (draft : PlainDraft) (first : PlainRow) (others : List PlainRow) (lane : ℕ) → IsGood number draft
+pub item-good : (number : ℕ) (draft : PlainDraft) (first : PlainRow) (others : List PlainRow) (lane : ℕ) → IsGood number draft
     → is_full draft number ≡ false → All (λ (row : PlainRow). row.number ≡ number) (first ∷ others)
     → AreInOrder draft.script.start (draft.script.rows ++ first ∷ others) → lanes_of (first ∷ others) ≡ max 1 (lane + 1)
     → (draft.batch ≡ true → HasNoSwap (draft.script.rows ++ first ∷ others)) → IsGood (next_number number) (with_item draft (first ∷ others) lane)
@@ -134,7 +135,7 @@ item-good number draft first others lane good free same order lanes single =
       small = omega arith;
     }
 
-one-good : (number : ℕ) (draft after : PlainDraft) (words : PlainInstruction) → IsGood number draft → IsOneRow number draft after words
+pub one-good : (number : ℕ) (draft after : PlainDraft) (words : PlainInstruction) → IsGood number draft → IsOneRow number draft after words
     → IsGood (next_number number) after
 one-good number draft after words good row =
     let one = instruction_row number draft.clock words in
@@ -144,7 +145,7 @@ one-good number draft after words good row =
     (item-good number draft one [] words.lane good row.room (All-cons Same one [] refl (All-nil Same)) order (omega arith)
     (λ batch. all_pairs_push (λ (a b : PlainRow). a.number < b.number) draft.script.rows one (good.single batch) (λ k d inside. good.below k d inside)))
 
-two-good : (number : ℕ) (draft after : PlainDraft) (words : PlainSwap) → IsGood number draft → IsSwapRow number draft after words
+pub two-good : (number : ℕ) (draft after : PlainDraft) (words : PlainSwap) → IsGood number draft → IsSwapRow number draft after words
     → IsGood (next_number number) after
 two-good number draft after words good row =
     let start = draft.script.start in
@@ -276,7 +277,7 @@ module _ (first : PlainDraft) (number : ℕ) (before after : PlainDraft) (goes :
 
 -- ---- a script
 
-first-good : (number : ℕ) (draft : PlainDraft) → draft.script.rows ≡ [] → draft.script.lanes ≡ 1 → draft.items ≡ 0 → number ≤ 2 ^ 32 - 1
+pub first-good : (number : ℕ) (draft : PlainDraft) → draft.script.rows ≡ [] → draft.script.lanes ≡ 1 → draft.items ≡ 0 → number ≤ 2 ^ 32 - 1
     → IsGood number draft
 first-good number draft none one items small = record {
   rows = empty-rows draft.script none one;
@@ -296,7 +297,7 @@ pub record Gives (draft : PlainDraft) (script : PlainScript) : Type 0 where
   pub start : draft.is_late ≡ true → script.start ≡ draft.script.start
   pub single : draft.batch ≡ true → HasNoSwap script.rows
 
-from-rows : (number : ℕ) (draft : PlainDraft) (rows : List Fields) (script : PlainScript) → IsGood number draft
+pub from-rows : (number : ℕ) (draft : PlainDraft) (rows : List Fields) (script : PlainScript) → IsGood number draft
     → Ok script ≡ script_from draft number rows → Gives draft script
 from-rows number draft rows script good is =
     let a = bind-ok (draft_after draft number rows) last_script script (sym is) in

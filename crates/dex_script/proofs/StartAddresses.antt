@@ -18,9 +18,10 @@ use Rattle.dex_make.specs.MarketSet.{listing_of}
 use Rattle.dex_make.proofs.PartLaws.{part_apart, parts_apart}
 use Rattle.dex_sound.specs.Made.{made_market}
 use Rattle.dex_accounts.specs.StandsFor.{StandsFor}
-use Rattle.dex_dump.specs.Accepted.{address_of, addresses_of, all_of_market, times}
-use Rattle.dex_dump.specs.Reading.{is_among, market_addresses, parts_of, with_orders}
-use Rattle.dex_dump.proofs.TakenLaws.{AreApart, AreFree, one, times-append, times-cons, times-new, times-none, times-same}
+use Rattle.dex_state.specs.Addresses.{address_of, addresses_of, all_of_market, market_addresses, parts_of, times}
+use Rattle.dex_dump.specs.Reading.{is_among, with_orders}
+use Rattle.dex_state.proofs.Times.{one, times-append, times-cons, times-same}
+use Rattle.dex_dump.proofs.TakenLaws.{AreApart, AreFree, times-new, times-none}
 use Rattle.dex_script_facts.specs.Known.{has_account}
 use Rattle.dex_script.specs.Known.{is_any_among, made_addresses}
 

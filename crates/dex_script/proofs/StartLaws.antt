@@ -6,9 +6,10 @@ use Rattle.dex_types.specs.Accounts.{PlainAccount, PlainAccounts}
 use Rattle.dex_rows.specs.Records.{rows_of}
 use Rattle.dex_token.specs.MintAccount.{IsMint}
 use Rattle.dex_accounts.specs.Decoded.{AreSound}
-use Rattle.dex_audit.specs.Audited.{IsConserved}
+use Rattle.dex_state.specs.Conserved.{IsConserved}
 use Rattle.dex_audit.specs.Findings.{findings}
-use Rattle.dex_dump.specs.Accepted.{AreAccepted, HasMints, HoldBytes}
+use Rattle.dex_state.specs.Accepted.{AreAccepted, HasMints}
+use Rattle.dex_state.specs.Held.{HoldBytes}
 use Rattle.dex_statement.specs.declared.statement.Statement.{Statement}
 use Rattle.dex_statement.specs.declared.statement.Statement.TheVariants as row
 use Rattle.dex_statement.specs.Statements.{statement_of}

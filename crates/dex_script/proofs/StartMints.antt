@@ -11,7 +11,7 @@ use Rattle.dex_types.specs.Accounts.{PlainAccount}
 use Rattle.dex_types.specs.Addresses.{is_same}
 use Rattle.dex_laws.proofs.TraderLaws.{is_same-true}
 use Rattle.dex_token.specs.MintAccount.{MintWords, mint_words}
-use Rattle.dex_dump.specs.Accepted.{address_of}
+use Rattle.dex_state.specs.Addresses.{address_of}
 use Rattle.dex_script_facts.specs.Firsts.{first_of}
 use Rattle.dex_script_facts.specs.Known.{has_account}
 use Rattle.dex_script.specs.Known.{mint_at, raised, with_supply}

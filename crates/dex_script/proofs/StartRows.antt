@@ -13,7 +13,7 @@ use Rattle.dex_make.specs.MarketBytes.{made_accounts}
 use Rattle.dex_make.specs.MarketSet.{CanTrade}
 use Rattle.dex_make.specs.TokenBytes.{mint_bytes, wallet_bytes}
 use Rattle.dex_make.proofs.TokenLaws.{IsMint-made, IsWallet-made, wallet_words-made}
-use Rattle.dex_dump.specs.Accepted.{HasMints}
+use Rattle.dex_state.specs.Accepted.{HasMints}
 use Rattle.dex_dump.specs.Reading.{is_among}
 use Rattle.dex_dump.proofs.TakenLaws.{AreApart, AreFree}
 use Rattle.dex_statement.specs.Stated.{PlainMarketWords}

@@ -15,10 +15,9 @@ use Rattle.dex_token.specs.MintAccount.{IsMint, MintWords, mint_words}
 use Rattle.dex_token.specs.TokenAccount.{WalletWords, wallet_words}
 use Rattle.dex_make.specs.TokenBytes.{mint_bytes, wallet_bytes}
 use Rattle.dex_make.proofs.TokenLaws.{mint_words-made, wallet_words-made}
-use Rattle.dex_dump.specs.Accepted.{address_of, times}
-use Rattle.dex_dump.proofs.TakenLaws.{one, times-cons}
-use Rattle.dex_audit.specs.Audited.{IsConserved}
-use Rattle.dex_audit.specs.Supplies.{amount_of, in_vaults, in_wallets}
+use Rattle.dex_state.specs.Addresses.{address_of, times}
+use Rattle.dex_state.proofs.Times.{one, times-cons}
+use Rattle.dex_state.specs.Conserved.{IsConserved, amount_of, in_vaults, in_wallets}
 use Rattle.dex_script_facts.specs.Known.{has_account}
 use Rattle.dex_script.specs.Known.{mint_at, raised, with_supply}
 use Rattle.dex_script.specs.Mints.{AreMints}

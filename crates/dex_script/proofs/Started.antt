@@ -23,8 +23,8 @@ use Rattle.dex_accounts.specs.Accepted.{IsAccepted, NamesMarket}
 use Rattle.dex_accounts.specs.Decoded.{AreSound}
 use Rattle.dex_accounts.specs.StandsFor.{StandsFor}
 use Rattle.dex_accounts.proofs.Decoded.{AreSound-of}
-use Rattle.dex_dump.specs.Accepted.{AreAccepted, AreApart as NamesApart, HasMints, IsMintOf}
-use Rattle.dex_audit.specs.Audited.{IsConserved}
+use Rattle.dex_state.specs.Accepted.{AreAccepted, AreApart as NamesApart, HasMints, IsMintOf}
+use Rattle.dex_state.specs.Conserved.{IsConserved}
 use Rattle.dex_script_facts.specs.Facts.{IsStart}
 use Rattle.dex_script_facts.specs.Known.{has_account}
 use Rattle.dex_script.specs.Mints.{AreMints}

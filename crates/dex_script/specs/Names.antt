@@ -1,9 +1,10 @@
 -- The places of markets and wallets, kept for look-ups.
 use Rattle.std.specs.Prelude.{◌≡◌, ℕ, ◌≤◌, false, List, [], Option, Some, None, length}
 use Rattle.std.specs.HashMap as hash
+use Rattle.std.specs.List.{position}
 use Rattle.dex_types.specs.declared.addresses.Address.{Address}
 use Rattle.dex_types.specs.declared.rows.RowPlaces.{RowPlaces}
-use Rattle.dex_types.specs.Accounts.{PlainAccount, PlainAccounts}
+use Rattle.dex_types.specs.Accounts.{PlainAccount, PlainAccounts, PlainMarketAccounts}
 use Rattle.dex_types.specs.Addresses.{is_same}
 use Rattle.dex_statement.specs.Stated.{PlainParties}
 use Rattle.dex_script_facts.specs.Places.{AreBeside, ArePlaced, IsMarked, IsRolePlaced, market_place, wallet_place}
@@ -15,6 +16,15 @@ use Rattle.dex_script.specs.Drafts.{PlainDraft}
 pub record AreNames (names : Names) (start : PlainAccounts) : Type 0 where
   pub markets : (address : Address) → hash.get is_same names.markets address ≡ market_place address start.markets
   pub wallets : (address : Address) → hash.get is_same names.wallets address ≡ wallet_place address start.wallets
+
+-- the address of a market
+abbrev pub market_address : PlainMarketAccounts → Address
+market_address accounts = accounts.address
+
+-- they are those of markets and wallets at these addresses
+pub record AreAt (names : Names) (of_markets of_wallets : List Address) : Type 0 where
+  pub markets : (address : Address) → hash.get is_same names.markets address ≡ position (is_same address) of_markets
+  pub wallets : (address : Address) → hash.get is_same names.wallets address ≡ position (is_same address) of_wallets
 
 -- where the wallet of a role stands, if it is found; the highest number of 16 bits for a role that names none
 abbrev pub role_place : (Address → Option ℕ) → Option Address → Option ℕ

@@ -8,6 +8,8 @@ use Rattle.dex_statement.specs.Words.{Fields}
 use Rattle.dex_types.specs.Accounts.{PlainAccounts, accounts_of, named_of}
 use Rattle.dex_types.specs.Rows.{row_of}
 use Rattle.dex_statement.specs.declared.faults.FaultKind.{FaultKind}
+use Rattle.dex_statement.specs.declared.faults.RowError.{RowError}
+use Rattle.dex_statement.specs.declared.faults.RowError.TheVariants as row_error
 use Rattle.dex_statement.specs.Faults.{code_of, kind_number}
 use Rattle.dex_script_facts.specs.PlainScript.{PlainScript}
 use Rattle.dex_script.specs.declared.draft.Draft.{Draft}
@@ -65,6 +67,12 @@ TellsFront (Ok draft) number left meant =
     ((draft.is_late && not draft.is_first) ≡ true → meant ≡ draft_after draft number left)
     × ((draft.is_late && not draft.is_first) ≡ false → meant ≡ Ok draft)
 TellsFront (Err error) number left meant = TellsRefusal error meant
+
+-- behind a row without a fault this is what it gives, and behind one with a fault all is as it was. Want of memory tells nothing
+abbrev pub TellsAdded : {A : Type 0} → Result (Unit {0}) RowError → A → A → Result A FaultKind → Type 0
+TellsAdded (Ok done) old new meant = meant ≡ Ok new
+TellsAdded (Err (row_error.Fault kind)) old new meant = (meant ≡ Err kind) × (new ≡ old)
+TellsAdded (Err row_error.NoMemory) old new meant = Unit {0}
 
 -- the draft that is left behind a row, or its fault
 abbrev pub TellsLeft : Result (Unit {0}) ScriptError → PlainDraft → Result PlainDraft Refusal → Type 0

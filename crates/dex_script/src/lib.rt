@@ -20,6 +20,7 @@ mod taken;
 
 pub use dex_script_facts::Script;
 pub use fault::ScriptError;
+pub use instruction::{exceeds_row, make_room, push_placed, take_row};
 pub use laws::{
     a_dump_at_the_start_is_accepted, a_script_for_batches_has_no_swap,
     a_script_for_batches_is_one_for_every_command, a_script_starts_sound,
@@ -28,5 +29,7 @@ pub use laws::{
 pub use making::MakeMarkets;
 pub use market::DeclaredMarket;
 pub use markets::make_markets;
+pub use names::{Names, Stand};
 pub use reader::Reader;
 pub use reading::{ReadRows, read_rows, read_script, read_script_by};
+pub use swap::is_bad_swap;

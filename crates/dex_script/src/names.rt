@@ -2,52 +2,63 @@
 
 ghost use Rattle.std.specs.Prelude.{◌≡◌, ◌≤◌, cond, IfOk, OnOk, Some, length, map};
 ghost use Rattle.std.specs.HashMap as hash;
+ghost use Rattle.std.specs.List.{position};
 ghost use Rattle.dex_types.specs.declared.addresses.Address.{Address};
-ghost use Rattle.dex_types.specs.Accounts.{named_of};
 ghost use Rattle.dex_types.specs.Addresses.{is_same};
-ghost use Rattle.dex_script_facts.specs.Places.{market_place, wallet_place};
 ghost use Rattle.dex_script.specs.Names as spec;
 ghost use Rattle.dex_script.specs.Telling.{start_of};
 
 use crate::draft::Start;
 use crate::market::DeclaredMarket;
+use dex_script_facts::{addresses_of_wallets, push_address};
 use dex_statement::Parties;
-use dex_types::{Address, Named, NoMemory};
+use dex_types::{Address, NoMemory};
 use std::alloc::Global;
 use std::collections::HashMap;
 
 /// Where the market and the wallets of a row stand in the lists of those with which its script starts; `u16::MAX` for a role that
 /// names none.
 #[derive(Clone, Copy)]
-pub(crate) struct Stand {
-    pub(crate) market: u16,
-    pub(crate) coin: u16,
-    pub(crate) pc: u16,
-    pub(crate) discount: u16,
-    pub(crate) referrer: u16,
+pub struct Stand {
+    pub market: u16,
+    pub coin: u16,
+    pub pc: u16,
+    pub discount: u16,
+    pub referrer: u16,
 }
 
 /// The markets and the wallets with which a script starts, each at its place.
 #[derive(Drop)]
-pub(crate) struct Names {
-    pub(crate) markets: HashMap<Address, u16>,
-    pub(crate) wallets: HashMap<Address, u16>,
+pub struct Names {
+    pub markets: HashMap<Address, u16>,
+    pub wallets: HashMap<Address, u16>,
 }
 
 impl Names {
-    /// The names of these accounts.
-    pub(crate) fn of(alloc: Global, start: &Start) -> Result<Names, NoMemory>
-        requires { spec.AreFew (start_of start.now) }
-        ensures { IfOk result (λ names. spec.AreNames names (start_of start.now)) }
+    /// The names of markets and wallets at these addresses. Of those that stand twice the first counts.
+    pub fn of(alloc: Global, markets: &[Address], wallets: &[Address]) -> Result<Names, NoMemory>
+        requires markets { length markets.now ≤ 16 }
+        requires wallets { length wallets.now ≤ 256 }
+        ensures { IfOk result (λ names. spec.AreAt names markets.now wallets.now) }
     {
         Ok(Names {
-            markets: market_places(alloc, &start.markets)?,
-            wallets: wallet_places(alloc, &start.wallets)?,
+            markets: places_of(alloc, markets)?,
+            wallets: places_of(alloc, wallets)?,
         })
     }
 
+    /// The names of the accounts so far.
+    pub(crate) fn of_start(alloc: Global, start: &Start) -> Result<Names, NoMemory>
+        requires { spec.AreFew (start_of start.now) }
+        ensures { IfOk result (λ names. spec.AreNames names (start_of start.now)) }
+    {
+        let markets = market_addresses(alloc, &start.markets)?;
+        let wallets = addresses_of_wallets(alloc, &start.wallets)?;
+        Names::of(alloc, &markets, &wallets)
+    }
+
     /// Where the market and the wallets that an instruction row names stand, if all of them are here.
-    pub(crate) fn places_of(&self, parties: &Parties) -> Option<Stand>
+    pub fn places_of(&self, parties: &Parties) -> Option<Stand>
         ensures { result ≡ spec.places_in self.now parties.now }
     {
         Some(Stand {
@@ -89,31 +100,26 @@ fn put(places: &mut HashMap<Address, u16>, address: Address, place: u16) -> Resu
     }
 }
 
-/// The places of these wallets. It goes from the last to the first, so the first of an address counts.
-fn wallet_places(alloc: Global, wallets: &[Named]) -> Result<HashMap<Address, u16>, NoMemory>
-    requires { length wallets.now ≤ 256 }
+/// The places of these addresses. It goes from the last to the first, so the first of an address counts.
+fn places_of(alloc: Global, addresses: &[Address]) -> Result<HashMap<Address, u16>, NoMemory>
+    requires { length addresses.now ≤ 256 }
     ensures { IfOk result (λ places. (address : Address)
-        → hash.get is_same places address ≡ wallet_place address (map named_of wallets.now)) }
+        → hash.get is_same places address ≡ position (is_same address) addresses.now) }
 {
     let mut places = HashMap::new(alloc);
-    for place in (0..wallets.len()).rev() {
-        put(&mut places, wallets[place].address, place as u16)?;
+    for place in (0..addresses.len()).rev() {
+        put(&mut places, addresses[place], place as u16)?;
     }
     Ok(places)
 }
 
-/// The places of these markets, from the last to the first.
-fn market_places(
-    alloc: Global,
-    markets: &[DeclaredMarket],
-) -> Result<HashMap<Address, u16>, NoMemory>
-    requires { length markets.now ≤ 16 }
-    ensures { IfOk result (λ places. (address : Address)
-        → hash.get is_same places address ≡ market_place address markets.now) }
+/// The addresses of these markets, in their order.
+fn market_addresses(alloc: Global, markets: &[DeclaredMarket]) -> Result<Vec<Address>, NoMemory>
+    ensures { IfOk result (λ addresses. addresses.items ≡ map spec.market_address markets.now) }
 {
-    let mut places = HashMap::new(alloc);
-    for place in (0..markets.len()).rev() {
-        put(&mut places, markets[place].address(), place as u16)?;
+    let mut addresses = Vec::new(alloc);
+    for market in markets {
+        push_address(&mut addresses, market.address())?;
     }
-    Ok(places)
+    Ok(addresses)
 }

@@ -1,13 +1,12 @@
 //! A script as far as it is read, one row after the other.
 
 ghost use Rattle.std.specs.Prelude.{◌≡◌, ℕ, [], IfOk};
-ghost use Rattle.dex_statement.specs.Telling.{TellsIn};
 ghost use Rattle.dex_script_facts.specs.Facts.{IsScript};
 ghost use Rattle.dex_script.specs.Drafts.{no_rows};
 ghost use Rattle.dex_script.specs.Names.{IsReading, places_of};
 ghost use Rattle.dex_script.specs.Rows as spec;
 ghost use Rattle.dex_script.specs.Rows.{IsSetup};
-ghost use Rattle.dex_script.specs.Telling.{draft_of};
+ghost use Rattle.dex_script.specs.Telling.{TellsAdded, draft_of};
 
 use crate::draft::Draft;
 use crate::making::MakeMarkets;
@@ -56,7 +55,7 @@ impl Model for Reader {
 
 impl Reader {
     /// Before the first row.
-    pub(crate) fn new(alloc: Global, batch: bool) -> Reader
+    pub fn new(alloc: Global, batch: bool) -> Reader
         ensures { result ≡ no_rows batch }
     {
         Reader::of(alloc, Draft::new(alloc, batch))
@@ -75,7 +74,7 @@ impl Reader {
     }
 
     /// What was read, as a script.
-    pub(crate) fn into_script(self, alloc: Global) -> Result<Script, NoMemory>
+    pub fn into_script(self, alloc: Global) -> Result<Script, NoMemory>
         requires { IsScript self.script }
         ensures { IfOk result (λ script. script ≡ self.script) }
     {
@@ -115,17 +114,17 @@ impl Reader {
         Ok(wide)
     }
 
-    /// Adds what the row of this number states. Behind a fault, what is left does not matter. The words are a buffer for
-    /// those of `do` rows.
+    /// Adds what the row of this number states. Behind a fault all is as it was; where memory is wanting, what is left does
+    /// not matter. The words are a buffer for those of `do` rows.
     #[tactic(auto, unfolding(crate::specs::Rows::with_row))]
-    pub(crate) fn add_row(
+    pub fn add_row(
         &mut self,
         alloc: Global,
         number: u32,
         row: &Fields<'_>,
         words: &mut InstructionWords,
     ) -> Result<(), RowError>
-        ensures added { TellsIn result self.new (spec.with_row self.old number row.now) }
+        ensures added { TellsAdded result self.old self.new (spec.with_row self.old number row.now) }
     {
         if read_instruction(alloc, row, words)? {
             self.add_instruction(alloc, number, words)
@@ -138,7 +137,7 @@ impl Reader {
     #[inline(never)]
     #[tactic(auto, unfolding(crate::specs::Rows::with_row))]
     fn add_stated(&mut self, alloc: Global, number: u32, row: &Fields<'_>) -> Result<(), RowError>
-        ensures { TellsIn result self.new (spec.with_row self.old number row.now) }
+        ensures { TellsAdded result self.old self.new (spec.with_row self.old number row.now) }
     {
         match statement_of(alloc, row)? {
             Statement::Instruction(mut words) => self.add_instruction(alloc, number, &mut words),
@@ -154,17 +153,29 @@ impl Reader {
     /// Adds what a setup row states, or one that chooses the program. Names are made anew behind it.
     fn add_setup(&mut self, alloc: Global, statement: Statement) -> Result<(), RowError>
         requires { IsSetup statement }
-        ensures { (number : ℕ) → TellsIn result self.new (spec.with_statement self.old number statement) }
+        ensures { (number : ℕ) → TellsAdded result self.old self.new (spec.with_statement self.old number statement) }
     {
         let before = std::mem::replace(self, Reader::new(alloc, false));
         let mut draft = before.draft;
-        draft.add_setup(alloc, statement)?;
-        *self = Reader {
-            draft,
-            places: before.places,
-            names: None,
-        };
-        Ok(())
+        match draft.add_setup(alloc, statement) {
+            Ok(()) => {
+                *self = Reader {
+                    draft,
+                    places: before.places,
+                    names: None,
+                };
+                Ok(())
+            }
+            Err(RowError::Fault(kind)) => {
+                *self = Reader {
+                    draft,
+                    places: before.places,
+                    names: before.names,
+                };
+                Err(RowError::Fault(kind))
+            }
+            Err(RowError::NoMemory) => Err(RowError::NoMemory),
+        }
     }
 
     /// Adds an instruction row of this number.
@@ -175,7 +186,7 @@ impl Reader {
         number: u32,
         words: &mut InstructionWords,
     ) -> Result<(), RowError>
-        ensures { TellsIn result self.new (spec.with_instruction self.old number words.old) }
+        ensures { TellsAdded result self.old self.new (spec.with_instruction self.old number words.old) }
     {
         match self.places_of(alloc, &words.parties)? {
             Some(at) => self.draft.add_known(&mut self.places, number, words, at),
@@ -185,7 +196,7 @@ impl Reader {
 
     /// Adds a swap row of this number.
     fn add_swap(&mut self, alloc: Global, number: u32, words: SwapWords) -> Result<(), RowError>
-        ensures { TellsIn result self.new (spec.with_swap self.old number words) }
+        ensures { TellsAdded result self.old self.new (spec.with_swap self.old number words) }
     {
         let mut first = words
             .first
@@ -205,7 +216,7 @@ impl Reader {
         first: &mut InstructionWords,
         second: &mut InstructionWords,
     ) -> Result<(), RowError>
-        ensures { TellsIn result self.new (spec.with_two self.old number first.old second.old) }
+        ensures { TellsAdded result self.old self.new (spec.with_two self.old number first.old second.old) }
     {
         let Some(first_at) = self.places_of(alloc, &first.parties)? else {
             return Err(RowError::Fault(FaultKind::UnknownLabel));
@@ -238,7 +249,7 @@ impl Reader {
         ensures places { IfOk result (λ found. found ≡ places_of self.old.script.start parties.now) }
         ensures same { self.new ≡ self.old }
     {
-        let names = Names::of(alloc, &self.draft.start)?;
+        let names = Names::of_start(alloc, &self.draft.start)?;
         let found = names.places_of(parties);
         self.names = Some(names);
         Ok(found)

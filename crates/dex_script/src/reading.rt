@@ -2,7 +2,7 @@
 
 ghost use Rattle.std.specs.Prelude.{◌≡◌, ℕ, IfOk, List, OnOk, true, ⊤};
 ghost use Rattle.dex_types.specs.Accounts.{accounts_of};
-ghost use Rattle.dex_dump.specs.Accepted.{AreAccepted};
+ghost use Rattle.dex_state.specs.Accepted.{AreAccepted};
 ghost use Rattle.dex_dump.specs.Answers.{next_number};
 ghost use Rattle.dex_statement.specs.Faults.{code_of, kind_number};
 ghost use Rattle.dex_rows.specs.Records.{rows_of};

@@ -1,11 +1,10 @@
-//! Setup rows, and the row that chooses the program, behind the rows before them. Behind a fault, what is left of the
-//! draft does not matter.
+//! Setup rows, and the row that chooses the program, behind the rows before them. Behind a fault the draft is as it was;
+//! where memory is wanting, what is left of it does not matter.
 
-ghost use Rattle.std.specs.Prelude.{◌≡◌, ℕ, Ok};
-ghost use Rattle.dex_statement.specs.Telling.{TellsIn};
+ghost use Rattle.std.specs.Prelude.{◌≡◌, ℕ, OnOk};
 ghost use Rattle.dex_script.specs.Rows as spec;
 ghost use Rattle.dex_script.specs.Rows.{IsSetup};
-ghost use Rattle.dex_script.specs.Telling.{draft_of};
+ghost use Rattle.dex_script.specs.Telling.{TellsAdded, draft_of};
 
 use crate::draft::Draft;
 use crate::known::{is_among, is_any_among, made_addresses};
@@ -13,7 +12,7 @@ use crate::market::DeclaredMarket;
 use crate::markets::{add_orders, exceeds_market, orders_at, set_of};
 use dex_make::{make_orders, make_wallet};
 use dex_statement::{FaultKind, MarketWords, RowError, SetupCode, Statement};
-use dex_types::{Address, Named, OrdersAccount, Program};
+use dex_types::{Address, Named, NoMemory, OrdersAccount, Program};
 use std::alloc::Global;
 
 impl Draft {
@@ -21,7 +20,8 @@ impl Draft {
     pub(crate) fn add_setup(&mut self, alloc: Global, statement: Statement) -> Result<(), RowError>
         requires { IsSetup statement }
         ensures { (number : ℕ)
-            → TellsIn result (draft_of self.new) (spec.with_statement (draft_of self.old) number statement) }
+            → TellsAdded result (draft_of self.old) (draft_of self.new)
+            (spec.with_statement (draft_of self.old) number statement) }
     {
         match statement {
             Statement::Program(program) => self.set_program(program),
@@ -43,7 +43,8 @@ impl Draft {
     /// A `program` row.
     #[tactic(auto, unfolding(crate::specs::Rows::with_program))]
     fn set_program(&mut self, program: Program) -> Result<(), RowError>
-        ensures { TellsIn result (draft_of self.new) (spec.with_program (draft_of self.old) program) }
+        ensures { TellsAdded result (draft_of self.old) (draft_of self.new)
+            (spec.with_program (draft_of self.old) program) }
     {
         if !self.is_first {
             return Err(RowError::Fault(FaultKind::SetupRefused(SetupCode::Program)));
@@ -71,9 +72,9 @@ impl Draft {
     }
 
     /// Takes the addresses that a row declares.
-    fn take(&mut self, new: &[Address]) -> Result<(), RowError>
-        ensures { TellsIn result (draft_of self.new)
-            (Ok (spec.with_start (draft_of self.old) new.now (draft_of self.old).script.start)) }
+    fn take(&mut self, new: &[Address]) -> Result<(), NoMemory>
+        ensures { OnOk result (draft_of self.new
+            ≡ spec.with_start (draft_of self.old) new.now (draft_of self.old).script.start) }
     {
         self.taken.extend_from_slice(new)?;
         self.is_first = false;
@@ -83,17 +84,20 @@ impl Draft {
     /// A `mint` row.
     #[tactic(auto, unfolding(crate::specs::Rows::with_mint))]
     fn add_mint(&mut self, alloc: Global, address: Address, decimals: u8) -> Result<(), RowError>
-        ensures { TellsIn result (draft_of self.new) (spec.with_mint (draft_of self.old) address decimals) }
+        ensures { TellsAdded result (draft_of self.old) (draft_of self.new)
+            (spec.with_mint (draft_of self.old) address decimals) }
     {
         self.check_new(is_among(address, &self.taken), 16 <= self.start.mints.len())?;
         self.start.mints.add(alloc, address, decimals)?;
-        self.take(&[address])
+        self.take(&[address])?;
+        Ok(())
     }
 
     /// An `srm` row.
     #[tactic(auto, unfolding(crate::specs::Rows::with_srm))]
     fn name_srm(&mut self, mint: Address) -> Result<(), RowError>
-        ensures { TellsIn result (draft_of self.new) (spec.with_srm (draft_of self.old) mint) }
+        ensures { TellsAdded result (draft_of self.old) (draft_of self.new)
+            (spec.with_srm (draft_of self.old) mint) }
     {
         self.check_name(mint, self.start.srm, 6)?;
         self.start.srm = Some(mint);
@@ -104,7 +108,8 @@ impl Draft {
     /// An `msrm` row.
     #[tactic(auto, unfolding(crate::specs::Rows::with_msrm))]
     fn name_msrm(&mut self, mint: Address) -> Result<(), RowError>
-        ensures { TellsIn result (draft_of self.new) (spec.with_msrm (draft_of self.old) mint) }
+        ensures { TellsAdded result (draft_of self.old) (draft_of self.new)
+            (spec.with_msrm (draft_of self.old) mint) }
     {
         self.check_name(mint, self.start.msrm, 0)?;
         self.start.msrm = Some(mint);
@@ -147,7 +152,8 @@ impl Draft {
         owner: Address,
         amount: u64,
     ) -> Result<(), RowError>
-        ensures { TellsIn result (draft_of self.new) (spec.with_wallet (draft_of self.old) address mint owner amount) }
+        ensures { TellsAdded result (draft_of self.old) (draft_of self.new)
+            (spec.with_wallet (draft_of self.old) address mint owner amount) }
     {
         let Some(words) = self.start.mints.find(mint) else {
             return Err(RowError::Fault(FaultKind::UnknownLabel));
@@ -162,13 +168,15 @@ impl Draft {
         self.start.mints.raise(mint, amount);
         let bytes = make_wallet(alloc, mint, owner, amount)?;
         self.start.wallets.push(Named { address, bytes })?;
-        self.take(&[address])
+        self.take(&[address])?;
+        Ok(())
     }
 
     /// A `market` row.
     #[tactic(auto, unfolding(crate::specs::Rows::with_market))]
     fn add_market(&mut self, alloc: Global, words: &MarketWords) -> Result<(), RowError>
-        ensures { TellsIn result (draft_of self.new) (spec.with_market (draft_of self.old) words.now) }
+        ensures { TellsAdded result (draft_of self.old) (draft_of self.new)
+            (spec.with_market (draft_of self.old) words.now) }
     {
         if !self.start.mints.has(words.coin) || !self.start.mints.has(words.pc) {
             return Err(RowError::Fault(FaultKind::UnknownLabel));
@@ -180,7 +188,8 @@ impl Draft {
         self.start
             .markets
             .push(DeclaredMarket::of_set(alloc, set)?)?;
-        self.take(&new)
+        self.take(&new)?;
+        Ok(())
     }
 
     /// An `orders` row.
@@ -191,7 +200,8 @@ impl Draft {
         market: Address,
         address: Address,
     ) -> Result<(), RowError>
-        ensures { TellsIn result (draft_of self.new) (spec.with_orders_row (draft_of self.old) market address) }
+        ensures { TellsAdded result (draft_of self.old) (draft_of self.new)
+            (spec.with_orders_row (draft_of self.old) market address) }
     {
         let Some(count) = orders_at(market, &self.start.markets) else {
             return Err(RowError::Fault(FaultKind::UnknownLabel));
@@ -203,6 +213,7 @@ impl Draft {
             market,
             OrdersAccount { address, bytes },
         )?;
-        self.take(&[address])
+        self.take(&[address])?;
+        Ok(())
     }
 }

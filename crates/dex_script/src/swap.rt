@@ -10,7 +10,7 @@ use dex_types::{Address, Ix, is_same};
 
 /// Whether two legs are no swap of two markets: their markets are one, a wallet stands twice, or a leg is another
 /// instruction than a take.
-pub(crate) fn is_bad_swap(first: &InstructionWords, second: &InstructionWords) -> bool
+pub fn is_bad_swap(first: &InstructionWords, second: &InstructionWords) -> bool
     ensures { result ≡ spec.is_bad_swap first.now second.now }
 {
     is_same(first.parties.market, second.parties.market)

@@ -4,8 +4,7 @@ ghost use Rattle.std.specs.Prelude.{◌≡◌, ◌++◌, IfOk, OnOk, map};
 ghost use Rattle.std.specs.List.{flat_map};
 ghost use Rattle.dex_types.specs.Accounts.{accounts_of, market_accounts_of, orders_account_of};
 ghost use Rattle.dex_market.specs.MarketAccount.{IsMarket, market_words};
-ghost use Rattle.dex_dump.specs.Accepted.{address_of, addresses_of, all_of_market};
-ghost use Rattle.dex_dump.specs.Reading.{parts_of};
+ghost use Rattle.dex_state.specs.Addresses.{address_of, addresses_of, all_of_market, parts_of};
 ghost use Rattle.dex_script.specs.Markets.{AreMarkets};
 
 use dex_market::MarketRef;

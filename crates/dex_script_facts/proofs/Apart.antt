@@ -9,9 +9,9 @@ use Rattle.dex_types.specs.Accounts.{PlainAccount, PlainAccounts, PlainMarketAcc
 use Rattle.dex_types.specs.Addresses.{is_same}
 use Rattle.dex_laws.proofs.TraderLaws.{is_same-refl}
 use Rattle.dex_market.specs.MarketAccount.{market_words}
-use Rattle.dex_dump.specs.Accepted.{AreAccepted, address_of, addresses_of, all_of_market, times}
-use Rattle.dex_dump.specs.Reading.{parts_of}
-use Rattle.dex_dump.proofs.TakenLaws.{one, times-append, times-cons}
+use Rattle.dex_state.specs.Addresses.{address_of, addresses_of, all_of_market, parts_of, times}
+use Rattle.dex_state.specs.Accepted.{AreAccepted}
+use Rattle.dex_state.proofs.Times.{one, times-append, times-cons}
 
 -- no two of these are the same address
 abbrev pub AreDistinct : List Address → Type 0

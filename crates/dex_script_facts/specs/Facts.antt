@@ -5,8 +5,8 @@ use Rattle.dex_types.specs.declared.addresses.Address.{Address}
 use Rattle.dex_types.specs.Accounts.{PlainAccounts}
 use Rattle.dex_types.specs.Rows.{PlainRow}
 use Rattle.dex_accounts.specs.Decoded.{AreSound}
-use Rattle.dex_audit.specs.Audited.{IsConserved}
-use Rattle.dex_dump.specs.Accepted.{AreAccepted}
+use Rattle.dex_state.specs.Conserved.{IsConserved}
+use Rattle.dex_state.specs.Accepted.{AreAccepted}
 use Rattle.dex_instruction.specs.Reading.{decoded}
 use Rattle.dex_history.specs.Journal.{is_take_or_bad}
 use Rattle.dex_fold.specs.Fold.{is_role}

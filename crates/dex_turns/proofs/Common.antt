@@ -2,7 +2,7 @@
 pub use Rattle.dex_accounts.specs.Decoded.{market_in}
 pub use Rattle.dex_act.specs.Wallets.{Fits, SeesCells, is_among, made_of, roles_of, wallet_state_of}
 pub use Rattle.dex_cell.specs.CellState.{MarketCellState}
-pub use Rattle.dex_dump.specs.Accepted.{AreAccepted}
+pub use Rattle.dex_state.specs.Accepted.{AreAccepted}
 pub use Rattle.dex_fold.proofs.MappedLists.{All-unmap, any-here, any-there, filter-of, filter-swap, list_any-map}
 pub use Rattle.dex_fold.specs.Lists.{AllThree}
 pub use Rattle.dex_fold.specs.RowsOf.{rows_of_market, rows_of_wallet}

@@ -18,6 +18,10 @@ MarketGate = GateView (Stamped Call) MarketOrigin
 
 -- ---- one of them
 
+-- the same place, by another name
+pub at-place : {bank : BankState} {row : PlainRow} {passes : List MarketPass} {place other : ℕ} → other ≡ place → MayEnterAt bank row passes place → MayEnterAt bank row passes other
+at-place {bank} {row} {passes} same may = subst (MayEnterAt bank row passes) (sym same) may
+
 module _ (bank : BankState) (row : PlainRow) (place : ℕ) (passes : List MarketPass) (gate : MarketGate) (may : MayEnterAt bank row passes place)
     (gate_is : (default : MarketGate) → gate ≡ get_or bank.markets place default) where
   enter : (pass : MarketPass) → MayEnter bank.script row gate (get_or passes place pass)
@@ -25,6 +29,10 @@ module _ (bank : BankState) (row : PlainRow) (place : ℕ) (passes : List Market
 
   start-at : (d : PlainMarketAccounts) → gate.origin.start ≡ get_or bank.script.start.markets place d
   start-at d = ap (λ (g : MarketGate). g.origin.start) (gate_is gate) ∙ may.from d gate
+
+  -- the market of its gate
+  pub market-is : gate.origin.start.address ≡ row.market
+  market-is = ap (λ (s : PlainMarketAccounts). s.address) (start-at gate.origin.start) ∙ may.here gate.origin.start
 
   pub home-at : IsHomeAt gate place passes
   home-at = record { within = may.within.2; home = λ pass. (enter pass).home; idle = λ pass. (enter pass).idle }

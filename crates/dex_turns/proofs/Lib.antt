@@ -18,3 +18,4 @@ mod LegReplies
 mod LegSeat
 mod LegTurns
 mod TwoPlaces
+mod Exchanging

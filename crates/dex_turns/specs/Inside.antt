@@ -54,11 +54,11 @@ seat_inside inside = record {
   calls = map call_made inside.calls.items;
   last = inside.last.number;
   markets = inside.markets.items;
-  wallets = inside.wallets.items;
+  wallets = inside.wallets.passes.items;
 }
 
 -- the fields are a seat, with empty hands that have room for four cells
 pub record IsSeatKept (inside : seat.Inside) : Type 0 where
   pub seat : IsSeat (seat_inside inside)
-  pub hands : inside.hands.items ≡ []
-  pub room : 4 ≤ vec_capacity inside.hands
+  pub hands : inside.wallets.hands.items ≡ []
+  pub room : 4 ≤ vec_capacity inside.wallets.hands

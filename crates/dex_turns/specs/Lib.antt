@@ -5,3 +5,4 @@ pub mod Inside
 pub mod Outline
 pub mod Turns
 pub mod Legs
+pub mod TwoTurns

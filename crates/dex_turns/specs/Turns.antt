@@ -10,7 +10,7 @@ use Rattle.dex_types.specs.Accounts.{PlainAccount, PlainMarketAccounts}
 use Rattle.dex_types.specs.Addresses.{is_same}
 use Rattle.dex_types.specs.Market.{Market}
 use Rattle.dex_types.specs.Rows.{PlainRow}
-use Rattle.dex_types.specs.Wallets.{with_role}
+use Rattle.dex_types.specs.Wallets.{is_lower, with_address, with_role}
 use Rattle.dex_types.specs.WalletJournal.{IsWalletLegal}
 use Rattle.dex_gate.specs.AwayView.{AwayView}
 use Rattle.dex_gate.specs.GateView.{GateView}
@@ -121,6 +121,10 @@ abbrev pub HasSeenAt : ℕ → List (PassView (Stamped Call) MarketOrigin) → L
 HasSeenAt place passes calls =
     (pass : PassView (Stamped Call) MarketOrigin) → Extends (slice_index_or passes place pass).seen calls
 
+-- the market of a gate has a lower address than that of another
+abbrev pub IsBelow : GateView (Stamped Call) MarketOrigin → GateView (Stamped Call) MarketOrigin → Type 0
+IsBelow one two = is_lower one.origin.start.address two.origin.start.address ≡ true
+
 -- the turn of the market at a place is out, and the other passes are as they were
 pub record IsOutAt (gate : GateView (Stamped Call) MarketOrigin) (place : ℕ)
     (before after : List (PassView (Stamped Call) MarketOrigin)) (market : BankMarketState) : Type 0 where
@@ -149,6 +153,10 @@ AreOnce (address ∷ others) = (list_any (is_same address) others ≡ false) × 
 pub record MayName (script : PlainScript) (named : List Address) : Type 0 where
   pub known : All (λ (address : Address). has_account address script.start.wallets ≡ true) named
   pub once : AreOnce named
+
+-- the markets of two legs, by rising address
+abbrev pub leg_markets : PlainRow → PlainRow → List Address
+leg_markets first second = with_address first.market (with_address second.market [])
 
 -- the wallets that two legs name as coin and as pc, by rising address, each once. They name no others
 abbrev pub leg_wallets : PlainRow → PlainRow → List Address

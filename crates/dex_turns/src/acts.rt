@@ -47,7 +47,8 @@ pub(crate) trait Acts {
         requires named { list_any (is_same address) (named self.now) ≡ true }
         ensures { StandsWhere (placed self.now) address result };
 
-    /// Acts, with the cells of all wallets in hand. Its stamp is above this one, which no stamp of a market or wallet is above.
+    /// Acts, with the cells of all wallets in hand. Its stamp is above this one, which no stamp of a market or wallet
+    /// is above.
     fn act(
         &self,
         bank: &Bank,

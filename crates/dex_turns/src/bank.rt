@@ -13,7 +13,8 @@ use dex_journals::{BankMarket, BankWallet};
 use dex_types::{Address, Named, Program};
 use std::marker::Model;
 
-/// The markets and wallets of a script, each behind a gate of its own, so that lanes act on them side by side. Every lane has a seat.
+/// The markets and wallets of a script, each behind a gate of its own, so that lanes act on them side by side. Every
+/// lane has a seat.
 #[derive(Drop)]
 pub struct Bank {
     pub(crate) outline: Outline,

@@ -1,6 +1,6 @@
 //! The two legs of a swap, under the turns of all that they act on.
 
-ghost use Rattle.std.specs.Prelude.{max};
+ghost use Rattle.std.specs.Prelude.{◌≡◌, max};
 ghost use Rattle.dex_types.specs.Rows.{row_of};
 ghost use Rattle.dex_turns.specs.Legs.{legs_written, one_made, two_made};
 ghost use Rattle.dex_turns.specs.Turns.{AreLegsPlaced, HaveLegsActed, MayCallBoth, leg_wallets};
@@ -37,6 +37,29 @@ pub(crate) struct SwapLegs<'a, P> {
     pub(crate) first_places: &'a RowPlaces,
     pub(crate) second_places: &'a RowPlaces,
     pub(crate) pace: &'a P,
+}
+
+impl<'a, P: Pace> SwapLegs<'a, P> {
+    /// Two legs, and the places of their markets and wallets.
+    pub(crate) fn of(
+        first: &'a Row,
+        second: &'a Row,
+        first_places: &'a RowPlaces,
+        second_places: &'a RowPlaces,
+        pace: &'a P,
+    ) -> SwapLegs<'a, P>
+        ensures rows { (result.first.now ≡ first.entry.now) × (result.second.now ≡ second.entry.now) }
+        ensures first { result.first_places.now ≡ first_places.now }
+        ensures second { result.second_places.now ≡ second_places.now }
+    {
+        SwapLegs {
+            first,
+            second,
+            first_places,
+            second_places,
+            pace,
+        }
+    }
 }
 
 impl<'a, P: Pace> Acts for SwapLegs<'a, P> {

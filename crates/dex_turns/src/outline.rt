@@ -8,6 +8,7 @@ ghost use Rattle.dex_script_facts.specs.Facts.{IsRowOf};
 ghost use Rattle.dex_script_facts.specs.Known.{has_market, is_known_role};
 ghost use Rattle.dex_script_facts.specs.Places.{IsPlaced, IsRolePlaced, market_place};
 
+use dex_act::AsRow;
 use dex_script_facts::{Script, addresses_of_markets, addresses_of_wallets};
 use dex_stage::Terms;
 use dex_stamps::Kept;
@@ -15,8 +16,8 @@ use dex_types::{Address, NoMemory, Row, RowPlaces, is_same};
 use std::alloc::Global;
 use std::marker::Model;
 
-/// What a bank keeps of its script beside the cells: how many lanes it has, what its rows see beside their wallets, and the addresses of
-/// its markets and wallets.
+/// What a bank keeps of its script beside the cells: how many lanes it has, what its rows see beside their wallets, and
+/// the addresses of its markets and wallets.
 #[derive(Drop)]
 pub struct Outline {
     pub(crate) lanes: u32,
@@ -69,8 +70,21 @@ impl Outline {
         self.script.same()
     }
 
-    /// What stands beside a row: its number, its lane, and the places of its market and wallets among those of the script.
-    pub(crate) fn places_of(&self, row: &Row) -> RowPlaces
+    /// What stands beside a row: its number, its lane, and the places of its market and wallets among those of the
+    /// script.
+    pub(crate) fn places_of<W: AsRow>(&self, row: &W) -> RowPlaces
+        requires row { IsRowOf self.now.start (row_of (W.is row.now)) }
+        requires placed { IfSome (W.at row.now) (IsPlaced self.now.start (row_of (W.is row.now))) }
+        ensures { IsPlaced self.now.start (row_of (W.is row.entry.now)) result }
+    {
+        match row.places() {
+            Some(places) => places,
+            None => self.look_up(row.row()),
+        }
+    }
+
+    // The places of a row, looked up.
+    fn look_up(&self, row: &Row) -> RowPlaces
         requires { IsRowOf self.now.start (row_of row.now) }
         ensures { IsPlaced self.now.start (row_of row.entry.now) result }
     {

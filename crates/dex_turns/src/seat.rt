@@ -9,22 +9,27 @@ use crate::stamped_record::StampedRecord;
 use dex_gate::Pass;
 use dex_journals::{BankMarket, BankWallet};
 use dex_script_facts::Script;
-use dex_stamps::{Kept, Stamp};
+use dex_stamps::{Kept, Log, Stamp};
 use dex_types::{NoMemory, Row};
 use dex_wallet::WalletCell;
-use http_server::Log as CallLog;
 use std::alloc::Global;
 use std::marker::Model;
 
-/// A lane's seat at a bank: its passes for all markets and wallets, and what it made, which are its lane's first rows, each done
-/// once, in their order. One thread at a time uses it.
+/// A lane's passes for all wallets, and the cells of those whose turns it has.
+#[derive(Drop)]
+pub(crate) struct WalletPasses {
+    pub(crate) passes: Vec<Pass<BankWallet>>,
+    pub(crate) hands: Vec<WalletCell>,
+}
+
+/// A lane's seat at a bank: its passes for all markets and wallets, and what it made, which are its lane's first rows,
+/// each done once, in their order. One thread at a time uses it.
 #[derive(Drop)]
 pub struct LaneSeat {
     pub(crate) lane: u32,
     pub(crate) markets: Vec<Pass<BankMarket>>,
-    pub(crate) wallets: Vec<Pass<BankWallet>>,
-    pub(crate) hands: Vec<WalletCell>,
-    pub(crate) calls: CallLog<Row, StampedRecord>,
+    pub(crate) wallets: WalletPasses,
+    pub(crate) calls: Log<Row, StampedRecord>,
     pub(crate) last: Stamp,
     pub(crate) script: Kept<Script>,
 }
@@ -56,9 +61,11 @@ impl LaneSeat {
         Ok(LaneSeat {
             lane,
             markets,
-            wallets,
-            hands: Vec::with_capacity(alloc, 4)?,
-            calls: CallLog::new(),
+            wallets: WalletPasses {
+                passes: wallets,
+                hands: Vec::with_capacity(alloc, 4)?,
+            },
+            calls: Log::new(),
             last: Stamp::first(),
             script: outline.kept(),
         })
@@ -75,7 +82,7 @@ impl LaneSeat {
             wallets,
             ..
         } = self;
-        (markets, wallets)
+        (markets, wallets.passes)
     }
 
     /// The number of the lane.

@@ -5,8 +5,8 @@ ghost use Rattle.std.specs.Prelude.{◌≡◌};
 use dex_stamps::{Kept, Stamp};
 use dex_types::{Entry, Reply, Seen};
 
-/// What the row of a call saw and the entry that it made in its market's journal, which only clauses read, the entry's reply, and
-/// its stamp.
+/// What the row of a call saw and the entry that it made in its market's journal, which only clauses read, the entry's
+/// reply, and its stamp.
 #[derive(Drop)]
 pub struct StampedRecord {
     pub seen: Kept<Seen>,

@@ -1,18 +1,23 @@
 //! The turns of two markets: both waited for, and left.
 
-ghost use Rattle.std.specs.Prelude.{◌≡◌, ◌<◌, ◌≤◌, ◌++◌, Some, length, slice_index_or, slice_set};
+ghost use Rattle.std.specs.Prelude.{◌≡◌, ◌<◌, ◌≤◌, length, slice_index_or, slice_set};
 ghost use Rattle.dex_gate.specs.declared.stage.Stage.TheVariants.{Idle};
 ghost use Rattle.dex_gate.specs.PassView.{PassView};
 ghost use Rattle.dex_history.specs.Journal.{Call};
 ghost use Rattle.dex_journals.specs.Journals.{MarketOrigin, market_calls};
 ghost use Rattle.dex_stamps.specs.Stamped.{Stamped};
-ghost use Rattle.dex_turns.specs.Turns.{AreOutAt, HasSeenAt, IsAwayFor, IsHomeAt, IsOutAt, MayLeaveAt, left_with};
+ghost use Rattle.dex_gate.specs.GateView.{GateView};
+ghost use Rattle.dex_turns.specs.Submitted.{Where};
+ghost use Rattle.dex_turns.specs.TwoTurns.{HaveTaken, exchanged};
+ghost use Rattle.dex_turns.specs.Turns.{HasSeenAt, IsAwayFor, IsBelow, IsHomeAt, IsOutAt, MayLeaveAt, left_with};
 
+use crate::bank::Bank;
 use crate::legs::TwoMarkets;
 use crate::turns::take_market;
 use dex_gate::{Away, Gate, Pass};
 use dex_journals::BankMarket;
 use dex_stamps::Stamp;
+use dex_types::RowPlaces;
 use std::sync::Wait;
 
 /// The markets of two legs, what stays behind of their turns, and a stamp that none of theirs is above.
@@ -23,7 +28,8 @@ pub(crate) struct TwoTurns {
     pub(crate) stamp: Stamp,
 }
 
-/// Waits for the turn of the market at a place, and takes it out. The stamp is the later of this one and the market's last.
+/// Waits for the turn of the market at a place, and takes it out. The stamp is the later of this one and the market's
+/// last.
 fn take_at<R: Wait>(
     rt: &R,
     gate: &Gate<BankMarket>,
@@ -40,51 +46,100 @@ fn take_at<R: Wait>(
     take_market(rt, gate, &mut passes[place], last)
 }
 
-/// Waits for the turns of the markets at two places, the first of the legs' first where that is said, and takes them out.
+/// A market's gate, and its place among all.
+#[derive(Clone, Copy)]
+pub(crate) struct Entrance<'a> {
+    pub(crate) gate: &'a Gate<BankMarket>,
+    pub(crate) place: usize,
+}
+
+impl<'a> Entrance<'a> {
+    /// That of the market at a row's place.
+    pub(crate) fn at(bank: &'a Bank, places: &RowPlaces) -> Entrance<'a>
+        requires { places.now.market < length bank.now.markets }
+        ensures gate { (default : GateView (Stamped Call) MarketOrigin) → result.gate.now
+            ≡ slice_index_or bank.now.markets result.place default }
+        ensures place { result.place ≡ places.now.market }
+    {
+        let place = places.market as usize;
+        Entrance {
+            gate: bank.market_gate(place),
+            place,
+        }
+    }
+}
+
+/// Waits for the turns of two markets, the lower address first, and takes them out.
+fn take_rising<R: Wait>(
+    rt: &R,
+    lower: Entrance<'_>,
+    higher: Entrance<'_>,
+    passes: &mut Vec<Pass<BankMarket>>,
+    last: &Stamp,
+) -> TwoTurns
+    requires order { IsBelow lower.gate.now higher.gate.now }
+    requires apart { lower.place ≡ higher.place → ⊥ }
+    requires home { IsHomeAt lower.gate.now lower.place passes.old.items }
+    requires home_next { IsHomeAt higher.gate.now higher.place passes.old.items }
+    ensures { HaveTaken lower.entry.gate.now higher.entry.gate.now lower.entry.place higher.entry.place
+        passes.old.items passes.new.items last.now.number result }
+{
+    let (market, away, stamp) = take_at(rt, lower.gate, passes, lower.place, last);
+    let (market_next, away_next, later) = take_at(rt, higher.gate, passes, higher.place, &stamp);
+    TwoTurns {
+        markets: TwoMarkets {
+            first: market,
+            second: market_next,
+        },
+        first: away,
+        second: away_next,
+        stamp: later,
+    }
+}
+
+/// Waits for the turns of the markets of two legs, by rising address, and takes them out. `in_order` is whether the
+/// first leg's has the lower one.
 pub(crate) fn take_two<R: Wait>(
     rt: &R,
-    one: &Gate<BankMarket>,
-    two: &Gate<BankMarket>,
+    one: Entrance<'_>,
+    two: Entrance<'_>,
     passes: &mut Vec<Pass<BankMarket>>,
-    place: usize,
-    next: usize,
     in_order: bool,
     last: &Stamp,
 ) -> TwoTurns
-    requires apart { place ≡ next → ⊥ }
-    requires home { IsHomeAt one.now place passes.old.items }
-    requires home_next { IsHomeAt two.now next passes.old.items }
-    ensures out { AreOutAt one.now two.now place next passes.old.items passes.new.items
-        result.markets.first result.markets.second }
-    ensures away { IsAwayFor one.now place passes.old.items result.markets.first result.first }
-    ensures away_next { IsAwayFor two.now next passes.old.items result.markets.second result.second }
-    ensures market { result.markets.first.last ≤ result.stamp.number }
-    ensures market_next { result.markets.second.last ≤ result.stamp.number }
-    ensures stamp { last.now.number ≤ result.stamp.number }
+    requires order { Where in_order (IsBelow one.gate.now two.gate.now) (IsBelow two.gate.now one.gate.now) }
+    requires apart { one.place ≡ two.place → ⊥ }
+    requires home { IsHomeAt one.gate.now one.place passes.old.items }
+    requires home_next { IsHomeAt two.gate.now two.place passes.old.items }
+    ensures { HaveTaken one.entry.gate.now two.entry.gate.now one.entry.place two.entry.place
+        passes.old.items passes.new.items last.now.number result }
 {
     if in_order {
-        let (market, away, stamp) = take_at(rt, one, passes, place, last);
-        let (market_next, away_next, later) = take_at(rt, two, passes, next, &stamp);
-        TwoTurns {
-            markets: TwoMarkets {
-                first: market,
-                second: market_next,
-            },
-            first: away,
-            second: away_next,
-            stamp: later,
-        }
+        take_rising(rt, one, two, passes, last)
     } else {
-        let (market_next, away_next, stamp) = take_at(rt, two, passes, next, last);
-        let (market, away, later) = take_at(rt, one, passes, place, &stamp);
-        TwoTurns {
-            markets: TwoMarkets {
-                first: market,
-                second: market_next,
-            },
+        take_rising(rt, two, one, passes, last).exchanged()
+    }
+}
+
+impl TwoTurns {
+    /// These turns, the other market's first.
+    fn exchanged(self) -> TwoTurns
+        ensures { result ≡ exchanged self }
+    {
+        let TwoTurns {
+            markets: TwoMarkets { first, second },
             first: away,
             second: away_next,
-            stamp: later,
+            stamp,
+        } = self;
+        TwoTurns {
+            markets: TwoMarkets {
+                first: second,
+                second: first,
+            },
+            first: away_next,
+            second: away,
+            stamp,
         }
     }
 }

@@ -57,7 +57,7 @@ fn act_or_hold(
     }
 }
 
-/// The same, and this is what is told of the row.
+/// A row acts or is held back, and this is what is told of it.
 pub(crate) fn act_or_wait(
     market: &mut BankMarket,
     hands: &mut Vec<WalletCell>,

@@ -8,5 +8,5 @@ mod account;
 mod parcel;
 mod wallet_cell;
 
-pub use parcel::{Parcel, Share};
+pub use parcel::Parcel;
 pub use wallet_cell::WalletCell;

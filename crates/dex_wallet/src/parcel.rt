@@ -96,10 +96,10 @@ impl Parcel {
     }
 }
 
-/// A parcel that a cell keeps. It is given up where the cell is dropped.
+/// The parcel of a wallet's cell. It is given up where the cell is dropped.
 #[derive(Debug)]
-pub struct Share {
-    pub parcel: Parcel,
+pub(crate) struct Share {
+    pub(crate) parcel: Parcel,
 }
 
 impl Drop for Share {

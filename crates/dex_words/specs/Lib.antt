@@ -1,3 +1,4 @@
 pub mod Commands
 pub mod Positionals
 pub mod Spelling
+pub mod Threads

@@ -27,9 +27,3 @@ IsWithin (Bulk number rows) = AreMade number rows
 IsWithin (Migrate nodes events) = (1 ≤ nodes) × (nodes ≤ 65536) × (1 ≤ events) × (events ≤ 65535)
 IsWithin (Batch workers) = (1 ≤ workers) × (workers ≤ 16)
 IsWithin _ = ⊤
-
--- the command acts on one thread: it waits for nobody
-abbrev pub IsPlain : Command → Type 0
-IsPlain Run = ⊥
-IsPlain (Batch workers) = ⊥
-IsPlain _ = ⊤

@@ -6,5 +6,5 @@ pub mod laws;
 mod positionals;
 mod reading;
 
-pub use command::{Command, WordsError};
+pub use command::{Command, PlainCommand, ThreadedCommand, WordsError};
 pub use reading::read_words;

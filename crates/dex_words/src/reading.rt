@@ -7,17 +7,12 @@ ghost use Rattle.dex_words.specs.Commands.{begins_with_hyphen, command_of, count
 ghost use Rattle.dex_words.specs.Commands.{single_command};
 ghost use Rattle.dex_words.specs.Positionals.{given_command};
 
+use crate::command::{MOST_EVENTS, MOST_NODES, MOST_ROWS};
 use crate::positionals::{FIRST, NAME, SECOND, placed};
 use crate::{Command, WordsError};
 use dex_rows::numbers::{u32_word, u64_word};
 use std::alloc::Global;
 
-/// The most rows of a made script.
-const MOST_ROWS: u32 = 20_000;
-/// The most nodes of a side.
-const MOST_NODES: u32 = 65_536;
-/// The most events of an event queue.
-const MOST_EVENTS: u32 = 65_535;
 /// The most threads of a batch.
 const MOST_WORKERS: u32 = 16;
 

@@ -15,7 +15,7 @@ use Rattle.dex_eager.specs.Histories.{Deal, counted, deals, eager_end, eager_sta
 use Rattle.dex_eager.specs.Worth.{Worth, no_moves}
 use Rattle.dex_eager.proofs.DelayLaws.{deals-after, history-fills, history-market}
 use Rattle.dex_replay.specs.Lawful.{AllThree, IsLawful}
-use Rattle.dex_report.specs.Outcomes.{PlainMarketJournal, PlainOutcome}
+use Rattle.dex_state.specs.Outcomes.{PlainMarketJournal, PlainOutcome}
 use Rattle.dex_script_facts.specs.PlainScript.{PlainScript}
 use Rattle.dex_script_facts.specs.Facts.{IsScript}
 use Rattle.dex_replay.specs.EntryCalls.{TellsHistory, calls_told}

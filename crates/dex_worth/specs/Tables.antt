@@ -8,7 +8,7 @@ use Rattle.dex_types.specs.Trader.{Trader}
 use Rattle.dex_accounts.specs.Decoded.{market_in}
 use Rattle.dex_accounts.specs.StandsFor.{StandsFor}
 use Rattle.dex_history.specs.Journal.{Call, market_after}
-use Rattle.dex_report.specs.Outcomes.{PlainMarketJournal}
+use Rattle.dex_state.specs.Outcomes.{PlainMarketJournal}
 use Rattle.dex_script_facts.specs.PlainScript.{PlainScript}
 use Rattle.dex_replay.specs.EntryCalls.{TellsHistory, calls_told}
 use Rattle.dex_replay.specs.WorthTold.{PlainWorthRow, calls_of, rows_told}

@@ -19,7 +19,7 @@ ghost use Rattle.dex_replay.specs.Told as book;
 use crate::amounts::{Amounts, NONE, add, on_side, zeros};
 use crate::rows::place_of;
 use dex_instruction::decode;
-use dex_report::MarketJournal;
+use dex_state::MarketJournal;
 use dex_types::{Address, Entry, Ix, MoveKind, Movement, NoMemory, Reply, Row, Side};
 use std::alloc::Global;
 

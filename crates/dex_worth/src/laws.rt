@@ -8,7 +8,7 @@ ghost use Rattle.dex_accounts.specs.Decoded.{market_in};
 ghost use Rattle.dex_replay.specs.EntryCalls.{TellsHistory};
 ghost use Rattle.dex_eager.specs.Histories.{deals, eager_end};
 ghost use Rattle.dex_replay.specs.Lawful.{AllThree, IsLawful};
-ghost use Rattle.dex_report.specs.Outcomes.{PlainMarketJournal, PlainOutcome};
+ghost use Rattle.dex_state.specs.Outcomes.{PlainMarketJournal, PlainOutcome};
 ghost use Rattle.dex_script_facts.specs.Facts.{IsScript};
 ghost use Rattle.dex_script_facts.specs.PlainScript.{PlainScript};
 ghost use Rattle.dex_replay.specs.WorthTold.{rows_told, table_told, worths_told};

@@ -11,7 +11,7 @@ ghost use Rattle.dex_types.specs.Rows.{PlainRow, row_of};
 ghost use Rattle.dex_accounts.specs.Accepted.{IsAccepted};
 ghost use Rattle.dex_replay.specs.Lawful.{AllThree, IsLawful};
 ghost use Rattle.dex_replay.specs.WorthTold.{rows_told, table_told, tables_told};
-ghost use Rattle.dex_report.specs.Outcomes.{market_journal_of, outcome_of};
+ghost use Rattle.dex_state.specs.Outcomes.{market_journal_of, outcome_of};
 ghost use Rattle.dex_script_facts.specs.PlainScript.{PlainScript};
 ghost use Rattle.dex_script_facts.specs.Facts.{IsScript};
 ghost use Rattle.dex_worth.specs.declared.amounts.Amounts.{Amounts as AmountsOf};
@@ -23,7 +23,7 @@ use crate::amounts::Amounts;
 use crate::entries::ledger_of;
 use crate::holdings::held_of;
 use dex_replay::calls::an_entry_tells_its_call;
-use dex_report::{MarketJournal, Outcome};
+use dex_state::{MarketJournal, Outcome};
 use dex_types::{Address, MarketAccounts, NoMemory, OrdersAccount, Row};
 use std::alloc::Global;
 

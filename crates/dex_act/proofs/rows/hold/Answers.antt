@@ -12,7 +12,7 @@ probes-requires c =
     probes-behind c.args.row.now c.args.seen.now c.args.market.now c.args.wallets.now c.args.wallets.now c.requires.wallets no_transfers
     (idle-moves c.args.row.now c.args.seen.now c.args.market.now c.args.wallets.now c.requires.row c.requires.market)
     (nothing-paid c.args.row.now c.args.seen.now c.args.market.now c.args.wallets.now c.requires.row c.requires.market) c.last-entry.result.now.moves
-    (ap (λ (e : Entry). e.moves) (c.last-entry.ensures c.args.market.now.calls (held_made (row_of c.args.row.now) c.args.seen.now) (ap (λ (m : MarketCellState). m.calls) c.idle.ensures.held.held)))
+    (ap (λ (e : Entry). e.moves) (c.last-entry.ensures c.args.market.now.calls (held_made (row_of c.args.row.now) c.args.seen.now) (ap (λ (m : MarketCellState). m.calls) c.idle-reply.ensures.held.held)))
     c.args.places.now (seen-at c.args.row.now c.args.seen.now c.args.market.now c.args.wallets.now c.args.places.now c.requires.row c.requires.places)
 
 -- what wallets' cells are then
@@ -23,7 +23,7 @@ have c =
     (probed-behind c.args.row.now c.args.seen.now c.args.market.now c.args.wallets.now c.args.wallets.now c.requires.wallets no_transfers
     (idle-moves c.args.row.now c.args.seen.now c.args.market.now c.args.wallets.now c.requires.row c.requires.market)
     (nothing-paid c.args.row.now c.args.seen.now c.args.market.now c.args.wallets.now c.requires.row c.requires.market) c.last-entry.result.now.moves
-    (ap (λ (e : Entry). e.moves) (c.last-entry.ensures c.args.market.now.calls (held_made (row_of c.args.row.now) c.args.seen.now) (ap (λ (m : MarketCellState). m.calls) c.idle.ensures.held.held)))
+    (ap (λ (e : Entry). e.moves) (c.last-entry.ensures c.args.market.now.calls (held_made (row_of c.args.row.now) c.args.seen.now) (ap (λ (m : MarketCellState). m.calls) c.idle-reply.ensures.held.held)))
     c.probes.new.cells c.probes.ensures)
 
 pub returns-clause-states : goal.returns-clause-states

@@ -3,7 +3,7 @@ use Rattle.dex_answers.specs.declared.status.Status.TheVariants as status
 use Rattle.dex_answers.proofs.AnswerLaws.{found-some}
 use Rattle.dex_answers.proofs.TextLaws.{says}
 use Rattle.dex_answers.proofs.played.no_script.Goals as goal
-use Rattle.dex_lines.specs.Lines as lines
+use Rattle.dex_refusal_lines.specs.Lines as lines
 use Rattle.std.proofs.Common.{refl}
 
 pub returns-in-Audit : goal.returns-in-Audit

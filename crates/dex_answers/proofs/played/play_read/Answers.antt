@@ -1,5 +1,5 @@
 use Rattle.std.proofs.Common.{◌≡◌, subst}
-use Rattle.dex_report.specs.Outcomes.{PlainOutcome, outcome_of}
+use Rattle.dex_state.specs.Outcomes.{PlainOutcome, outcome_of}
 use Rattle.dex_script_facts.specs.PlainScript.{PlainScript}
 use Rattle.dex_script_facts.specs.Facts.{IsScript}
 use Rattle.dex_answers.specs.Answers.{rows_told}

@@ -1,6 +1,6 @@
 use Rattle.std.proofs.Common.{subst}
 use Rattle.dex_words.specs.declared.command.Command.TheVariants.{Replay}
-use Rattle.dex_report.specs.Outcomes.{outcome_of}
+use Rattle.dex_state.specs.Outcomes.{outcome_of}
 use Rattle.dex_report.specs.Telling.{FitOutcome}
 use Rattle.dex_answers.specs.Answers.{Answers}
 use Rattle.dex_answers.specs.Telling.{TellsPlayed}

@@ -2,7 +2,7 @@ use Rattle.std.proofs.Common.{◌+◌, get_or, map, sym, ap, ◌∙◌, arith}
 use Rattle.std.proofs.lemmas.List.{length-map}
 use Rattle.dex_types.specs.Accounts.{PlainMarketAccounts, market_accounts_of}
 use Rattle.dex_accounts.specs.Accepted.{IsAccepted}
-use Rattle.dex_audit.specs.Supplies.{amount_of}
+use Rattle.dex_state.specs.Conserved.{amount_of}
 use Rattle.dex_audit.proofs.SupplyLaws.{all-map, here-map}
 use Rattle.dex_tallies.proofs.SumLaws.{capped-exact, capped-total}
 use Rattle.dex_audit.proofs.supplies.in_vaults.Goals as goal

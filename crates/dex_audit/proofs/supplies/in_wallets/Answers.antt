@@ -3,7 +3,7 @@ use Rattle.std.proofs.lemmas.List.{length-map}
 use Rattle.dex_types.specs.declared.account_bytes.Named.{Named}
 use Rattle.dex_types.specs.Accounts.{PlainAccount, named_of}
 use Rattle.dex_token.specs.TokenAccount.{IsWallet}
-use Rattle.dex_audit.specs.Supplies.{amount_of}
+use Rattle.dex_state.specs.Conserved.{amount_of}
 use Rattle.dex_audit.proofs.SupplyLaws.{all-map, here-map}
 use Rattle.dex_tallies.proofs.SumLaws.{capped-exact, capped-total}
 use Rattle.dex_audit.proofs.supplies.in_wallets.Goals as goal

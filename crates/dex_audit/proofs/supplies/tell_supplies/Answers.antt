@@ -2,7 +2,8 @@ use Rattle.std.proofs.Common.{◌++◌, map, sym, subst, ap, ◌∙◌, arith}
 use Rattle.std.proofs.lemmas.List.{length-map}
 use Rattle.dex_types.specs.Accounts.{PlainAccount, accounts_of, named_of}
 use Rattle.dex_token.specs.MintAccount.{IsMint, mint_words}
-use Rattle.dex_audit.specs.Supplies.{held_of, supply_off}
+use Rattle.dex_state.specs.Conserved.{held_of}
+use Rattle.dex_audit.specs.Supplies.{supply_off}
 use Rattle.dex_audit.proofs.SupplyLaws.{all-map, here-map}
 use Rattle.dex_audit_rules.specs.Funds.{differs}
 use Rattle.dex_audit_rules.proofs.ListLaws.{joined-more}

@@ -1,5 +1,5 @@
 use Rattle.std.proofs.Common.{Result, Ok, Err, IfOk, subst}
-use Rattle.dex_report.specs.Outcomes.{outcome_of}
+use Rattle.dex_state.specs.Outcomes.{outcome_of}
 use Rattle.dex_script_facts.specs.Facts.{IsScript}
 use Rattle.dex_batch.proofs.running.run_batch_with_rows.Goals as goal
 

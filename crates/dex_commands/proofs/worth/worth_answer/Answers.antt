@@ -4,7 +4,7 @@ use Rattle.std.proofs.lemmas.Result.{IfOk-weaker}
 use Rattle.dex_types.specs.Accounts.{market_accounts_of}
 use Rattle.dex_types.specs.Rows.{row_of}
 use Rattle.dex_words.specs.declared.command.Command.TheVariants.{Worth}
-use Rattle.dex_report.specs.Outcomes.{PlainOutcome, outcome_of}
+use Rattle.dex_state.specs.Outcomes.{PlainOutcome, outcome_of}
 use Rattle.dex_script_facts.specs.PlainScript.{PlainScript}
 use Rattle.dex_script_facts.specs.Facts.{IsScript}
 use Rattle.dex_replay.specs.Runs.{IsRunOf}
@@ -12,6 +12,7 @@ use Rattle.dex_replay.specs.WorthTold.{table_told}
 use Rattle.dex_replay.specs.WorthText.{worth_text}
 use Rattle.dex_answers.specs.Answers.{Answers, IsPlayed}
 use Rattle.dex_answers.specs.Telling.{IsText}
+use Rattle.dex_answers.specs.Told.{text_of}
 use Rattle.dex_answers.specs.declared.status.Status.TheVariants as status
 use Rattle.dex_answers.proofs.AnswerLaws.{no-worth}
 use Rattle.dex_answers.proofs.PairLaws.{played}
@@ -44,4 +45,4 @@ returns-in_ok-outcome-in-Ok c =
 pub returns-in-Err : goal.returns-in-Err
 returns-in-Err c =
     let bytes : List ℕ = c.args.bytes.now in
-    IfOk-weaker c.no_script.result _ _ (λ told why. no-worth bytes told.status told.text.items why) (c.no_script.ensures false bytes c.in-Err.ensures.told)
+    IfOk-weaker c.no_script.result _ _ (λ told why. no-worth bytes told.status (text_of told) why) (c.no_script.ensures false bytes c.in-Err.ensures.told)

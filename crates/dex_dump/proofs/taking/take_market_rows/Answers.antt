@@ -1,7 +1,7 @@
 use Rattle.std.proofs.Common.{[], ◌∷◌, ◌++◌, ◌∙◌, All, List, ℕ, ap, append_assoc, map, subst}
 use Rattle.dex_types.specs.declared.account_bytes.OrdersAccount.{OrdersAccount}
 use Rattle.dex_types.specs.Accounts.{market_accounts_of, orders_account_of}
-use Rattle.dex_dump.specs.Accepted.{IsHeld}
+use Rattle.dex_state.specs.Held.{IsHeld}
 use Rattle.dex_dump.specs.DumpText.{base64_text, line_text, lines_text, market_row, orders_row}
 use Rattle.dex_dump.specs.Pieces.{text_in}
 use Rattle.dex_dump.specs.Terms.{terms_text}

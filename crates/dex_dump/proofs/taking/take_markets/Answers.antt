@@ -2,7 +2,7 @@ use Rattle.std.proofs.Common.{append-nil, map, sym, ◌∙◌}
 use Rattle.std.proofs.lemmas.List.{map-append}
 use Rattle.std.proofs.lemmas.List.Elements.{All-nil, All-push}
 use Rattle.dex_types.specs.Accounts.{market_accounts_of}
-use Rattle.dex_dump.specs.Accepted.{IsHeldMarket}
+use Rattle.dex_state.specs.Held.{IsHeldMarket}
 use Rattle.dex_dump.specs.DumpText.{lines_text, market_rows}
 use Rattle.dex_dump.proofs.TextLaws.{rows-pushed}
 use Rattle.dex_dump.proofs.taking.take_markets.Goals as goal

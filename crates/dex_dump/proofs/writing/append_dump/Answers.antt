@@ -1,7 +1,7 @@
 use Rattle.std.proofs.Common.{All, List, map, subst}
 use Rattle.dex_types.specs.declared.account_bytes.MarketAccounts.{MarketAccounts}
 use Rattle.dex_types.specs.Accounts.{accounts_of, market_accounts_of}
-use Rattle.dex_dump.specs.Accepted.{IsHeldMarket}
+use Rattle.dex_state.specs.Held.{IsHeldMarket}
 use Rattle.dex_dump.proofs.WholeLaws.{whole-held, whole-text}
 use Rattle.dex_dump.proofs.writing.append_dump.Goals as goal
 

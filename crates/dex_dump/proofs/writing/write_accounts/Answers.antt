@@ -1,7 +1,7 @@
 use Rattle.std.proofs.Common.{append-nil, sym, ◌∙◌}
 use Rattle.std.proofs.lemmas.List.Elements.{All-nil}
 use Rattle.dex_types.specs.Accounts.{named_of}
-use Rattle.dex_dump.specs.Accepted.{IsHeld}
+use Rattle.dex_state.specs.Held.{IsHeld}
 use Rattle.dex_dump.specs.DumpText.{lines_text, account_row}
 use Rattle.dex_dump.proofs.TextLaws.{held_more, lines_more}
 use Rattle.dex_dump.proofs.writing.write_accounts.Goals as goal

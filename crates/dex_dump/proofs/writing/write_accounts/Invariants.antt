@@ -1,6 +1,6 @@
 use Rattle.std.proofs.Common.{All, ◌≡◌, ◌++◌, map, take}
 use Rattle.dex_types.specs.Accounts.{named_of}
-use Rattle.dex_dump.specs.Accepted.{IsHeld}
+use Rattle.dex_state.specs.Held.{IsHeld}
 use Rattle.dex_dump.specs.DumpText.{lines_text, account_row}
 use Rattle.dex_dump.proofs.writing.write_accounts.Given as goal
 

@@ -2,7 +2,7 @@ use Rattle.std.proofs.Common.{All, List, append-nil, append_assoc, map, subst}
 use Rattle.std.proofs.lemmas.List.Elements.{All-nil}
 use Rattle.dex_types.specs.declared.account_bytes.Named.{Named}
 use Rattle.dex_types.specs.Accounts.{named_of}
-use Rattle.dex_dump.specs.Accepted.{IsHeld, IsHeldMarket}
+use Rattle.dex_state.specs.Held.{IsHeld, IsHeldMarket}
 use Rattle.dex_dump.specs.DumpText.{account_rows, behind_first}
 use Rattle.dex_dump.proofs.TextLaws.{lines_text-four}
 use Rattle.dex_dump.proofs.writing.write_front.Goals as goal

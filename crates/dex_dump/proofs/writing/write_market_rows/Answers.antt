@@ -1,7 +1,7 @@
 use Rattle.std.proofs.Common.{All, List, append_assoc, map, subst}
 use Rattle.dex_types.specs.declared.account_bytes.OrdersAccount.{OrdersAccount}
 use Rattle.dex_types.specs.Accounts.{orders_account_of}
-use Rattle.dex_dump.specs.Accepted.{IsHeld}
+use Rattle.dex_state.specs.Held.{IsHeld}
 use Rattle.dex_dump.specs.DumpText.{lines_text}
 use Rattle.dex_dump.proofs.writing.write_market_rows.Goals as goal
 

@@ -1,7 +1,7 @@
 use Rattle.std.proofs.Common.{append-nil, sym, ◌∙◌}
 use Rattle.std.proofs.lemmas.List.Elements.{All-nil}
 use Rattle.dex_types.specs.Accounts.{market_accounts_of}
-use Rattle.dex_dump.specs.Accepted.{IsHeldMarket}
+use Rattle.dex_state.specs.Held.{IsHeldMarket}
 use Rattle.dex_dump.specs.DumpText.{lines_text, market_rows}
 use Rattle.dex_dump.proofs.TextLaws.{held_more, rows_more}
 use Rattle.dex_dump.proofs.writing.write_markets.Goals as goal

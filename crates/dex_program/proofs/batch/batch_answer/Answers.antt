@@ -1,17 +1,18 @@
 use Rattle.std.proofs.Common.{◌≡◌, ℕ, ap, refl, subst, true}
 use Rattle.std.proofs.lemmas.Result.{IfOk-weaker}
-use Rattle.dex_report.specs.Outcomes.{PlainOutcome, outcome_of}
+use Rattle.dex_state.specs.Outcomes.{PlainOutcome, outcome_of}
 use Rattle.dex_report.specs.Report.{report_text}
 use Rattle.dex_report.specs.Telling.{FitOutcome}
-use Rattle.dex_replay.proofs.InFront.{run-told}
+use Rattle.dex_answers.proofs.InFront.{run-told}
 use Rattle.dex_script_facts.specs.PlainScript.{PlainScript}
 use Rattle.dex_script_facts.specs.Facts.{IsScript}
 use Rattle.dex_answers.specs.Answers.{rows_told}
 use Rattle.dex_answers.proofs.PairLaws.{played}
-use Rattle.dex_plain.proofs.LaneAnswerLaws.{no-batch}
-use Rattle.dex_plain.specs.LaneAnswers.{AnswersBatch}
+use Rattle.dex_commands.proofs.LaneAnswerLaws.{no-batch}
+use Rattle.dex_commands.specs.LaneAnswers.{AnswersBatch}
 use Rattle.dex_answers.specs.Told.{text_of}
-use Rattle.dex_answers.proofs.TextLaws.{pieces-say}
+use Rattle.dex_answers.proofs.TextLaws.{says-more}
+use Rattle.dex_answers.specs.declared.status.Status.TheVariants as status
 use Rattle.dex_program.proofs.batch.batch_answer.Goals as goal
 
 pub run_batch_with_rows-requires-clause-rows : goal.run_batch_with_rows-requires-clause-rows
@@ -24,7 +25,7 @@ returns-in_ok-outcome-in-Ok g c =
     let left = c.in_ok-outcome-in-Ok.ensures in
     let is : IsScript script = subst IsScript c.script.view_is c.script.invariant.0 in
     let counted : c.items-items.result ≡ rows_told script = c.items-items.ensures in
-    pieces-say _ (AnswersBatch c.args.bytes.now) _ (FitOutcome outcome) c.report_of.ensures.status c.report_of.ensures.text c.report_of.ensures.fits
+    says-more _ (AnswersBatch c.args.bytes.now) status.Ok _ (FitOutcome outcome) c.report_of.ensures.text c.report_of.ensures.fits
     (λ fits. (
       script,
       outcome,
@@ -36,4 +37,4 @@ returns-in_ok-outcome-in-Ok g c =
 
 pub returns-in-Err : goal.returns-in-Err
 returns-in-Err g c =
-    IfOk-weaker c.refused.result _ _ (λ told why. no-batch c.args.bytes.now told.status (text_of told) why) (c.refused.ensures true c.args.bytes.now c.in-Err.ensures.told)
+    IfOk-weaker c.no_script.result _ _ (λ told why. no-batch c.args.bytes.now told.status (text_of told) why) (c.no_script.ensures true c.args.bytes.now c.in-Err.ensures.told)

@@ -1,5 +1,6 @@
-use Rattle.dex_plain.proofs.Endings.{all-complete}
-use Rattle.dex_program.proofs.Endings.{legal, listed, ordered}
+use Rattle.dex_commands.proofs.Endings.{all-complete}
+use Rattle.dex_commands.proofs.Listed.{listed}
+use Rattle.dex_program.proofs.Endings.{legal, ordered}
 use Rattle.dex_program.proofs.program.dex_main.Goals as goal
 
 pub returns-clause-listed_order : goal.returns-clause-listed_order

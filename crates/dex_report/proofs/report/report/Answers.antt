@@ -1,8 +1,8 @@
 use Rattle.std.proofs.Common.{All, List, subst}
 use Rattle.dex_types.specs.Accounts.{accounts_of}
-use Rattle.dex_report.specs.declared.outcome.MarketJournal.{MarketJournal}
-use Rattle.dex_report.specs.declared.outcome.WalletJournal.{WalletJournal}
-use Rattle.dex_report.specs.Outcomes.{market_journal_of, wallet_journal_of}
+use Rattle.dex_state.specs.declared.outcome.MarketJournal.{MarketJournal}
+use Rattle.dex_state.specs.declared.outcome.WalletJournal.{WalletJournal}
+use Rattle.dex_state.specs.Outcomes.{market_journal_of, wallet_journal_of}
 use Rattle.dex_report.specs.Telling.{FitMarket, IsToldWallet}
 use Rattle.dex_report.proofs.Whole.{whole-fits, whole-text}
 use Rattle.dex_report.proofs.report.report.Goals as goal

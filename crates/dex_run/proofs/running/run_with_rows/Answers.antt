@@ -28,20 +28,20 @@ run_all-requires-after_bounds g c κs bounds = λ k d within.
         is = subst IsScript script_is c.in_ok-cells.ensures.script;
         rows_are = c.in_ok-cells.ensures.rows ∙ ap (λ (s : PlainScript). s.rows) script_is;
         placed =
-            subst (λ (s : PlainScript). ArePlaced s.start (map row_of c.in_ok-cells.rows) c.deref-2.result.now) script_is
-            (subst (λ (places : List RowPlaces). ArePlaced c.args.script.start (map row_of c.in_ok-cells.rows) places) (sym c.deref-2.ensures.value) c.in_ok-cells.ensures.placed);
-        beside = subst (AreBeside (map row_of c.in_ok-cells.rows)) (sym c.deref-2.ensures.value) c.in_ok-cells.ensures.beside;
+            subst (λ (s : PlainScript). ArePlaced s.start (map row_of c.in_ok-cells.rows) c.deref-3.result.now) script_is
+            (subst (λ (places : List RowPlaces). ArePlaced c.args.script.start (map row_of c.in_ok-cells.rows) places) (sym c.deref-3.ensures.value) c.in_ok-cells.ensures.placed);
+        beside = subst (AreBeside (map row_of c.in_ok-cells.rows)) (sym c.deref-3.ensures.value) c.in_ok-cells.ensures.beside;
       };
       of_bank = c.in_ok-bank.ensures.seats k d within;
       fresh = c.in_ok-bank.ensures.fresh k d within;
-      index = subst (IsIndex c.in_ok-cells.rows) (sym c.deref-3.ensures.value) c.in_ok-by_lane.ensures.index;
+      index = subst (IsIndex c.in_ok-cells.rows) (sym c.deref-4.ensures.value) c.in_ok-by_lane.ensures.index;
       within =
           omega (
             arith,
             lane-below c.in_ok-bank.seats.items c.in_ok-outline.outline.lanes c.in_ok-bank.ensures.lanes k d within,
             c.lanes.ensures.lanes,
             c.in_ok-by_lane.ensures.count,
-            ap length c.deref-3.ensures.value,
+            ap length c.deref-4.ensures.value,
           );
     }
 

@@ -1,6 +1,6 @@
 use Rattle.std.proofs.Common.{◌≡◌, ◌++◌, map, take}
 use Rattle.dex_types.specs.Accounts.{orders_account_of}
-use Rattle.dex_dump.specs.Accepted.{address_of}
+use Rattle.dex_state.specs.Addresses.{address_of}
 use Rattle.dex_script.proofs.taken.take_orders.Given as goal
 
 abbrev pub invariant-loop-account : goal.invariant-loop-account

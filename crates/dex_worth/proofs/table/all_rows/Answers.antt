@@ -1,7 +1,7 @@
 use Rattle.std.proofs.Common.{ℕ, suc, ◌+◌, ◌≡◌, ◌<◌, ◌++◌, List, length, get_or, map, take, subst, sym, ap, ◌∙◌, arith}
 use Rattle.std.proofs.lemmas.List.{get_or-map, length-map}
 use Rattle.dex_types.specs.Accounts.{PlainMarketAccounts, market_accounts_of}
-use Rattle.dex_report.specs.Outcomes.{PlainMarketJournal, market_journal_of}
+use Rattle.dex_state.specs.Outcomes.{PlainMarketJournal, market_journal_of}
 use Rattle.dex_replay.specs.WorthTold.{PlainWorthRow, rows_told, tables_told}
 use Rattle.dex_worth.specs.Tables.{IsToldHere}
 use Rattle.dex_worth.proofs.Outcomes.{tables-all, tables-more}

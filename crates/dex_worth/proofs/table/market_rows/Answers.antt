@@ -7,7 +7,7 @@ use Rattle.dex_types.specs.Trader.{Trader}
 use Rattle.dex_accounts.specs.Decoded.{market_in}
 use Rattle.dex_history.specs.Journal.{Call}
 use Rattle.dex_replay.specs.EntryCalls.{calls_told}
-use Rattle.dex_report.specs.Outcomes.{PlainMarketJournal, market_journal_of}
+use Rattle.dex_state.specs.Outcomes.{PlainMarketJournal, market_journal_of}
 use Rattle.dex_worth.specs.Amounts.{AreWithin}
 use Rattle.dex_worth.specs.Entries.{all_in, all_out}
 use Rattle.dex_worth.specs.Holdings.{held_amounts}

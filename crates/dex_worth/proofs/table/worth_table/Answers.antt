@@ -4,7 +4,7 @@ use Rattle.std.proofs.lemmas.Result.{IfOk-weaker}
 use Rattle.dex_types.specs.declared.account_bytes.MarketAccounts.{MarketAccounts}
 use Rattle.dex_types.specs.Accounts.{PlainMarketAccounts, market_accounts_of}
 use Rattle.dex_accounts.specs.Accepted.{IsAccepted}
-use Rattle.dex_report.specs.Outcomes.{PlainMarketJournal, PlainOutcome, market_journal_of, outcome_of}
+use Rattle.dex_state.specs.Outcomes.{PlainMarketJournal, PlainOutcome, market_journal_of, outcome_of}
 use Rattle.dex_replay.specs.WorthTold.{tables_told}
 use Rattle.dex_worth.specs.Tables.{AreToldHere}
 use Rattle.dex_worth.proofs.Markets.{accepted-at}

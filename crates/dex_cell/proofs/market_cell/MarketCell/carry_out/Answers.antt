@@ -27,14 +27,14 @@ moved-first c =
 
 pub pay-payouts-requires-clause-coin : goal.pay-payouts-requires-clause-coin
 pay-payouts-requires-clause-coin c =
-    subst (λ (t : Transfers). CanMoveShare c.self.inside.coin.parcel t.coin_out t.coin_in c.args.coin) (sym (moved-first c))
+    subst (λ (t : Transfers). CanMoveShare c.self.inside.vaults.coin t.coin_out t.coin_in c.args.coin) (sym (moved-first c))
     (coin-moves (cell_inside c.self.inside) c.args.row.now c.args.seen.now c.args.coin c.self.invariant.cell
     (subst (λ (cell : MarketCellState). c.args.coin ≡ paid_in Coin c.args.plan.now (market_at cell)) (sym c.self.view_is) c.requires.coin
     ∙ ap (λ (t : Transfers). parcel_of (mint_of Coin (market_at (cell_inside c.self.inside))) t.coin_in) (sym c.amounts_of-amounts.ensures ∙ moved-first c)))
 
 pub pay-payouts-requires-clause-pc : goal.pay-payouts-requires-clause-pc
 pay-payouts-requires-clause-pc c =
-    subst (λ (t : Transfers). CanMoveShare c.self.inside.pc.parcel (t.pc_out + t.referrer_out) t.pc_in c.args.pc) (sym (moved-first c))
+    subst (λ (t : Transfers). CanMoveShare c.self.inside.vaults.pc (t.pc_out + t.referrer_out) t.pc_in c.args.pc) (sym (moved-first c))
     (pc-moves (cell_inside c.self.inside) c.args.row.now c.args.seen.now c.args.pc c.self.invariant.cell
     (subst (λ (cell : MarketCellState). c.args.pc ≡ paid_in Pc c.args.plan.now (market_at cell)) (sym c.self.view_is) c.requires.pc
     ∙ ap (λ (t : Transfers). parcel_of (mint_of Pc (market_at (cell_inside c.self.inside))) t.pc_in) (sym c.amounts_of-amounts.ensures ∙ moved-first c)))
@@ -75,12 +75,12 @@ after c = record (before c) {
 
 coin : (c : goal.After-write_down) → c.pay-payouts.new.coin ≡ held_in (market_accounts_of c.apply-reply.new.accounts).coin_vault
 coin c =
-    c.pay-payouts.ensures.coin ∙ ap (λ (t : Transfers). moved_share c.self.inside.coin.parcel t.coin_out t.coin_in) (moved c)
+    c.pay-payouts.ensures.coin ∙ ap (λ (t : Transfers). moved_share c.self.inside.vaults.coin t.coin_out t.coin_in) (moved c)
     ∙ coin-moved (before c) c.args.row.now c.args.seen.now (market_accounts_of c.apply-reply.new.accounts) c.self.invariant.cell c.apply-reply.ensures.sound c.apply-reply.ensures.market
 
 pc : (c : goal.After-write_down) → c.pay-payouts.new.pc ≡ held_in (market_accounts_of c.apply-reply.new.accounts).pc_vault
 pc c =
-    c.pay-payouts.ensures.pc ∙ ap (λ (t : Transfers). moved_share c.self.inside.pc.parcel (t.pc_out + t.referrer_out) t.pc_in) (moved c)
+    c.pay-payouts.ensures.pc ∙ ap (λ (t : Transfers). moved_share c.self.inside.vaults.pc (t.pc_out + t.referrer_out) t.pc_in) (moved c)
     ∙ pc-moved (before c) c.args.row.now c.args.seen.now (market_accounts_of c.apply-reply.new.accounts) c.self.invariant.cell c.apply-reply.ensures.sound c.apply-reply.ensures.market
 
 kept : (c : goal.After-write_down) → IsMarketCell (after c)
@@ -101,7 +101,7 @@ invariant_of-self c = record {
 
 pub returns-clause-paid : goal.returns-clause-paid
 returns-clause-paid c =
-    c.pay-payouts.ensures.paid ∙ ap (λ (t : Transfers). paid_by c.self.inside.coin.parcel.mint c.self.inside.pc.parcel.mint t) (moved c)
+    c.pay-payouts.ensures.paid ∙ ap (λ (t : Transfers). paid_by c.self.inside.vaults.coin.mint c.self.inside.vaults.pc.mint t) (moved c)
     ∙ mints-are (before c) (stepped c).transfers c.self.invariant.cell
     ∙ ap (λ (cell : MarketCellState). paid_out (market_at cell) (step_on c.args.row.now c.args.seen.now cell).transfers) c.self.view_is
 

@@ -4,5 +4,5 @@ use Rattle.dex_cell.proofs.market_cell.MarketCell.idle.Goals as goal
 pub note-requires-clause-cell : goal.note-requires-clause-cell
 note-requires-clause-cell c is = held-called c.args.self.now c.args.row.now c.args.seen.now is c.requires.row c.requires.held c.requires.spare
 
-pub returns : goal.returns
-returns c = record { held = record { held = c.note.ensures.noted; cell = c.note.ensures.cell } }
+pub returns-clause-held : goal.returns-clause-held
+returns-clause-held c = record { held = c.note.ensures.noted; cell = c.note.ensures.cell }

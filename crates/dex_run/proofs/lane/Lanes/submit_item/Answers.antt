@@ -31,8 +31,8 @@ pub offset_bounds-places-next : goal.offset_bounds-places-next
 offset_bounds-places-next g c =
     omega (arith, (c.is_swap.ensures.yes c.if-is_swap.true c.args.self.now.rows.now c.requires.rows.beside c.at-first.result.now).0, places-long c.args.self.now.bank.now c.args.self.now.rows.now c.args.self.now.places.now c.requires.rows)
 
-pub submit_two_at-requires-clause-legs : goal.submit_two_at-requires-clause-legs
-submit_two_at-requires-clause-legs g c =
+pub swap_two-requires-clause-legs : goal.swap_two-requires-clause-legs
+swap_two-requires-clause-legs g c =
     let first = c.at-first.result.now in
     let second = c.at-second.result.now in
     let at = c.at-first.ensures first in
@@ -46,20 +46,20 @@ submit_two_at-requires-clause-legs g c =
     (are-legs c.args.self.now.bank.now.script c.args.self.now.rows.now c.requires.rows.rows_are c.requires.rows.is.rows c.args.place first second at next swap)
     (ap (λ (r : Row). r.lane) at ∙ item.own first)
 
-pub submit_two_at-requires-clause-first : goal.submit_two_at-requires-clause-first
-submit_two_at-requires-clause-first g c =
+pub swap_two-requires-clause-first : goal.swap_two-requires-clause-first
+swap_two-requires-clause-first g c =
     row-placed c.args.self.now.bank.now c.args.self.now.rows.now c.args.self.now.places.now c.requires.rows c.args.place c.at-first.result.now _ c.requires.item.within
     (c.at-first.ensures c.at-first.result.now)
 
-pub submit_two_at-requires-clause-second : goal.submit_two_at-requires-clause-second
-submit_two_at-requires-clause-second g c =
+pub swap_two-requires-clause-second : goal.swap_two-requires-clause-second
+swap_two-requires-clause-second g c =
     row-placed c.args.self.now.bank.now c.args.self.now.rows.now c.args.self.now.places.now c.requires.rows (c.args.place + 1) c.at-second.result.now _
     (c.is_swap.ensures.yes c.if-is_swap.true c.args.self.now.rows.now c.requires.rows.beside c.at-first.result.now).0 (c.at-second.ensures c.at-second.result.now)
 
 pub returns-then-is_swap-clause-rest : goal.returns-then-is_swap-clause-rest
 returns-then-is_swap-clause-rest g c = λ later rest.
-    let submitted = c.submit_two_at.ensures.submitted in
-    rest-behind c.args.self.now.rows.now c.args.seat.now c.submit_two_at.new.seat later (length c.args.seat.now.calls + 2) submitted.lane
+    let submitted = c.swap_two.ensures.submitted in
+    rest-behind c.args.self.now.rows.now c.args.seat.now c.swap_two.new.seat later (length c.args.seat.now.calls + 2) submitted.lane
     (ap length submitted.calls ∙ length-append c.args.seat.now.calls (submitted.one ∷ submitted.two ∷ []))
     (rest.1.1 (c.is_swap.ensures.yes c.if-is_swap.true c.args.self.now.rows.now c.requires.rows.beside))
 
@@ -71,8 +71,8 @@ bounds-places-place-else-is_swap g c = omega (arith, c.requires.item.within, pla
 pub offset_bounds-places-place-else-is_swap : goal.offset_bounds-places-place-else-is_swap
 offset_bounds-places-place-else-is_swap g c = omega (arith, c.requires.item.within, places-long c.args.self.now.bank.now c.args.self.now.rows.now c.args.self.now.places.now c.requires.rows)
 
-pub submit_at-requires-clause-row : goal.submit_at-requires-clause-row
-submit_at-requires-clause-row g c =
+pub submit-requires-clause-row : goal.submit-requires-clause-row
+submit-requires-clause-row g c =
     let row = c.at-row.result.now in
     let at = c.at-row.ensures row in
     let item = c.requires.item in
@@ -83,13 +83,13 @@ submit_at-requires-clause-row g c =
     (begins-alone c.args.self.now.bank.now.script c.args.self.now.rows.now c.requires.rows.rows_are c.requires.rows.is.rows c.args.place item.begins (c.is_swap.ensures.no c.if-is_swap.false c.args.self.now.rows.now c.requires.rows.beside)))
     (ap (λ (r : Row). r.lane) at ∙ item.own row)
 
-pub submit_at-requires-clause-places : goal.submit_at-requires-clause-places
-submit_at-requires-clause-places g c =
+pub submit-requires-clause-placed : goal.submit-requires-clause-placed
+submit-requires-clause-placed g c =
     row-placed c.args.self.now.bank.now c.args.self.now.rows.now c.args.self.now.places.now c.requires.rows c.args.place c.at-row.result.now _ c.requires.item.within
     (c.at-row.ensures c.at-row.result.now)
 
 pub returns-else-is_swap-clause-rest : goal.returns-else-is_swap-clause-rest
 returns-else-is_swap-clause-rest g c = λ later rest.
-    let submitted = c.submit_at.ensures.submitted in
-    rest-behind c.args.self.now.rows.now c.args.seat.now c.submit_at.new.seat later (length c.args.seat.now.calls + 1) submitted.lane
+    let submitted = c.submit.ensures.submitted in
+    rest-behind c.args.self.now.rows.now c.args.seat.now c.submit.new.seat later (length c.args.seat.now.calls + 1) submitted.lane
     (ap length submitted.calls ∙ length-append c.args.seat.now.calls (submitted.call ∷ [])) (rest.1.0 (c.is_swap.ensures.no c.if-is_swap.false c.args.self.now.rows.now c.requires.rows.beside))

@@ -12,15 +12,15 @@ returns-clause-reading c =
     let start = start_of self.start in
     let front = map row_of self.before in
     let were = map-append row_of self.before self.rows.items in
-    let are = map-append row_of self.before c.push.new.rows.items in
+    let are = map-append row_of self.before c.push_placed.new.rows.items in
     record {
       placed =
-          subst (λ (rows : List PlainRow). ArePlaced start rows c.push.new.places.items) (sym are)
-          (c.push.ensures.placed start front c.requires.at
+          subst (λ (rows : List PlainRow). ArePlaced start rows c.push_placed.new.places.items) (sym are)
+          (c.push_placed.ensures.placed start front c.requires.at
           (subst (λ (rows : List PlainRow). ArePlaced start rows c.args.places.now.items) were c.requires.reading.placed));
       beside =
-          subst (λ (rows : List PlainRow). AreBeside rows c.push.new.places.items) (sym are)
-          (c.push.ensures.beside start front c.requires.at
+          subst (λ (rows : List PlainRow). AreBeside rows c.push_placed.new.places.items) (sym are)
+          (c.push_placed.ensures.beside start front c.requires.at
           (subst (λ (rows : List PlainRow). AreBeside rows c.args.places.now.items) were c.requires.reading.beside));
       quiet = λ early. absurd (differ (sym c.requires.late ∙ early));
       few = c.requires.reading.few;

@@ -30,4 +30,4 @@ returns-in-None c =
     let start = c.args.self.now.script.start in
     let none : places_of start c.args.words.now.parties ≡ None =
     ap (λ (w : PlainInstruction). places_of start w.parties) (sym c.words.view_is) ∙ sym c.in_ok-at.ensures.places ∙ c.in-None.is in
-    rw (unknown start c.args.words.now.parties none) refl
+    (rw (unknown start c.args.words.now.parties none) refl, c.in_ok-at.ensures.same)

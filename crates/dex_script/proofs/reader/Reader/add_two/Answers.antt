@@ -30,7 +30,7 @@ returns-in_default c =
     let start = c.args.self.now.script.start in
     let none : places_of start c.args.first.now.parties ≡ None =
     ap (λ (w : PlainInstruction). places_of start w.parties) (sym c.first.view_is) ∙ sym c.in_ok-first_at.ensures.places ∙ c.in_default.is in
-    rw (unknown start c.args.first.now.parties none) refl
+    (rw (unknown start c.args.first.now.parties none) refl, c.in_ok-first_at.ensures.same)
 
 pub returns-in_default-2 : goal.returns-in_default-2
 unfolding with_two
@@ -43,7 +43,7 @@ returns-in_default-2 c =
     ap (λ (w : PlainInstruction). places_of start w.parties) (sym c.second.view_is)
     ∙ ap (λ (d : PlainDraft). places_of d.script.start c.second.inside.parties) (sym same)
     ∙ sym c.in_ok-second_at.ensures.places ∙ c.in_default-2.is in
-    rw (known start c.args.first.now.parties c.in-Some.first_at found, unknown start c.args.second.now.parties none) refl
+    (rw (known start c.args.first.now.parties c.in-Some.first_at found, unknown start c.args.second.now.parties none) refl, c.in_ok-second_at.ensures.same ∙ same)
 
 pub returns : goal.returns
 unfolding with_two

@@ -52,7 +52,7 @@ known : (g : given.Over) (c : After-and-seat-inside g) → IsAfter c.args.self.n
   calls = map call_made c.and-seat-inside.result.items;
   last = c.in_market-made.result.stamp.number;
   markets = set c.seat.inside.markets.items c.args.places.now.market c.in_market-made.new.pass;
-  wallets = c.in_market-made.new.passes.items;
+  wallets = c.in_market-made.new.wallets.passes.items;
 })
 known g c =
     is-after c.args.self.now (row_of c.args.row.now) (seat_inside c.seat.inside)
@@ -60,7 +60,7 @@ known g c =
     (subst (IsSeatOf c.args.self.now) (sym c.seat.view_is) c.requires.seat) c.seat.invariant.seat
     c.args.places.now.market (market-placed c.args.self.now.script c.args.row.now.market c.args.places.now.market c.requires.places.market)
     (call_made (c.args.row.now, c.in_market-made.result)) refl c.in_market-made.ensures.own c.in_market-made.ensures.told c.in_market-made.ensures.later c.market_gate.result.now c.index_mut.result.now
-    c.in_market-made.new.pass (c.market_gate.ensures c.market_gate.result.now) c.index_mut.ensures.value c.in_market-made.ensures.market c.in_market-made.new.passes.items c.in_market-made.ensures.passes
+    c.in_market-made.new.pass (c.market_gate.ensures c.market_gate.result.now) c.index_mut.ensures.value c.in_market-made.ensures.market c.in_market-made.new.wallets.passes.items c.in_market-made.ensures.passes
     c.args.seat.now (map call_made c.and-seat-inside.result.items) c.in_market-made.result.reply c.seat.view_is
     (ap (map call_made) c.and-seat-inside.ensures ∙ map-append call_made c.seat.inside.calls.items ((c.args.row.now, c.in_market-made.result) ∷ [])) c.in_market-made.result.told
 

@@ -1,19 +1,57 @@
-use Rattle.std.proofs.Common.{sym, subst}
+use Rattle.std.proofs.Common.{sym, subst, ◌∙◌}
+use Rattle.std.specs.Prelude.{IfSome}
+use Rattle.dex_types.specs.declared.rows.Row.{Row}
+use Rattle.dex_types.specs.declared.rows.RowPlaces.{RowPlaces}
 use Rattle.dex_fold.proofs.Common.{row_of}
-use Rattle.dex_turns.proofs.Common.{BankState, IsBank, IsRowOf}
+use Rattle.dex_script_facts.specs.Places.{IsPlaced}
+use Rattle.dex_turns.proofs.Common.{AreNext, BankState, HaveSubmitted, IsBank, IsRowOf}
+use Rattle.dex_turns.specs.Inside.{bank_inside}
 use Rattle.dex_turns.proofs.SeatAfter.{first-ahead, row-fits, second-ahead}
 use Rattle.dex_turns.proofs.bank.Bank.submit_two.Goals as goal
 
-pub places_of-first_places-requires : goal.places_of-first_places-requires
-places_of-first_places-requires g c =
-    let first = row_of c.args.first.now in
+pub places_of-one-requires-clause-row : goal.places_of-one-requires-clause-row
+places_of-one-requires-clause-row g c =
+    let first = row_of (g.W.AsRow.is c.args.first.now) in
     subst (λ (bank : BankState). IsRowOf bank.script.start first) (sym c.self.view_is)
-    (row-fits c.args.self.now first c.args.seat.now (first-ahead first (row_of c.args.second.now) c.args.seat.now c.requires.legs)
+    (row-fits c.args.self.now first c.args.seat.now (first-ahead first (row_of (g.W.AsRow.is c.args.second.now)) c.args.seat.now c.requires.legs)
     (subst IsBank c.self.view_is c.self.invariant.bank) c.requires.seat)
 
-pub places_of-second_places-requires : goal.places_of-second_places-requires
-places_of-second_places-requires g c =
-    let second = row_of c.args.second.now in
+pub places_of-one-requires-clause-placed : goal.places_of-one-requires-clause-placed
+places_of-one-requires-clause-placed g c =
+    subst (λ (bank : BankState). IfSome (g.W.AsRow.at c.args.first.now) (IsPlaced bank.script.start (row_of (g.W.AsRow.is c.args.first.now)))) (sym c.self.view_is) c.requires.first
+
+pub places_of-two-requires-clause-row : goal.places_of-two-requires-clause-row
+places_of-two-requires-clause-row g c =
+    let second = row_of (g.W.AsRow.is c.args.second.now) in
     subst (λ (bank : BankState). IsRowOf bank.script.start second) (sym c.self.view_is)
-    (row-fits c.args.self.now second c.args.seat.now (second-ahead (row_of c.args.first.now) second c.args.seat.now c.requires.legs)
+    (row-fits c.args.self.now second c.args.seat.now (second-ahead (row_of (g.W.AsRow.is c.args.first.now)) second c.args.seat.now c.requires.legs)
     (subst IsBank c.self.view_is c.self.invariant.bank) c.requires.seat)
+
+pub places_of-two-requires-clause-placed : goal.places_of-two-requires-clause-placed
+places_of-two-requires-clause-placed g c =
+    subst (λ (bank : BankState). IfSome (g.W.AsRow.at c.args.second.now) (IsPlaced bank.script.start (row_of (g.W.AsRow.is c.args.second.now)))) (sym c.self.view_is) c.requires.second
+
+-- ---- the legs
+
+pub submit_legs-requires-clause-legs : goal.submit_legs-requires-clause-legs
+submit_legs-requires-clause-legs g c =
+    subst (λ (row : Row). AreNext (row_of row) (row_of c.of-legs.result.second.now) c.args.seat.now) (sym (c.of-legs.ensures.rows.0 ∙ c.row.ensures))
+    (subst (λ (row : Row). AreNext (row_of (g.W.AsRow.is c.args.first.now)) (row_of row) c.args.seat.now) (sym (c.of-legs.ensures.rows.1 ∙ c.row-2.ensures)) c.requires.legs)
+
+pub submit_legs-requires-clause-first : goal.submit_legs-requires-clause-first
+submit_legs-requires-clause-first g c =
+    subst (λ (bank : BankState). IsPlaced bank.script.start (row_of c.of-legs.result.first.now) c.of-legs.result.first_places.now) c.self.view_is
+    (subst (λ (row : Row). IsPlaced (bank_inside c.self.inside).script.start (row_of row) c.of-legs.result.first_places.now) (sym (c.of-legs.ensures.rows.0 ∙ c.row.ensures))
+    (subst (λ (places : RowPlaces). IsPlaced (bank_inside c.self.inside).script.start (row_of (g.W.AsRow.is c.args.first.now)) places) (sym c.of-legs.ensures.first) c.places_of-one.ensures))
+
+pub submit_legs-requires-clause-second : goal.submit_legs-requires-clause-second
+submit_legs-requires-clause-second g c =
+    subst (λ (bank : BankState). IsPlaced bank.script.start (row_of c.of-legs.result.second.now) c.of-legs.result.second_places.now) c.self.view_is
+    (subst (λ (row : Row). IsPlaced (bank_inside c.self.inside).script.start (row_of row) c.of-legs.result.second_places.now) (sym (c.of-legs.ensures.rows.1 ∙ c.row-2.ensures))
+    (subst (λ (places : RowPlaces). IsPlaced (bank_inside c.self.inside).script.start (row_of (g.W.AsRow.is c.args.second.now)) places) (sym c.of-legs.ensures.second) c.places_of-two.ensures))
+
+pub returns-clause-submitted : goal.returns-clause-submitted
+returns-clause-submitted g c =
+    subst (λ (row : Row). HaveSubmitted (row_of row) (row_of (g.W.AsRow.is c.args.second.now)) c.submit_legs.result c.args.seat.now c.submit_legs.new.seat) (c.of-legs.ensures.rows.0 ∙ c.row.ensures)
+    (subst (λ (row : Row). HaveSubmitted (row_of c.of-legs.result.first.now) (row_of row) c.submit_legs.result c.args.seat.now c.submit_legs.new.seat) (c.of-legs.ensures.rows.1 ∙ c.row-2.ensures)
+    c.submit_legs.ensures.submitted)

@@ -1,0 +1,5 @@
+pub mod Endings
+pub mod LaneAnswerLaws
+pub mod Listed
+mod OneOutcome
+pub mod Pieces

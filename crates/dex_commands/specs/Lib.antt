@@ -1,0 +1,4 @@
+pub mod Ending
+pub mod LaneAnswers
+pub mod Listed
+pub mod Stops

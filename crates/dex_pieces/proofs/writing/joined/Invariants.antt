@@ -1,7 +1,0 @@
-use Rattle.std.proofs.Common.{◌≡◌}
-use Rattle.std.specs.List.{flat_map}
-use Rattle.dex_pieces.specs.Parts.{whole}
-use Rattle.dex_pieces.proofs.writing.joined.Given as goal
-
-abbrev pub invariant-loop-text : goal.invariant-loop-text
-invariant-loop-text l = whole l.pieces.items ≡ flat_map (λ text. whole text.items) l.yielded

@@ -1,4 +1,0 @@
-pub mod Endings
-pub mod LaneAnswerLaws
-mod OneOutcome
-mod Pieces

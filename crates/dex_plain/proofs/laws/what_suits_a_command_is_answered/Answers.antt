@@ -1,5 +1,0 @@
-use Rattle.dex_plain.proofs.LaneAnswerLaws.{all-answered}
-use Rattle.dex_plain.proofs.laws.what_suits_a_command_is_answered.Goals as goal
-
-pub returns : goal.returns
-returns c = all-answered

@@ -1,5 +1,0 @@
-use Rattle.dex_plain.proofs.Endings.{completes}
-use Rattle.dex_plain.proofs.running.plain.Goals as goal
-
-pub returns-clause-completes : goal.returns-clause-completes
-returns-clause-completes g c = completes _ _ _ _ c.run_plain.ensures

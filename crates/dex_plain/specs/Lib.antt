@@ -1,3 +1,0 @@
-pub mod Ending
-pub mod LaneAnswers
-pub mod Stops

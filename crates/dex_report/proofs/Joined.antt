@@ -1,0 +1,65 @@
+-- What jobs wrote, put together.
+use Rattle.std.proofs.Common.{◌≡◌, ◌∙◌, ◌++◌, ℕ, List, [], ◌∷◌, Ok, IfOk, Vec, Global, ap, append_assoc, append-nil, map, refl, subst, sym, All}
+use Rattle.std.specs.List.{AllZip, flat_map}
+use Rattle.std.proofs.lemmas.Grind.{flat_map-append}
+use Rattle.std.proofs.lemmas.List.Elements.{All-append, All-nil}
+use Rattle.dex_dump.proofs.PieceLaws.{more}
+use Rattle.dex_dump.specs.Pieces.{piece_text}
+use Rattle.dex_dump.specs.declared.pieces.Piece.{Piece}
+use Rattle.dex_report.specs.Parts.{FitPart, WritesParts, part_lines, parts_in, whole}
+use Rattle.dex_report.specs.declared.part.Part.{Part}
+use Rattle.dex_report.specs.declared.writing.Writing.{Writing}
+
+-- one more on both sides
+pub zip-behind : {A B : Type 0} (R : A → B → Type 0) (xs : List A) (ys : List B) (x : A) (y : B) → AllZip R xs ys → R x y → AllZip R (xs ++ x ∷ []) (ys ++ y ∷ [])
+zip-behind R [] [] x y all last = (last, tt)
+zip-behind R [] (z ∷ ys) x y all last = absurd all
+zip-behind R (w ∷ xs) [] x y all last = absurd all
+zip-behind R (w ∷ xs) (z ∷ ys) x y (first, rest) last = (first, zip-behind R xs ys x y rest last)
+
+-- a text in pieces
+abbrev pub Text : Type 0
+Text = Vec Piece Global
+
+abbrev pub text_of : Text → List ℕ
+text_of text = whole text.items
+
+-- what a job wrote
+abbrev pub Wrote : Writing → Text → Type 0
+Wrote job text = job.text ≡ Ok text
+
+-- the parts of some jobs
+abbrev pub parts_of_jobs : List Writing → List Part
+parts_of_jobs jobs = parts_in (map (λ (job : Writing). job.parts) jobs)
+
+-- what stands behind all of these is what all parts are
+pub all-written : (before after : List Writing) (texts : List Text) → AllZip WritesParts before after
+    → AllZip Wrote after texts
+    → All FitPart (parts_of_jobs before) × (flat_map text_of texts ≡ flat_map part_lines (parts_of_jobs before))
+all-written [] [] [] writes wrote = (All-nil FitPart, refl)
+all-written [] [] (t ∷ texts) writes wrote = absurd wrote
+all-written [] (a ∷ after) texts writes wrote = absurd writes
+all-written (b ∷ before) [] texts writes wrote = absurd writes
+all-written (b ∷ before) (a ∷ after) [] writes wrote = absurd wrote
+all-written (b ∷ before) (a ∷ after) (t ∷ texts) (first, writes) (is, wrote) =
+    let rest = all-written before after texts writes wrote in (
+      All-append FitPart b.parts.items (parts_of_jobs before) (subst (λ r. IfOk r (λ (text : Text). All FitPart b.parts.items)) is first.fits) rest.0,
+      ap (λ (y : List ℕ). y ++ flat_map text_of texts) (subst (λ r. IfOk r (λ (text : Text). text_of text ≡ flat_map part_lines b.parts.items)) is first.text)
+          ∙ ap (λ (y : List ℕ). flat_map part_lines b.parts.items ++ y) rest.1
+          ∙ sym (flat_map-append part_lines b.parts.items (parts_of_jobs before)),
+    )
+
+-- one text more
+pub whole-more : (pieces : List Piece) (texts : List Text) (text : Text) → whole pieces ≡ flat_map text_of texts
+    → whole (pieces ++ text.items) ≡ flat_map text_of (texts ++ text ∷ [])
+whole-more pieces texts text so_far =
+    flat_map-append piece_text pieces text.items
+    ∙ ap (λ (y : List ℕ). y ++ text_of text) so_far
+    ∙ sym (flat_map-append text_of texts (text ∷ []) ∙ ap (λ (y : List ℕ). flat_map text_of texts ++ y) (append-nil (text_of text)))
+
+-- a part more behind a text
+pub lines-more : (text before all : List ℕ) (parts : List Part) (part : Part) → all ≡ before ++ part_lines part → before ≡ text ++ flat_map part_lines parts
+    → all ≡ text ++ flat_map part_lines (parts ++ part ∷ [])
+lines-more text before all parts part is was =
+    more _ _ _ (part_lines part) is was ∙ append_assoc text (flat_map part_lines parts) (part_lines part)
+    ∙ ap (λ (y : List ℕ). text ++ y) (sym (flat_map-append part_lines parts (part ∷ []) ∙ ap (λ (y : List ℕ). flat_map part_lines parts ++ y) (append-nil (part_lines part))))

@@ -1,0 +1,47 @@
+-- The turns of two markets, taken in the one order and told in the other; and which order it is.
+use Rattle.std.proofs.Common.{◌≡◌, ℕ, Bool, true, false, cond, List, [], ◌∷◌, get_or, sym, ap, ◌∙◌, subst, ⊎_elim}
+use Rattle.std.specs.List.{All}
+use Rattle.std.proofs.lemmas.Bool.{cond-false, cond-true}
+use Rattle.dex_fold.proofs.Common.{Address, All-head, All-nil, Call, cases_Bool, is_same, is_same-refl, is_same-sym}
+use Rattle.dex_types.specs.Wallets.{is_lower, with_address}
+use Rattle.dex_history.proofs.AddressOrder.{AreRising, with_address-rising}
+use Rattle.dex_turns.proofs.Common.{GateView, MarketOrigin, Stamped}
+use Rattle.dex_turns.specs.declared.two_turns.TwoTurns.{TwoTurns}
+use Rattle.dex_turns.specs.Submitted.{Where}
+use Rattle.dex_turns.specs.TwoTurns.{HaveTaken, exchanged}
+use Rattle.dex_turns.proofs.Entering.{MarketPass}
+use Rattle.dex_turns.proofs.TwoPlaces.{set-swap}
+
+pub exchanged-taken : (one two : GateView (Stamped Call) MarketOrigin) (place next : ℕ) (before after : List MarketPass) (last : ℕ) (turns : TwoTurns) → (place ≡ next → ⊥)
+    → HaveTaken two one next place before after last turns → HaveTaken one two place next before after last (exchanged turns)
+exchanged-taken one two place next before after last turns apart taken = record {
+  out = record {
+    out = taken.out.out_next;
+    out_next = taken.out.out;
+    are = taken.out.are ∙ set-swap before next place taken.out.out taken.out.out_next (λ same. apart (sym same));
+    taken = taken.out.taken_next;
+    taken_next = taken.out.taken;
+  };
+  away = taken.away_next;
+  away_next = taken.away;
+  market = taken.market_next;
+  market_next = taken.market;
+  stamp = taken.stamp;
+}
+
+-- ---- which of two addresses is the lower
+
+pub order-told : (a b d : Address) (markets : List Address) (test : Bool) → is_same a b ≡ false → markets ≡ with_address a (with_address b []) → test ≡ is_same (get_or markets 0 d) a
+    → Where test (is_lower a b ≡ true) (is_lower b a ≡ true)
+order-told a b d markets test apart told test_is =
+    let Told : Bool → Type 0 = λ t. Where t (is_lower a b ≡ true) (is_lower b a ≡ true) in
+    let chosen : with_address a (b ∷ []) ≡ cond (is_lower a b) (a ∷ b ∷ []) (b ∷ a ∷ []) = cond-false _ _ _ apart in
+    ⊎_elim
+    (λ (low : is_lower a b ≡ true).
+    let first : get_or markets 0 d ≡ a = ap (λ (l : List Address). get_or l 0 d) (told ∙ chosen ∙ cond-true _ _ _ low) in
+    subst Told (sym (test_is ∙ ap (λ (x : Address). is_same x a) first ∙ is_same-refl a)) low)
+    (λ (high : is_lower a b ≡ false).
+    let first : get_or markets 0 d ≡ b = ap (λ (l : List Address). get_or l 0 d) (told ∙ chosen ∙ cond-false _ _ _ high) in
+    let rising : AreRising (b ∷ a ∷ []) = subst AreRising (chosen ∙ cond-false _ _ _ high) (with_address-rising a (b ∷ []) (All-nil _, tt)) in
+    subst Told (sym (test_is ∙ ap (λ (x : Address). is_same x a) first ∙ is_same-sym b a ∙ apart)) (All-head (λ (x : Address). is_lower b x ≡ true) a [] rising.0))
+    (cases_Bool (is_lower a b))

@@ -1,5 +1,0 @@
-use Rattle.std.proofs.Common.{length}
-use Rattle.dex_turns.proofs.bank.Bank.+with_wallets.Given as goal
-
-abbrev pub decreases-with_wallets : goal.decreases-with_wallets
-decreases-with_wallets g l = length l.others.now

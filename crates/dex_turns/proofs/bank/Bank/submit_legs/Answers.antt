@@ -1,0 +1,78 @@
+use Rattle.std.proofs.Common.{[], ◌∷◌, ◌++◌, List, map, refl, sym, ap, ◌∙◌, subst, arith}
+use Rattle.dex_fold.proofs.Common.{AllZip-long, Row, row_of}
+use Rattle.dex_turns.proofs.Common.{AreNext, HaveSubmitted, IsBank, IsMarketPass, IsSeatOf, call_made}
+use Rattle.std.proofs.lemmas.List.{append_assoc, map-append}
+use Rattle.dex_turns.specs.Inside.{seat_inside}
+use Rattle.dex_turns.specs.declared.stamped_record.StampedRecord.{StampedRecord}
+use Rattle.dex_turns.proofs.LegSeat as legs
+use Rattle.dex_turns.proofs.LegNames.{legs-name}
+use Rattle.dex_turns.proofs.LegReady.{legs-ready}
+use Rattle.dex_script_facts.proofs.PlacedLaws.{market-placed}
+use Rattle.dex_turns.proofs.SeatAfter.{IsAfter, enters-at, first-ahead, passes-kept, row-fits, second-ahead}
+use Rattle.dex_turns.proofs.bank.Bank.submit_legs.Given as given
+use Rattle.dex_turns.proofs.bank.Bank.submit_legs.Goals.{After-and-seat-inside}
+use Rattle.dex_turns.proofs.bank.Bank.submit_legs.Goals as goal
+
+pub in_markets-made-requires-clause-first : goal.in_markets-made-requires-clause-first
+in_markets-made-requires-clause-first g c =
+    enters-at c.args.self.now (row_of c.args.legs.now.first.now) (seat_inside c.seat.inside) (first-ahead (row_of c.args.legs.now.first.now) (row_of c.args.legs.now.second.now) (seat_inside c.seat.inside) (subst (AreNext (row_of c.args.legs.now.first.now) (row_of c.args.legs.now.second.now)) (sym c.seat.view_is) c.requires.legs)) (subst IsBank c.self.view_is c.self.invariant.bank) (subst (IsSeatOf c.args.self.now) (sym c.seat.view_is) c.requires.seat) c.seat.invariant.seat c.args.legs.now.first_places.now.market
+    (market-placed c.args.self.now.script c.args.legs.now.first.now.market c.args.legs.now.first_places.now.market c.requires.first.market)
+
+pub in_markets-made-requires-clause-second : goal.in_markets-made-requires-clause-second
+in_markets-made-requires-clause-second g c =
+    enters-at c.args.self.now (row_of c.args.legs.now.second.now) (seat_inside c.seat.inside) (second-ahead (row_of c.args.legs.now.first.now) (row_of c.args.legs.now.second.now) (seat_inside c.seat.inside) (subst (AreNext (row_of c.args.legs.now.first.now) (row_of c.args.legs.now.second.now)) (sym c.seat.view_is) c.requires.legs)) (subst IsBank c.self.view_is c.self.invariant.bank) (subst (IsSeatOf c.args.self.now) (sym c.seat.view_is) c.requires.seat) c.seat.invariant.seat c.args.legs.now.second_places.now.market
+    (market-placed c.args.self.now.script c.args.legs.now.second.now.market c.args.legs.now.second_places.now.market c.requires.second.market)
+
+pub in_markets-made-requires-clause-markets : goal.in_markets-made-requires-clause-markets
+in_markets-made-requires-clause-markets g c =
+    AllZip-long (IsMarketPass c.seat.inside.lane (map call_made c.seat.inside.calls.items)) c.args.self.now.script.start.markets c.seat.inside.markets.items
+    (passes-kept c.args.self.now (row_of c.args.legs.now.first.now) (seat_inside c.seat.inside) (first-ahead (row_of c.args.legs.now.first.now) (row_of c.args.legs.now.second.now) (seat_inside c.seat.inside) (subst (AreNext (row_of c.args.legs.now.first.now) (row_of c.args.legs.now.second.now)) (sym c.seat.view_is) c.requires.legs)) (subst IsBank c.self.view_is c.self.invariant.bank) (subst (IsSeatOf c.args.self.now) (sym c.seat.view_is) c.requires.seat) c.seat.invariant.seat c.args.legs.now.first_places.now.market
+    (market-placed c.args.self.now.script c.args.legs.now.first.now.market c.args.legs.now.first_places.now.market c.requires.first.market))
+
+pub in_markets-made-requires-clause-named : goal.in_markets-made-requires-clause-named
+in_markets-made-requires-clause-named g c =
+    legs-name (row_of c.args.legs.now.first.now) (row_of c.args.legs.now.second.now) c.requires.legs.legs c.args.self.now.script
+    (row-fits c.args.self.now (row_of c.args.legs.now.first.now) (seat_inside c.seat.inside) (first-ahead (row_of c.args.legs.now.first.now) (row_of c.args.legs.now.second.now) (seat_inside c.seat.inside) (subst (AreNext (row_of c.args.legs.now.first.now) (row_of c.args.legs.now.second.now)) (sym c.seat.view_is) c.requires.legs)) (subst IsBank c.self.view_is c.self.invariant.bank) (subst (IsSeatOf c.args.self.now) (sym c.seat.view_is) c.requires.seat))
+    (row-fits c.args.self.now (row_of c.args.legs.now.second.now) (seat_inside c.seat.inside) (second-ahead (row_of c.args.legs.now.first.now) (row_of c.args.legs.now.second.now) (seat_inside c.seat.inside) (subst (AreNext (row_of c.args.legs.now.first.now) (row_of c.args.legs.now.second.now)) (sym c.seat.view_is) c.requires.legs)) (subst IsBank c.self.view_is c.self.invariant.bank) (subst (IsSeatOf c.args.self.now) (sym c.seat.view_is) c.requires.seat))
+
+pub in_markets-made-requires-clause-passes : goal.in_markets-made-requires-clause-passes
+in_markets-made-requires-clause-passes g c =
+    legs-ready c.args.self.now (row_of c.args.legs.now.first.now) (row_of c.args.legs.now.second.now) (seat_inside c.seat.inside) (subst (AreNext (row_of c.args.legs.now.first.now) (row_of c.args.legs.now.second.now)) (sym c.seat.view_is) c.requires.legs) (subst IsBank c.self.view_is c.self.invariant.bank) (subst (IsSeatOf c.args.self.now) (sym c.seat.view_is) c.requires.seat) c.seat.invariant.seat
+
+-- ---- the seat behind them
+
+known : (g : given.Over) (c : After-and-seat-inside g) → IsAfter c.args.self.now
+    (HaveSubmitted (row_of c.args.legs.now.first.now) (row_of c.args.legs.now.second.now) (c.in_markets-made.result.first.reply, c.in_markets-made.result.second.reply)) c.args.seat.now (record {
+      lane = c.seat.inside.lane;
+      script = c.seat.inside.script.value;
+      calls = map call_made c.and-seat-inside.result.items;
+      last = c.in_markets-made.result.first.stamp.number;
+      markets = c.in_markets-made.new.markets.items;
+      wallets = c.in_markets-made.new.wallets.passes.items;
+    })
+known g c =
+    let one : Row × StampedRecord = (c.args.legs.now.first.now, c.in_markets-made.result.first) in
+    let two : Row × StampedRecord = (c.args.legs.now.second.now, c.in_markets-made.result.second) in
+    legs.is-after c.args.self.now (row_of c.args.legs.now.first.now) (row_of c.args.legs.now.second.now) (seat_inside c.seat.inside)
+    (subst (AreNext (row_of c.args.legs.now.first.now) (row_of c.args.legs.now.second.now)) (sym c.seat.view_is) c.requires.legs) (subst (IsSeatOf c.args.self.now) (sym c.seat.view_is) c.requires.seat) c.seat.invariant.seat
+    (call_made one) (call_made two) (refl, refl) c.in_markets-made.ensures.told c.in_markets-made.new.markets.items c.in_markets-made.ensures.markets c.in_markets-made.new.wallets.passes.items
+    c.in_markets-made.ensures.passes c.args.seat.now (map call_made c.and-seat-inside.result.items) c.in_markets-made.result.first.reply
+    c.in_markets-made.result.second.reply c.seat.view_is
+    (ap (map call_made) (c.and-seat-inside.ensures ∙ ap (λ (l : List _). l ++ two ∷ []) c.and.ensures ∙ append_assoc c.seat.inside.calls.items _ _)
+    ∙ map-append call_made c.seat.inside.calls.items (one ∷ two ∷ [])) c.in_markets-made.result.first.told c.in_markets-made.result.second.told
+
+pub invariant_of-seat : goal.invariant_of-seat
+invariant_of-seat g c = record {
+  seat = (known g (goal.at.invariant_of-seat g c).After-and-seat-inside).kept;
+  hands = c.in_markets-made.ensures.hands;
+  room = omega (arith, c.seat.invariant.room, c.in_markets-made.ensures.room);
+}
+
+pub returns-clause-submitted : goal.returns-clause-submitted
+returns-clause-submitted g c = (known g (goal.at.returns-clause-submitted g c).After-and-seat-inside).submitted
+
+pub returns-clause-bank : goal.returns-clause-bank
+returns-clause-bank g c = (known g (goal.at.returns-clause-bank g c).After-and-seat-inside).of
+
+pub returns-clause-kept : goal.returns-clause-kept
+returns-clause-kept g c = (known g (goal.at.returns-clause-kept g c).After-and-seat-inside).kept
