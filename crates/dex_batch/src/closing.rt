@@ -10,8 +10,8 @@ ghost use Rattle.dex_stage.specs.Parts.{AreTermsOf};
 
 use dex_bank::Cells;
 use dex_cell::MarketCell;
-use dex_state::Outcome;
 use dex_stage::Terms;
+use dex_state::Outcome;
 use dex_team::Naming;
 use dex_types::{Named, NoMemory};
 use dex_wallet::WalletCell;

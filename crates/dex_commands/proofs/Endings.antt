@@ -28,10 +28,10 @@ took (Bulk number rows) i bytes reads read = absurd reads
 took _ i bytes reads read = read
 
 -- a command that does not read took nothing
-pub took-none : (command : Command) (i : Input) → ¬ (IsReading command) → i.rest ≡ i.left → Took command i []
-took-none (Make number rows) i other same = (same, refl)
-took-none (Bulk number rows) i other same = (same, refl)
-took-none _ i other same = absurd (other tt)
+pub took_none : (command : Command) (i : Input) → ¬ (IsReading command) → i.rest ≡ i.left → Took command i []
+took_none (Make number rows) i other same = (same, refl)
+took_none (Bulk number rows) i other same = (same, refl)
+took_none _ i other same = absurd (other tt)
 
 -- whether the reading stopped since the source is too long
 abbrev pub TellsLong : {T : Type 0} → Result T ReadAll → Input → List ℕ → Type 0

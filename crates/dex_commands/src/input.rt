@@ -29,6 +29,7 @@ pub fn read_input<S: Source>(alloc: Global, source: &mut S) -> Result<Vec<u8>, S
 }
 
 /// The bytes that a command on one thread looks at: all of its input, or none.
+#[tactic(auto, using(crate::proofs::Endings::took, crate::proofs::Endings::took_none))]
 pub(crate) fn taken<S: Source>(
     alloc: Global,
     command: PlainCommand,

@@ -4,8 +4,8 @@ ghost use Rattle.std.specs.Prelude.{◌≡◌, ◌+◌, ◌^◌, ◌<◌, ◌≤
 
 use dex_eager_market::EagerMarket;
 use dex_replay::replay_with_rows;
-use dex_state::Outcome;
 use dex_script::{Script, read_script};
+use dex_state::Outcome;
 use dex_types::{Entry, NoMemory, Program, Reply, Row, Seen};
 use dex_worth::{Worth, WorthRow, worth_table};
 use std::alloc::Global;
