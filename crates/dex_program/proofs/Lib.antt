@@ -1,1 +1,2 @@
+mod EndOfProcess
 pub mod Endings

@@ -1,6 +1,6 @@
 //! A process of the program: the words that it begins with, and the number that it ends with.
 
-ghost use Rattle.std.specs.Prelude.{◌≡◌, drop};
+ghost use Rattle.std.specs.Prelude.{◌≡◌, Err, drop};
 ghost use Rattle.dex_commands.specs.Ending.{input, output};
 ghost use Rattle.dex_program.specs.Process.{EndsProcess};
 
@@ -30,8 +30,26 @@ pub fn run_process<R: Threads + Wait + Sync, S: Source, K: Sink, P: Pace + Sync>
 {
     match words {
         Ok(words) => dex_main(rt, alloc, behind_first(&words), source, sink, pace).code(),
-        Err(WordsError::Usage) => dex_main(rt, alloc, &[], source, sink, pace).code(),
-        Err(WordsError::NoMemory) => Status::NoMemory.code(),
+        Err(why) => run_without_words(rt, alloc, why, source, sink, pace),
+    }
+}
+
+/// The same where there are no words: they are no text, or there was no memory for them.
+fn run_without_words<R: Threads + Wait + Sync, S: Source, K: Sink, P: Pace + Sync>(
+    rt: &R,
+    alloc: Global,
+    why: WordsError,
+    source: &mut S,
+    sink: &mut K,
+    pace: &P,
+) -> u8
+    ensures { EndsProcess (Err why)
+        (input (S.left source.old) (S.left source.new) (S.faults source.old) (S.faults source.new))
+        (output (K.taken sink.old) (K.taken sink.new) (K.faults sink.old) (K.faults sink.new)) result }
+{
+    match why {
+        WordsError::Usage => dex_main(rt, alloc, &[], source, sink, pace).code(),
+        WordsError::NoMemory => Status::NoMemory.code(),
     }
 }
 

@@ -89,7 +89,7 @@ fn on_threads<R: Threads + Wait + Sync, S: Source, K: Sink, P: Pace + Sync>(
     sink: &mut K,
     pace: &P,
 ) -> Status
-    requires { IsWithin (of_threaded command) }
+    requires within { IsWithin (of_threaded command) }
     ensures { Ends (Some (of_threaded command))
         (input (S.left source.old) (S.left source.new) (S.faults source.old) (S.faults source.new))
         (output (K.taken sink.old) (K.taken sink.new) (K.faults sink.old) (K.faults sink.new)) result }
@@ -108,7 +108,7 @@ fn threads_answer<R: Threads + Wait + Sync, S: Source, P: Pace + Sync>(
     source: &mut S,
     pace: &P,
 ) -> Result<StatusText, Stop>
-    requires { IsWithin (of_threaded command) }
+    requires within { IsWithin (of_threaded command) }
     ensures built { IfOk result (λ built. Stands built.status (Some (of_threaded command))
         (input (S.left source.old) (S.left source.new) (S.faults source.old) (S.faults source.new)) (text_of built)) }
     ensures stopped { IfErr result (λ stop. Stands (status_of stop) (Some (of_threaded command))

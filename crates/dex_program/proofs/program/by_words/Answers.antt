@@ -10,8 +10,8 @@ pub plain-requires : goal.plain-requires
 plain-requires g c =
     record { within = ((one-spelling _ _).0 c.in-Ok.ensures.command).1; plain = c.threaded.ensures.none c.in-None.is }
 
-pub on_threads-requires : goal.on_threads-requires
-on_threads-requires g c = λ κs lives.
+pub on_threads-requires-clause-within : goal.on_threads-requires-clause-within
+on_threads-requires-clause-within g c = λ κs lives.
     subst IsWithin (sym (rw c.in-Some.is at c.threaded.ensures.some)) ((one-spelling _ _).0 c.in-Ok.ensures.command).1
 
 pub returns-in-Some : goal.returns-in-Some
