@@ -4,6 +4,7 @@ from __future__ import annotations
 
 import ctypes
 import os
+import platform
 from functools import lru_cache
 from pathlib import Path
 
@@ -22,14 +23,23 @@ ROOM = (ctypes.POINTER(ctypes.c_char), SIZE, ctypes.POINTER(SIZE))
 SPARE = 65536
 
 
+def places() -> list[Path]:
+    """Where the shared library may stand: beside this module, where pip put it; in a clone where library/build makes it, and where
+    native/assemble does."""
+    here = Path(__file__).resolve().parent
+    return [here / 'libdex.so', here.parent / 'out' / 'libdex.so',
+            here.parent.parent / 'native' / 'out' / f'{platform.machine()}-linux' / 'libdex.so']
+
+
 @lru_cache(maxsize=None)
 def library() -> ctypes.CDLL:
-    """The shared library: the file that DAISYHOOK_LIBRARY names, else `library/out/libdex.so` beside this module."""
+    """The shared library: the file that DAISYHOOK_LIBRARY names, else the first that stands where one may."""
     named = os.environ.get('DAISYHOOK_LIBRARY')
     # A path without a slash would be sought among the system's libraries, so it is made whole.
-    path = Path(named).absolute() if named else Path(__file__).resolve().parent.parent / 'out' / 'libdex.so'
-    if not path.exists():
-        raise FileNotFoundError(f'{path} is not there: build it with library/build, or name it by DAISYHOOK_LIBRARY')
+    path = next(filter(Path.exists, [Path(named).absolute()] if named else places()), None)
+    if path is None:
+        raise FileNotFoundError(f'{named or places()[1]} is not there: build it with library/build, or without the toolchain with '
+                                '`native/assemble library`, or name it by DAISYHOOK_LIBRARY')
     loaded = ctypes.CDLL(str(path))
     for name, front in FRONTS.items():
         function = getattr(loaded, name)
