@@ -1,13 +1,14 @@
 -- How a process ends, from how its program ran.
-use Rattle.std.proofs.Common.{◌≡◌, ℕ, List, [], Vec, String, Result, Ok, Err, drop, map, string_bytes, subst, sym}
+use Rattle.std.proofs.Common.{◌≡◌, ◌∙◌, ℕ, List, [], Vec, String, Result, Ok, Err, Option, None, ap, drop, map, refl, string_bytes, subst, sym}
 use Rattle.std.specs.declared.alloc.Global.{Global}
 use Rattle.dex_words.specs.Commands.{command_of}
+use Rattle.dex_words.specs.declared.command.Command.{Command}
 use Rattle.dex_words.specs.declared.command.WordsError.{WordsError}
 use Rattle.dex_words.specs.declared.command.WordsError.TheVariants.{Usage}
 use Rattle.dex_answers.specs.ExitCodes.{exit_code}
 use Rattle.dex_answers.specs.declared.status.Status.{Status}
 use Rattle.dex_commands.specs.Ending.{Ends, Input, Output}
-use Rattle.dex_program.specs.Process.{EndsProcess}
+use Rattle.dex_program.specs.Process.{EndsProcess, HasRun}
 
 abbrev Words : Type 0
 Words = Result (Vec (String Global) Global) WordsError

@@ -1,4 +1,4 @@
-use Rattle.std.proofs.Common.{◌∙◌, ap, drop}
+use Rattle.std.proofs.Common.{◌∙◌, Err, ap, drop, subst, sym}
 use Rattle.dex_program.proofs.EndOfProcess.{of-words, of-why}
 use Rattle.dex_program.proofs.process.run_process.Goals as goal
 
