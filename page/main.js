@@ -53,8 +53,10 @@ async function openTexts(given) {
     drawStopped(given, before);
     return;
   }
-  // A text that cannot be read leaves nothing of what stood there before, unless others came with it.
-  const isAllFaulty = opened.shown === null || opened.faulty.length === given.length;
+  // A text that cannot be read leaves nothing of what stood there before, unless others came with it; accounts of a ledger come one by one,
+  // so a file of them that cannot be read leaves the others.
+  const isOfAccounts = opened.faulty.every(({ kind }) => kind === 'accounts');
+  const isAllFaulty = opened.shown === null || (opened.faulty.length === given.length && !isOfAccounts);
   texts = isAllFaulty ? {} : opened.texts;
   frame.shown = isAllFaulty ? null : opened.shown;
   told.textContent = isAllFaulty ? opened.faulty.map(({ name }) => name).join(', ') : toldTexts(opened.shown);

@@ -35,7 +35,12 @@ export class Runner {
         finish(answer);
       };
       worker.onmessage = ({ data }) => end(data);
-      worker.onerror = (event) => end({ fault: event.message || 'the worker does not start' });
+      // A worker that failed hears no further call, so the next one has another.
+      worker.onerror = (event) => {
+        worker.terminate();
+        if (this.worker === worker) this.worker = null;
+        end({ fault: event.message || 'the worker does not start' });
+      };
       worker.postMessage(asked);
     });
   }
