@@ -142,7 +142,8 @@ def _ring_differences(first: bytes, second: bytes) -> Iterator[Difference]:
 
 
 def _entry_differences(first: Optional[Entry], second: Optional[Entry], exact: bool, passed: bool) -> Iterator[str]:
-    """The lines of one account that is in either input; `passed` is whether one that a dump alone can have is passed over."""
+    """The lines of one account that is in either input; `passed` is whether what a dump alone has, or leaves out,
+    is passed over."""
     one = first or second
     assert one is not None
     name = f"{one.kind} {shown(one.address)}"
@@ -153,7 +154,7 @@ def _entry_differences(first: Optional[Entry], second: Optional[Entry], exact: b
         yield f"{name} kind {first.kind} {second.kind}"
     elif first.data != second.data:
         for field_name, ours, theirs in _data_differences(first.kind, first.data, second.data, exact):
-            if exact or not _is_native_word(first, field_name, ours, theirs):
+            if exact or not (passed and _is_native_word(first, field_name, ours, theirs)):
                 yield f"{name} {field_name} {ours} {theirs}"
 
 
@@ -196,8 +197,9 @@ def compare(first: Compared, second: Compared, exact: bool, notes: list[str]) ->
     ours, theirs = _by_part(first, parts), _by_part(second, parts)
     for key in list(ours) + [key for key in theirs if key not in ours]:
         one, other = ours.get(key), theirs.get(key)
-        holder, lacking = (first, second) if other is None else (second, first)
-        lines = list(_entry_differences(one, other, exact, not exact and lacking.is_ledgers and not holder.is_ledgers))
+        lacking = second if other is None else first
+        is_mixed = not exact and first.is_ledgers != second.is_ledgers
+        lines = list(_entry_differences(one, other, exact, is_mixed and (lacking.is_ledgers or None not in (one, other))))
         yield from lines
         if one is not None and _is_told_by_none(one, other, lines):
             notes.append(f"{one.kind} {shown(one.address)}: other bytes that mean the same; --bytes tells them")

@@ -253,7 +253,7 @@ class Reasons(unittest.TestCase):
     def test_names(self) -> None:
         """Names, numbers and how many values are those of docs/BOOK.md; the error numbers are said here once more."""
         with open(os.path.join(ROOT, "docs", "BOOK.md"), encoding="utf-8") as file:
-            told = re.findall(r"^\| (\d+) ([A-Z][A-Za-z]+) \| .* \| ?([^|]*?) ?\|$", file.read(), re.M)
+            told = re.findall(r"^\|\s*(\d+) ([A-Z][A-Za-z]+)\s*\|.*\|\s*([^|]*?)\s*\|$", file.read(), re.M)
         self.assertEqual([(str(reason.number), name) for name, reason in REASONS.items()], [row[:2] for row in told])
         for _, name, values in told:
             self.assertEqual(bool(values), bool(REASONS[name].values), name)
