@@ -60,7 +60,7 @@ class Inputs:
         if written(report) != report.text:
             return "what was read is not what stands there"
         text = changes.quoted_field(draw, report.dump.decode())
-        if text.count('"') % 2 == 0 and re.fullmatch(r'(("[^" ]*"|[^" ]*)[,\n])*', text):
+        if text.count('"') % 2 == 0 and re.fullmatch(r'((?:"[^" ]*"|[^" ,\n]*)[,\n])*', text):
             return self.wrong_dump(text, read(daisyhook.Accounts(report.dump)))
         return None
 
