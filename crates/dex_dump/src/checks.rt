@@ -21,6 +21,7 @@ use dex_fields::{
 use dex_market::{check_market, check_requests};
 use dex_orders::check_orders;
 use dex_ring::check_events;
+use dex_slab::side_flags;
 use dex_slab_check::is_well_formed;
 use dex_token::check_wallet;
 use dex_types::{AccountFault, Accounts, Address, MarketAccounts, Side};
@@ -330,10 +331,7 @@ fn side_flags_rule(side: Side, bytes: &[u8]) -> Option<AccountFault>
     requires { 124 ≤ length bytes.now }
     ensures { result ≡ spec.side_flags_rule side bytes.now }
 {
-    let wanted = match side {
-        Side::Bid => 33,
-        Side::Ask => 65,
-    };
+    let wanted = side_flags(side);
     let flags = get_u64(bytes, slab::ACCOUNT_FLAGS);
     if flags == wanted {
         None

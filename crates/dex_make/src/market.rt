@@ -25,7 +25,8 @@ use dex_fields::{
     END_TEXT, FLAGS, FRONT, FRONT_TEXT, Field, market, open_orders, put_piece, put_u64,
     write_empty_account,
 };
-use dex_types::{Address, Ix, MarketAccounts, NoMemory, Side};
+use dex_slab::side_flags;
+use dex_types::{AccountFlags, Address, Ix, MarketAccounts, NoMemory, Side};
 use std::alloc::Global;
 
 /// What a market is made of: its address, the person who signs for it, the mints of base (coin) and quote (pc), how many
@@ -44,18 +45,6 @@ pub struct MarketSet {
 
 /// How many bytes a request queue is made with.
 const REQUEST_QUEUE_SIZE: usize = 5_132;
-
-/// The flags of a request queue: Initialized and RequestQueue.
-const REQUEST_QUEUE_FLAGS: u64 = 9;
-
-/// The flags of an event queue: Initialized and EventQueue.
-const EVENT_QUEUE_FLAGS: u64 = 17;
-
-/// The flags of the bids: Initialized and Bids.
-const BIDS_FLAGS: u64 = 33;
-
-/// The flags of the asks: Initialized and Asks.
-const ASKS_FLAGS: u64 = 65;
 
 /// Room for the event queue and both sides of a market, where they are large. They are made in it.
 #[derive(Drop)]
@@ -162,7 +151,7 @@ fn write_requests(bytes: &mut [u8])
     ensures accepted { IsRequestQueue bytes.new }
     ensures next { next_sequence bytes.new ≡ 0 }
 {
-    write_empty_account(bytes, REQUEST_QUEUE_FLAGS);
+    write_empty_account(bytes, AccountFlags::REQUEST_QUEUE_ACCOUNT.0);
 }
 
 /// An event queue as it is made, with room for so many events.
@@ -175,7 +164,7 @@ fn event_queue(alloc: Global, room: Vec<u8>, events: u32) -> Result<Vec<u8>, NoM
         ≡ record { events = []; capacity = events; seq_num = 0 }) }
 {
     let size = dex_ring::made_size(events);
-    let bytes = empty_account(alloc, room, size, EVENT_QUEUE_FLAGS)?;
+    let bytes = empty_account(alloc, room, size, AccountFlags::EVENT_QUEUE_ACCOUNT.0)?;
     Ok(bytes)
 }
 
@@ -191,16 +180,6 @@ fn side_account(alloc: Global, room: Vec<u8>, side: Side, nodes: u32) -> Result<
     let size = dex_slab::made_size(nodes);
     let bytes = empty_account(alloc, room, size, side_flags(side))?;
     Ok(bytes)
-}
-
-/// The flags of a side's account.
-fn side_flags(side: Side) -> u64
-    ensures { result ≡ slab.side_flags side }
-{
-    match side {
-        Side::Bid => BIDS_FLAGS,
-        Side::Ask => ASKS_FLAGS,
-    }
 }
 
 /// An account of so many bytes with nothing in it, which has these flags. It stands where these bytes stood, if there is room for it; else

@@ -12,10 +12,7 @@ ghost use Rattle.dex_make.specs.MarketSet.{CanTrade, IsInitialize, IsMarketSet, 
 use crate::market::MarketSet;
 use crate::parts::{MarketPart, derived};
 use dex_fields::{Field, market, put_addr, put_u64, write_empty_account};
-use dex_types::{Address, Ix};
-
-/// The flags of a market account: Initialized and Market.
-const MARKET_FLAGS: u64 = 3;
+use dex_types::{AccountFlags, Address, Ix};
 
 /// What an InitializeMarket instruction says of the market that it makes: lot sizes are native amounts, the fee rate is
 /// in hundredths of a percent, and the dust threshold is in native quote.
@@ -59,7 +56,7 @@ pub fn write_market(bytes: &mut [u8], set: &MarketSet)
     ensures addresses { HasAddresses set.now }
     ensures stands { CanTrade set.now → StandsForMarket bytes.new (made_market (listing_of set.now) []) }
 {
-    write_empty_account(bytes, MARKET_FLAGS);
+    write_empty_account(bytes, AccountFlags::MARKET_ACCOUNT.0);
     write_addresses(bytes, set);
     write_terms(bytes, initial_terms(set.ix));
 }

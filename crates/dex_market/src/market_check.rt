@@ -8,18 +8,13 @@ ghost use Rattle.dex_market.specs.MarketAccount.{IsMarket, address_in};
 ghost use Rattle.dex_market.specs.Faults.{address_fault, addresses_rule, lot_rule, market_fault, market_fields_rule, market_flags_rule, mint_rule, field_at, is_address_at};
 
 use crate::faults::frame_rule;
+use bitflags::Flags;
 use dex_fields::market::{
     ACCOUNT_FLAGS, ASKS, BIDS, COIN_LOT_SIZE, COIN_MINT, COIN_VAULT, EVENT_Q, LAYOUT, OWN_ADDRESS,
     PC_LOT_SIZE, PC_MINT, PC_VAULT, REQ_Q,
 };
 use dex_fields::{Field, get_addr, get_u64};
-use dex_types::{AccountFault, Address};
-
-/// The flags of a market: Initialized and Market.
-const MARKET_FLAGS: u64 = 3;
-
-/// The flags of a market with Disabled beside them.
-const DISABLED_FLAGS: u64 = 131;
+use dex_types::{AccountFault, AccountFlags, Address};
 
 /// The fields of a market's addresses, in the order in which they stand.
 const ADDRESSES: [Field; 9] = [
@@ -66,9 +61,11 @@ fn market_flags_rule(bytes: &[u8]) -> Option<AccountFault>
     requires { length bytes.now ≡ 388 }
     ensures { result ≡ market_flags_rule bytes.now }
 {
-    match get_u64(bytes, ACCOUNT_FLAGS) {
-        MARKET_FLAGS | DISABLED_FLAGS => None,
-        flags => Some(AccountFault::flags(flags, MARKET_FLAGS)),
+    let flags = AccountFlags::from_bits_retain(get_u64(bytes, ACCOUNT_FLAGS));
+    if flags == AccountFlags::MARKET_ACCOUNT || flags == AccountFlags::DISABLED_MARKET_ACCOUNT {
+        None
+    } else {
+        Some(AccountFault::flags(flags.bits(), AccountFlags::MARKET_ACCOUNT.0))
     }
 }
 

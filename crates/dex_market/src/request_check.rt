@@ -6,15 +6,13 @@ ghost use Rattle.dex_market.specs.RequestQueue.{IsRequestQueue};
 ghost use Rattle.dex_market.specs.Faults.{request_flags_rule, requests_fault};
 
 use crate::faults::{frame_rule, word_rule};
+use bitflags::Flags;
 use dex_fields::get_u64;
 use dex_fields::request_queue::{ACCOUNT_FLAGS, COUNT, HEAD};
-use dex_types::AccountFault;
+use dex_types::{AccountFault, AccountFlags};
 
 /// The least length of a request queue: its header and the seven bytes at its end.
 const LEAST: usize = 44;
-
-/// The flags of a request queue: Initialized and RequestQueue.
-const REQUEST_QUEUE_FLAGS: u64 = 9;
 
 /// Whether the bytes are a request queue, by the rules that need this account alone; else the first rule that is
 /// broken, by its kind and then by its place.
@@ -49,10 +47,10 @@ fn request_flags_rule(bytes: &[u8]) -> Option<AccountFault>
     requires { 44 ≤ length bytes.now }
     ensures { result ≡ request_flags_rule bytes.now }
 {
-    let flags = get_u64(bytes, ACCOUNT_FLAGS);
-    if flags == REQUEST_QUEUE_FLAGS {
+    let flags = AccountFlags::from_bits_retain(get_u64(bytes, ACCOUNT_FLAGS));
+    if flags == AccountFlags::REQUEST_QUEUE_ACCOUNT {
         None
     } else {
-        Some(AccountFault::flags(flags, REQUEST_QUEUE_FLAGS))
+        Some(AccountFault::flags(flags.bits(), AccountFlags::REQUEST_QUEUE_ACCOUNT.0))
     }
 }

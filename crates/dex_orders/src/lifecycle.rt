@@ -5,10 +5,10 @@ ghost use Rattle.dex_fields.specs.Bytes.{IsWithin, with_bytes, with_number};
 ghost use Rattle.dex_types.specs.Trader.{no_slots};
 ghost use Rattle.dex_orders.specs.OrdersAccount.{IsBlank, IsClosed, IsEmptyAccount, IsOpen, IsOrders, account_of, market_of, opened};
 
-use crate::orders_check::{CLOSED_FLAGS, OPEN_FLAGS};
+use bitflags::Flags;
 use dex_fields::open_orders::{ACCOUNT_FLAGS, FREE_SLOT_BITS, MARKET, OWNER, PADDING, SERUM};
 use dex_fields::{END_TEXT, FRONT_TEXT, Field, get_u64, put_addr, put_u64, put_u128};
-use dex_types::Address;
+use dex_types::{AccountFlags, Address};
 
 /// What became of an open-orders account so far.
 #[derive(Clone, Copy, Debug, PartialEq, Eq)]
@@ -28,10 +28,13 @@ pub fn state_of(bytes: &[u8]) -> OrdersState
     ensures open { (result ≡ OrdersState.Open) ↔ IsOpen bytes.now }
     ensures closed { (result ≡ OrdersState.Closed) ↔ IsClosed bytes.now }
 {
-    match get_u64(bytes, ACCOUNT_FLAGS) {
-        OPEN_FLAGS => OrdersState::Open,
-        CLOSED_FLAGS => OrdersState::Closed,
-        _ => OrdersState::Blank,
+    let flags = AccountFlags::from_bits_retain(get_u64(bytes, ACCOUNT_FLAGS));
+    if flags == AccountFlags::OPEN_ORDERS_ACCOUNT {
+        OrdersState::Open
+    } else if flags == AccountFlags::CLOSED_ACCOUNT {
+        OrdersState::Closed
+    } else {
+        OrdersState::Blank
     }
 }
 
@@ -58,7 +61,11 @@ pub fn init(bytes: &mut [u8], market: Address, owner: Address)
     ensures accepted { IsOpen bytes.new }
 {
     write_text(bytes, SERUM, &FRONT_TEXT);
-    put_u64(bytes, ACCOUNT_FLAGS, OPEN_FLAGS);
+    put_u64(
+        bytes,
+        ACCOUNT_FLAGS,
+        AccountFlags::OPEN_ORDERS_ACCOUNT.0,
+    );
     put_addr(bytes, MARKET, market.0);
     put_addr(bytes, OWNER, owner.0);
     put_u128(bytes, FREE_SLOT_BITS, u128::MAX);
@@ -74,5 +81,5 @@ pub fn close(bytes: &mut [u8])
     ensures words { account_of bytes.new ≡ account_of bytes.old }
     ensures accepted { IsClosed bytes.new }
 {
-    put_u64(bytes, ACCOUNT_FLAGS, CLOSED_FLAGS);
+    put_u64(bytes, ACCOUNT_FLAGS, AccountFlags::CLOSED_ACCOUNT.0);
 }

@@ -7,17 +7,12 @@ ghost use Rattle.dex_orders.specs.OrdersAccount.{IsOrders};
 ghost use Rattle.dex_orders.specs.Faults.{amount_rule, are_zeros, flags_rule, frame_rule, funds_rule, opened_fault, orders_fault, pair_rule, place_rule, repeat_rule, slots_fault, slots_rule};
 
 use crate::slots::{SLOT_COUNT, hold_one, id_in};
+use bitflags::Flags;
 use dex_fields::open_orders::{
     ACCOUNT_FLAGS, LAYOUT, NATIVE_COIN_FREE, NATIVE_COIN_TOTAL, NATIVE_PC_FREE, NATIVE_PC_TOTAL,
 };
 use dex_fields::{Field, frame_difference, get_u64};
-use dex_types::AccountFault;
-
-/// The flags of an open account: Initialized and OpenOrders.
-pub const OPEN_FLAGS: u64 = 5;
-
-/// The flags of a closed account: Closed alone.
-pub const CLOSED_FLAGS: u64 = 256;
+use dex_types::{AccountFault, AccountFlags};
 
 /// Whether the bytes are an open-orders account, by the rules that need this account alone; else the first rule that
 /// is broken, by its kind and then by its place.
@@ -77,9 +72,11 @@ fn flags_rule(bytes: &[u8]) -> Option<AccountFault>
     requires { length bytes.now ≡ 3228 }
     ensures { result ≡ flags_rule bytes.now }
 {
-    match get_u64(bytes, ACCOUNT_FLAGS) {
-        OPEN_FLAGS | CLOSED_FLAGS => None,
-        flags => Some(AccountFault::flags(flags, OPEN_FLAGS)),
+    let flags = AccountFlags::from_bits_retain(get_u64(bytes, ACCOUNT_FLAGS));
+    if flags == AccountFlags::OPEN_ORDERS_ACCOUNT || flags == AccountFlags::CLOSED_ACCOUNT {
+        None
+    } else {
+        Some(AccountFault::flags(flags.bits(), AccountFlags::OPEN_ORDERS_ACCOUNT.0))
     }
 }
 

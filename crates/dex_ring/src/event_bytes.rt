@@ -3,6 +3,7 @@
 ghost use Rattle.std.specs.Prelude.{◌≡◌, length};
 ghost use Rattle.dex_ring.specs.EventBytes.{are_event_flags, event_bytes, event_of};
 
+use bitflags::Flags;
 use dex_fields::event::{
     CLIENT_ORDER_ID, FEE_TIER, FLAGS, NATIVE_FEE_OR_REBATE, NATIVE_QTY_PAID, NATIVE_QTY_RELEASED,
     ORDER_ID, OWNER, OWNER_SLOT, PADDING,
@@ -10,7 +11,7 @@ use dex_fields::event::{
 use dex_fields::{
     Field, get_addr, get_u8, get_u64, get_u128, put_addr, put_u8, put_u32, put_u64, put_u128,
 };
-use dex_types::{Address, Event};
+use dex_types::{Address, Event, EventFlags};
 
 /// The first four bytes of the padding.
 const PADDING_FRONT: Field = Field { at: 3, len: 4 };
@@ -24,7 +25,7 @@ const _: () = prove!(PADDING_FRONT.at == PADDING.at);
 pub fn are_event_flags(flags: u8) -> bool
     ensures { result ≡ are_event_flags flags }
 {
-    matches!(flags, 1 | 2 | 5 | 6 | 9 | 13 | 18 | 22)
+    EventFlags::from_bits_retain(flags).is_kind()
 }
 
 /// The event that the bytes say.

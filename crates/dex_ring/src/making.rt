@@ -4,9 +4,10 @@ ghost use Rattle.std.specs.Prelude.{◌≡◌, ◌≤◌, [], length};
 ghost use Rattle.dex_ring.specs.Blank.{IsMadeSize, blank_queue, made_size};
 ghost use Rattle.dex_ring.specs.Ring.{IsEventQueue, capacity_of, ring_of};
 
-use crate::ring_check::EVENT_QUEUE_FLAGS;
+use bitflags::Flags;
 use dex_fields::event_queue::LAYOUT;
 use dex_fields::{END_TEXT, event, write_empty_account};
+use dex_types::AccountFlags;
 
 /// How many bytes a queue that is made for so many events has; for 1 to 65,535 events it can be one.
 pub fn made_size(events: u32) -> usize
@@ -24,5 +25,5 @@ pub fn blank(bytes: &mut [u8])
     ensures accepted { IsEventQueue bytes.new }
     ensures ring { ring_of bytes.new ≡ record { events = []; capacity = capacity_of bytes.old; seq_num = 0 } }
 {
-    write_empty_account(bytes, EVENT_QUEUE_FLAGS);
+    write_empty_account(bytes, AccountFlags::EVENT_QUEUE_ACCOUNT.0);
 }

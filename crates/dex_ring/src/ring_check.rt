@@ -8,18 +8,16 @@ ghost use Rattle.dex_ring.specs.Faults.{count_rule, event_fault, event_rule, eve
 
 use crate::event_bytes::are_event_flags;
 use crate::places::{capacity, numbered_event};
+use bitflags::Flags;
 use dex_fields::event_queue::{ACCOUNT_FLAGS, COUNT, HEAD};
 use dex_fields::{Field, frame_difference, get_u64};
-use dex_types::{AccountFault, Event};
+use dex_types::{AccountFault, AccountFlags, Event};
 
 /// The least length of an event queue: its header, one event and the seven bytes at its end.
 const LEAST: usize = 132;
 
 /// The greatest length: one byte more would be room for 65,536 events.
 const MOST: usize = 5_767_211;
-
-/// The flags of an event queue: Initialized and EventQueue.
-pub const EVENT_QUEUE_FLAGS: u64 = 17;
 
 /// Whether the bytes are an event queue, by the rules that need this account alone; else the first rule that is
 /// broken, by its kind and then by its place.
@@ -90,11 +88,11 @@ fn flags_rule(bytes: &[u8]) -> Option<AccountFault>
     requires { 44 ≤ length bytes.now }
     ensures { result ≡ flags_rule bytes.now }
 {
-    let flags = get_u64(bytes, ACCOUNT_FLAGS);
-    if flags == EVENT_QUEUE_FLAGS {
+    let flags = AccountFlags::from_bits_retain(get_u64(bytes, ACCOUNT_FLAGS));
+    if flags == AccountFlags::EVENT_QUEUE_ACCOUNT {
         None
     } else {
-        Some(AccountFault::flags(flags, EVENT_QUEUE_FLAGS))
+        Some(AccountFault::flags(flags.bits(), AccountFlags::EVENT_QUEUE_ACCOUNT.0))
     }
 }
 

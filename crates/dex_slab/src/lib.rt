@@ -20,6 +20,6 @@ mod slab_view;
 mod view_writes;
 mod walks;
 
-pub use making::{blank, made_size};
+pub use making::{blank, made_size, side_flags};
 pub use slab_ref::SlabRef;
 pub use slab_view::SlabView;

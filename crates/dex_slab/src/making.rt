@@ -10,13 +10,7 @@ ghost use Rattle.dex_slab.specs.Slab.{IsSlab, resting, room_in};
 use crate::nodes::NODE_SIZE;
 use dex_fields::slab::LAYOUT;
 use dex_fields::{END_TEXT, write_empty_account};
-use dex_types::Side;
-
-/// The flags of the bids: Initialized and Bids.
-const BIDS_FLAGS: u64 = 33;
-
-/// The flags of the asks: Initialized and Asks.
-const ASKS_FLAGS: u64 = 65;
+use dex_types::{AccountFlags, Side};
 
 /// How many bytes a side's account that is made with so many nodes has; with 1 to 65,536 nodes it can be one.
 pub fn made_size(nodes: u32) -> usize
@@ -27,12 +21,12 @@ pub fn made_size(nodes: u32) -> usize
 }
 
 /// The flags of a side's account.
-fn side_flags(side: Side) -> u64
+pub fn side_flags(side: Side) -> u64
     ensures { result ≡ side_flags side }
 {
     match side {
-        Side::Bid => BIDS_FLAGS,
-        Side::Ask => ASKS_FLAGS,
+        Side::Bid => AccountFlags::BIDS_ACCOUNT.0,
+        Side::Ask => AccountFlags::ASKS_ACCOUNT.0,
     }
 }
 

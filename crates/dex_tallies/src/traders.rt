@@ -10,9 +10,7 @@ ghost use Rattle.dex_tallies.specs.Reading.{AreOrders, held_in, is_opened, trade
 use dex_fields::get_u64;
 use dex_fields::open_orders::ACCOUNT_FLAGS;
 use dex_orders::OrdersRef;
-use dex_types::{Address, OrdersAccount, Side, is_same};
-
-const OPEN_FLAGS: u64 = 5;
+use dex_types::{AccountFlags, Address, OrdersAccount, Side, is_same};
 
 /// The account, where it is open.
 pub fn opened(bytes: &[u8]) -> Option<OrdersRef<'_>>
@@ -21,7 +19,7 @@ pub fn opened(bytes: &[u8]) -> Option<OrdersRef<'_>>
         (is_opened (Some (trader_of bytes.now)) ≡ false)
         (λ view. IsOpen view.bytes.now × (trader_of bytes.now ≡ Open (account_of view.bytes.now))) }
 {
-    if get_u64(bytes, ACCOUNT_FLAGS) == OPEN_FLAGS {
+    if get_u64(bytes, ACCOUNT_FLAGS) == AccountFlags::OPEN_ORDERS_ACCOUNT.0 {
         Some(OrdersRef { bytes })
     } else {
         None
